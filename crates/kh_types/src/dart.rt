@@ -1,0 +1,8 @@
+//! The ends of arcs.
+
+/// One end of an arc: a crossing, numbered from 1 in the order of the list, and a slot of it, 0 to 3.
+#[derive(Clone, Copy, Debug, PartialEq, Eq, PartialOrd, Ord)]
+pub struct Dart {
+    pub crossing: u8,
+    pub slot: u8,
+}

@@ -1,0 +1,14 @@
+//! The data that all crates share, codes, diagrams and words, and in `specs/` the definitions on which every contract stands.
+#![tactic(auto)]
+
+mod code;
+mod dart;
+mod limits;
+mod memory;
+mod words;
+
+pub use code::{Crossing, RawCode};
+pub use dart::Dart;
+pub use limits::{ARCS, CIRCLES, COMPONENTS, CROSSINGS, EXPONENT, INPUT_BYTES};
+pub use memory::NoMemory;
+pub use words::Words;

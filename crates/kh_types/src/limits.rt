@@ -1,0 +1,19 @@
+//! The sizes within which the program works. All of them are this project's rule.
+
+/// The most crossings of a diagram.
+pub const CROSSINGS: usize = 16;
+
+/// The most arcs of a diagram: each crossing has four ends of arcs, and each arc two ends.
+pub const ARCS: usize = 2 * CROSSINGS;
+
+/// The most components and crossingless loops of a diagram, counted together.
+pub const COMPONENTS: usize = 24;
+
+/// The most circles of a state: one for each component or loop, and one more at most for each crossing.
+pub const CIRCLES: usize = 40;
+
+/// The greatest quantum degree of a generator in size, and the greatest exponent of a polynomial.
+pub const EXPONENT: usize = 72;
+
+/// The most bytes of an input.
+pub const INPUT_BYTES: usize = 65_536;
