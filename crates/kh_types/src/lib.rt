@@ -3,12 +3,15 @@
 
 mod code;
 mod dart;
+mod fault;
+pub mod laws;
 mod limits;
 mod memory;
 mod words;
 
 pub use code::{Crossing, RawCode};
 pub use dart::Dart;
+pub use fault::CodeFault;
 pub use limits::{ARCS, CIRCLES, COMPONENTS, CROSSINGS, EXPONENT, INPUT_BYTES};
 pub use memory::NoMemory;
 pub use words::Words;

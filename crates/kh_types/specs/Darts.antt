@@ -1,0 +1,43 @@
+-- Darts, the ends of arcs.
+use Rattle.std.specs.Prelude.{ℕ, ◌+◌, ◌*◌, ◌/◌, ◌%◌, List, length, map, nat_eq, Bool, not, ◌&&◌, unwrap_or}
+use Rattle.std.specs.List.{find, range_with_len}
+use Rattle.kh_types.specs.Code.{arc_in, place_of, crossing_at}
+use Rattle.kh_types.specs.declared.dart.Dart.{Dart}
+
+-- darts are ordered by crossing, then by slot: the dart at a place of this order
+abbrev pub dart_at : ℕ → Dart
+dart_at place = record { crossing = place / 4 + 1; slot = place % 4 }
+
+-- the place of a dart in this order
+abbrev pub dart_place : Dart → ℕ
+dart_place dart = 4 * place_of dart.crossing + dart.slot
+
+-- all darts, in order
+abbrev pub darts : List (List ℕ) → List Dart
+darts crossings = map dart_at (range_with_len 0 (4 * length crossings))
+
+-- the arc of a dart
+abbrev pub arc_of : List (List ℕ) → Dart → ℕ
+arc_of crossings dart = arc_in (crossing_at crossings dart.crossing) dart.slot
+
+-- the first dart of an arc
+abbrev pub first_dart : List (List ℕ) → ℕ → Dart
+first_dart crossings arc = unwrap_or (find (λ dart. nat_eq (arc_of crossings dart) arc) (darts crossings)) (dart_at 0)
+
+abbrev pub is_same_dart : Dart → Dart → Bool
+is_same_dart dart other = nat_eq dart.crossing other.crossing && nat_eq dart.slot other.slot
+
+-- whether another dart is of the same arc
+abbrev pub is_partner : List (List ℕ) → Dart → Dart → Bool
+is_partner crossings dart other = nat_eq (arc_of crossings other) (arc_of crossings dart) && not (is_same_dart other dart)
+
+-- the other dart of a dart's arc, where each arc stands twice
+abbrev pub partner : List (List ℕ) → Dart → Dart
+partner crossings dart = unwrap_or (find (is_partner crossings dart) (darts crossings)) dart
+
+-- the dart that follows in a face: from the other end of the arc on to the slot before it, round the crossing
+-- (this project's rule: a face lies to the left of each arc that leaves along it)
+abbrev pub face_step : List (List ℕ) → Dart → Dart
+face_step crossings dart =
+    let other = partner crossings dart in
+    record { crossing = other.crossing; slot = (other.slot + 3) % 4 }

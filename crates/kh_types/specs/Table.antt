@@ -1,0 +1,50 @@
+-- Homology dimensions, the table of them and its text.
+use Rattle.std.specs.Prelude.{ℕ, ◌+◌, ◌-◌, ◌*◌, ℤ, pos, ◌-ℤ◌, List, ◌++◌, length, map, nat_lt, codes}
+use Rattle.std.specs.List.{filter, flat_map, range_with_len}
+use Rattle.std.specs.Fmt.{decimal, signed_decimal}
+use Rattle.kh_types.specs.Code.{Code}
+use Rattle.kh_types.specs.Generators.{generators_at}
+use Rattle.kh_types.specs.Differential.{differential}
+use Rattle.kh_types.specs.Rank.{rank}
+use Rattle.kh_types.specs.declared.limits.TheConstants.{CROSSINGS, EXPONENT}
+
+-- the homology dimension at (i, j) over the field of p elements: the number of generators less the rank of the differential
+-- out of them and the rank of the one into them
+abbrev pub dimension : ℕ → Code → ℤ → ℤ → ℕ
+dimension p code i j =
+    length (generators_at code i j) - rank p (differential p code i j) - rank p (differential p code (i -ℤ pos 1) j)
+
+-- the numbers from -n to n, ascending
+abbrev pub from_minus : ℕ → List ℤ
+from_minus n = map (λ k. pos k -ℤ pos n) (range_with_len 0 (2 * n + 1))
+
+-- a row of a table: the quantum degree, the homological degree and the dimension
+pub record Row : Type 0 where
+  pub j : ℤ
+  pub i : ℤ
+  pub dim : ℕ
+
+-- the number of elements of the field, and rows
+pub record Table : Type 0 where
+  pub field : ℕ
+  pub rows : List Row
+
+abbrev pub row_at : ℕ → Code → ℤ → ℤ → Row
+row_at p code j i = record { j = j; i = i; dim = dimension p code i j }
+
+-- the rows of one quantum degree with a dimension above 0, ascending by i
+abbrev pub rows_at : ℕ → Code → ℤ → List Row
+rows_at p code j = filter (λ row. nat_lt 0 row.dim) (map (row_at p code j) (from_minus CROSSINGS))
+
+-- the homology table: the rows with a dimension above 0, ascending by j, then by i
+abbrev pub table : ℕ → Code → Table
+table p code = record { field = p; rows = flat_map (rows_at p code) (from_minus EXPONENT) }
+
+-- the line of a row
+abbrev pub row_text : Row → List ℕ
+row_text row =
+    codes "j " ++ (signed_decimal row.j ++ (codes " i " ++ (signed_decimal row.i ++ (codes " dim " ++ (decimal row.dim ++ codes "\n")))))
+
+-- the text of a table: the line of its field, then the lines of its rows
+abbrev pub table_text : Table → List ℕ
+table_text homology = codes "field " ++ (decimal homology.field ++ (codes "\n" ++ flat_map row_text homology.rows))

@@ -1,0 +1,6 @@
+//! Laws of the definitions: each is the contract of a function that does nothing, proved with the crate.
+
+pub mod acceptance;
+pub mod complexes;
+pub mod polynomials;
+pub mod tables;

@@ -1,0 +1,69 @@
+//! Which known codes are accepted, and the rule that each of some others breaks first.
+
+ghost use Rattle.std.specs.Prelude.{◌≡◌, Some, None, [], ◌∷◌, true};
+ghost use Rattle.kh_types.specs.declared.fault.CodeFault.{CodeFault};
+ghost use Rattle.kh_types.specs.declared.fault.CodeFault.TheVariants.{ArcRange, ArcTimes, Interval, Under, Over, TwoArc, Checkerboard, Genus, Components};
+ghost use Rattle.kh_types.specs.WorkedCodes.{code_of, crossing_of, empty_link, one_loop, curl, hopf_link, trefoil, figure_eight, turned_trefoil, virtual_trefoil};
+ghost use Rattle.kh_types.specs.Components.{component_count};
+ghost use Rattle.kh_types.specs.Faces.{face_count, piece_count, planar_face_count};
+ghost use Rattle.kh_types.specs.Directions.{plus_count, minus_count, head_of, tail_of};
+ghost use Rattle.kh_types.specs.Acceptance.{first_fault, accepted, checkerboard_fault};
+
+/// These codes are accepted.
+pub fn accepted_codes()
+    ensures empty { accepted empty_link ≡ true }
+    ensures loop_alone { accepted one_loop ≡ true }
+    ensures curled { accepted curl ≡ true }
+    ensures hopf { accepted hopf_link ≡ true }
+    ensures three { accepted trefoil ≡ true }
+    ensures four { accepted figure_eight ≡ true }
+{}
+
+/// The counts of the trefoil and of the Hopf link.
+pub fn counts()
+    ensures trefoil_components { component_count trefoil.crossings ≡ 1 }
+    ensures trefoil_faces { face_count trefoil.crossings ≡ 5 }
+    ensures trefoil_pieces { piece_count trefoil.crossings ≡ 1 }
+    ensures trefoil_plus { plus_count trefoil.crossings ≡ 0 }
+    ensures trefoil_minus { minus_count trefoil.crossings ≡ 3 }
+    ensures hopf_components { component_count hopf_link.crossings ≡ 2 }
+    ensures hopf_minus { minus_count hopf_link.crossings ≡ 2 }
+    ensures curl_plus { plus_count curl.crossings ≡ 1 }
+{}
+
+/// The ends of two arcs of the trefoil, and of the two arcs of a curl, whose over pass goes against its under pass.
+pub fn heads_and_tails()
+    ensures first_head { head_of trefoil.crossings 1 ≡ record { crossing = 1; slot = 0 } }
+    ensures first_tail { tail_of trefoil.crossings 1 ≡ record { crossing = 2; slot = 3 } }
+    ensures fourth_head { head_of trefoil.crossings 4 ≡ record { crossing = 1; slot = 1 } }
+    ensures fourth_tail { tail_of trefoil.crossings 4 ≡ record { crossing = 2; slot = 2 } }
+    ensures curl_head { head_of curl.crossings 1 ≡ record { crossing = 1; slot = 0 } }
+    ensures curl_tail { tail_of curl.crossings 1 ≡ record { crossing = 1; slot = 1 } }
+{}
+
+/// The first rule that each of these codes breaks, with what shows it.
+pub fn first_faults()
+    ensures arc_range { first_fault (code_of (crossing_of 0 1 2 2 ∷ [])) ≡ Some (ArcRange 1 0) }
+    ensures arc_times { first_fault (code_of (crossing_of 1 4 2 5 ∷ crossing_of 3 6 4 1 ∷ crossing_of 5 2 6 6 ∷ []))
+        ≡ Some (ArcTimes 3 1) }
+    ensures interval { first_fault (code_of (crossing_of 4 1 2 3 ∷ crossing_of 3 2 1 4 ∷ [])) ≡ Some (Interval 1) }
+    ensures under { first_fault (code_of (crossing_of 2 5 1 4 ∷ crossing_of 3 6 4 1 ∷ crossing_of 5 2 6 3 ∷ []))
+        ≡ Some (Under 1) }
+    ensures over { first_fault (code_of (crossing_of 1 1 2 3 ∷ crossing_of 3 2 4 4 ∷ [])) ≡ Some (Over 1) }
+    ensures two_arc { first_fault (code_of (crossing_of 1 4 2 3 ∷ crossing_of 1 4 2 3 ∷ [])) ≡ Some (TwoArc 2) }
+    ensures checkerboard { first_fault (code_of (crossing_of 1 2 1 2 ∷ [])) ≡ Some (Checkerboard 1) }
+    ensures components { first_fault (record empty_link { loops = 25 }) ≡ Some (Components 25) }
+{}
+
+/// One crossing of the trefoil turned: the code has a checkerboard, but 3 faces where the sphere wants 5.
+pub fn turned_trefoil_is_on_a_torus()
+    ensures faces { face_count turned_trefoil.crossings ≡ 3 }
+    ensures wanted { planar_face_count turned_trefoil.crossings ≡ 5 }
+    ensures checkerboard { checkerboard_fault turned_trefoil.crossings ≡ None }
+    ensures first { first_fault turned_trefoil ≡ Some (Genus 3 5) }
+{}
+
+/// The virtual trefoil has no checkerboard: its first two equations contradict each other.
+pub fn virtual_trefoil_has_no_checkerboard()
+    ensures { first_fault virtual_trefoil ≡ Some (Checkerboard 2) }
+{}

@@ -1,0 +1,51 @@
+//! Legal histories of a block of the trefoil, and that they leave the dimensions of its table.
+
+ghost use Rattle.std.specs.Prelude.{◌≡◌, ℤ, pos, neg_ℤ, [], ◌∷◌, Bool, true};
+ghost use Rattle.kh_types.specs.WorkedCodes.{hopf_link, trefoil, figure_eight};
+ghost use Rattle.kh_types.specs.WorkedHistories.{trefoil_block, pivot_of, history_over_two, history_over_five};
+ghost use Rattle.kh_types.specs.Table.{dimension};
+ghost use Rattle.kh_types.specs.Complex.{alive_count, dimension_of, is_zero, squares_to_zero};
+ghost use Rattle.kh_types.specs.History.{block, IsLegal, replay};
+
+/// Over two elements two cancellations leave a zero complex, with as many places alive as the table has dimensions.
+pub fn block_over_two()
+    ensures legal { IsLegal 2 (trefoil_block 2) history_over_two }
+    ensures zero { is_zero (replay 2 (trefoil_block 2) history_over_two) ≡ true }
+    ensures lower { alive_count (replay 2 (trefoil_block 2) history_over_two) (neg_ℤ (pos 3))
+        ≡ dimension 2 trefoil (neg_ℤ (pos 3)) (neg_ℤ (pos 7)) }
+    ensures upper { alive_count (replay 2 (trefoil_block 2) history_over_two) (neg_ℤ (pos 2))
+        ≡ dimension 2 trefoil (neg_ℤ (pos 2)) (neg_ℤ (pos 7)) }
+{}
+
+/// Over five elements it takes three cancellations, and nothing is left alive.
+pub fn block_over_five()
+    ensures legal { IsLegal 5 (trefoil_block 5) history_over_five }
+    ensures zero { is_zero (replay 5 (trefoil_block 5) history_over_five) ≡ true }
+    ensures lower { alive_count (replay 5 (trefoil_block 5) history_over_five) (neg_ℤ (pos 3))
+        ≡ dimension 5 trefoil (neg_ℤ (pos 3)) (neg_ℤ (pos 7)) }
+    ensures upper { alive_count (replay 5 (trefoil_block 5) history_over_five) (neg_ℤ (pos 2))
+        ≡ dimension 5 trefoil (neg_ℤ (pos 2)) (neg_ℤ (pos 7)) }
+{}
+
+/// The block has the homology dimensions of the table before anything is cancelled.
+pub fn block_dimensions()
+    ensures lower_over_two { dimension_of 2 (trefoil_block 2) (neg_ℤ (pos 3)) ≡ 1 }
+    ensures upper_over_two { dimension_of 2 (trefoil_block 2) (neg_ℤ (pos 2)) ≡ 1 }
+    ensures lower_over_five { dimension_of 5 (trefoil_block 5) (neg_ℤ (pos 3)) ≡ 0 }
+    ensures upper_over_five { dimension_of 5 (trefoil_block 5) (neg_ℤ (pos 2)) ≡ 0 }
+{}
+
+/// A history with a pivot at an entry 0 is not legal: at the start, and after a cancellation has made the entry 0.
+pub fn entry_zero_is_no_pivot()
+    ensures first { IsLegal 2 (trefoil_block 2) (pivot_of 0 0 ∷ []) → ⊥ }
+    ensures later { IsLegal 2 (trefoil_block 2) (pivot_of 1 0 ∷ pivot_of 2 0 ∷ []) → ⊥ }
+    ensures third { IsLegal 2 (trefoil_block 2) (pivot_of 1 0 ∷ pivot_of 0 1 ∷ pivot_of 2 2 ∷ []) → ⊥ }
+{}
+
+/// The differential of the cube squares to zero on these blocks, also where signs matter.
+pub fn worked_blocks_square_to_zero()
+    ensures hopf { squares_to_zero 3 (block 3 hopf_link (neg_ℤ (pos 4))) ≡ true }
+    ensures lower { squares_to_zero 3 (block 3 trefoil (neg_ℤ (pos 5))) ≡ true }
+    ensures upper { squares_to_zero 5 (block 5 trefoil (neg_ℤ (pos 3))) ≡ true }
+    ensures four { squares_to_zero 3 (block 3 figure_eight (neg_ℤ (pos 1))) ≡ true }
+{}
