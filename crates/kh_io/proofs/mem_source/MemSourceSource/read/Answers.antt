@@ -1,0 +1,28 @@
+use Rattle.std.proofs.Common.{◌≡◌, ◌<◌, ◌≤◌, ◌+◌, ◌∙◌, ap, sym, min, length, take, drop, ℕ, ◌-◌, List, [], ◌++◌, arith, take-append-drop}
+use Rattle.std.proofs.lemmas.Grind.{common_steps}
+use Rattle.std.proofs.Math.Seq.{drop-drop}
+use Rattle.kh_io.proofs.mem_source.MemSourceSource.read.Goals as goal
+
+-- the bytes behind a place, as a slice has them
+slice_behind : (bytes : List ℕ) (at : ℕ) → take (length bytes - at) (drop at bytes) ≡ drop at bytes
+slice_behind bytes at = grind (arith, common_steps)
+
+-- from a place on, the bytes are those that a read gives and those that are left then
+front_given : (bytes front : List ℕ) (at n : ℕ) → front ≡ take n (take (length bytes - at) (drop at bytes))
+    → drop at bytes ≡ front ++ drop (at + n) bytes
+front_given bytes front at n given =
+    let taken : front ≡ take n (drop at bytes) = given ∙ ap (take n) (slice_behind bytes at) in
+    rw (taken, ← drop-drop n at bytes, take-append-drop)
+
+-- a read that gives none where it might give some is at the end
+end_given : (bytes : List ℕ) (at n piece room : ℕ) → 0 < piece → 0 < room
+    → n ≡ min piece (min (length (take (length bytes - at) (drop at bytes))) room) → n ≡ 0 → drop (at + n) bytes ≡ []
+end_given bytes at n piece room some space given none = grind (arith, common_steps)
+
+pub returns-clause-bytes : goal.returns-clause-bytes
+returns-clause-bytes c =
+    let bytes = c.deref-2.result.now in
+    let at = c.self.inside.at in
+    let given = c.copy_front-count.ensures in
+    rw (← c.self.view_is, ← c.deref-2.ensures.value)
+      (front_given bytes _ at _ given.front, λ none space. end_given bytes at _ _ _ c.self.invariant.some c.requires given.count none)

@@ -1,0 +1,11 @@
+use Rattle.std.proofs.Common.{◌≡◌, ◌+◌, ◌≤◌, length, take, rules}
+use Rattle.kh_io.proofs.KnownBytes.{Appends-more}
+use Rattle.kh_io.proofs.transfer.write_all.Goals as goal
+
+pub writing-preserved : goal.writing-preserved
+writing-preserved g c = record {
+  front = Appends-more _ _ _ _ _ _ c.writing.invariant.front c.in_ok-at.ensures.bytes;
+  inside = search rules;
+  later = search rules;
+  same = search rules;
+}

@@ -1,0 +1,5 @@
+pub mod Faults
+pub mod Supplies
+pub mod MemSources
+pub mod Stores
+pub mod MemSinks

@@ -1,0 +1,17 @@
+//! Bytes in and out: where they come from and go to, with a count of faults that every failure is shown by.
+#![tactic(auto)]
+
+mod mem_sink;
+mod mem_source;
+mod script;
+mod sink;
+mod source;
+mod std_edge;
+mod transfer;
+
+pub use mem_sink::MemSink;
+pub use mem_source::MemSource;
+pub use sink::Sink;
+pub use source::{Failed, Source};
+pub use std_edge::{StdSink, StdSource};
+pub use transfer::{ReadStop, read_all, write_all};

@@ -1,0 +1,27 @@
+//! Where bytes go to.
+
+ghost use Rattle.std.specs.Prelude.{ℕ, List, ◌<◌, length, IfOk};
+ghost use Rattle.std.specs.Io.{WritesAtMost};
+ghost use Rattle.std.specs.Io.KnownBytes.{WriteAppends};
+ghost use Rattle.std.specs.declared.option.Option.{Option};
+ghost use Rattle.kh_io.specs.Faults.{HasCause};
+
+use crate::source::Failed;
+
+/// Something that takes bytes, piece by piece.
+pub trait Sink {
+    /// The bytes written so far, where they are told.
+    ghost written: { Self → Option (List ℕ) };
+
+    /// How often writing has failed. It never falls, and stays at the last value of u64.
+    ghost faults: { Self → ℕ };
+
+    /// Takes bytes from the front of the piece and answers how many, at least one.
+    /// A write that failed has taken nothing, where what is written is told.
+    fn write(&mut self, piece: &[u8]) -> Result<usize, Failed>
+        requires { 0 < length piece.now }
+        ensures some { IfOk result (λ count. 0 < count) }
+        ensures bound { WritesAtMost result piece.now }
+        ensures bytes { WriteAppends (written self.old) (written self.new) result piece.now }
+        ensures cause { HasCause (faults self.old) (faults self.new) result };
+}

@@ -1,0 +1,104 @@
+//! Readers and writers of std as sources and sinks: the edge of the program, where what comes and goes is trusted.
+
+ghost use Rattle.std.specs.Prelude.{◌≡◌, ◌<◌, ◌≤◌, ◌+◌, length, IfOk, None};
+ghost use Rattle.std.specs.Io.{ReadsAtMost, WritesAtMost};
+ghost use Rattle.std.specs.Io.KnownBytes.{ReadConsumes, WriteAppends};
+ghost use Rattle.kh_io.specs.Faults.{HasCause, IsCounted};
+
+use crate::script::counted;
+use crate::sink::Sink;
+use crate::source::{Failed, Source};
+use std::io::{Read, Write};
+
+/// A reader of std as a source. It tells no bytes, and counts each error of std as a fault.
+#[derive(Drop)]
+pub struct StdSource<R: Read + Drop> {
+    reader: R,
+    faults: u64,
+}
+
+impl<R: Read + Drop> StdSource<R> {
+    /// The source over a reader, without faults so far.
+    pub fn new(reader: R) -> StdSource<R>
+        ensures { ⟦<StdSource<R> as Source>⟧.faults result ≡ 0 }
+    {
+        StdSource { reader, faults: 0 }
+    }
+}
+
+impl<R: Read + Drop> Source for StdSource<R> {
+    ghost left = { λ _. None };
+
+    ghost faults = { λ source. source.faults };
+
+    ghost reads = { λ _. 0 };
+
+    fn read(&mut self, buffer: &mut [u8]) -> Result<usize, Failed>
+        ensures bound { ReadsAtMost result buffer.new }
+        ensures bytes { ReadConsumes None None result buffer.new }
+        ensures cause { HasCause self.old.faults self.new.faults result }
+        ensures reads { 0 ≤ 0 + 1 }
+        ensures counted { IsCounted self.old.faults self.new.faults result }
+    {
+        match self.reader.read(buffer) {
+            Ok(count) => Ok(count),
+            Err(_) => {
+                self.faults = counted(self.faults);
+                Err(Failed)
+            }
+        }
+    }
+}
+
+/// A writer of std as a sink. It tells no bytes, flushes each write, and counts as a fault each error of std
+/// and each write that takes nothing.
+#[derive(Drop)]
+pub struct StdSink<W: Write + Drop> {
+    writer: W,
+    faults: u64,
+}
+
+impl<W: Write + Drop> StdSink<W> {
+    /// The sink over a writer, without faults so far.
+    pub fn new(writer: W) -> StdSink<W>
+        ensures { ⟦<StdSink<W> as Sink>⟧.faults result ≡ 0 }
+    {
+        StdSink { writer, faults: 0 }
+    }
+}
+
+impl<W: Write + Drop> Sink for StdSink<W> {
+    ghost written = { λ _. None };
+
+    ghost faults = { λ sink. sink.faults };
+
+    fn write(&mut self, piece: &[u8]) -> Result<usize, Failed>
+        ensures some { IfOk result (λ count. 0 < count) }
+        ensures bound { WritesAtMost result piece.now }
+        ensures bytes { WriteAppends None None result piece.now }
+        ensures cause { HasCause self.old.faults self.new.faults result }
+        ensures counted { IsCounted self.old.faults self.new.faults result }
+    {
+        match write_through(&mut self.writer, piece) {
+            Ok(count) => Ok(count),
+            Err(Failed) => {
+                self.faults = counted(self.faults);
+                Err(Failed)
+            }
+        }
+    }
+}
+
+// Writes once and flushes. It fails where std does, and where nothing was taken.
+fn write_through<W: Write>(writer: &mut W, piece: &[u8]) -> Result<usize, Failed>
+    ensures some { IfOk result (λ count. 0 < count) }
+    ensures bound { WritesAtMost result piece.now }
+{
+    match writer.write(piece) {
+        Ok(0) | Err(_) => Err(Failed),
+        Ok(count) => match writer.flush() {
+            Ok(()) => Ok(count),
+            Err(_) => Err(Failed),
+        },
+    }
+}
