@@ -3,3 +3,4 @@ pub mod Supplies
 pub mod MemSources
 pub mod Stores
 pub mod MemSinks
+pub mod Watches

@@ -6,8 +6,12 @@ use Rattle.kh_io.specs.declared.mem_source.MemSource.TheInside.{Inside}
 -- the bytes behind the place up to which they were read are still to come
 abbrev pub supply_of : Inside → Supply
 supply_of source = record {
-  left = drop source.at source.bytes.items; piece = source.piece; fail = source.fail.items;
-  calls = source.calls; faults = source.faults }
+  left = drop source.at source.bytes.items;
+  piece = source.piece;
+  fail = source.fail.items;
+  calls = source.calls;
+  faults = source.faults;
+}
 
 -- that place is inside the bytes, and a read may give some
 pub record IsKept (source : Inside) : Type 0 where

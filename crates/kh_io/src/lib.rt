@@ -1,12 +1,14 @@
 //! Bytes in and out: where they come from and go to, with a count of faults that every failure is shown by.
 #![tactic(auto)]
 
+mod counts;
 mod mem_sink;
 mod mem_source;
-mod script;
 mod sink;
 mod source;
 mod std_edge;
+#[cfg(test)]
+mod tests;
 mod transfer;
 
 pub use mem_sink::MemSink;

@@ -7,7 +7,7 @@ ghost use Rattle.kh_io.specs.Faults.{HasCause};
 ghost use Rattle.kh_io.specs.Supplies.{FailsNext};
 ghost use Rattle.kh_io.specs.Stores.{IsFull, first_store, store_after_write, store_after_fault, next_taken};
 
-use crate::script::{counted, is_listed};
+use crate::counts::{counted, is_listed};
 use crate::sink::Sink;
 use crate::source::Failed;
 use kh_types::NoMemory;
@@ -40,12 +40,7 @@ impl Model for MemSink {
 
 impl MemSink {
     /// An empty sink that takes `room` bytes, at most `piece` of them in a write, and fails at the writes in `fail`.
-    pub fn new(
-        alloc: Global,
-        room: usize,
-        piece: usize,
-        fail: &[u64],
-    ) -> Result<MemSink, NoMemory>
+    pub fn new(alloc: Global, room: usize, piece: usize, fail: &[u64]) -> Result<MemSink, NoMemory>
         requires { 0 < piece }
         ensures { IfOk result (λ sink. sink ≡ first_store room piece fail.now) }
     {

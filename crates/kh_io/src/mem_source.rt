@@ -6,7 +6,7 @@ ghost use Rattle.std.specs.Io.KnownBytes.{ReadConsumes};
 ghost use Rattle.kh_io.specs.Faults.{HasCause};
 ghost use Rattle.kh_io.specs.Supplies.{FailsNext, first_supply, supply_after_read, supply_after_fault, next_piece};
 
-use crate::script::{counted, is_listed};
+use crate::counts::{counted, is_listed};
 use crate::source::{Failed, Source};
 use kh_types::NoMemory;
 use std::alloc::Global;

@@ -1,14 +1,15 @@
 //! Readers and writers of std as sources and sinks: the edge of the program, where what comes and goes is trusted.
 
-ghost use Rattle.std.specs.Prelude.{◌≡◌, ◌<◌, ◌≤◌, ◌+◌, length, IfOk, None};
+ghost use Rattle.std.specs.Prelude.{◌≡◌, ◌<◌, ◌≤◌, ◌+◌, length, take, IfOk, None};
 ghost use Rattle.std.specs.Io.{ReadsAtMost, WritesAtMost};
-ghost use Rattle.std.specs.Io.KnownBytes.{ReadConsumes, WriteAppends};
+ghost use Rattle.std.specs.Io.KnownBytes.{ReadConsumes, Appends};
 ghost use Rattle.kh_io.specs.Faults.{HasCause, IsCounted};
 
-use crate::script::counted;
+use crate::counts::counted;
 use crate::sink::Sink;
 use crate::source::{Failed, Source};
 use std::io::{Read, Write};
+use std::marker::Model;
 
 /// A reader of std as a source. It tells no bytes, and counts each error of std as a fault.
 #[derive(Drop)]
@@ -17,10 +18,18 @@ pub struct StdSource<R: Read + Drop> {
     faults: u64,
 }
 
+impl<R: Read + Drop> Model for StdSource<R> {
+    ghost use Rattle.kh_io.specs.Watches.{Watch};
+
+    ghost Value = { Watch R };
+
+    ghost view = { λ watch. record { inner = watch.reader; faults = watch.faults } };
+}
+
 impl<R: Read + Drop> StdSource<R> {
     /// The source over a reader, without faults so far.
     pub fn new(reader: R) -> StdSource<R>
-        ensures { ⟦<StdSource<R> as Source>⟧.faults result ≡ 0 }
+        ensures { result ≡ record { inner = reader; faults = 0 } }
     {
         StdSource { reader, faults: 0 }
     }
@@ -35,9 +44,9 @@ impl<R: Read + Drop> Source for StdSource<R> {
 
     fn read(&mut self, buffer: &mut [u8]) -> Result<usize, Failed>
         ensures bound { ReadsAtMost result buffer.new }
-        ensures bytes { ReadConsumes None None result buffer.new }
+        ensures inner { ReadConsumes (R.remaining self.old.inner) (R.remaining self.new.inner)
+            result buffer.new }
         ensures cause { HasCause self.old.faults self.new.faults result }
-        ensures reads { 0 ≤ 0 + 1 }
         ensures counted { IsCounted self.old.faults self.new.faults result }
     {
         match self.reader.read(buffer) {
@@ -58,10 +67,18 @@ pub struct StdSink<W: Write + Drop> {
     faults: u64,
 }
 
+impl<W: Write + Drop> Model for StdSink<W> {
+    ghost use Rattle.kh_io.specs.Watches.{Watch};
+
+    ghost Value = { Watch W };
+
+    ghost view = { λ watch. record { inner = watch.writer; faults = watch.faults } };
+}
+
 impl<W: Write + Drop> StdSink<W> {
     /// The sink over a writer, without faults so far.
     pub fn new(writer: W) -> StdSink<W>
-        ensures { ⟦<StdSink<W> as Sink>⟧.faults result ≡ 0 }
+        ensures { result ≡ record { inner = writer; faults = 0 } }
     {
         StdSink { writer, faults: 0 }
     }
@@ -75,7 +92,8 @@ impl<W: Write + Drop> Sink for StdSink<W> {
     fn write(&mut self, piece: &[u8]) -> Result<usize, Failed>
         ensures some { IfOk result (λ count. 0 < count) }
         ensures bound { WritesAtMost result piece.now }
-        ensures bytes { WriteAppends None None result piece.now }
+        ensures inner { IfOk result (λ count.
+            Appends (W.contents self.old.inner) (W.contents self.new.inner) (take count piece.now)) }
         ensures cause { HasCause self.old.faults self.new.faults result }
         ensures counted { IsCounted self.old.faults self.new.faults result }
     {
@@ -93,6 +111,8 @@ impl<W: Write + Drop> Sink for StdSink<W> {
 fn write_through<W: Write>(writer: &mut W, piece: &[u8]) -> Result<usize, Failed>
     ensures some { IfOk result (λ count. 0 < count) }
     ensures bound { WritesAtMost result piece.now }
+    ensures bytes { IfOk result (λ count.
+        Appends (W.contents writer.old) (W.contents writer.new) (take count piece.now)) }
 {
     match writer.write(piece) {
         Ok(0) | Err(_) => Err(Failed),

@@ -1,4 +1,4 @@
-use Rattle.std.proofs.Common.{◌≡◌, ◌+◌, ◌≤◌, length, take, rules}
+use Rattle.std.proofs.Common.{rules}
 use Rattle.kh_io.proofs.KnownBytes.{Appends-more}
 use Rattle.kh_io.proofs.transfer.write_all.Goals as goal
 

@@ -1,4 +1,4 @@
-use Rattle.std.proofs.Common.{◌≡◌, ◌<◌, ◌≤◌, ◌+◌, ◌∙◌, ap, sym, min, length, take, drop, ℕ, ◌-◌, List, [], ◌++◌, arith, take-append-drop}
+use Rattle.std.proofs.Common.{◌≡◌, ◌<◌, ◌+◌, ◌∙◌, ap, min, length, take, drop, ℕ, ◌-◌, List, [], ◌++◌, arith, take-append-drop}
 use Rattle.std.proofs.lemmas.Grind.{common_steps}
 use Rattle.std.proofs.Math.Seq.{drop-drop}
 use Rattle.kh_io.proofs.mem_source.MemSourceSource.read.Goals as goal
@@ -25,4 +25,4 @@ returns-clause-bytes c =
     let at = c.self.inside.at in
     let given = c.copy_front-count.ensures in
     rw (← c.self.view_is, ← c.deref-2.ensures.value)
-      (front_given bytes _ at _ given.front, λ none space. end_given bytes at _ _ _ c.self.invariant.some c.requires given.count none)
+    (front_given bytes _ at _ given.front, λ none space. end_given bytes at _ _ _ c.self.invariant.some c.requires given.count none)
