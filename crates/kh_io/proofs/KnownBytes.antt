@@ -1,9 +1,9 @@
 -- What calls that follow each other do to the bytes that are left to read, or written, where these are told.
-use Rattle.std.proofs.Common.{◌≡◌, ℕ, ◌+◌, ◌-◌, List, [], ◌++◌, length, take, drop, refl, sym, ap, ◌∙◌, append_assoc, append-nil, None, Some, arith}
+use Rattle.std.proofs.Common.{◌≡◌, ℕ, ◌+◌, ◌-◌, ◌≤◌, IfSome, List, [], ◌++◌, length, take, drop, refl, sym, ap, ◌∙◌, append_assoc, append-nil, None, Some, arith}
 use Rattle.std.proofs.Math.Seq.{take-add}
 use Rattle.std.proofs.lemmas.Grind.{common_steps}
 use Rattle.std.specs.declared.option.Option.{Option}
-use Rattle.std.specs.Io.KnownBytes.{Consumes, Appends, Keeps}
+use Rattle.std.specs.Io.KnownBytes.{Consumes, Appends, Keeps, IsAtEnd}
 
 pub Consumes-nil : (a : Option (List ℕ)) → Consumes a a []
 Consumes-nil None = tt
@@ -47,3 +47,15 @@ pub Appends-more : (a b c : Option (List ℕ)) (bytes : List ℕ) (at n : ℕ) �
 Appends-more a b c bytes at n before next =
     let rest : take (length bytes - at) (drop at bytes) ≡ drop at bytes = grind (arith, common_steps) in
     rw take-add (Appends-trans a b c _ _ before (rw rest at next))
+
+-- no more bytes are taken than are left
+pub Consumes-length : (a b : Option (List ℕ)) (bs : List ℕ) → Consumes a b bs → IfSome a (λ left. length bs ≤ length left)
+Consumes-length None b bs p = tt
+Consumes-length (Some x) None bs p = absurd p
+Consumes-length (Some x) (Some y) bs p = grind (arith, common_steps)
+
+-- bytes that are taken up to the end are all that were left
+pub Consumes-whole : (a b : Option (List ℕ)) (bs : List ℕ) → Consumes a b bs → IsAtEnd b → IfSome a (λ left. bs ≡ left)
+Consumes-whole None b bs p end = tt
+Consumes-whole (Some x) None bs p end = absurd p
+Consumes-whole (Some x) (Some y) bs p end = sym (p ∙ ap (λ l. bs ++ l) end ∙ append-nil bs)

@@ -13,20 +13,32 @@ pub record Supply : Type 0 where
 
 -- the source before its first read
 abbrev pub first_supply : List ℕ → ℕ → List ℕ → Supply
-first_supply bytes piece fail = record { left = bytes; piece = piece; fail = fail; calls = 0; faults = 0 }
+first_supply bytes piece fail = record {
+  left = bytes;
+  piece = piece;
+  fail = fail;
+  calls = 0;
+  faults = 0;
+}
 
 -- the call that follows so many calls is one of those that fail
 abbrev pub FailsNext : List ℕ → ℕ → Type 0
 FailsNext fail calls = Contains fail (next_count calls)
 
--- how many bytes the next read gives into a buffer of this length: a piece, if so many are left and have room
+-- how many bytes the next read gives into so much room: a piece, if so many are left and have room
 abbrev pub next_piece : Supply → ℕ → ℕ
 next_piece supply room = min supply.piece (min (length supply.left) room)
 
 -- the source after a read that gave so many bytes
 abbrev pub supply_after_read : Supply → ℕ → Supply
-supply_after_read supply count = record supply { left = drop count supply.left; calls = next_count supply.calls }
+supply_after_read supply count = record supply {
+  left = drop count supply.left;
+  calls = next_count supply.calls;
+}
 
 -- the source after a read that failed
 abbrev pub supply_after_fault : Supply → Supply
-supply_after_fault supply = record supply { calls = next_count supply.calls; faults = next_count supply.faults }
+supply_after_fault supply = record supply {
+  calls = next_count supply.calls;
+  faults = next_count supply.faults;
+}

@@ -1,4 +1,4 @@
-//! Bytes in and out: where they come from and go to, with a count of faults that every failure is shown by.
+//! Bytes in and out: where they come from, where they go, and a count of faults that shows each failure.
 #![tactic(auto)]
 
 mod counts;

@@ -14,7 +14,7 @@ use kh_types::NoMemory;
 use std::alloc::Global;
 use std::marker::Model;
 
-/// A sink that keeps what is written, at most so much in all and in a write, and fails where it was told to.
+/// A sink that keeps what is written, at most so much in all and in a write, and fails where told.
 /// Contracts see it as a `Store`. Writes are numbered from 1, and take no memory.
 #[derive(Debug, Drop)]
 pub struct MemSink {
@@ -39,7 +39,8 @@ impl Model for MemSink {
 }
 
 impl MemSink {
-    /// An empty sink that takes `room` bytes, at most `piece` of them in a write, and fails at the writes in `fail`.
+    /// The empty sink that has room for `room` bytes and takes at most `piece` of them in a write.
+    /// The writes whose numbers stand in `fail` fail.
     pub fn new(alloc: Global, room: usize, piece: usize, fail: &[u64]) -> Result<MemSink, NoMemory>
         requires { 0 < piece }
         ensures { IfOk result (λ sink. sink ≡ first_store room piece fail.now) }
@@ -71,11 +72,13 @@ impl Sink for MemSink {
         requires { 0 < length piece.now }
         ensures some { IfOk result (λ count. 0 < count) }
         ensures bound { WritesAtMost result piece.now }
-        ensures bytes { WriteAppends (Some self.old.written) (Some self.new.written) result piece.now }
+        ensures bytes { WriteAppends (Some self.old.written) (Some self.new.written)
+            result piece.now }
         ensures cause { HasCause self.old.faults self.new.faults result }
         ensures fails { IsErr result ↔ (FailsNext self.old.fail self.old.calls ⊎ IsFull self.old) }
         ensures taken { IfOk result (λ count. count ≡ next_taken self.old (length piece.now)) }
-        ensures after { IfOk result (λ count. self.new ≡ store_after_write self.old (take count piece.now)) }
+        ensures after { IfOk result (λ count.
+            self.new ≡ store_after_write self.old (take count piece.now)) }
         ensures failed { OnErr result (self.new ≡ store_after_fault self.old) }
     {
         self.calls = counted(self.calls);

@@ -12,7 +12,7 @@ use kh_types::NoMemory;
 use std::alloc::Global;
 use std::marker::Model;
 
-/// A source that gives the bytes it was made of, at most so many in a read, and fails where it was told to.
+/// A source that gives the bytes it was made of, at most so many in a read, and fails where told.
 /// Contracts see it as a `Supply`. Reads are numbered from 1.
 #[derive(Debug, Drop)]
 pub struct MemSource {
@@ -37,7 +37,8 @@ impl Model for MemSource {
 }
 
 impl MemSource {
-    /// The source of these bytes, which gives at most `piece` of them in a read and fails at the reads in `fail`.
+    /// The source of these bytes, which gives at most `piece` of them in a read.
+    /// The reads whose numbers stand in `fail` fail.
     pub fn new(
         alloc: Global,
         bytes: &[u8],

@@ -18,10 +18,10 @@ pub trait Source {
     /// How often reading has failed. It never falls, and stays at the last value of u64.
     ghost faults: { Self → ℕ };
 
-    /// A count of the reads, whichever the source keeps.
+    /// A count that a read raises by one at most. What bounds it bounds the number of reads.
     ghost reads: { Self → ℕ };
 
-    /// Puts bytes at the front of the buffer and answers how many; none are left to come where it answers 0.
+    /// Puts bytes at the front of the buffer and answers how many, 0 only at the end.
     /// A read that failed has taken nothing.
     fn read(&mut self, buffer: &mut [u8]) -> Result<usize, Failed>
         requires { 0 < length buffer.old }

@@ -1,4 +1,5 @@
-//! Readers and writers of std as sources and sinks: the edge of the program, where what comes and goes is trusted.
+//! Readers and writers of std as sources and sinks: the edge of the program.
+//! What a terminal or a file gives and takes is trusted; what std promises of a reader or a writer is kept.
 
 ghost use Rattle.std.specs.Prelude.{◌≡◌, ◌<◌, ◌≤◌, ◌+◌, length, take, IfOk, None};
 ghost use Rattle.std.specs.Io.{ReadsAtMost, WritesAtMost};
@@ -59,8 +60,8 @@ impl<R: Read + Drop> Source for StdSource<R> {
     }
 }
 
-/// A writer of std as a sink. It tells no bytes, flushes each write, and counts as a fault each error of std
-/// and each write that takes nothing.
+/// A writer of std as a sink. It tells no bytes and flushes each write.
+/// It counts as a fault each error of std, and each write that takes nothing.
 #[derive(Drop)]
 pub struct StdSink<W: Write + Drop> {
     writer: W,
@@ -92,8 +93,8 @@ impl<W: Write + Drop> Sink for StdSink<W> {
     fn write(&mut self, piece: &[u8]) -> Result<usize, Failed>
         ensures some { IfOk result (λ count. 0 < count) }
         ensures bound { WritesAtMost result piece.now }
-        ensures inner { IfOk result (λ count.
-            Appends (W.contents self.old.inner) (W.contents self.new.inner) (take count piece.now)) }
+        ensures inner { IfOk result (λ count. Appends
+            (W.contents self.old.inner) (W.contents self.new.inner) (take count piece.now)) }
         ensures cause { HasCause self.old.faults self.new.faults result }
         ensures counted { IsCounted self.old.faults self.new.faults result }
     {
@@ -111,8 +112,8 @@ impl<W: Write + Drop> Sink for StdSink<W> {
 fn write_through<W: Write>(writer: &mut W, piece: &[u8]) -> Result<usize, Failed>
     ensures some { IfOk result (λ count. 0 < count) }
     ensures bound { WritesAtMost result piece.now }
-    ensures bytes { IfOk result (λ count.
-        Appends (W.contents writer.old) (W.contents writer.new) (take count piece.now)) }
+    ensures bytes { IfOk result (λ count. Appends
+        (W.contents writer.old) (W.contents writer.new) (take count piece.now)) }
 {
     match writer.write(piece) {
         Ok(0) | Err(_) => Err(Failed),

@@ -1,6 +1,6 @@
 //! Reading a source to its end, and writing bytes whole.
 
-ghost use Rattle.std.specs.Prelude.{◌≡◌, ℕ, ◌+◌, ◌<◌, ◌≤◌, ◌↔◌, List, length, take, IfOk, OnOk, IsOk, IfSome, Err};
+ghost use Rattle.std.specs.Prelude.{◌≡◌, ℕ, ◌+◌, ◌<◌, ◌≤◌, ◌↔◌, List, [], length, take, IfOk, OnOk, IsOk, IfSome, Err};
 ghost use Rattle.std.specs.Io.KnownBytes.{Consumes, Appends, IsAtEnd};
 ghost use Rattle.kh_io.specs.Faults.{Rose, HasCause};
 
@@ -40,18 +40,18 @@ impl From<AllocError> for ReadStop {
     }
 }
 
-/// All bytes of a source. It stops at the first fault, and as soon as it has read more bytes than an input may have.
+/// All bytes of a source. It stops at the first fault, and where the bytes are more than an input may have.
 pub fn read_all<S: Source>(alloc: Global, source: &mut S) -> Result<Vec<u8>, ReadStop>
     ensures bytes { IfOk result (λ bytes. IfSome (S.left source.old) (λ all. bytes.items ≡ all)) }
     ensures end { OnOk result (IsAtEnd (S.left source.new)) }
     ensures size { IfOk result (λ bytes. length bytes.items ≤ INPUT_BYTES) }
-    // What was taken from the source is more than an input may have exactly where the answer says so.
+    // More bytes than an input may have are taken exactly where the answer says so.
     ensures taken { (front : List ℕ) × Consumes (S.left source.old) (S.left source.new) front
         × (result ≡ Err ReadStop.ByteLimit ↔ (INPUT_BYTES < length front)) }
     ensures fault { result ≡ Err ReadStop.Fault → Rose (S.faults source.old) (S.faults source.new) }
     ensures later { S.faults source.old ≤ S.faults source.new }
-    ensures turns { S.reads source.new ≤ S.reads source.old + (INPUT_BYTES + 1) }
-    ensures turns_ok { IfOk result (λ bytes.
+    ensures reads { S.reads source.new ≤ S.reads source.old + (INPUT_BYTES + 1) }
+    ensures reads_to_end { IfOk result (λ bytes.
         S.reads source.new ≤ S.reads source.old + (length bytes.items + 1)) }
 {
     let mut bytes = Vec::new(alloc);
@@ -73,7 +73,7 @@ pub fn write_all<K: Sink>(sink: &mut K, bytes: &[u8]) -> Result<(), Failed>
     ensures whole { OnOk result (Appends (K.written sink.old) (K.written sink.new) bytes.now) }
     ensures front { (n : ℕ) × Appends (K.written sink.old) (K.written sink.new) (take n bytes.now) }
     ensures cause { HasCause (K.faults sink.old) (K.faults sink.new) result }
-    ensures empty { length bytes.now ≡ 0 → IsOk result × (sink.new ≡ sink.old) }
+    ensures empty { bytes.now ≡ [] → IsOk result × (sink.new ≡ sink.old) }
 {
     let mut at = 0;
     'writing: while at < bytes.len() {
