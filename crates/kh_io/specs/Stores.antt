@@ -27,7 +27,7 @@ first_store room piece fail = record {
 abbrev pub IsFull : Store → Type 0
 IsFull store = store.room ≤ length store.written
 
--- how many of so many bytes the next write takes: a piece, if so many come and have room
+-- how many of so many bytes the next write takes: the least of a piece, the room left, the bytes
 abbrev pub next_taken : Store → ℕ → ℕ
 next_taken store count = min store.piece (min (store.room - length store.written) count)
 

@@ -25,7 +25,7 @@ first_supply bytes piece fail = record {
 abbrev pub FailsNext : List ℕ → ℕ → Type 0
 FailsNext fail calls = Contains fail (next_count calls)
 
--- how many bytes the next read gives into so much room: a piece, if so many are left and have room
+-- how many bytes the next read gives into so much room: the least of a piece, what is left, the room
 abbrev pub next_piece : Supply → ℕ → ℕ
 next_piece supply room = min supply.piece (min (length supply.left) room)
 

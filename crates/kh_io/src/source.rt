@@ -6,7 +6,7 @@ ghost use Rattle.std.specs.Io.KnownBytes.{ReadConsumes};
 ghost use Rattle.std.specs.declared.option.Option.{Option};
 ghost use Rattle.kh_io.specs.Faults.{HasCause};
 
-/// A read or a write failed. The count of faults shows it, and nothing was taken or given.
+/// A read or a write failed. The count of faults of its source or sink shows it.
 #[derive(Clone, Copy, Debug, PartialEq, Eq)]
 pub struct Failed;
 
