@@ -1,13 +1,14 @@
 -- What a text reads as.
 use Rattle.std.specs.Prelude.{ℕ, nat_le, nat_lt, if◌then◌else◌, Bool, true, false, List, [], ◌∷◌, length, Option, None, Some, Result, Ok, Err, ℤ, pos, negsuc}
-use Rattle.std.specs.List.{list_any, flat_map}
+use Rattle.std.specs.List.{list_any, filter_map}
 use Rattle.kh_types.specs.Code.{Code}
 use Rattle.pd_code.specs.declared.token.LexStop.{LexStop}
+use Rattle.pd_code.specs.declared.token.LexStop.TheVariants as faults
 use Rattle.pd_code.specs.declared.token.Token.{Token}
 use Rattle.pd_code.specs.declared.item.Item.{Item}
 use Rattle.pd_code.specs.declared.item.Item.TheVariants.{Crossing, Loop}
-use Rattle.pd_code.specs.declared.reader.PdStop.{PdStop}
-use Rattle.pd_code.specs.declared.reader.PdStop.TheVariants.{Text, NotBuilt, CrossingLimit}
+use Rattle.pd_code.specs.declared.stop.PdStop.{PdStop}
+use Rattle.pd_code.specs.declared.stop.PdStop.TheVariants.{Text, NotBuilt, CrossingLimit, NoMemory}
 use Rattle.pd_code.specs.Tokens.{tokens_of}
 use Rattle.pd_code.specs.Symbols.{symbols_of}
 use Rattle.pd_code.specs.Machine.{items_of}
@@ -18,13 +19,13 @@ arc_of (pos n) = if nat_le n 255 then n else 0
 arc_of (negsuc n) = 0
 
 -- the crossing that an item is, if it is one
-abbrev pub crossing_of : Item → List (List ℕ)
-crossing_of (Crossing i j k l) = (arc_of i ∷ arc_of j ∷ arc_of k ∷ arc_of l ∷ []) ∷ []
-crossing_of (Loop n) = []
+abbrev pub crossing_of : Item → Option (List ℕ)
+crossing_of (Crossing i j k l) = Some (arc_of i ∷ arc_of j ∷ arc_of k ∷ arc_of l ∷ [])
+crossing_of (Loop n) = None
 
 -- the crossings among items, in order
 abbrev pub crossings_of : List Item → List (List ℕ)
-crossings_of items = flat_map crossing_of items
+crossings_of items = filter_map crossing_of items
 
 -- an item is a loop
 abbrev pub is_loop : Item → Bool
@@ -38,15 +39,21 @@ code_of items =
     else if nat_lt 4 (length (crossings_of items)) then Err (CrossingLimit (length (crossings_of items)))
     else Ok (record { crossings = crossings_of items; loops = 0 })
 
+-- what a fault of the tokens is for the text
+abbrev pub stop_of : LexStop → PdStop
+stop_of (faults.Bad place) = Text
+stop_of (faults.Number place) = Text
+stop_of faults.NoMemory = NoMemory
+
 -- what symbols read as: the code of the items that they spell, and Text where they spell none
 abbrev pub code_of_symbols : Option (List Item) → Result Code PdStop
 code_of_symbols (Some items) = code_of items
 code_of_symbols None = Err Text
 
--- what the tokens of a text read as, and Text where it has none
+-- what the tokens of a text read as, and Text where a fault stands in their place
 abbrev pub code_of_tokens : List ℕ → Result (List Token) LexStop → Result Code PdStop
 code_of_tokens text (Ok tokens) = code_of_symbols (items_of (symbols_of text tokens))
-code_of_tokens text (Err stop) = Err Text
+code_of_tokens text (Err stop) = Err (stop_of stop)
 
 -- what a text reads as: the code of the items that it spells, and Text where it spells none
 unfoldable pub reading : List ℕ → Result Code PdStop

@@ -1,5 +1,5 @@
 -- The tokens of a text: longest runs of letters, numbers and five marks, with white space between them (this project's rule).
-use Rattle.std.specs.Prelude.{ℕ, zero, suc, ◌+◌, ◌-◌, ◌*◌, ◌==◌, ◌||◌, nat_lt, Bool, if◌then◌else◌, List, [], ◌∷◌, ◌++◌, length, drop, slice_index, Option, None, Some, Result, Ok, Err, ℤ, pos, neg_ℤ}
+use Rattle.std.specs.Prelude.{ℕ, zero, suc, ◌+◌, ◌-◌, ◌≤◌, ◌*◌, ◌==◌, ◌||◌, nat_lt, Bool, if◌then◌else◌, List, [], ◌∷◌, ◌++◌, length, drop, slice_index, Option, None, Some, Result, Ok, Err, ℤ, pos, neg_ℤ}
 use Rattle.std.specs.Char.{is_ascii_alphabetic, is_ascii_digit}
 use Rattle.std.specs.Option.{option_map_or, option_to_list}
 use Rattle.std.specs.Result.{result_map_both}
@@ -107,3 +107,7 @@ tokens_within (suc steps) place (byte ∷ bytes) =
 -- the tokens of a text in order, or its first fault; no text has more pieces than bytes
 abbrev pub tokens_of : List ℕ → Result (List Token) LexStop
 tokens_of text = tokens_within (length text) 0 text
+
+-- a token ends within a text of some length
+abbrev pub EndsWithin : ℕ → Token → Type 0
+EndsWithin size token = token.place + token.length ≤ size

@@ -1,9 +1,44 @@
 //! What a planar diagram text lists.
 
+ghost use Rattle.std.specs.Prelude.{◌≡◌};
+ghost use Rattle.pd_code.specs.Reading.{arc_of, crossing_of, is_loop};
+
+use kh_types::Crossing;
+
 /// A crossing by the numbers of its arcs, counterclockwise from the incoming under arc, or a crossingless loop by its number.
 /// Source: Knot Atlas, "Planar Diagrams"; the loops are this project's rule.
 #[derive(Clone, Copy, Debug, PartialEq, Eq)]
 pub enum Item {
     Crossing(i32, i32, i32, i32),
     Loop(i32),
+}
+
+/// Whether an item is a loop.
+pub fn is_loop(item: &Item) -> bool
+    ensures { result ≡ is_loop item.now }
+{
+    match item {
+        Item::Crossing(..) => false,
+        Item::Loop(_) => true,
+    }
+}
+
+/// The crossing that an item is, if it is one.
+pub fn crossing_of(item: &Item) -> Option<Crossing>
+    ensures { result ≡ crossing_of item.now }
+{
+    match *item {
+        Item::Crossing(i, j, k, l) => Some(Crossing([arc_of(i), arc_of(j), arc_of(k), arc_of(l)])),
+        Item::Loop(_) => None,
+    }
+}
+
+// The arc that a number names.
+fn arc_of(number: i32) -> u8
+    ensures { result ≡ arc_of number }
+{
+    match number {
+        0..=255 => number as u8,
+        _ => 0,
+    }
 }

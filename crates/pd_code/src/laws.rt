@@ -3,7 +3,7 @@
 ghost use Rattle.std.specs.Prelude.{◌≡◌, [], ◌∷◌, codes, Ok, Err};
 ghost use Rattle.pd_code.specs.Reading.{reading};
 
-use crate::reader::PdStop;
+use crate::stop::PdStop;
 
 /// What some texts read as: the trefoil, texts with a loop, with nothing, cut off, with numbers that are too great.
 pub fn worked_texts()

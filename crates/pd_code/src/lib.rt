@@ -3,13 +3,17 @@
 
 mod item;
 mod laws;
+mod lexer;
 mod machine;
 mod reader;
+mod stop;
 mod symbol;
 mod token;
 
 pub use item::Item;
 pub use laws::worked_texts;
-pub use reader::{CROSSING_LIMIT, PdStop};
+pub use lexer::tokens;
+pub use reader::{read_pd, CROSSING_LIMIT};
+pub use stop::PdStop;
 pub use symbol::Symbol;
 pub use token::{Kind, LexStop, Token};

@@ -1,5 +1,16 @@
 //! The machine that reads symbols one after another, in one pass.
 
+ghost use Rattle.std.specs.Prelude.{◌≡◌, ◌≢◌, ◌<◌, ◌≤◌, ◌++◌, All, IfErr, IfOk, OnOk, OnErr, Ok, Err, Some, None, length, vec_len, Option, IsSome};
+ghost use Rattle.pd_code.specs.Tokens.{EndsWithin};
+ghost use Rattle.pd_code.specs.Symbols.{symbols_of};
+ghost use Rattle.pd_code.specs.Machine.{added, items_of, step};
+
+use crate::item::Item;
+use crate::stop::PdStop;
+use crate::symbol::{symbol_of, Symbol};
+use crate::token::Token;
+use std::alloc::{AllocFailed, Global};
+
 /// Where the machine stands, and what it has read of the present item.
 #[derive(Clone, Copy, Debug, PartialEq, Eq)]
 pub enum State {
@@ -35,4 +46,66 @@ pub enum State {
     LoopOpen,
     /// After the number of a loop.
     LoopNumber(i32),
+}
+
+/// The items that the tokens of a text spell, and Text where they spell none.
+pub fn items_of(alloc: Global, text: &[u8], tokens: &[Token]) -> Result<Vec<Item>, PdStop>
+    requires { All (EndsWithin (length text.now)) tokens.now }
+    ensures ok { IfOk result (λ items.
+        items_of (symbols_of text.now tokens.now) ≡ Some items.items) }
+    ensures fault { IfErr result (λ stop. stop ≢ PdStop.NoMemory →
+        (stop ≡ PdStop.Text) × (items_of (symbols_of text.now tokens.now) ≡ None)) }
+    ensures few { IfOk result (λ items. vec_len items ≤ length tokens.now) }
+{
+    let mut items = Vec::new(alloc);
+    let mut state = State::Start;
+    for token in tokens {
+        let symbol = symbol_of(text, token);
+        let Some(next) = next_state(state, symbol) else {
+            return Err(PdStop::Text);
+        };
+        push_ended(&mut items, state)?;
+        state = next;
+    }
+    match state {
+        State::Done => Ok(items),
+        _ => Err(PdStop::Text),
+    }
+}
+
+// Where a symbol leads from a state, if the grammar has it there.
+fn next_state(state: State, symbol: Symbol) -> Option<State>
+    ensures { result ≡ step state symbol }
+{
+    match (state, symbol) {
+        (State::Start, Symbol::Pd) => Some(State::Named),
+        (State::Named, Symbol::LeftBracket) => Some(State::Open),
+        (State::Open | State::Separated, Symbol::X) => Some(State::Crossing),
+        (State::Open | State::Separated, Symbol::Loop) => Some(State::Loop),
+        (State::Open | State::Listed, Symbol::RightBracket) => Some(State::Done),
+        (State::Listed, Symbol::Comma) => Some(State::Separated),
+        (State::Crossing, Symbol::LeftBracket) => Some(State::CrossingOpen),
+        (State::CrossingOpen, Symbol::Number(i)) => Some(State::First(i)),
+        (State::First(i), Symbol::Comma) => Some(State::FirstComma(i)),
+        (State::FirstComma(i), Symbol::Number(j)) => Some(State::Second(i, j)),
+        (State::Second(i, j), Symbol::Comma) => Some(State::SecondComma(i, j)),
+        (State::SecondComma(i, j), Symbol::Number(k)) => Some(State::Third(i, j, k)),
+        (State::Third(i, j, k), Symbol::Comma) => Some(State::ThirdComma(i, j, k)),
+        (State::ThirdComma(i, j, k), Symbol::Number(l)) => Some(State::Fourth(i, j, k, l)),
+        (State::Loop, Symbol::LeftBracket) => Some(State::LoopOpen),
+        (State::LoopOpen, Symbol::Number(n)) => Some(State::LoopNumber(n)),
+        (State::Fourth(..) | State::LoopNumber(_), Symbol::RightBracket) => Some(State::Listed),
+        _ => None,
+    }
+}
+
+// Adds the item that ends as a state is left, if one does.
+fn push_ended(items: &mut Vec<Item>, state: State) -> Result<(), AllocFailed<Item>>
+    ensures ok { OnOk result (items.new.items ≡ added state items.old.items) }
+{
+    match state {
+        State::Fourth(i, j, k, l) => items.push(Item::Crossing(i, j, k, l)),
+        State::LoopNumber(n) => items.push(Item::Loop(n)),
+        _ => Ok(()),
+    }
 }

@@ -1,17 +1,90 @@
 //! Reads the code of a diagram from a planar diagram text.
 
+ghost use Rattle.std.specs.Prelude.{◌≡◌, ◌≢◌, ◌+◌, ◌++◌, ◌<◌, ◌≤◌, ℕ, List, Err, length};
+ghost use Rattle.std.specs.List.{list_any};
+ghost use Rattle.std.specs.Option.{option_to_list};
+ghost use Rattle.pd_code.specs.Grammar.{Spells};
+ghost use Rattle.pd_code.specs.Reading.{code_of, crossing_of, crossings_of, is_loop, reading};
+ghost use Rattle.pd_code.specs.declared.item.Item.{Item};
+
+use crate::item::{crossing_of, is_loop, Item};
+use crate::lexer::tokens;
+use crate::machine::items_of;
+use crate::stop::PdStop;
+use arrayvec::ArrayVec;
+use kh_types::{Crossing, RawCode, CROSSINGS, INPUT_BYTES};
+use std::alloc::Global;
+
 /// The most crossings of a text that is read. This project's rule, until greater diagrams are computed.
 pub const CROSSING_LIMIT: usize = 4;
 
-/// Why no code was read from a text. Each stands for a text that none of those before it stands for.
-#[derive(Clone, Copy, Debug, PartialEq, Eq)]
-pub enum PdStop {
-    /// The text is none of the grammar.
-    Text,
-    /// The text has a crossingless loop, which is not built.
-    NotBuilt,
-    /// The text has `count` crossings, and these are above the limit.
-    CrossingLimit { count: u32 },
-    /// There was no memory, whatever the text is.
-    NoMemory,
+/// Reads a planar diagram text. An arc number below 0 or above 255 is read as 0, which is no arc.
+/// Source: Knot Atlas, "Planar Diagrams"; the loops and the limits are this project's rule.
+pub fn read_pd(alloc: Global, text: &[u8]) -> Result<RawCode, PdStop>
+    requires { length text.now ≤ INPUT_BYTES }
+    ensures read { result ≢ Err PdStop.NoMemory → result ≡ reading text.now }
+    ensures spelled { result ≢ Err PdStop.NoMemory → result ≢ Err PdStop.Text →
+        (items : List Item) × Spells text.now items × (result ≡ code_of items) }
+    ensures unspelled { result ≡ Err PdStop.Text → (items : List Item) → ¬ Spells text.now items }
+{
+    let tokens = tokens(alloc, text)?;
+    let items = items_of(alloc, text, &tokens)?;
+    code_of(&items)
+}
+
+// The code of the items that a text spells.
+fn code_of(items: &[Item]) -> Result<RawCode, PdStop>
+    requires { length items.now ≤ INPUT_BYTES }
+    ensures { result ≡ code_of items.now }
+{
+    if has_loop(items) {
+        return Err(PdStop::NotBuilt);
+    }
+    let count = crossing_count(items);
+    if count > CROSSING_LIMIT {
+        return Err(PdStop::CrossingLimit {
+            count: count as u32,
+        });
+    }
+    Ok(RawCode {
+        crossings: crossings_of(items),
+        loops: 0,
+    })
+}
+
+// Whether one of the items is a loop.
+fn has_loop(items: &[Item]) -> bool
+    ensures { result ≡ list_any is_loop items.now }
+{
+    items.iter().any(is_loop)
+}
+
+// The number of crossings among items.
+fn crossing_count(items: &[Item]) -> usize
+    ensures count { result ≡ length (crossings_of items.now) }
+    ensures within { result ≤ length items.now }
+{
+    items.iter().filter_map(crossing_of).count()
+}
+
+// The crossings among items, of which there are few enough.
+fn crossings_of(items: &[Item]) -> ArrayVec<Crossing, CROSSINGS>
+    requires { length (crossings_of items.now) ≤ CROSSINGS }
+    ensures { result.items ≡ crossings_of items.now }
+{
+    let mut crossings = ArrayVec::new();
+    for item in items {
+        push_crossing(&mut crossings, item);
+    }
+    crossings
+}
+
+// Adds the crossing that an item is, if it is one.
+fn push_crossing(crossings: &mut ArrayVec<Crossing, CROSSINGS>, item: &Item)
+    requires { length (crossings.old.items ++ option_to_list (crossing_of item.now)) ≤ CROSSINGS }
+    ensures { crossings.new.items ≡ crossings.old.items ++ option_to_list (crossing_of item.now) }
+{
+    if let Some(crossing) = crossing_of(item) {
+        crossings.push(crossing);
+    }
 }

@@ -3,6 +3,7 @@
 ghost use Rattle.std.specs.Prelude.{◌≡◌, ◌+◌, ◌<◌, ◌≤◌, ℕ, length, min, drop, IfOk, slice_index};
 ghost use Rattle.std.specs.Char.{is_ascii_alphabetic, is_ascii_digit};
 ghost use Rattle.std.specs.List.{prefix_len};
+ghost use Rattle.pd_code.specs.declared.token.LexStop.TheVariants.{NoMemory};
 ghost use Rattle.pd_code.specs.Tokens.{is_blank, mark_of, word_at, has_minus, sign_length, digits_at, begins_number, number_of, with_digit, signed_as, number_at, mark_at, token_at, piece_at, piece_length};
 
 use std::alloc::{AllocError, AllocFailed};
@@ -41,12 +42,16 @@ pub enum LexStop {
 }
 
 impl From<AllocError> for LexStop {
+    ghost from_gives = { λ _ stop. stop ≡ NoMemory };
+
     fn from(_: AllocError) -> Self {
         LexStop::NoMemory
     }
 }
 
 impl<T: Drop> From<AllocFailed<T>> for LexStop {
+    ghost from_gives = { λ _ stop. stop ≡ NoMemory };
+
     fn from(_: AllocFailed<T>) -> Self {
         LexStop::NoMemory
     }

@@ -1,0 +1,6 @@
+mod Cuts
+mod MachineSteps
+mod Pieces
+mod Readings
+mod SoFar
+mod Spellings

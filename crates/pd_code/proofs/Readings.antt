@@ -1,0 +1,1 @@
+-- What a text reads as, at each way out.

@@ -1,0 +1,143 @@
+-- What is read is spelled: the state and the items tell which symbols led to them.
+use Rattle.std.proofs.Common.{◌≡◌, ℕ, ◌+◌, ◌<◌, List, [], ◌∷◌, ◌++◌, length, Option, None, Some, IfSome, sym, ◌∙◌, ap, refl, arith, append_assoc, length-append, subst}
+use Rattle.std.specs.List.{flat_map}
+use Rattle.std.specs.Option.{option_and_then, option_map}
+use Rattle.std.proofs.lemmas.Grind.{flat_map-append}
+use Rattle.std.proofs.lemmas.List.{append-nil}
+use Rattle.pd_code.proofs.Spellings.{at}
+use Rattle.pd_code.specs.declared.symbol.Symbol.{Symbol}
+use Rattle.pd_code.specs.declared.symbol.Symbol.TheVariants as symbols
+use Rattle.pd_code.specs.declared.symbol.Symbol.TheVariants.{Pd, X, Number, LeftBracket, RightBracket, Comma}
+use Rattle.pd_code.specs.declared.machine.State.{State}
+use Rattle.pd_code.specs.declared.machine.State.TheVariants.{Start, Named, Open, Listed, Separated, Done, Crossing, CrossingOpen, First, FirstComma, Second, SecondComma, Third, ThirdComma, Fourth, Loop, LoopOpen, LoopNumber}
+use Rattle.pd_code.specs.declared.item.Item.{Item}
+use Rattle.pd_code.specs.declared.item.Item.TheVariants as kinds
+use Rattle.pd_code.specs.Grammar.{item_symbols, listed, next_symbols, spelled}
+use Rattle.pd_code.specs.Machine.{Progress, added, advanced, ended, items_at, items_of, run, start, step}
+
+-- the symbols behind `PD[` and before one more item
+leading : List Item → List Symbol
+leading [] = []
+leading (item ∷ items) = listed (item ∷ items) ++ Comma ∷ []
+
+-- the symbols of the present item
+present : State → List Symbol
+present Crossing = X ∷ []
+present CrossingOpen = X ∷ LeftBracket ∷ []
+present (First i) = X ∷ LeftBracket ∷ Number i ∷ []
+present (FirstComma i) = X ∷ LeftBracket ∷ Number i ∷ Comma ∷ []
+present (Second i j) = X ∷ LeftBracket ∷ Number i ∷ Comma ∷ Number j ∷ []
+present (SecondComma i j) = X ∷ LeftBracket ∷ Number i ∷ Comma ∷ Number j ∷ Comma ∷ []
+present (Third i j k) = X ∷ LeftBracket ∷ Number i ∷ Comma ∷ Number j ∷ Comma ∷ Number k ∷ []
+present (ThirdComma i j k) = X ∷ LeftBracket ∷ Number i ∷ Comma ∷ Number j ∷ Comma ∷ Number k ∷ Comma ∷ []
+present (Fourth i j k l) = X ∷ LeftBracket ∷ Number i ∷ Comma ∷ Number j ∷ Comma ∷ Number k ∷ Comma ∷ Number l ∷ []
+present Loop = symbols.Loop ∷ []
+present LoopOpen = symbols.Loop ∷ LeftBracket ∷ []
+present (LoopNumber n) = symbols.Loop ∷ LeftBracket ∷ Number n ∷ []
+present _ = []
+
+-- the symbols that lead to a state and items
+so_far : State → List Item → List Symbol
+so_far Start items = []
+so_far Named items = Pd ∷ []
+so_far Open items = Pd ∷ LeftBracket ∷ []
+so_far Listed items = Pd ∷ LeftBracket ∷ listed items
+so_far Separated items = Pd ∷ LeftBracket ∷ (listed items ++ Comma ∷ [])
+so_far Done items = spelled items
+so_far state items = Pd ∷ LeftBracket ∷ (leading items ++ present state)
+
+-- before the first item there is none, and behind an item there is one
+IsProper : State → List Item → Type 0
+IsProper Start items = items ≡ []
+IsProper Named items = items ≡ []
+IsProper Open items = items ≡ []
+IsProper Listed items = 0 < length items
+IsProper Separated items = 0 < length items
+IsProper _ items = Unit {0}
+
+-- one more item
+listed-push : (items : List Item) (item : Item) → listed (items ++ item ∷ []) ≡ leading items ++ item_symbols item
+unfolding leading
+listed-push [] item = append-nil (item_symbols item)
+listed-push (first ∷ items) item =
+    ap (λ rest. item_symbols first ++ rest) (flat_map-append next_symbols items (item ∷ []) ∙ ap (λ last. flat_map next_symbols items ++ Comma ∷ last) (append-nil (item_symbols item)))
+    ∙ sym (append_assoc (item_symbols first) (flat_map next_symbols items) (Comma ∷ item_symbols item))
+    ∙ sym (append_assoc (listed (first ∷ items)) (Comma ∷ []) (item_symbols item))
+
+-- one more symbol
+grown : (front back : List Symbol) (symbol : Symbol) → ◌≡◌ {A = List Symbol} (Pd ∷ LeftBracket ∷ (front ++ (back ++ symbol ∷ []))) ((Pd ∷ LeftBracket ∷ (front ++ back)) ++ symbol ∷ [])
+grown front back symbol = ap (λ rest. Pd ∷ LeftBracket ∷ rest) (sym (append_assoc front back (symbol ∷ [])))
+
+-- an item ends
+closed : (items : List Item) (item : Item) (back : List Symbol) → back ++ RightBracket ∷ [] ≡ item_symbols item
+    → (0 < length (items ++ item ∷ [])) × ◌≡◌ {A = List Symbol} (Pd ∷ LeftBracket ∷ listed (items ++ item ∷ [])) ((Pd ∷ LeftBracket ∷ (leading items ++ back)) ++ RightBracket ∷ [])
+closed items item back whole =
+    (omega (arith, length-append items (item ∷ [])),
+     ap (λ rest. Pd ∷ LeftBracket ∷ rest) (listed-push items item ∙ ap (λ last. leading items ++ last) (sym whole)) ∙ grown (leading items) back RightBracket)
+
+-- a step keeps this
+kept : (state : State) (symbol : Symbol) (items : List Item) → IsProper state items
+    → IfSome (step state symbol) (λ next. IsProper next (added state items) × (so_far next (added state items) ≡ so_far state items ++ symbol ∷ []))
+unfolding IsProper so_far present leading
+kept Start Pd items proper = (proper, refl)
+kept Named LeftBracket items proper = (proper, refl)
+kept Open X [] proper = (tt, refl)
+kept Open X (item ∷ items) proper = absurd (cc)
+kept Open symbols.Loop [] proper = (tt, refl)
+kept Open symbols.Loop (item ∷ items) proper = absurd (cc)
+kept Open RightBracket [] proper = (tt, refl)
+kept Open RightBracket (item ∷ items) proper = absurd (cc)
+kept Listed Comma items proper = (proper, refl)
+kept Listed RightBracket items proper = (tt, refl)
+kept Separated X [] proper = absurd (omega arith)
+kept Separated X (item ∷ items) proper = (tt, refl)
+kept Separated symbols.Loop [] proper = absurd (omega arith)
+kept Separated symbols.Loop (item ∷ items) proper = (tt, refl)
+kept Crossing LeftBracket items proper = (tt, grown (leading items) (present Crossing) LeftBracket)
+kept CrossingOpen (Number i) items proper = (tt, grown (leading items) (present CrossingOpen) (Number i))
+kept (First i) Comma items proper = (tt, grown (leading items) (present (First i)) Comma)
+kept (FirstComma i) (Number j) items proper = (tt, grown (leading items) (present (FirstComma i)) (Number j))
+kept (Second i j) Comma items proper = (tt, grown (leading items) (present (Second i j)) Comma)
+kept (SecondComma i j) (Number k) items proper = (tt, grown (leading items) (present (SecondComma i j)) (Number k))
+kept (Third i j k) Comma items proper = (tt, grown (leading items) (present (Third i j k)) Comma)
+kept (ThirdComma i j k) (Number l) items proper = (tt, grown (leading items) (present (ThirdComma i j k)) (Number l))
+kept (Fourth i j k l) RightBracket items proper = closed items (kinds.Crossing i j k l) (present (Fourth i j k l)) refl
+kept Loop LeftBracket items proper = (tt, grown (leading items) (present Loop) LeftBracket)
+kept LoopOpen (Number n) items proper = (tt, grown (leading items) (present LoopOpen) (Number n))
+kept (LoopNumber n) RightBracket items proper = closed items (kinds.Loop n) (present (LoopNumber n)) refl
+kept _ _ items proper = tt
+
+-- a run keeps this
+run-kept : (state : State) (items : List Item) (symbols : List Symbol) (end : Progress) → IsProper state items → run (at state items) symbols ≡ Some end
+    → IsProper end.state end.items × (so_far end.state end.items ≡ so_far state items ++ symbols)
+run-kept state items [] end proper ran =
+    let e : at state items ≡ end = cc in
+    (subst (λ (p : Progress). IsProper p.state p.items) e proper, ap (λ (p : Progress). so_far p.state p.items) (sym e) ∙ sym (append-nil (so_far state items)))
+run-kept state items (symbol ∷ symbols) end proper ran = go (step state symbol) (kept state symbol items proper) ran
+  where
+    go : (next : Option State) → IfSome next (λ next. IsProper next (added state items) × (so_far next (added state items) ≡ so_far state items ++ symbol ∷ []))
+        → option_and_then (λ next. run next symbols) (option_map (λ next. at next (added state items)) next) ≡ Some end
+        → IsProper end.state end.items × (so_far end.state end.items ≡ so_far state items ++ symbol ∷ symbols)
+    go None kept ran = absurd (cc)
+    go (Some next) kept ran =
+        let rest = run-kept next (added state items) symbols end kept.0 ran in
+        (rest.0, rest.1 ∙ ap (λ front. front ++ symbols) kept.1 ∙ append_assoc (so_far state items) (symbol ∷ []) symbols)
+
+-- what a run from the start has read
+pub run-so_far : (symbols : List Symbol) (end : Progress) → run start symbols ≡ Some end → symbols ≡ so_far end.state end.items
+unfolding IsProper so_far
+run-so_far symbols end ran = sym (run-kept Start [] symbols end refl ran).1
+
+-- at the end this is a spelling
+so_far-ended : (state : State) (read items : List Item) → items_at state read ≡ Some items → so_far state read ≡ spelled items
+unfolding so_far
+so_far-ended Done read items e = ap spelled (cc)
+so_far-ended _ read items e = absurd (cc)
+
+-- what is read is spelled
+pub spelled-items_of : (symbols : List Symbol) (items : List Item) → items_of symbols ≡ Some items → symbols ≡ spelled items
+spelled-items_of symbols items read = go (run start symbols) (run-so_far symbols) read
+  where
+    go : (end : Option Progress) → ((e : Progress) → end ≡ Some e → symbols ≡ so_far e.state e.items) → option_and_then ended end ≡ Some items → symbols ≡ spelled items
+    go None whole read = absurd (cc)
+    go (Some end) whole read = whole end refl ∙ so_far-ended end.state end.items items read
