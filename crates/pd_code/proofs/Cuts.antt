@@ -1,5 +1,5 @@
 -- A text of which a front is cut into tokens.
-use Rattle.std.proofs.Common.{◌≡◌, ℕ, zero, suc, ◌+◌, ◌-◌, ◌<◌, ◌≤◌, List, [], ◌∷◌, ◌++◌, length, drop, get_or, Option, Result, Ok, Err, sym, ◌∙◌, ap, refl, arith, add-one, append_assoc, All, length-drop, length-append, IfSome, Some, None}
+use Rattle.std.proofs.Common.{◌≡◌, ℕ, zero, suc, ◌+◌, ◌-◌, ◌<◌, ◌≤◌, List, [], ◌++◌, length, drop, Option, Result, Ok, Err, sym, ◌∙◌, ap, refl, arith, append_assoc, All, length-drop, length-append, IfSome, Some, None}
 use Rattle.std.proofs.Math.ListN.{drop_of_length-le}
 use Rattle.std.proofs.Math.Seq.{drop-cons}
 use Rattle.std.proofs.lemmas.List.{append-nil, drop-drop}
@@ -67,15 +67,19 @@ cut_goes text place tokens piece left read cut = go cut.steps cut.enough cut.who
   where
     size : length (drop place text) ≡ length text - place
     size = length-drop place text
+
     stands : IfSome piece (StandsAt place (length (drop place text)))
     stands = piece_stands place (drop place text) piece (omega (arith, size)) read
+
     bounds : (0 < piece_length piece) × (piece_length piece ≤ length (drop place text))
     bounds = piece_length-bounds place (length (drop place text)) piece (omega (arith, size)) stands
+
     step : (steps : ℕ) → tokens_within (suc steps) place (drop place text)
         ≡ preceded_by (option_to_list piece) (tokens_within steps (place + piece_length piece) (drop (place + piece_length piece) text))
     step steps = tokens_within-step steps place text left
         ∙ ap (λ r. followed_by r (λ n. tokens_within steps (place + n) (drop n (drop place text)))) read
         ∙ ap (λ rest. preceded_by (option_to_list piece) (tokens_within steps (place + piece_length piece) rest)) (drop-drop (piece_length piece) place text)
+
     go : (steps : ℕ) → length text ≤ place + steps → preceded_by tokens (tokens_within steps place (drop place text)) ≡ tokens_of text
         → IsCut text (place + piece_length piece) (tokens ++ option_to_list piece)
     go zero enough whole = absurd (omega arith)

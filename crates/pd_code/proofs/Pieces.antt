@@ -1,5 +1,5 @@
 -- A piece is at the front of its text.
-use Rattle.std.proofs.Common.{◌≡◌, ℕ, ◌+◌, ◌-◌, ◌<◌, ◌≤◌, nat_lt, Bool, true, false, cond, ◌⊎◌, inl, inr, List, [], ◌∷◌, length, drop, take, Option, None, Some, Result, Ok, Err, sym, ◌∙◌, ap, refl, subst, arith, slice_index, length-drop, zero, suc, IfSome}
+use Rattle.std.proofs.Common.{◌≡◌, ℕ, ◌+◌, ◌<◌, ◌≤◌, nat_lt, Bool, true, false, cond, ◌⊎◌, inl, inr, List, [], ◌∷◌, length, drop, Option, None, Some, Result, Ok, Err, refl, subst, arith, slice_index, length-drop, zero, suc, IfSome}
 use Rattle.std.proofs.lemmas.List.Sums.{prefix_len-le-length}
 use Rattle.std.proofs.lemmas.List.Folds.{length-prefix_len}
 use Rattle.std.specs.Char.{is_ascii_alphabetic, is_ascii_digit}
@@ -11,7 +11,7 @@ use Rattle.pd_code.specs.declared.token.Kind.{Kind}
 use Rattle.pd_code.specs.declared.token.Kind.TheVariants.{Number}
 use Rattle.pd_code.specs.declared.token.LexStop.{LexStop}
 use Rattle.pd_code.specs.declared.token.LexStop.TheVariants as stops
-use Rattle.pd_code.specs.Tokens.{begins_number, digits_at, has_minus, is_blank, mark_at, mark_of, number_at, number_of, plain_token, piece_at, piece_length, sign_length, signed_as, token_at, word_at}
+use Rattle.pd_code.specs.Tokens.{begins_number, digits_at, has_minus, is_blank, mark_at, mark_of, number_at, number_of, plain_token, piece_at, sign_length, signed_as, token_at, word_at}
 
 -- a token stands at the front of a text that is not empty
 pub record StandsAt (place size : ℕ) (token : Token) : Type 0 where
@@ -72,8 +72,8 @@ unfolding number_token
 number_stands place text token some begins read =
     let size = number_length (sign_length text) text (sign_length-le-one text) some begins in
     elim (chosen (nat_lt 65535 (number_of (digits_at text))) (Err (stops.Number place)) (Ok (number_token place text)) (Ok token) read) [
-      inl far ↦ absurd (cc)
-    | inr near ↦ subst (StandsAt place (length text)) (ok_is near.1) (record { begin = refl; some = size.0; within = size.1 })
+      | inl far ↦ absurd (cc)
+      | inr near ↦ subst (StandsAt place (length text)) (ok_is near.1) (record { begin = refl; some = size.0; within = size.1 })
     ]
 
 -- a mark
@@ -89,10 +89,10 @@ token_stands : (place : ℕ) (text : List ℕ) (token : Token) → 0 < length te
 token_stands place text token some read =
     let rest : Result Token LexStop = cond (begins_number text) (number_at place text) (mark_at place text) in
     elim (chosen (is_ascii_alphabetic (slice_index text 0)) (Ok (word_at place text)) rest (Ok token) read) [
-      inl word ↦ subst (StandsAt place (length text)) (ok_is word.1) (word_stands place text some word.0)
-    | inr other ↦ elim (chosen (begins_number text) (number_at place text) (mark_at place text) (Ok token) other.1) [
-        inl number ↦ number_stands place text token some number.0 number.1
-      | inr mark ↦ mark_stands place text token some mark.1
+      | inl word ↦ subst (StandsAt place (length text)) (ok_is word.1) (word_stands place text some word.0)
+      | inr other ↦ elim (chosen (begins_number text) (number_at place text) (mark_at place text) (Ok token) other.1) [
+        | inl number ↦ number_stands place text token some number.0 number.1
+        | inr mark ↦ mark_stands place text token some mark.1
       ]
     ]
 
@@ -100,8 +100,8 @@ token_stands place text token some read =
 pub piece_stands : (place : ℕ) (text : List ℕ) (piece : Option Token) → 0 < length text → piece_at place text ≡ Ok piece → IfSome piece (StandsAt place (length text))
 piece_stands place text piece some read =
     elim (chosen (is_blank (slice_index text 0)) (Ok None) (result_map_both Some (λ stop. stop) (token_at place text)) (Ok piece) read) [
-      inl blank ↦ subst (λ p. IfSome p (StandsAt place (length text))) (ok_is blank.1) tt
-    | inr other ↦ tokened (token_at place text) refl other.1
+      | inl blank ↦ subst (λ p. IfSome p (StandsAt place (length text))) (ok_is blank.1) tt
+      | inr other ↦ tokened (token_at place text) refl other.1
     ]
   where
     tokened : (r : Result Token LexStop) → token_at place text ≡ r → result_map_both Some (λ stop. stop) r ≡ Ok piece → IfSome piece (StandsAt place (length text))

@@ -1,5 +1,5 @@
 -- What is read is spelled: the state and the items tell which symbols led to them.
-use Rattle.std.proofs.Common.{◌≡◌, ℕ, ◌+◌, ◌<◌, List, [], ◌∷◌, ◌++◌, length, Option, None, Some, IfSome, sym, ◌∙◌, ap, refl, arith, append_assoc, length-append, subst}
+use Rattle.std.proofs.Common.{◌≡◌, ◌<◌, List, [], ◌∷◌, ◌++◌, length, Option, None, Some, IfSome, sym, ◌∙◌, ap, refl, arith, append_assoc, length-append, subst}
 use Rattle.std.specs.List.{flat_map}
 use Rattle.std.specs.Option.{option_and_then, option_map}
 use Rattle.std.proofs.lemmas.Grind.{flat_map-append}
@@ -13,15 +13,15 @@ use Rattle.pd_code.specs.declared.machine.State.TheVariants.{Start, Named, Open,
 use Rattle.pd_code.specs.declared.item.Item.{Item}
 use Rattle.pd_code.specs.declared.item.Item.TheVariants as kinds
 use Rattle.pd_code.specs.Grammar.{item_symbols, listed, next_symbols, spelled}
-use Rattle.pd_code.specs.Machine.{Progress, added, advanced, ended, items_at, items_of, run, start, step}
+use Rattle.pd_code.specs.Machine.{Progress, added, ended, items_at, items_of, run, start, step}
 
 -- the symbols behind `PD[` and before one more item
-leading : List Item → List Symbol
+abbrev pub leading : List Item → List Symbol
 leading [] = []
 leading (item ∷ items) = listed (item ∷ items) ++ Comma ∷ []
 
 -- the symbols of the present item
-present : State → List Symbol
+abbrev pub present : State → List Symbol
 present Crossing = X ∷ []
 present CrossingOpen = X ∷ LeftBracket ∷ []
 present (First i) = X ∷ LeftBracket ∷ Number i ∷ []
@@ -37,7 +37,7 @@ present (LoopNumber n) = symbols.Loop ∷ LeftBracket ∷ Number n ∷ []
 present _ = []
 
 -- the symbols that lead to a state and items
-so_far : State → List Item → List Symbol
+abbrev pub so_far : State → List Item → List Symbol
 so_far Start items = []
 so_far Named items = Pd ∷ []
 so_far Open items = Pd ∷ LeftBracket ∷ []
@@ -47,7 +47,7 @@ so_far Done items = spelled items
 so_far state items = Pd ∷ LeftBracket ∷ (leading items ++ present state)
 
 -- before the first item there is none, and behind an item there is one
-IsProper : State → List Item → Type 0
+abbrev pub IsProper : State → List Item → Type 0
 IsProper Start items = items ≡ []
 IsProper Named items = items ≡ []
 IsProper Open items = items ≡ []
@@ -57,7 +57,6 @@ IsProper _ items = Unit {0}
 
 -- one more item
 listed-push : (items : List Item) (item : Item) → listed (items ++ item ∷ []) ≡ leading items ++ item_symbols item
-unfolding leading
 listed-push [] item = append-nil (item_symbols item)
 listed-push (first ∷ items) item =
     ap (λ rest. item_symbols first ++ rest) (flat_map-append next_symbols items (item ∷ []) ∙ ap (λ last. flat_map next_symbols items ++ Comma ∷ last) (append-nil (item_symbols item)))
@@ -71,14 +70,14 @@ grown front back symbol = ap (λ rest. Pd ∷ LeftBracket ∷ rest) (sym (append
 -- an item ends
 closed : (items : List Item) (item : Item) (back : List Symbol) → back ++ RightBracket ∷ [] ≡ item_symbols item
     → (0 < length (items ++ item ∷ [])) × ◌≡◌ {A = List Symbol} (Pd ∷ LeftBracket ∷ listed (items ++ item ∷ [])) ((Pd ∷ LeftBracket ∷ (leading items ++ back)) ++ RightBracket ∷ [])
-closed items item back whole =
-    (omega (arith, length-append items (item ∷ [])),
-     ap (λ rest. Pd ∷ LeftBracket ∷ rest) (listed-push items item ∙ ap (λ last. leading items ++ last) (sym whole)) ∙ grown (leading items) back RightBracket)
+closed items item back whole = (
+  omega (arith, length-append items (item ∷ [])),
+  ap (λ rest. Pd ∷ LeftBracket ∷ rest) (listed-push items item ∙ ap (λ last. leading items ++ last) (sym whole)) ∙ grown (leading items) back RightBracket,
+)
 
 -- a step keeps this
 kept : (state : State) (symbol : Symbol) (items : List Item) → IsProper state items
     → IfSome (step state symbol) (λ next. IsProper next (added state items) × (so_far next (added state items) ≡ so_far state items ++ symbol ∷ []))
-unfolding IsProper so_far present leading
 kept Start Pd items proper = (proper, refl)
 kept Named LeftBracket items proper = (proper, refl)
 kept Open X [] proper = (tt, refl)
@@ -113,24 +112,25 @@ run-kept : (state : State) (items : List Item) (symbols : List Symbol) (end : Pr
 run-kept state items [] end proper ran =
     let e : at state items ≡ end = cc in
     (subst (λ (p : Progress). IsProper p.state p.items) e proper, ap (λ (p : Progress). so_far p.state p.items) (sym e) ∙ sym (append-nil (so_far state items)))
-run-kept state items (symbol ∷ symbols) end proper ran = go (step state symbol) (kept state symbol items proper) ran
+run-kept state items (symbol ∷ symbols) end proper ran =
+    go (step state symbol) (kept state symbol items proper) (λ next. run-kept next (added state items) symbols end) ran
   where
     go : (next : Option State) → IfSome next (λ next. IsProper next (added state items) × (so_far next (added state items) ≡ so_far state items ++ symbol ∷ []))
+        → ((next : State) → IsProper next (added state items) → run (at next (added state items)) symbols ≡ Some end
+        → IsProper end.state end.items × (so_far end.state end.items ≡ so_far next (added state items) ++ symbols))
         → option_and_then (λ next. run next symbols) (option_map (λ next. at next (added state items)) next) ≡ Some end
         → IsProper end.state end.items × (so_far end.state end.items ≡ so_far state items ++ symbol ∷ symbols)
-    go None kept ran = absurd (cc)
-    go (Some next) kept ran =
-        let rest = run-kept next (added state items) symbols end kept.0 ran in
-        (rest.0, rest.1 ∙ ap (λ front. front ++ symbols) kept.1 ∙ append_assoc (so_far state items) (symbol ∷ []) symbols)
+    go None after goes ran = absurd (cc)
+    go (Some next) after goes ran =
+        let rest = goes next after.0 ran in
+        (rest.0, rest.1 ∙ ap (λ front. front ++ symbols) after.1 ∙ append_assoc (so_far state items) (symbol ∷ []) symbols)
 
 -- what a run from the start has read
 pub run-so_far : (symbols : List Symbol) (end : Progress) → run start symbols ≡ Some end → symbols ≡ so_far end.state end.items
-unfolding IsProper so_far
 run-so_far symbols end ran = sym (run-kept Start [] symbols end refl ran).1
 
 -- at the end this is a spelling
 so_far-ended : (state : State) (read items : List Item) → items_at state read ≡ Some items → so_far state read ≡ spelled items
-unfolding so_far
 so_far-ended Done read items e = ap spelled (cc)
 so_far-ended _ read items e = absurd (cc)
 

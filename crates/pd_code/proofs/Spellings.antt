@@ -1,17 +1,16 @@
 -- What is spelled is read: a spelling leads the machine to its end, with the items that it spells.
-use Rattle.std.proofs.Common.{◌≡◌, ℕ, ◌+◌, ◌<◌, List, [], ◌∷◌, ◌++◌, length, Option, None, Some, IfSome, sym, ◌∙◌, ap, refl, arith, append_assoc, length-append}
+use Rattle.std.proofs.Common.{◌≡◌, List, [], ◌∷◌, ◌++◌, Some, sym, ◌∙◌, ap, refl, append_assoc}
 use Rattle.std.specs.List.{flat_map}
-use Rattle.std.specs.Option.{option_and_then, option_map}
+use Rattle.std.specs.Option.{option_and_then}
 use Rattle.std.proofs.lemmas.List.{append-nil}
 use Rattle.pd_code.specs.declared.symbol.Symbol.{Symbol}
-use Rattle.pd_code.specs.declared.symbol.Symbol.TheVariants as symbols
-use Rattle.pd_code.specs.declared.symbol.Symbol.TheVariants.{Pd, X, Number, LeftBracket, RightBracket, Comma}
+use Rattle.pd_code.specs.declared.symbol.Symbol.TheVariants.{RightBracket}
 use Rattle.pd_code.specs.declared.machine.State.{State}
-use Rattle.pd_code.specs.declared.machine.State.TheVariants.{Start, Named, Open, Listed, Separated, Done, Crossing, CrossingOpen, First, FirstComma, Second, SecondComma, Third, ThirdComma, Fourth, Loop, LoopOpen, LoopNumber}
+use Rattle.pd_code.specs.declared.machine.State.TheVariants.{Listed, Done}
 use Rattle.pd_code.specs.declared.item.Item.{Item}
 use Rattle.pd_code.specs.declared.item.Item.TheVariants as kinds
-use Rattle.pd_code.specs.Grammar.{item_symbols, listed, next_symbols, spelled}
-use Rattle.pd_code.specs.Machine.{Progress, added, advanced, ended, items_at, items_of, run, start, step}
+use Rattle.pd_code.specs.Grammar.{next_symbols, spelled}
+use Rattle.pd_code.specs.Machine.{Progress, ended, items_of, run, start}
 
 -- the machine at a state and items
 abbrev pub at : State → List Item → Progress

@@ -4,7 +4,7 @@ ghost use Rattle.std.specs.Prelude.{◌≡◌, ◌≢◌, ◌<◌, ◌≤◌, �
 ghost use Rattle.std.specs.Option.{option_to_list};
 ghost use Rattle.pd_code.specs.Tokens.{tokens_of, EndsWithin};
 
-use crate::token::{piece_at, piece_length, rest_from, LexStop, Token};
+use crate::token::{LexStop, Token, piece_at, piece_length, rest_from};
 use kh_types::INPUT_BYTES;
 use std::alloc::{AllocFailed, Global};
 

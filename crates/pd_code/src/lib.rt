@@ -13,7 +13,7 @@ mod token;
 pub use item::Item;
 pub use laws::worked_texts;
 pub use lexer::tokens;
-pub use reader::{read_pd, CROSSING_LIMIT};
+pub use reader::{CROSSING_LIMIT, read_pd};
 pub use stop::PdStop;
 pub use symbol::Symbol;
 pub use token::{Kind, LexStop, Token};

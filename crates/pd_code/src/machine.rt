@@ -7,7 +7,7 @@ ghost use Rattle.pd_code.specs.Machine.{added, items_of, step};
 
 use crate::item::Item;
 use crate::stop::PdStop;
-use crate::symbol::{symbol_of, Symbol};
+use crate::symbol::{Symbol, symbol_of};
 use crate::token::Token;
 use std::alloc::{AllocFailed, Global};
 

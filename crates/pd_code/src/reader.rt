@@ -7,12 +7,12 @@ ghost use Rattle.pd_code.specs.Grammar.{Spells};
 ghost use Rattle.pd_code.specs.Reading.{code_of, crossing_of, crossings_of, is_loop, reading};
 ghost use Rattle.pd_code.specs.declared.item.Item.{Item};
 
-use crate::item::{crossing_of, is_loop, Item};
+use crate::item::{Item, crossing_of, is_loop};
 use crate::lexer::tokens;
 use crate::machine::items_of;
 use crate::stop::PdStop;
 use arrayvec::ArrayVec;
-use kh_types::{Crossing, RawCode, CROSSINGS, INPUT_BYTES};
+use kh_types::{CROSSINGS, Crossing, INPUT_BYTES, RawCode};
 use std::alloc::Global;
 
 /// The most crossings of a text that is read. This project's rule, until greater diagrams are computed.

@@ -12,7 +12,7 @@ loop-place-init c = rw c.new-tokens.ensures.items (cut_begins c.args.text.now)
 pub loop-place-preserved : goal.loop-place-preserved
 loop-place-preserved c =
     let read : piece_at c.loop-place.place (drop c.loop-place.place c.args.text.now) ≡ Ok c.in_ok-piece.piece
-        = ap (piece_at c.loop-place.place) (sym c.rest_from.ensures) ∙ sym c.piece_at.ensures ∙ c.in_ok-piece.was in
+    = ap (piece_at c.loop-place.place) (sym c.rest_from.ensures) ∙ sym c.piece_at.ensures ∙ c.in_ok-piece.was in
     rw (c.piece_length.ensures, c.in_ok-push_piece.ensures)
     (cut_goes c.args.text.now c.loop-place.place c.loop-place.tokens.items c.in_ok-piece.piece (omega arith) read c.loop-place.invariant)
 
@@ -20,7 +20,7 @@ loop-place-preserved c =
 pub returns-in_err-piece-clause-fault : goal.returns-in_err-piece-clause-fault
 returns-in_err-piece-clause-fault c =
     let read : piece_at c.loop-place.place (drop c.loop-place.place c.args.text.now) ≡ Err c.in_err-piece.field-0.0
-        = ap (piece_at c.loop-place.place) (sym c.rest_from.ensures) ∙ sym c.piece_at.ensures ∙ c.in_err-piece.was in
+    = ap (piece_at c.loop-place.place) (sym c.rest_from.ensures) ∙ sym c.piece_at.ensures ∙ c.in_err-piece.was in
     let p = err_from_is_err_and c.from_residual.result c.from_residual.ensures.1 in
     rw (p.1, p.2) (λ some. cut_stops c.args.text.now c.loop-place.place c.loop-place.tokens.items c.in_err-piece.field-0.0 (omega arith) read c.loop-place.invariant)
 
