@@ -1,4 +1,5 @@
 mod Cuts
+mod FirstFaults
 mod MachineSteps
 mod Pieces
 mod Readings

@@ -1,6 +1,6 @@
 -- The machine that reads symbols in one pass, between the code and the grammar.
-use Rattle.std.specs.Prelude.{List, [], ◌∷◌, ◌++◌, Option, None, Some}
-use Rattle.std.specs.Option.{option_map, option_and_then}
+use Rattle.std.specs.Prelude.{ℕ, suc, List, [], ◌∷◌, ◌++◌, Option, None, Some}
+use Rattle.std.specs.Option.{option_map, option_map_or, option_and_then}
 use Rattle.pd_code.specs.declared.symbol.Symbol.{Symbol}
 use Rattle.pd_code.specs.declared.symbol.Symbol.TheVariants as symbols
 use Rattle.pd_code.specs.declared.symbol.Symbol.TheVariants.{Pd, X, Number, LeftBracket, RightBracket, Comma}
@@ -71,3 +71,13 @@ ended progress = items_at progress.state progress.items
 -- the items that symbols spell, if they spell any
 abbrev pub items_of : List Symbol → Option (List Item)
 items_of symbols = option_and_then ended (run start symbols)
+
+-- where symbols that end in a state are at fault: at their end, unless the state is the end
+abbrev pub end_fault : State → Option ℕ
+end_fault Done = None
+end_fault _ = Some 0
+
+-- the place of the first symbol that the machine refuses, or of the end where the symbols end too early, if there is one
+abbrev pub fault_from : State → List Symbol → Option ℕ
+fault_from state [] = end_fault state
+fault_from state (symbol ∷ symbols) = option_map_or (λ next. option_map suc (fault_from next symbols)) (step state symbol) (Some 0)

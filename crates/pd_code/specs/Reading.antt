@@ -53,7 +53,7 @@ code_of_symbols None = Err Text
 -- what the tokens of a text read as, and Text where a fault stands in their place
 abbrev pub code_of_tokens : List ℕ → Result (List Token) LexStop → Result Code PdStop
 code_of_tokens text (Ok tokens) = code_of_symbols (items_of (symbols_of text tokens))
-code_of_tokens text (Err stop) = Err (stop_of stop)
+code_of_tokens text (Err stop) = Err Text
 
 -- what a text reads as: the code of the items that it spells, and Text where it spells none
 unfoldable pub reading : List ℕ → Result Code PdStop

@@ -11,7 +11,10 @@ mod symbol;
 mod token;
 
 pub use item::Item;
-pub use laws::worked_texts;
+pub use laws::{
+    readings_are_of_the_grammar, the_machine_reads_the_grammar,
+    the_machine_stops_at_the_first_fault, worked_texts, worked_tokens,
+};
 pub use lexer::tokens;
 pub use reader::{CROSSING_LIMIT, read_pd};
 pub use stop::PdStop;
