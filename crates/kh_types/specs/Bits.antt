@@ -9,7 +9,7 @@ bit number place = number / 2 ^ place % 2
 
 -- a number that has one bit for each crossing: the bit for a crossing stands at its place
 abbrev pub bit_for : ℕ → ℕ → ℕ
-bit_for choice number = bit choice (place_of number)
+bit_for choice crossing = bit choice (place_of crossing)
 
 -- how many of the lowest bits of a number are 1
 abbrev pub ones : ℕ → ℕ → ℕ

@@ -2,21 +2,22 @@
 use Rattle.std.specs.Prelude.{ℕ, ◌+◌, ◌-◌, ◌*◌, List, [], length, slice_index, slice_index_or}
 use Rattle.std.specs.List.{range_with_len}
 
--- a code: its crossings, each the list of the four arcs at its slots 0 to 3, counterclockwise from the incoming under
--- arc, and a number of crossingless loops (Knot Atlas, "Planar Diagrams"; the loops are this project's rule)
+-- a code: its crossings, each a quadruple of the arcs at its slots 0 to 3, counterclockwise from the incoming under arc, and
+-- a number of crossingless loops (Knot Atlas, "Planar Diagrams"; the loops are this project's rule). A quadruple is a list of
+-- four, and the program's types hold no other
 pub record Code : Type 0 where
   pub crossings : List (List ℕ)
   pub loops : ℕ
 
--- the arc at a slot of a crossing
+-- the arc at a slot of a quadruple
 abbrev pub arc_in : List ℕ → ℕ → ℕ
-arc_in crossing slot = slice_index crossing slot
+arc_in quadruple slot = slice_index quadruple slot
 
 -- crossings are numbered from 1: this is the place in the list where a crossing stands
 abbrev pub place_of : ℕ → ℕ
 place_of crossing = crossing - 1
 
--- the crossing of a number
+-- the quadruple of a crossing
 abbrev pub crossing_at : List (List ℕ) → ℕ → List ℕ
 crossing_at crossings crossing = slice_index_or crossings (place_of crossing) []
 

@@ -12,9 +12,13 @@ dart_at place = record { crossing = place / 4 + 1; slot = place % 4 }
 abbrev pub dart_place : Dart → ℕ
 dart_place dart = 4 * place_of dart.crossing + dart.slot
 
+-- n crossings have 4n darts
+abbrev pub dart_count : List (List ℕ) → ℕ
+dart_count crossings = 4 * length crossings
+
 -- all darts, in order
 abbrev pub darts : List (List ℕ) → List Dart
-darts crossings = map dart_at (range_with_len 0 (4 * length crossings))
+darts crossings = map dart_at (range_with_len 0 (dart_count crossings))
 
 -- the arc of a dart
 abbrev pub arc_of : List (List ℕ) → Dart → ℕ

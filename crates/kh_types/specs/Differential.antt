@@ -15,12 +15,12 @@ label_of code generator arc =
 
 -- a circle is touched by a crossing where it has an arc of the crossing
 abbrev pub is_touched : Code → ℕ → ℕ → ℕ → Bool
-is_touched code state number circle =
-    list_any (λ arc. nat_eq (circle_of (circles_of code state) arc) circle) (crossing_at code.crossings number)
+is_touched code state crossing circle =
+    list_any (λ arc. nat_eq (circle_of (circles_of code state) arc) circle) (crossing_at code.crossings crossing)
 
 -- the touched circles, by their least arcs, ascending
 abbrev pub touched : Code → ℕ → ℕ → List ℕ
-touched code state number = filter (is_touched code state number) (circle_names code state)
+touched code state crossing = filter (is_touched code state crossing) (circle_names code state)
 
 -- the rows of the merge table: v+ v+ gives v+, and v+ v- and v- v+ give v- (Bar-Natan 2002, section 3)
 abbrev pub is_merge : List ℕ → List ℕ → Bool
@@ -38,30 +38,30 @@ is_split before after =
 
 -- the state changes at this crossing alone, from its 0-smoothing to its 1-smoothing
 abbrev pub is_edge : Generator → Generator → ℕ → Bool
-is_edge tail head number = nat_eq (bit_for tail.state number) 0 && nat_eq head.state (tail.state + 2 ^ place_of number)
+is_edge tail head crossing = nat_eq (bit_for tail.state crossing) 0 && nat_eq head.state (tail.state + 2 ^ place_of crossing)
 
 -- every circle that is not touched has the same label in both
 abbrev pub keeps_labels : Code → Generator → Generator → ℕ → Bool
-keeps_labels code tail head number =
-    list_all (λ circle. is_touched code tail.state number circle || nat_eq (label_of code tail circle) (label_of code head circle))
+keeps_labels code tail head crossing =
+    list_all (λ circle. is_touched code tail.state crossing circle || nat_eq (label_of code tail circle) (label_of code head circle))
     (circle_names code tail.state)
 
 -- the labels of the touched circles are a row of the merge table or of the split table
 abbrev pub changes_labels : Code → Generator → Generator → ℕ → Bool
-changes_labels code tail head number =
-    let before = map (label_of code tail) (touched code tail.state number) in
-    let after = map (label_of code head) (touched code head.state number) in
+changes_labels code tail head crossing =
+    let before = map (label_of code tail) (touched code tail.state crossing) in
+    let after = map (label_of code head) (touched code head.state crossing) in
     is_merge before after || is_split before after
 
 -- modulo p, -1 to the number of crossings listed before this one that have their 1-smoothing (Bar-Natan 2002, section 3)
 abbrev pub edge_sign : ℕ → ℕ → ℕ → ℕ
-edge_sign p state number = if nat_eq (ones (place_of number) state % 2) 0 then 1 else p - 1
+edge_sign p state crossing = if nat_eq (ones (place_of crossing) state % 2) 0 then 1 else p - 1
 
 -- the coefficient along the edge at one crossing
 abbrev pub coefficient_at : ℕ → Code → Generator → Generator → ℕ → ℕ
-coefficient_at p code tail head number =
-    if is_edge tail head number && (keeps_labels code tail head number && changes_labels code tail head number)
-    then edge_sign p tail.state number else 0
+coefficient_at p code tail head crossing =
+    if is_edge tail head crossing && (keeps_labels code tail head crossing && changes_labels code tail head crossing)
+    then edge_sign p tail.state crossing else 0
 
 -- the edge coefficient from one generator to another, modulo p: along the one edge that leads from state to state, if any does
 abbrev pub coefficient : ℕ → Code → Generator → Generator → ℕ

@@ -8,12 +8,12 @@ use Rattle.kh_types.specs.Components.{components_of, component_of, arcs_in, next
 
 -- whether the under pass, or the over pass, of a crossing is in a component
 abbrev pub passes_under : List (List ℕ) → List ℕ → ℕ → ℕ → Bool
-passes_under crossings components component number =
-    nat_eq (component_of components (arc_in (crossing_at crossings number) 0)) component
+passes_under crossings components component crossing =
+    nat_eq (component_of components (arc_in (crossing_at crossings crossing) 0)) component
 
 abbrev pub passes_over : List (List ℕ) → List ℕ → ℕ → ℕ → Bool
-passes_over crossings components component number =
-    nat_eq (component_of components (arc_in (crossing_at crossings number) 1)) component
+passes_over crossings components component crossing =
+    nat_eq (component_of components (arc_in (crossing_at crossings crossing) 1)) component
 
 -- the first crossing at which a component of two arcs passes under, or over
 abbrev pub first_under : List (List ℕ) → List ℕ → ℕ → Option ℕ
@@ -24,42 +24,42 @@ first_over crossings components component = find (passes_over crossings componen
 
 -- in a component of three arcs or more an over pass goes from an arc to its next: whether it goes from slot 3 to slot 1
 abbrev pub is_positive_by_next : List ℕ → List ℕ → Bool
-is_positive_by_next components crossing = nat_eq (arc_in crossing 1) (next_in components (arc_in crossing 3))
+is_positive_by_next components quadruple = nat_eq (arc_in quadruple 1) (next_in components (arc_in quadruple 3))
 
 -- in a component of two arcs that passes under somewhere, that pass gives the direction, and the over pass goes the other way:
 -- it begins where the under pass ends
 abbrev pub is_positive_by_under : List (List ℕ) → List ℕ → ℕ → Bool
-is_positive_by_under crossings crossing under = nat_eq (arc_in crossing 3) (arc_in (crossing_at crossings under) 2)
+is_positive_by_under crossings quadruple under = nat_eq (arc_in quadruple 3) (arc_in (crossing_at crossings under) 2)
 
 -- a component of two arcs that is over at both its crossings goes from the smaller to the greater arc at the first listed of
 -- them, and back at the other
 abbrev pub is_positive_by_order : List ℕ → Bool → Bool
-is_positive_by_order crossing is_first =
-    if is_first then nat_lt (arc_in crossing 3) (arc_in crossing 1) else nat_lt (arc_in crossing 1) (arc_in crossing 3)
+is_positive_by_order quadruple is_first =
+    if is_first then nat_lt (arc_in quadruple 3) (arc_in quadruple 1) else nat_lt (arc_in quadruple 1) (arc_in quadruple 3)
 
 -- the same two rules together
 abbrev pub is_positive_of_two : List (List ℕ) → List ℕ → ℕ → Bool
-is_positive_of_two crossings components number =
-    let crossing = crossing_at crossings number in
-    let component = component_of components (arc_in crossing 1) in
+is_positive_of_two crossings components crossing =
+    let quadruple = crossing_at crossings crossing in
+    let component = component_of components (arc_in quadruple 1) in
     let under = first_under crossings components component in
-    if is_some under then is_positive_by_under crossings crossing (unwrap_or under 0)
-    else is_positive_by_order crossing (nat_eq (unwrap_or (first_over crossings components component) 0) number)
+    if is_some under then is_positive_by_under crossings quadruple (unwrap_or under 0)
+    else is_positive_by_order quadruple (nat_eq (unwrap_or (first_over crossings components component) 0) crossing)
 
 -- a crossing is positive where its over pass goes from slot 3 to slot 1, and negative where it goes from slot 1 to slot 3
 -- (Knot Atlas, "Planar Diagrams"; the directions in components of two arcs are this project's rule)
 abbrev pub is_positive_in : List (List ℕ) → List ℕ → ℕ → Bool
-is_positive_in crossings components number =
-    let crossing = crossing_at crossings number in
-    if nat_le 3 (arcs_in components (component_of components (arc_in crossing 1))) then is_positive_by_next components crossing
-    else is_positive_of_two crossings components number
+is_positive_in crossings components crossing =
+    let quadruple = crossing_at crossings crossing in
+    if nat_le 3 (arcs_in components (component_of components (arc_in quadruple 1))) then is_positive_by_next components quadruple
+    else is_positive_of_two crossings components crossing
 
 abbrev pub is_positive : List (List ℕ) → ℕ → Bool
-is_positive crossings number = is_positive_in crossings (components_of crossings) number
+is_positive crossings crossing = is_positive_in crossings (components_of crossings) crossing
 
 -- the sign of a crossing, 1 or -1
 abbrev pub sign_of : List (List ℕ) → ℕ → ℤ
-sign_of crossings number = if is_positive crossings number then pos 1 else neg_ℤ (pos 1)
+sign_of crossings crossing = if is_positive crossings crossing then pos 1 else neg_ℤ (pos 1)
 
 -- n+ and n-, the numbers of positive and of negative crossings
 abbrev pub plus_count : List (List ℕ) → ℕ

@@ -2,13 +2,13 @@
 use Rattle.std.specs.Prelude.{ℕ, ◌+◌, ◌*◌, List, length, map}
 use Rattle.kh_types.specs.Code.{place_of}
 use Rattle.kh_types.specs.Classes.{classes_of, class_count}
-use Rattle.kh_types.specs.Darts.{darts, dart_place, partner, face_step}
+use Rattle.kh_types.specs.Darts.{darts, dart_count, dart_place, partner, face_step}
 
 -- the face of each dart, by the place of its least dart: two darts are in one class where one face step leads from one to
 -- the other
 abbrev pub faces_of : List (List ℕ) → List ℕ
 faces_of crossings =
-    classes_of (4 * length crossings) (map (λ dart. (dart_place dart, dart_place (face_step crossings dart))) (darts crossings))
+    classes_of (dart_count crossings) (map (λ dart. (dart_place dart, dart_place (face_step crossings dart))) (darts crossings))
 
 -- the number of faces; loops count for none
 abbrev pub face_count : List (List ℕ) → ℕ

@@ -1,12 +1,11 @@
 -- Histories of pivots, and the block of the cube as a complex.
-use Rattle.std.specs.Prelude.{ℕ, ℤ, pos, List, [], ◌∷◌, map, Bool, true, false, not}
-use Rattle.std.specs.List.{filter, fold}
+use Rattle.std.specs.Prelude.{ℕ, ◌-◌, ℤ, pos, List, [], ◌∷◌, length, map, take, drop, Bool, true, false, not}
+use Rattle.std.specs.List.{fold, position_or_len, suffix_len}
 use Rattle.kh_types.specs.Code.{Code}
 use Rattle.kh_types.specs.Generators.{generators_at}
 use Rattle.kh_types.specs.Differential.{differential}
 use Rattle.kh_types.specs.Table.{from_minus}
 use Rattle.kh_types.specs.Complex.{Complex, Pivot, IsPivot, cancel}
-use Rattle.kh_types.specs.declared.limits.TheConstants.{CROSSINGS}
 
 abbrev pub is_empty : {X : Type 0} → List X → Bool
 is_empty [] = true
@@ -22,16 +21,21 @@ IsLegal p complex (pivot ∷ later) = IsPivot complex pivot × IsLegal p (cancel
 abbrev pub replay : ℕ → Complex → List Pivot → Complex
 replay p complex history = fold (cancel p) complex history
 
--- the homological degrees that have a generator at j, ascending
+-- the part of a list from the first element that passes a test to the last
+abbrev pub first_to_last : {X : Type 0} → (X → Bool) → List X → List X
+first_to_last test xs =
+    drop (position_or_len test xs) (take (length xs - suffix_len (λ x. not (test x)) xs) xs)
+
+-- the homological degrees from the first that has a generator at j to the last
 abbrev pub block_degrees : Code → ℤ → List ℤ
-block_degrees code j = filter (λ i. not (is_empty (generators_at code i j))) (from_minus CROSSINGS)
+block_degrees code j = first_to_last (λ i. not (is_empty (generators_at code i j))) (from_minus (length code.crossings))
 
 abbrev pub first_or_zero : List ℤ → ℤ
 first_or_zero [] = pos 0
 first_or_zero (i ∷ is) = i
 
--- the block at the quantum degree j, as a complex over the field of p elements with all places alive: its degrees are those
--- that have a generator there, a place for each generator (Bar-Natan 2002, section 3)
+-- the block at the quantum degree j, as a complex over the field of p elements with all places alive: its degrees go from the
+-- first that has a generator there to the last, with a place for each generator (Bar-Natan 2002, section 3)
 abbrev pub block : ℕ → Code → ℤ → Complex
 block p code j =
     record {

@@ -6,6 +6,7 @@ pub mod Components
 pub mod Darts
 pub mod Faces
 pub mod Checkerboard
+pub mod Equations
 pub mod Acceptance
 pub mod Directions
 pub mod Circles
@@ -18,3 +19,5 @@ pub mod Complex
 pub mod History
 pub mod WorkedCodes
 pub mod WorkedHistories
+pub mod Filling
+pub mod Inside

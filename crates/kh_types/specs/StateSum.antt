@@ -52,7 +52,8 @@ pub record Term : Type 0 where
   pub coefficient : ℤ
   pub exponent : ℤ
 
--- the terms of a polynomial with a coefficient other than 0, by exponent, ascending
+-- the terms of a polynomial with a coefficient other than 0, by exponent, ascending; within the limits exponents are at most
+-- EXPONENT in size
 abbrev pub terms : (ℤ → ℤ) → List Term
 terms polynomial =
     filter (λ term. not (int_eq term.coefficient (pos 0)))

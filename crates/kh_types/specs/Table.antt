@@ -6,7 +6,7 @@ use Rattle.kh_types.specs.Code.{Code}
 use Rattle.kh_types.specs.Generators.{generators_at}
 use Rattle.kh_types.specs.Differential.{differential}
 use Rattle.kh_types.specs.Rank.{rank}
-use Rattle.kh_types.specs.declared.limits.TheConstants.{CROSSINGS, EXPONENT}
+use Rattle.kh_types.specs.declared.limits.TheConstants.{EXPONENT}
 
 -- the homology dimension at (i, j) over the field of p elements: the number of generators less the rank of the differential
 -- out of them and the rank of the one into them
@@ -32,11 +32,12 @@ pub record Table : Type 0 where
 abbrev pub row_at : ℕ → Code → ℤ → ℤ → Row
 row_at p code j i = record { j = j; i = i; dim = dimension p code i j }
 
--- the rows of one quantum degree with a dimension above 0, ascending by i
+-- the rows of one quantum degree with a dimension above 0, ascending by i; with n crossings i lies from -n to n
 abbrev pub rows_at : ℕ → Code → ℤ → List Row
-rows_at p code j = filter (λ row. nat_lt 0 row.dim) (map (row_at p code j) (from_minus CROSSINGS))
+rows_at p code j = filter (λ row. nat_lt 0 row.dim) (map (row_at p code j) (from_minus (length code.crossings)))
 
--- the homology table: the rows with a dimension above 0, ascending by j, then by i
+-- the homology table: the rows with a dimension above 0, ascending by j, then by i; within the limits on crossings, components
+-- and loops, j is at most EXPONENT in size
 abbrev pub table : ℕ → Code → Table
 table p code = record { field = p; rows = flat_map (rows_at p code) (from_minus EXPONENT) }
 

@@ -22,6 +22,14 @@ one_loop = record { crossings = []; loops = 1 }
 abbrev pub curl : Code
 curl = code_of (crossing_of 1 1 2 2 ∷ [])
 
+-- two curls that lie apart
+abbrev pub two_curls : Code
+two_curls = code_of (crossing_of 1 1 2 2 ∷ crossing_of 3 3 4 4 ∷ [])
+
+-- a circle of two arcs, 3 and 4, that lies over another
+abbrev pub over_circle : Code
+over_circle = code_of (crossing_of 1 4 2 3 ∷ crossing_of 2 4 1 3 ∷ [])
+
 -- the Hopf link
 abbrev pub hopf_link : Code
 hopf_link = code_of (crossing_of 4 1 3 2 ∷ crossing_of 2 3 1 4 ∷ [])

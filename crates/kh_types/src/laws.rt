@@ -3,4 +3,5 @@
 pub mod acceptance;
 pub mod complexes;
 pub mod polynomials;
+pub mod ranks;
 pub mod tables;

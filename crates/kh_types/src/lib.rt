@@ -1,16 +1,21 @@
 //! The data that all crates share, codes, diagrams and words, and in `specs/` the definitions on which every contract stands.
 #![tactic(auto)]
 
+mod acceptance;
+mod classes;
 mod code;
 mod dart;
+mod diagram;
 mod fault;
 pub mod laws;
 mod limits;
 mod memory;
 mod words;
 
+pub use classes::{MEMBERS, class_count, class_of, classes_of, is_least};
 pub use code::{Crossing, RawCode};
 pub use dart::Dart;
+pub use diagram::{BadCode, Diagram};
 pub use fault::CodeFault;
 pub use limits::{ARCS, CIRCLES, COMPONENTS, CROSSINGS, EXPONENT, INPUT_BYTES};
 pub use memory::NoMemory;

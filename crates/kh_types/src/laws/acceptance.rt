@@ -1,12 +1,12 @@
 //! Which known codes are accepted, and the rule that each of some others breaks first.
 
-ghost use Rattle.std.specs.Prelude.{◌≡◌, Some, None, [], ◌∷◌, true};
+ghost use Rattle.std.specs.Prelude.{◌≡◌, Some, None, [], ◌∷◌, true, reverse, pos, neg_ℤ};
 ghost use Rattle.kh_types.specs.declared.fault.CodeFault.{CodeFault};
 ghost use Rattle.kh_types.specs.declared.fault.CodeFault.TheVariants.{ArcRange, ArcTimes, Interval, Under, Over, TwoArc, Checkerboard, Genus, Components};
-ghost use Rattle.kh_types.specs.WorkedCodes.{code_of, crossing_of, empty_link, one_loop, curl, hopf_link, trefoil, figure_eight, turned_trefoil, virtual_trefoil};
+ghost use Rattle.kh_types.specs.WorkedCodes.{code_of, crossing_of, empty_link, one_loop, curl, two_curls, over_circle, hopf_link, trefoil, figure_eight, turned_trefoil, virtual_trefoil};
 ghost use Rattle.kh_types.specs.Components.{component_count};
 ghost use Rattle.kh_types.specs.Faces.{face_count, piece_count, planar_face_count};
-ghost use Rattle.kh_types.specs.Directions.{plus_count, minus_count, head_of, tail_of};
+ghost use Rattle.kh_types.specs.Directions.{sign_of, plus_count, minus_count, head_of, tail_of};
 ghost use Rattle.kh_types.specs.Acceptance.{first_fault, accepted, checkerboard_fault};
 
 /// These codes are accepted.
@@ -17,6 +17,9 @@ pub fn accepted_codes()
     ensures hopf { accepted hopf_link ≡ true }
     ensures three { accepted trefoil ≡ true }
     ensures four { accepted figure_eight ≡ true }
+    ensures apart { accepted two_curls ≡ true }
+    ensures over { accepted over_circle ≡ true }
+    ensures many_loops { accepted (record empty_link { loops = 24 }) ≡ true }
 {}
 
 /// The counts of the trefoil and of the Hopf link.
@@ -29,6 +32,17 @@ pub fn counts()
     ensures hopf_components { component_count hopf_link.crossings ≡ 2 }
     ensures hopf_minus { minus_count hopf_link.crossings ≡ 2 }
     ensures curl_plus { plus_count curl.crossings ≡ 1 }
+    ensures curls_apart_pieces { piece_count two_curls.crossings ≡ 2 }
+    ensures curls_apart_faces { face_count two_curls.crossings ≡ 6 }
+{}
+
+/// A circle of two arcs that is over at both its crossings goes from the smaller to the greater at the first listed of them, and
+/// back at the other: in either order of the crossings.
+pub fn over_circle_signs()
+    ensures first { sign_of over_circle.crossings 1 ≡ pos 1 }
+    ensures second { sign_of over_circle.crossings 2 ≡ neg_ℤ (pos 1) }
+    ensures listed_other_first { sign_of (reverse over_circle.crossings) 1 ≡ pos 1 }
+    ensures listed_other_second { sign_of (reverse over_circle.crossings) 2 ≡ neg_ℤ (pos 1) }
 {}
 
 /// The ends of two arcs of the trefoil, and of the two arcs of a curl, whose over pass goes against its under pass.
@@ -53,6 +67,14 @@ pub fn first_faults()
     ensures two_arc { first_fault (code_of (crossing_of 1 4 2 3 ∷ crossing_of 1 4 2 3 ∷ [])) ≡ Some (TwoArc 2) }
     ensures checkerboard { first_fault (code_of (crossing_of 1 2 1 2 ∷ [])) ≡ Some (Checkerboard 1) }
     ensures components { first_fault (record empty_link { loops = 25 }) ≡ Some (Components 25) }
+    ensures component_counts { first_fault (record curl { loops = 24 }) ≡ Some (Components 25) }
+    // Of the pairs of under passes at the crossings 1 and 4, and 2 and 3, the one whose second comes first.
+    ensures least_second { first_fault (code_of (crossing_of 1 5 2 6 ∷ crossing_of 3 7 4 8 ∷ crossing_of 3 8 4 7 ∷ crossing_of 1 5 2 6 ∷ []))
+        ≡ Some (TwoArc 3) }
+    // A component of one arc has itself as its next, so an under pass from it to it breaks no rule of passes.
+    ensures one_arc { first_fault (code_of (crossing_of 1 2 1 2 ∷ [])) ≡ Some (Checkerboard 1) }
+    // Two components are no intervals: the least arc of both.
+    ensures least_interval { first_fault (code_of (crossing_of 1 2 3 4 ∷ crossing_of 3 4 1 2 ∷ [])) ≡ Some (Interval 1) }
 {}
 
 /// One crossing of the trefoil turned: the code has a checkerboard, but 3 faces where the sphere wants 5.

@@ -2,9 +2,10 @@
 
 ghost use Rattle.std.specs.Prelude.{◌≡◌, ℤ, pos, neg_ℤ, [], ◌∷◌, Bool, true};
 ghost use Rattle.kh_types.specs.WorkedCodes.{hopf_link, trefoil, figure_eight};
-ghost use Rattle.kh_types.specs.WorkedHistories.{trefoil_block, pivot_of, history_over_two, history_over_five};
+ghost use Rattle.kh_types.specs.WorkedHistories.{trefoil_block, hopf_block, pivot_at, pivot_of, history_over_two, history_over_five};
+ghost use Rattle.kh_types.specs.Differential.{differential};
 ghost use Rattle.kh_types.specs.Table.{dimension};
-ghost use Rattle.kh_types.specs.Complex.{alive_count, dimension_of, is_zero, squares_to_zero};
+ghost use Rattle.kh_types.specs.Complex.{alive_count, cancel, cancelled_matrix, degree_of, dimension_of, is_zero, squares_to_zero};
 ghost use Rattle.kh_types.specs.History.{block, IsLegal, replay};
 
 /// Over two elements two cancellations leave a zero complex, with as many places alive as the table has dimensions.
@@ -33,6 +34,26 @@ pub fn block_dimensions()
     ensures upper_over_two { dimension_of 2 (trefoil_block 2) (neg_ℤ (pos 2)) ≡ 1 }
     ensures lower_over_five { dimension_of 5 (trefoil_block 5) (neg_ℤ (pos 3)) ≡ 0 }
     ensures upper_over_five { dimension_of 5 (trefoil_block 5) (neg_ℤ (pos 2)) ≡ 0 }
+{}
+
+/// A cancellation reaches both neighbouring matrices: in the block of the Hopf link at -4, with 2, 2 and 1 places, a pivot of the
+/// first matrix clears a column of the second, and one of the second a row of the first.
+pub fn neighbours_are_cleared()
+    ensures before { (degree_of hopf_block (neg_ℤ (pos 1))).matrix ≡ (2 ∷ 1 ∷ []) ∷ [] }
+    ensures second { (degree_of (cancel 3 hopf_block (pivot_at (neg_ℤ (pos 2)) 0 0)) (neg_ℤ (pos 1))).matrix ≡ (0 ∷ 1 ∷ []) ∷ [] }
+    ensures first { (degree_of (cancel 3 hopf_block (pivot_at (neg_ℤ (pos 1)) 1 0)) (neg_ℤ (pos 2))).matrix
+        ≡ (1 ∷ 1 ∷ []) ∷ (0 ∷ 0 ∷ []) ∷ [] }
+{}
+
+/// Over five elements the inverse of 2 is 3: the update uses the inverse of the pivot and not the pivot.
+pub fn update_uses_the_inverse()
+    ensures { cancelled_matrix 5 (pivot_at (pos 0) 0 0) ((2 ∷ 1 ∷ []) ∷ (1 ∷ 1 ∷ []) ∷ []) ≡ (0 ∷ 0 ∷ []) ∷ (0 ∷ 3 ∷ []) ∷ [] }
+{}
+
+/// A differential over three elements in which both signs occur: from the states with one 1 to those with two.
+pub fn signs_of_edges()
+    ensures { differential 3 trefoil (neg_ℤ (pos 2)) (neg_ℤ (pos 3))
+        ≡ (2 ∷ 1 ∷ 0 ∷ []) ∷ (2 ∷ 0 ∷ 1 ∷ []) ∷ (0 ∷ 2 ∷ 1 ∷ []) ∷ [] }
 {}
 
 /// A history with a pivot at an entry 0 is not legal: at the start, and after a cancellation has made the entry 0.

@@ -1,8 +1,7 @@
 //! The homology tables of known diagrams, as the definitions compute them.
 
 ghost use Rattle.std.specs.Prelude.{◌≡◌, codes};
-ghost use Rattle.kh_types.specs.Code.{Code};
-ghost use Rattle.kh_types.specs.WorkedCodes.{empty_link, one_loop, curl, hopf_link, trefoil, figure_eight};
+ghost use Rattle.kh_types.specs.WorkedCodes.{empty_link, one_loop, curl, two_curls, over_circle, hopf_link, trefoil, figure_eight};
 ghost use Rattle.kh_types.specs.Table.{table, table_text};
 
 /// The empty link has one generator, in the degrees 0 and 0.
@@ -14,6 +13,14 @@ pub fn empty_link_table()
 pub fn unknot_tables()
     ensures loop_alone { table_text (table 2 one_loop) ≡ codes "field 2\nj -1 i 0 dim 1\nj 1 i 0 dim 1\n" }
     ensures curled { table_text (table 2 curl) ≡ codes "field 2\nj -1 i 0 dim 1\nj 1 i 0 dim 1\n" }
+{}
+
+/// Unlinks: two curls apart, a circle over another, and a curl with two loops, whose labels no edge changes.
+pub fn unlink_tables()
+    ensures apart { table_text (table 2 two_curls) ≡ codes "field 2\nj -2 i 0 dim 1\nj 0 i 0 dim 2\nj 2 i 0 dim 1\n" }
+    ensures over { table_text (table 2 over_circle) ≡ codes "field 2\nj -2 i 0 dim 1\nj 0 i 0 dim 2\nj 2 i 0 dim 1\n" }
+    ensures with_loops { table_text (table 2 (record curl { loops = 2 }))
+        ≡ codes "field 2\nj -3 i 0 dim 1\nj -1 i 0 dim 3\nj 1 i 0 dim 3\nj 3 i 0 dim 1\n" }
 {}
 
 /// The Hopf link.

@@ -25,3 +25,15 @@ returns-clause-three c = refl
 pub returns-clause-four : goal.returns-clause-four
 unfolding first_fault accepted
 returns-clause-four c = refl
+
+pub returns-clause-apart : goal.returns-clause-apart
+unfolding first_fault accepted
+returns-clause-apart c = refl
+
+pub returns-clause-over : goal.returns-clause-over
+unfolding first_fault accepted
+returns-clause-over c = refl
+
+pub returns-clause-many_loops : goal.returns-clause-many_loops
+unfolding first_fault accepted
+returns-clause-many_loops c = refl

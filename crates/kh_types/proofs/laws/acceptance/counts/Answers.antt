@@ -24,3 +24,9 @@ returns-clause-hopf_minus c = refl
 
 pub returns-clause-curl_plus : goal.returns-clause-curl_plus
 returns-clause-curl_plus c = refl
+
+pub returns-clause-curls_apart_pieces : goal.returns-clause-curls_apart_pieces
+returns-clause-curls_apart_pieces c = refl
+
+pub returns-clause-curls_apart_faces : goal.returns-clause-curls_apart_faces
+returns-clause-curls_apart_faces c = refl

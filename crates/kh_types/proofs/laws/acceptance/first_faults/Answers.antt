@@ -33,3 +33,19 @@ returns-clause-checkerboard c = refl
 pub returns-clause-components : goal.returns-clause-components
 unfolding first_fault
 returns-clause-components c = refl
+
+pub returns-clause-component_counts : goal.returns-clause-component_counts
+unfolding first_fault
+returns-clause-component_counts c = refl
+
+pub returns-clause-least_second : goal.returns-clause-least_second
+unfolding first_fault
+returns-clause-least_second c = refl
+
+pub returns-clause-one_arc : goal.returns-clause-one_arc
+unfolding first_fault
+returns-clause-one_arc c = refl
+
+pub returns-clause-least_interval : goal.returns-clause-least_interval
+unfolding first_fault
+returns-clause-least_interval c = refl

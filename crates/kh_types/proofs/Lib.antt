@@ -1,0 +1,10 @@
+pub mod AcceptedCodes
+pub mod Ranges
+pub mod RankLemmas
+pub mod ClassLemmas
+pub mod FaultLemmas
+pub mod FaceLemmas
+pub mod DartLemmas
+pub mod CrossingLemmas
+pub mod CheckerboardLemmas
+pub mod DirectionLemmas

@@ -1,0 +1,7 @@
+use Rattle.std.proofs.Common.{◌≡◌, map}
+use Rattle.std.specs.List.{range_with_len}
+use Rattle.kh_types.proofs.FaceLemmas.{face_pair_at}
+use Rattle.kh_types.proofs.acceptance.faces.faces_of.Given as goal
+
+abbrev pub invariant-loop-place : goal.invariant-loop-place
+invariant-loop-place l = l.pairs.items ≡ map (face_pair_at l.crossings) (range_with_len 0 l.place)

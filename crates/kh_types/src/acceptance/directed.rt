@@ -1,0 +1,204 @@
+//! The rules that make a code a directed code, and the limit on its components.
+
+ghost use Rattle.std.specs.Prelude.{◌≡◌, ◌≤◌, length, nat_eq};
+ghost use Rattle.std.specs.List.{list_any, range_with_len};
+ghost use Rattle.kh_types.specs.Code.{arc_in, place_of, crossing_at};
+ghost use Rattle.kh_types.specs.declared.limits.TheConstants.{CROSSINGS};
+ghost use Rattle.kh_types.specs.Acceptance.{fault_if, arc_range_at, arc_range_fault, arc_times_at, arc_times_fault, interval_at, interval_fault, under_at, under_fault, over_at, over_fault, two_arc_at, two_arc_fault, components_fault, direction_fault};
+
+use crate::acceptance::arcs::{arc_at, times};
+use crate::acceptance::components::{
+    arcs_in, component_count, components_of, is_interval, next_in,
+};
+use crate::acceptance::darts::dart_at;
+use crate::classes::{class_of, is_least};
+use crate::code::{Crossing, RawCode};
+use crate::dart::Dart;
+use crate::fault::CodeFault;
+use crate::limits::{COMPONENTS, CROSSINGS};
+
+/// The first rule that a code breaks, of those that make it a directed code.
+pub fn direction_fault(crossings: &[Crossing]) -> Option<CodeFault>
+    requires { length crossings.now ≤ CROSSINGS }
+    ensures { result ≡ direction_fault crossings.now }
+{
+    arc_range_fault(crossings)
+        .or_else(|| arc_times_fault(crossings))
+        .or_else(|| interval_fault(crossings))
+        .or_else(|| under_fault(crossings))
+        .or_else(|| over_fault(crossings))
+        .or_else(|| two_arc_fault(crossings))
+}
+
+/// The fault of a code with too many components and loops.
+pub fn components_fault(raw: &RawCode) -> Option<CodeFault>
+    ensures { result ≡ components_fault raw.now }
+{
+    let loops = raw.loops;
+    let count = component_count(&raw.crossings) as u16 + u16::from(loops);
+    fault_if(count > COMPONENTS as u16, CodeFault::Components { count })
+}
+
+/// A fault, where a test holds.
+fn fault_if(holds: bool, fault: CodeFault) -> Option<CodeFault>
+    ensures { result ≡ fault_if holds fault }
+{
+    if holds { Some(fault) } else { None }
+}
+
+/// The first slot that holds a number which is no arc.
+fn arc_range_fault(crossings: &[Crossing]) -> Option<CodeFault>
+    requires { length crossings.now ≤ CROSSINGS }
+    ensures { result ≡ arc_range_fault crossings.now }
+{
+    for place in 0..4 * crossings.len() {
+        if let Some(fault) = arc_range_at(crossings, place as u8) {
+            return Some(fault);
+        }
+    }
+    None
+}
+
+/// The fault at one slot, by the place of its dart.
+fn arc_range_at(crossings: &[Crossing], place: u8) -> Option<CodeFault>
+    requires { length crossings.now ≤ CROSSINGS }
+    ensures { result ≡ arc_range_at crossings.now place }
+{
+    let Dart { crossing, slot } = dart_at(place);
+    let arc = usize::from(arc_at(crossings, crossing, slot));
+    fault_if(
+        arc < 1 || 2 * crossings.len() < arc,
+        CodeFault::ArcRange { crossing, slot },
+    )
+}
+
+/// The least arc that does not stand exactly twice.
+fn arc_times_fault(crossings: &[Crossing]) -> Option<CodeFault>
+    requires { length crossings.now ≤ CROSSINGS }
+    ensures { result ≡ arc_times_fault crossings.now }
+{
+    for place in 0..2 * crossings.len() {
+        if let Some(fault) = arc_times_at(crossings, place as u8 + 1) {
+            return Some(fault);
+        }
+    }
+    None
+}
+
+/// The fault of one arc that does not stand exactly twice.
+fn arc_times_at(crossings: &[Crossing], arc: u8) -> Option<CodeFault>
+    requires { length crossings.now ≤ CROSSINGS }
+    ensures { result ≡ arc_times_at crossings.now arc }
+{
+    let times = times(crossings, arc);
+    fault_if(times != 2, CodeFault::ArcTimes { arc, times })
+}
+
+/// The least arc of a component that is no interval.
+fn interval_fault(crossings: &[Crossing]) -> Option<CodeFault>
+    requires { length crossings.now ≤ CROSSINGS }
+    ensures { result ≡ interval_fault crossings.now }
+{
+    let components = components_of(crossings);
+    for place in 0..2 * crossings.len() {
+        if let Some(fault) = interval_at(&components, place as u8 + 1) {
+            return Some(fault);
+        }
+    }
+    None
+}
+
+/// The fault of one arc that is the least of a component which is no interval.
+fn interval_at(components: &[u8], arc: u8) -> Option<CodeFault>
+    ensures { result ≡ interval_at components.now arc }
+{
+    let least = is_least(components, arc);
+    let interval = is_interval(components, arc);
+    fault_if(least && !interval, CodeFault::Interval { arc })
+}
+
+/// The first crossing whose under pass does not go to the next arc.
+fn under_fault(crossings: &[Crossing]) -> Option<CodeFault>
+    requires { length crossings.now ≤ CROSSINGS }
+    ensures { result ≡ under_fault crossings.now }
+{
+    let components = components_of(crossings);
+    for place in 0..crossings.len() {
+        if let Some(fault) = under_at(crossings, &components, place as u8 + 1) {
+            return Some(fault);
+        }
+    }
+    None
+}
+
+/// The fault of one under pass.
+fn under_at(crossings: &[Crossing], components: &[u8], number: u8) -> Option<CodeFault>
+    ensures { result ≡ under_at crossings.now components.now number }
+{
+    let next = next_in(components, arc_at(crossings, number, 0));
+    fault_if(
+        u16::from(arc_at(crossings, number, 2)) != next,
+        CodeFault::Under { crossing: number },
+    )
+}
+
+/// The first crossing whose over pass joins no arc with its next.
+fn over_fault(crossings: &[Crossing]) -> Option<CodeFault>
+    requires { length crossings.now ≤ CROSSINGS }
+    ensures { result ≡ over_fault crossings.now }
+{
+    let components = components_of(crossings);
+    for place in 0..crossings.len() {
+        if let Some(fault) = over_at(crossings, &components, place as u8 + 1) {
+            return Some(fault);
+        }
+    }
+    None
+}
+
+/// The fault of one over pass.
+fn over_at(crossings: &[Crossing], components: &[u8], number: u8) -> Option<CodeFault>
+    ensures { result ≡ over_at crossings.now components.now number }
+{
+    let (start, end) = (arc_at(crossings, number, 1), arc_at(crossings, number, 3));
+    let (after_start, after_end) = (next_in(components, start), next_in(components, end));
+    fault_if(
+        u16::from(end) != after_start && u16::from(start) != after_end,
+        CodeFault::Over { crossing: number },
+    )
+}
+
+/// The first crossing that is the second of two under passes in one direction on a component of two arcs.
+fn two_arc_fault(crossings: &[Crossing]) -> Option<CodeFault>
+    requires { length crossings.now ≤ CROSSINGS }
+    ensures { result ≡ two_arc_fault crossings.now }
+{
+    let components = components_of(crossings);
+    for place in 0..crossings.len() {
+        if let Some(fault) = two_arc_at(crossings, &components, place as u8 + 1) {
+            return Some(fault);
+        }
+    }
+    None
+}
+
+/// The fault of one under pass on a component of two arcs, where an earlier one comes in on the same arc.
+fn two_arc_at(crossings: &[Crossing], components: &[u8], number: u8) -> Option<CodeFault>
+    ensures { result ≡ two_arc_at crossings.now components.now number }
+{
+    let incoming = arc_at(crossings, number, 0);
+    let arcs = arcs_in(components, class_of(components, usize::from(incoming)));
+    let repeated = comes_in_before(crossings, number, incoming);
+    fault_if(
+        arcs == 2 && repeated,
+        CodeFault::TwoArc { crossing: number },
+    )
+}
+
+/// Whether a crossing listed before this one has an under pass that comes in on an arc.
+fn comes_in_before(crossings: &[Crossing], number: u8, incoming: u8) -> bool
+    ensures { result ≡ list_any (λ earlier. nat_eq (arc_in (crossing_at crossings.now earlier) 0) incoming)
+        (range_with_len 1 (place_of number)) }
+{
+    (1..number.max(1)).any(|earlier| arc_at(crossings, earlier, 0) == incoming)
+}
