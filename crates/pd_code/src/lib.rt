@@ -8,6 +8,8 @@ mod machine;
 mod reader;
 mod stop;
 mod symbol;
+#[cfg(test)]
+mod tests;
 mod token;
 
 pub use item::Item;
