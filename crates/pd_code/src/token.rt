@@ -6,6 +6,7 @@ ghost use Rattle.std.specs.List.{prefix_len};
 ghost use Rattle.pd_code.specs.declared.token.LexStop.TheVariants.{NoMemory};
 ghost use Rattle.pd_code.specs.Tokens.{is_blank, mark_of, word_at, has_minus, sign_length, digits_at, begins_number, number_of, with_digit, signed_as, number_at, mark_at, token_at, piece_at, piece_length};
 
+use kh_types::INPUT_BYTES;
 use std::alloc::{AllocError, AllocFailed};
 
 /// The greatest size of a number. This project's rule.
@@ -66,7 +67,7 @@ fn is_blank(byte: u8) -> bool
 
 /// The blank, which is no token, or the token that begins a text, whose first byte has a place.
 pub fn piece_at(place: u32, text: &[u8]) -> Result<Option<Token>, LexStop>
-    requires { length text.now ≤ 65_536 }
+    requires { length text.now ≤ INPUT_BYTES }
     ensures { result ≡ piece_at place text.now }
 {
     if is_blank(byte_at(text, 0)) {
@@ -88,7 +89,7 @@ pub fn piece_length(piece: &Option<Token>) -> u32
 
 // The token that begins a text.
 fn token_at(place: u32, text: &[u8]) -> Result<Token, LexStop>
-    requires { length text.now ≤ 65_536 }
+    requires { length text.now ≤ INPUT_BYTES }
     ensures { result ≡ token_at place text.now }
 {
     if byte_at(text, 0).is_ascii_alphabetic() {
@@ -119,7 +120,7 @@ fn letter_count(text: &[u8]) -> usize
 
 // The word at the front of a text.
 fn word_at(place: u32, text: &[u8]) -> Token
-    requires { length text.now ≤ 65_536 }
+    requires { length text.now ≤ INPUT_BYTES }
     ensures { result ≡ word_at place text.now }
 {
     Token {
@@ -196,7 +197,7 @@ fn capped_with_digit(size: u32, digit: u8) -> u32
 
 // The number at the front of a text that begins with one.
 fn number_at(place: u32, text: &[u8]) -> Result<Token, LexStop>
-    requires { length text.now ≤ 65_536 }
+    requires { length text.now ≤ INPUT_BYTES }
     ensures { result ≡ number_at place text.now }
 {
     let digits = digits_at(text);
