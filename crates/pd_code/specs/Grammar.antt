@@ -15,7 +15,8 @@ use Rattle.pd_code.specs.Symbols.{symbols_of}
 
 -- an item: `X[i, j, k, l]` or `Loop[n]`
 abbrev pub item_symbols : Item → List Symbol
-item_symbols (Crossing i j k l) = X ∷ LeftBracket ∷ Number i ∷ Comma ∷ Number j ∷ Comma ∷ Number k ∷ Comma ∷ Number l ∷ RightBracket ∷ []
+item_symbols (Crossing i j k l) =
+    X ∷ LeftBracket ∷ Number i ∷ Comma ∷ Number j ∷ Comma ∷ Number k ∷ Comma ∷ Number l ∷ RightBracket ∷ []
 item_symbols (Loop n) = symbols.Loop ∷ LeftBracket ∷ Number n ∷ RightBracket ∷ []
 
 -- an item behind a comma
@@ -43,8 +44,8 @@ pub record IsViable (symbols : List Symbol) : Type 0 where
   pub items : List Item
   pub whole : symbols ++ more ≡ spelled items
 
--- the first place where symbols leave the grammar: those before it can go on, and with the one there they cannot;
--- or they end too early, and the place is their end
+-- the first place where symbols leave the grammar: those before it can go on to a spelling, and with the one there
+-- they cannot; or they end too early, and the place is their end (this project's rule)
 pub record IsFirstFault (symbols : List Symbol) (place : ℕ) : Type 0 where
   pub within : place ≤ length symbols
   pub before : IsViable (take place symbols)

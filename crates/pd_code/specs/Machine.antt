@@ -7,7 +7,7 @@ use Rattle.pd_code.specs.declared.symbol.Symbol.TheVariants.{Pd, X, Number, Left
 use Rattle.pd_code.specs.declared.machine.State.{State}
 use Rattle.pd_code.specs.declared.machine.State.TheVariants.{Start, Named, Open, Listed, Separated, Done, Crossing, CrossingOpen, First, FirstComma, Second, SecondComma, Third, ThirdComma, Fourth, Loop, LoopOpen, LoopNumber}
 use Rattle.pd_code.specs.declared.item.Item.{Item}
-use Rattle.pd_code.specs.declared.item.Item.TheVariants as listed
+use Rattle.pd_code.specs.declared.item.Item.TheVariants as kinds
 
 -- where a symbol leads from a state, if the grammar has it there
 abbrev pub step : State → Symbol → Option State
@@ -36,8 +36,8 @@ step _ _ = None
 
 -- the items with the one that ends as a state is left
 abbrev pub added : State → List Item → List Item
-added (Fourth i j k l) items = items ++ listed.Crossing i j k l ∷ []
-added (LoopNumber n) items = items ++ listed.Loop n ∷ []
+added (Fourth i j k l) items = items ++ kinds.Crossing i j k l ∷ []
+added (LoopNumber n) items = items ++ kinds.Loop n ∷ []
 added _ items = items
 
 -- where the machine stands, and the items that it has read
@@ -77,7 +77,9 @@ abbrev pub end_fault : State → Option ℕ
 end_fault Done = None
 end_fault _ = Some 0
 
--- the place of the first symbol that the machine refuses, or of the end where the symbols end too early, if there is one
+-- the place of the first symbol that the machine refuses from a state, or of the end of the symbols where they end
+-- too early, if there is one
 abbrev pub fault_from : State → List Symbol → Option ℕ
 fault_from state [] = end_fault state
-fault_from state (symbol ∷ symbols) = option_map_or (λ next. option_map suc (fault_from next symbols)) (step state symbol) (Some 0)
+fault_from state (symbol ∷ symbols) =
+    option_map_or (λ next. option_map suc (fault_from next symbols)) (step state symbol) (Some 0)

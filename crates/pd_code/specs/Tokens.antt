@@ -1,4 +1,5 @@
--- The tokens of a text: longest runs of letters, numbers and five marks, with white space between them (this project's rule).
+-- The tokens of a text: longest runs of letters, numbers and five marks, with white space between them.
+-- The rules are this project's own.
 use Rattle.std.specs.Prelude.{ℕ, zero, suc, ◌+◌, ◌-◌, ◌≤◌, ◌*◌, ◌==◌, ◌||◌, nat_lt, Bool, if◌then◌else◌, List, [], ◌∷◌, ◌++◌, length, drop, slice_index, Option, None, Some, Result, Ok, Err, ℤ, pos, neg_ℤ}
 use Rattle.std.specs.Char.{is_ascii_alphabetic, is_ascii_digit}
 use Rattle.std.specs.Option.{option_map_or, option_to_list}
@@ -65,11 +66,17 @@ abbrev pub number_at : ℕ → List ℕ → Result Token LexStop
 number_at place text =
     let size = number_of (digits_at text) in
     if nat_lt 65535 size then Err (stops.Number place)
-    else Ok (record { kind = Number; place = place; length = sign_length text + length (digits_at text); value = signed_as text size })
+    else Ok (record {
+      kind = Number;
+      place = place;
+      length = sign_length text + length (digits_at text);
+      value = signed_as text size;
+    })
 
 -- the mark at the front of a text, or the fault that its first byte begins no token
 abbrev pub mark_at : ℕ → List ℕ → Result Token LexStop
-mark_at place text = option_map_or (λ kind. Ok (plain_token kind place 1)) (mark_of (slice_index text 0)) (Err (stops.Bad place))
+mark_at place text =
+    option_map_or (λ kind. Ok (plain_token kind place 1)) (mark_of (slice_index text 0)) (Err (stops.Bad place))
 
 -- the token at the front of a text, or the fault there
 abbrev pub token_at : ℕ → List ℕ → Result Token LexStop
@@ -80,7 +87,9 @@ token_at place text =
 
 -- what stands at the front of a text that is not empty: a blank, which is no token, a token or a fault
 abbrev pub piece_at : ℕ → List ℕ → Result (Option Token) LexStop
-piece_at place text = if is_blank (slice_index text 0) then Ok None else result_map_both Some (λ stop. stop) (token_at place text)
+piece_at place text =
+    if is_blank (slice_index text 0) then Ok None
+    else result_map_both Some (λ stop. stop) (token_at place text)
 
 -- the bytes of a piece; a blank has one
 abbrev pub piece_length : Option Token → ℕ
@@ -93,11 +102,12 @@ preceded_by front (Ok tokens) = Ok (front ++ tokens)
 preceded_by front (Err stop) = Err stop
 
 -- a piece, and then what the text behind it gives
-abbrev pub followed_by : Result (Option Token) LexStop → (ℕ → Result (List Token) LexStop) → Result (List Token) LexStop
+abbrev pub followed_by : Result (Option Token) LexStop → (ℕ → Result (List Token) LexStop)
+    → Result (List Token) LexStop
 followed_by (Ok piece) rest = preceded_by (option_to_list piece) (rest (piece_length piece))
 followed_by (Err stop) rest = Err stop
 
--- the tokens of a text whose first byte has a place, or its first fault, in at most so many steps of a piece each
+-- the tokens of a text whose first byte has a place, or its first fault, within some steps of a piece each
 abbrev pub tokens_within : ℕ → ℕ → List ℕ → Result (List Token) LexStop
 tokens_within zero place text = Ok []
 tokens_within (suc steps) place [] = Ok []
