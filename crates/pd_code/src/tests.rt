@@ -1,3 +1,5 @@
+// That whole texts are read at all, since want of memory may replace any answer; and how long texts end.
+
 use crate::reader::read_pd;
 use crate::stop::PdStop;
 use kh_types::{Crossing, INPUT_BYTES};
