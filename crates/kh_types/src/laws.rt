@@ -1,6 +1,7 @@
 //! Laws of the definitions: each is the contract of a function that does nothing, proved with the crate.
 
 pub mod acceptance;
+pub mod classes;
 pub mod complexes;
 pub mod polynomials;
 pub mod ranks;
