@@ -1,16 +1,18 @@
 -- The checkerboard equations, and the choices that solve the first of them.
-use Rattle.std.proofs.Common.{◌≡◌, ℕ, zero, suc, ◌⊎◌, inl, inr, ◌+◌, ◌*◌, ◌%◌, ◌^◌, ◌<◌, ◌≤◌, ◌∙◌, List, [], ◌∷◌, length, take, refl, sym, ap, arith, Bool, true, false, not, ◌&&◌}
+use Rattle.std.proofs.Common.{◌≡◌, ℕ, zero, suc, ◌⊎◌, inl, inr, ◌-◌, ◌+◌, ◌*◌, ◌%◌, ◌^◌, ◌<◌, ◌≤◌, ◌∙◌, List, [], ◌∷◌, length, take, refl, sym, ap, arith, Bool, true, false, not, ◌&&◌}
 use Rattle.std.specs.Prelude.{Some, None, nat_eq}
 use Rattle.std.specs.List.{list_all, range_with_len}
 use Rattle.std.proofs.lemmas.List.Folds.{list_all-map, list_all_kept}
 use Rattle.std.proofs.lemmas.List.FromFn.{take-map-range_with_len}
+use Rattle.kh_types.specs.declared.fault.CodeFault.{CodeFault}
 use Rattle.kh_types.specs.declared.fault.CodeFault.TheVariants.{Checkerboard}
 use Rattle.kh_types.specs.Bits.{bit_for}
 use Rattle.kh_types.specs.Darts.{first_dart, partner}
-use Rattle.kh_types.specs.Checkerboard.{solves_at, solves_up_to, has_choice}
+use Rattle.kh_types.specs.Checkerboard.{solves_at, solves_up_to, has_choice, IsCheckerboard}
 use Rattle.kh_types.specs.Equations.{equation_of, equations_of, is_solved}
-use Rattle.kh_types.specs.Acceptance.{checkerboard_at, fault_if}
-use Rattle.kh_types.proofs.Ranges.{list_any-below, list_any-below_none}
+use Rattle.kh_types.specs.Acceptance.{checkerboard_at, checkerboard_fault, fault_if}
+use Rattle.kh_types.proofs.Ranges.{list_any-below, list_any-below_none, list_any-found, list_all-front}
+use Rattle.kh_types.proofs.FaultLemmas.{none_at, none_of_all}
 
 -- tests that agree everywhere pass the same lists
 list_all-same : (p q : ℕ → Bool) → ((x : ℕ) → p x ≡ q x) → (xs : List ℕ) → list_all p xs ≡ list_all q xs
@@ -74,3 +76,33 @@ tried_more crossings place before now tried fails k below =
       | inl earlier ↦ list_all_kept (is_solved k) (equations_of crossings) place (tried k earlier)
       | inr later ↦ fails k later below
     ]
+
+-- a test whose failure would be a fault holds where there is none
+kept_true : (holds : Bool) (fault : CodeFault) → fault_if (not holds) fault ≡ None → holds ≡ true
+kept_true true fault none = refl
+kept_true false fault none = absurd (cc)
+
+-- an arc without a fault has a choice
+has_choice-none : (crossings : List (List ℕ)) (arc : ℕ) → checkerboard_at crossings arc ≡ None → has_choice crossings arc ≡ true
+has_choice-none crossings arc none = kept_true (has_choice crossings arc) (Checkerboard arc) none
+
+pub choice-from_none : (crossings : List (List ℕ)) → checkerboard_fault crossings ≡ None → IsCheckerboard crossings
+choice-from_none [] none = record { choice = 0; below = omega arith; solves = refl }
+choice-from_none (crossing ∷ crossings) none =
+    let all = crossing ∷ crossings in
+    let last = 2 * length all - 1 in
+    let last_is : 1 + last ≡ 2 * length all = omega arith in
+    let none_last : checkerboard_at all (2 * length all) ≡ None =
+    ap (λ arc. checkerboard_at all arc) (sym last_is) ∙ none_at (checkerboard_at all) 1 (2 * length all) last (omega arith) none in
+    let found = list_any-found (solves_up_to all (2 * length all)) (2 ^ length all)
+    (has_choice-none all (2 * length all) none_last) in
+    record { choice = found.0; below = found.1; solves = found.2 }
+
+pub none-from_choice : (crossings : List (List ℕ)) → IsCheckerboard crossings → checkerboard_fault crossings ≡ None
+none-from_choice crossings solution =
+    none_of_all (checkerboard_at crossings) 1 (2 * length crossings)
+    (λ k below.
+    let solves = list_all-front (solves_at crossings solution.choice) 1 (1 + k) (2 * length crossings) (omega arith)
+    solution.solves in
+    let some = list_any-below (solves_up_to crossings (1 + k)) (2 ^ length crossings) solution.choice solution.below solves in
+    ap (λ b. fault_if (not b) (Checkerboard (1 + k))) some)

@@ -1,10 +1,14 @@
 -- The first fault of the numbers of a range.
-use Rattle.std.proofs.Common.{◌≡◌, ℕ, ◌+◌, ◌-◌, ◌<◌, ◌∙◌, List, [], ◌∷◌, ◌++◌, refl, ap, sym, arith}
-use Rattle.std.specs.Prelude.{Option, Some, None}
+use Rattle.std.proofs.Common.{◌≡◌, ℕ, zero, suc, ◌+◌, ◌-◌, ◌<◌, ◌∙◌, List, [], ◌∷◌, ◌++◌, refl, ap, sym, arith}
+use Rattle.std.specs.Prelude.{Option, Some, None, is_none, IsTrue, nat_eq, not}
+use Rattle.std.proofs.lemmas.Bool.Decides.{nat_tests}
 use Rattle.std.specs.List.{range_with_len}
 use Rattle.std.specs.Option.{option_or}
 use Rattle.kh_types.specs.declared.fault.CodeFault.{CodeFault}
-use Rattle.kh_types.specs.Acceptance.{first_of}
+use Rattle.kh_types.specs.declared.fault.CodeFault.TheVariants.{Genus}
+use Rattle.kh_types.specs.Code.{Code}
+use Rattle.kh_types.specs.Faces.{face_count, planar_face_count}
+use Rattle.kh_types.specs.Acceptance.{first_of, fault_if, direction_fault, checkerboard_fault, genus_fault, components_fault, first_fault, accepted}
 use Rattle.kh_types.proofs.Ranges.{range_more, range_around}
 
 option_or_assoc : (a b c : Option CodeFault) → option_or (option_or a b) c ≡ option_or a (option_or b c)
@@ -56,3 +60,75 @@ none_from_zero fault_at k = none_of_more fault_at 0 k k (omega arith)
 pub none_from_one : (fault_at : ℕ → Option CodeFault) (k : ℕ) → first_of fault_at (range_with_len 1 k) ≡ None
     → fault_at (k + 1) ≡ None → first_of fault_at (range_with_len 1 (k + 1)) ≡ None
 none_from_one fault_at k = none_of_more fault_at 1 k (k + 1) (omega arith)
+
+-- where the numbers of a range have no fault, none of them has one, and the other way round
+option_or-none : (a b : Option CodeFault) → option_or a b ≡ None → (a ≡ None) × (b ≡ None)
+option_or-none None b none = (refl, none)
+option_or-none (Some x) b none = absurd (cc)
+
+pub none_at : (fault_at : ℕ → Option CodeFault) (a n k : ℕ) → k < n → first_of fault_at (range_with_len a n) ≡ None
+    → fault_at (a + k) ≡ None
+none_at fault_at a n k below none =
+    let later = range_with_len (a + k + 1) (n - (k + 1)) in
+    let cut : first_of fault_at (range_with_len a n)
+    ≡ option_or (first_of fault_at (range_with_len a k)) (first_of fault_at ((a + k) ∷ later)) =
+    ap (λ xs. first_of fault_at xs) (range_around a n k (a + k) below refl)
+    ∙ first_of-append fault_at (range_with_len a k) ((a + k) ∷ later) in
+    let rest = option_or-none (first_of fault_at (range_with_len a k)) (first_of fault_at ((a + k) ∷ later)) (sym cut ∙ none) in
+    (option_or-none (fault_at (a + k)) (first_of fault_at later) rest.1).0
+
+pub none_of_all : (fault_at : ℕ → Option CodeFault) (a n : ℕ) → ((k : ℕ) → k < n → fault_at (a + k) ≡ None)
+    → first_of fault_at (range_with_len a n) ≡ None
+none_of_all fault_at a zero none = refl
+none_of_all fault_at a (suc n) none =
+    let e : suc n ≡ n + 1 = omega arith in
+    ap (λ m. first_of fault_at (range_with_len a m)) e
+    ∙ none_of_more fault_at a n (a + n) refl (none_of_all fault_at a n (λ k below. none k (omega arith))) (none n (omega arith))
+
+-- no fault, by its test
+none_is : (fault : Option CodeFault) → IsTrue (is_none fault) → fault ≡ None
+none_is None none = refl
+none_is (Some x) none = absurd (cc)
+
+-- an accepted code breaks none of the four groups of rules
+pub faults-from_accepted : (code : Code) → IsTrue (accepted code)
+    → (direction_fault code.crossings ≡ None) × (checkerboard_fault code.crossings ≡ None) × (genus_fault code.crossings ≡ None)
+    × (components_fault code ≡ None)
+unfolding first_fault accepted
+faults-from_accepted code holds =
+    let direction = direction_fault code.crossings in
+    let checkerboard = checkerboard_fault code.crossings in
+    let genus = genus_fault code.crossings in
+    let all = option_or-none direction (option_or checkerboard (option_or genus (components_fault code)))
+    (none_is (option_or direction (option_or checkerboard (option_or genus (components_fault code)))) holds) in
+    let later = option_or-none checkerboard (option_or genus (components_fault code)) all.1 in
+    let last = option_or-none genus (components_fault code) later.1 in
+    (all.0, later.0, last.0, last.1)
+
+-- the first of four faults, where there is none
+first_of_none : (a b c d : Option CodeFault) → a ≡ None → b ≡ None → c ≡ None → d ≡ None
+    → IsTrue (is_none (option_or a (option_or b (option_or c d))))
+first_of_none a b c d no_a no_b no_c no_d =
+    ap is_none
+    (ap (λ o. option_or o (option_or b (option_or c d))) no_a ∙ ap (λ o. option_or o (option_or c d)) no_b
+    ∙ ap (λ o. option_or o d) no_c ∙ no_d)
+
+pub accepted-from_faults : (code : Code)
+    → (direction_fault code.crossings ≡ None) × (checkerboard_fault code.crossings ≡ None) × (genus_fault code.crossings ≡ None)
+    × (components_fault code ≡ None)
+    → IsTrue (accepted code)
+unfolding first_fault accepted
+accepted-from_faults code none =
+    first_of_none (direction_fault code.crossings) (checkerboard_fault code.crossings) (genus_fault code.crossings)
+    (components_fault code) none.0 none.1 none.2 none.3
+
+-- two numbers are the same, where another would be a fault
+kept_same : (x y : ℕ) (fault : CodeFault) → fault_if (not (nat_eq x y)) fault ≡ None → x ≡ y
+kept_same x y fault none = grind (arith, nat_tests)
+
+pub faces-from_accepted : (code : Code) → IsTrue (accepted code)
+    → face_count code.crossings ≡ planar_face_count code.crossings
+faces-from_accepted code holds =
+    let faces = face_count code.crossings in
+    let wanted = planar_face_count code.crossings in
+    kept_same faces wanted (Genus faces wanted) (faults-from_accepted code holds).2

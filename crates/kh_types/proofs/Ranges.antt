@@ -1,5 +1,5 @@
 -- A range with one number more at its end, under each function that loops compute over ranges.
-use Rattle.std.proofs.Common.{◌≡◌, ℕ, zero, suc, ◌+◌, ◌-◌, ◌<◌, ◌∙◌, List, [], ◌∷◌, ◌++◌, map, length, get_or, ap, arith, Bool, true, false, cond, refl, ◌&&◌, ◌||◌}
+use Rattle.std.proofs.Common.{◌≡◌, ℕ, zero, suc, ◌+◌, ◌-◌, ◌<◌, ◌≤◌, ◌∙◌, List, [], ◌∷◌, ◌++◌, map, length, get_or, ap, sym, arith, Bool, true, false, cond, refl, ◌&&◌, ◌||◌}
 use Rattle.std.specs.Prelude.{Option, Some, None}
 use Rattle.std.specs.List.{range_with_len, filter, count_by, sum_by, flat_map, list_all, list_any, find}
 use Rattle.std.specs.Option.{option_or, option_map}
@@ -7,7 +7,7 @@ use Rattle.std.proofs.lemmas.List.{map-append, append-nil}
 use Rattle.std.proofs.Math.Bool.{and-true, or-false}
 use Rattle.std.proofs.lemmas.List.Elements.{filter-append}
 use Rattle.std.proofs.lemmas.List.Sums.{sum_by_push}
-use Rattle.std.proofs.lemmas.List.Folds.{list_all-append, list_any-append, find-append, list_any_at}
+use Rattle.std.proofs.lemmas.List.Folds.{list_all-append, list_any-append, find-append, list_any_at, Any-from_list_any}
 use Rattle.std.proofs.lemmas.List.FromFn.{length-range_with_len, length-map-range_with_len, get_or-range_with_len}
 use Rattle.std.proofs.lemmas.Grind.{flat_map-append}
 
@@ -110,6 +110,11 @@ pub find-map : {X : Type 0} (p : X → Bool) (f : ℕ → X) (xs : List ℕ)
 find-map p f [] = refl
 find-map p f (x ∷ xs) = find-map_step (p (f x)) f x (find p (map f xs)) (find (λ y. p (f y)) xs) (find-map p f xs)
 
+-- both tests hold where they hold together
+first_true : (a b : Bool) → (a && b) ≡ true → a ≡ true
+first_true true b both = refl
+first_true false b both = both
+
 -- whether a number below n passes
 pub list_any-below_none : (p : ℕ → Bool) (n : ℕ) → ((k : ℕ) → k < n → p k ≡ false) → list_any p (range_with_len 0 n) ≡ false
 list_any-below_none p zero fails = refl
@@ -123,6 +128,23 @@ list_any-below p n k below passes =
     let within : k < length (range_with_len 0 n) = omega (arith, length-range_with_len 0 n) in
     let is_k : get_or (range_with_len 0 n) k 0 ≡ k = get_or-range_with_len 0 n k 0 below ∙ omega arith in
     list_any_at p (range_with_len 0 n) k 0 within (ap p is_k ∙ passes)
+
+pub list_any-found : (p : ℕ → Bool) (n : ℕ) → list_any p (range_with_len 0 n) ≡ true → (k : ℕ) × (k < n) × (p k ≡ true)
+list_any-found p n passes =
+    let found = Any-from_list_any p (range_with_len 0 n) passes in
+    let below : found.0 < n = omega (arith, length-range_with_len 0 n, found.2) in
+    let is_k : found.1 ≡ found.0 = sym found.3 ∙ get_or-range_with_len 0 n found.0 found.1 below ∙ omega arith in
+    (found.0, below, ap p (sym is_k) ∙ found.4)
+
+-- what all numbers of a range pass, those of its front pass
+pub list_all-front : (p : ℕ → Bool) (a k n : ℕ) → k ≤ n → list_all p (range_with_len a n) ≡ true
+    → list_all p (range_with_len a k) ≡ true
+list_all-front p a k n within passes =
+    let e : n ≡ k + (n - k) = omega arith in
+    let cut : list_all p (range_with_len a n) ≡ (list_all p (range_with_len a k) && list_all p (range_with_len (a + k) (n - k))) =
+    ap (λ m. list_all p (range_with_len a m)) e ∙ ap (λ xs. list_all p xs) (range-append a k (n - k))
+    ∙ list_all-append p (range_with_len a k) (range_with_len (a + k) (n - k)) in
+    first_true (list_all p (range_with_len a k)) (list_all p (range_with_len (a + k) (n - k))) (sym cut ∙ passes)
 
 -- the same for ranges that begin with 0 or with 1, in forms that `grind` applies by itself
 pub range_from_zero : (n : ℕ) → range_with_len 0 (n + 1) ≡ range_with_len 0 n ++ n ∷ []

@@ -1,6 +1,8 @@
 //! Laws of the definitions: each is the contract of a function that does nothing, proved with the crate.
 
 pub mod acceptance;
+pub mod accepted;
+pub mod checkerboard;
 pub mod classes;
 pub mod complexes;
 pub mod polynomials;
