@@ -1,7 +1,7 @@
 //! Classes of numbers under the joining of pairs.
 
 ghost use Rattle.std.specs.Prelude.{◌≡◌, ◌≤◌, length, slice_index};
-ghost use Rattle.kh_types.specs.declared.classes.TheConstants.{MEMBERS};
+ghost use Rattle.kh_types.specs.declared.classes.TheConstants.{CLASS_MEMBERS};
 ghost use Rattle.kh_types.specs.Classes.{classes_of, class_count, joined, merged, merged_all, is_least};
 ghost use Rattle.std.specs.List.{range_with_len};
 
@@ -9,12 +9,12 @@ use crate::limits::CROSSINGS;
 use arrayvec::ArrayVec;
 
 /// The most numbers that are put into classes: as many as the largest diagram has darts.
-pub const MEMBERS: usize = 4 * CROSSINGS;
+pub const CLASS_MEMBERS: usize = 4 * CROSSINGS;
 
 /// The class of each number below `count`, which is the least number in it, where the two numbers of each pair are in one
 /// class. A pair may hold any numbers; one that is not below `count` counts as one in the class 0.
-pub fn classes_of(count: usize, pairs: &[(u8, u8)]) -> ArrayVec<u8, MEMBERS>
-    requires { count ≤ MEMBERS }
+pub fn classes_of(count: usize, pairs: &[(u8, u8)]) -> ArrayVec<u8, CLASS_MEMBERS>
+    requires { count ≤ CLASS_MEMBERS }
     ensures { result.items ≡ classes_of count pairs.now }
 {
     let mut classes = numbers_below(count);
@@ -26,8 +26,8 @@ pub fn classes_of(count: usize, pairs: &[(u8, u8)]) -> ArrayVec<u8, MEMBERS>
 
 /// The numbers below `count`.
 #[tactic(auto, using(crate::proofs::Ranges::range_steps))]
-fn numbers_below(count: usize) -> ArrayVec<u8, MEMBERS>
-    requires { count ≤ MEMBERS }
+fn numbers_below(count: usize) -> ArrayVec<u8, CLASS_MEMBERS>
+    requires { count ≤ CLASS_MEMBERS }
     ensures { result.items ≡ range_with_len 0 count }
 {
     let mut numbers = ArrayVec::new();
@@ -72,7 +72,7 @@ pub fn is_least(classes: &[u8], number: u8) -> bool
 
 /// How many classes there are.
 pub fn class_count(classes: &[u8]) -> usize
-    requires { length classes.now ≤ MEMBERS }
+    requires { length classes.now ≤ CLASS_MEMBERS }
     ensures count { result ≡ class_count classes.now }
     ensures within { result ≤ length classes.now }
 {

@@ -12,7 +12,7 @@ mod limits;
 mod memory;
 mod words;
 
-pub use classes::{MEMBERS, class_count, class_of, classes_of, is_least};
+pub use classes::{CLASS_MEMBERS, class_count, class_of, classes_of, is_least};
 pub use code::{Crossing, RawCode};
 pub use dart::Dart;
 pub use diagram::{BadCode, Diagram};

@@ -5,13 +5,13 @@ ghost use Rattle.std.specs.List.{flat_map};
 ghost use Rattle.kh_types.specs.declared.limits.TheConstants.{CROSSINGS, ARCS};
 ghost use Rattle.kh_types.specs.Components.{passes_of, components_of, component_of, component_count, arcs_in, is_interval, next_in};
 
-use crate::classes::{MEMBERS, class_of, classes_of, is_least};
+use crate::classes::{CLASS_MEMBERS, class_of, classes_of, is_least};
 use crate::code::Crossing;
 use crate::limits::{ARCS, CROSSINGS};
 use arrayvec::ArrayVec;
 
 /// The component of each number up to 2n, by its least arc; the number 0 is no arc and stands alone.
-pub fn components_of(crossings: &[Crossing]) -> ArrayVec<u8, MEMBERS>
+pub fn components_of(crossings: &[Crossing]) -> ArrayVec<u8, CLASS_MEMBERS>
     requires { length crossings.now ≤ CROSSINGS }
     ensures { result.items ≡ components_of crossings.now }
 {
@@ -67,8 +67,8 @@ pub fn is_interval(components: &[u8], first: u8) -> bool
     ensures { result ≡ is_interval components.now first }
 {
     let first_arc = usize::from(first);
-    (first_arc..first_arc + arcs_in(components, first)).all(|arc| class_of(components, arc)
-        == first)
+    let mut arcs = first_arc..first_arc + arcs_in(components, first);
+    arcs.all(|arc| class_of(components, arc) == first)
 }
 
 /// The arc that follows.

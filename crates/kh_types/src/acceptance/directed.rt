@@ -197,7 +197,8 @@ fn two_arc_at(crossings: &[Crossing], components: &[u8], number: u8) -> Option<C
 
 /// Whether a crossing listed before this one has an under pass that comes in on an arc.
 fn comes_in_before(crossings: &[Crossing], number: u8, incoming: u8) -> bool
-    ensures { result ≡ list_any (λ earlier. nat_eq (arc_in (crossing_at crossings.now earlier) 0) incoming)
+    ensures { result ≡ list_any
+        (λ earlier. nat_eq (arc_in (crossing_at crossings.now earlier) 0) incoming)
         (range_with_len 1 (place_of number)) }
 {
     (1..number.max(1)).any(|earlier| arc_at(crossings, earlier, 0) == incoming)

@@ -8,7 +8,7 @@ ghost use Rattle.kh_types.specs.Faces.{faces_of, face_count, pieces_of, piece_co
 ghost use Rattle.kh_types.specs.Acceptance.{genus_fault};
 
 use crate::acceptance::darts::{dart_at, dart_place, face_step, partner};
-use crate::classes::{MEMBERS, class_count, classes_of};
+use crate::classes::{CLASS_MEMBERS, class_count, classes_of};
 use crate::code::Crossing;
 use crate::fault::CodeFault;
 use crate::limits::CROSSINGS;
@@ -46,11 +46,11 @@ fn planar_face_count(crossings: &[Crossing]) -> u8
 
 /// The face of each dart, by the place of its least dart.
 #[tactic(auto, using(crate::proofs::Ranges::range_steps))]
-fn faces_of(crossings: &[Crossing]) -> ArrayVec<u8, MEMBERS>
+fn faces_of(crossings: &[Crossing]) -> ArrayVec<u8, CLASS_MEMBERS>
     requires { length crossings.now ≤ CROSSINGS }
     ensures { result.items ≡ faces_of crossings.now }
 {
-    let mut pairs: ArrayVec<(u8, u8), MEMBERS> = ArrayVec::new();
+    let mut pairs: ArrayVec<(u8, u8), CLASS_MEMBERS> = ArrayVec::new();
     for place in 0..4 * crossings.len() {
         pairs.push(face_pair(crossings, place as u8));
     }
@@ -69,11 +69,11 @@ fn face_pair(crossings: &[Crossing], place: u8) -> (u8, u8)
 
 /// The connected piece of each crossing, by the place of its least crossing.
 #[tactic(auto, using(crate::proofs::Ranges::range_steps))]
-fn pieces_of(crossings: &[Crossing]) -> ArrayVec<u8, MEMBERS>
+fn pieces_of(crossings: &[Crossing]) -> ArrayVec<u8, CLASS_MEMBERS>
     requires { length crossings.now ≤ CROSSINGS }
     ensures { result.items ≡ pieces_of crossings.now }
 {
-    let mut pairs: ArrayVec<(u8, u8), MEMBERS> = ArrayVec::new();
+    let mut pairs: ArrayVec<(u8, u8), CLASS_MEMBERS> = ArrayVec::new();
     for place in 0..4 * crossings.len() {
         pairs.push(piece_pair(crossings, place as u8));
     }

@@ -30,7 +30,8 @@ pub fn plus_count(crossings: &[Crossing]) -> u8
 /// The number of positive crossings, given the component of each arc.
 fn plus_count_in(crossings: &[Crossing], components: &[u8]) -> u8
     requires { length crossings.now ≤ CROSSINGS }
-    ensures { result ≡ count_by (is_positive_in crossings.now components.now) (crossing_numbers crossings.now) }
+    ensures { result ≡ count_by (is_positive_in crossings.now components.now)
+        (crossing_numbers crossings.now) }
 {
     let mut count = 0;
     for place in 0..crossings.len() {
