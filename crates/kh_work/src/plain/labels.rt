@@ -1,0 +1,22 @@
+//! How labels change along an edge of the cube: the merge table and the split table, with 0 for v+ and 1 for v-.
+
+ghost use Rattle.std.specs.Prelude.{◌≡◌};
+ghost use Rattle.kh_types.specs.Differential.{is_merge, is_split};
+
+/// v+ v+ gives v+, and v+ v- and v- v+ give v-. Source: Bar-Natan 2002, section 3.
+pub fn is_merge(before: &[u8], after: &[u8]) -> bool
+    ensures { result ≡ is_merge before.now after.now }
+{
+    (before == [0, 0].as_slice() && after == [0].as_slice())
+        || ((before == [0, 1].as_slice() && after == [1].as_slice())
+            || (before == [1, 0].as_slice() && after == [1].as_slice()))
+}
+
+/// v+ gives v+ v- and v- v+, and v- gives v- v-. Source: Bar-Natan 2002, section 3.
+pub fn is_split(before: &[u8], after: &[u8]) -> bool
+    ensures { result ≡ is_split before.now after.now }
+{
+    (before == [0].as_slice() && after == [0, 1].as_slice())
+        || ((before == [0].as_slice() && after == [1, 0].as_slice())
+            || (before == [1].as_slice() && after == [1, 1].as_slice()))
+}
