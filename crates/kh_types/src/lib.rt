@@ -10,6 +10,8 @@ mod fault;
 pub mod laws;
 mod limits;
 mod memory;
+#[cfg(test)]
+mod tests;
 mod words;
 
 pub use classes::{CLASS_MEMBERS, class_count, class_of, classes_of, is_least};

@@ -1,0 +1,125 @@
+//! What no clause says: that acceptance is the one that is meant, that the calls succeed, and what known diagrams come to.
+
+mod plain_acceptance;
+
+use crate::{Crossing, Diagram, RawCode, Words};
+use arrayvec::ArrayVec;
+use std::test::Fail;
+
+/// All codes of one crossing and of two over the arcs 1 to 4. How many have each of their arcs twice, and how many of these
+/// are accepted, was counted by a program in another language.
+#[test]
+fn accepts_what_the_plain_acceptance_accepts(rt: HostRuntime) {
+    for (count, words, arrangements, accepted) in [(1, 256, 6, 4), (2, 65_536, 2_520, 120)] {
+        let mut found = (0u32, 0u32);
+        for word in 0..words {
+            let raw = code_of_word(count, word);
+            let is_accepted = Diagram::try_new(&raw).is_ok();
+            let is_arrangement = plain_acceptance::stands_twice(&raw.crossings);
+            assert_eq!(rt;
+                is_accepted,
+                plain_acceptance::accepts(&raw.crossings),
+                "{raw:?}"
+            );
+            found.0 = found.0.wrapping_add(u32::from(is_arrangement));
+            found.1 = found.1.wrapping_add(u32::from(is_accepted));
+        }
+        assert_eq!(rt; found, (arrangements, accepted), "{count}");
+    }
+}
+
+#[test]
+fn accepts_twenty_four_loops(rt: HostRuntime) {
+    for loops in 0..=255 {
+        assert_eq!(rt;
+            Diagram::try_new(&code(&[], loops)).is_ok(),
+            loops <= 24,
+            "{loops}"
+        );
+    }
+}
+
+/// Curls of both signs, the Hopf link, a circle that lies over another, the left-handed trefoil and the figure eight knot.
+#[test]
+fn known_diagrams_have_their_codes_and_signs(rt: HostRuntime) -> Result<(), Fail> {
+    for (crossings, signs) in [
+        ([[1, 1, 2, 2]].as_slice(), [1].as_slice()),
+        (&[[1, 2, 2, 1]], &[-1]),
+        (&[[4, 1, 3, 2], [2, 3, 1, 4]], &[-1, -1]),
+        (&[[1, 4, 2, 3], [2, 4, 1, 3]], &[1, -1]),
+        (&[[1, 4, 2, 5], [3, 6, 4, 1], [5, 2, 6, 3]], &[-1, -1, -1]),
+        (
+            &[[4, 2, 5, 1], [8, 6, 1, 5], [6, 3, 7, 4], [2, 7, 3, 8]],
+            &[1, 1, -1, -1],
+        ),
+    ] {
+        let raw = code(crossings, 2);
+        assert!(rt; plain_acceptance::accepts(&raw.crossings), "{raw:?}");
+        let diagram = Diagram::try_new(&raw)?;
+        let back = diagram.to_raw();
+        assert_eq!(rt; back.crossings.as_slice(), raw.crossings.as_slice());
+        assert_eq!(rt; back.loops, 2);
+        for number in 1..=diagram.count() {
+            let sign = diagram.sign(number);
+            assert_eq!(rt;
+                signs.get(number as usize - 1),
+                Some(&sign),
+                "{number} of {raw:?}"
+            );
+        }
+        assert_eq!(rt;
+            diagram.plus() as usize,
+            signs.iter().filter(|sign| **sign == 1).count()
+        );
+        assert_eq!(rt;
+            diagram.minus() as usize,
+            signs.iter().filter(|sign| **sign == -1).count()
+        );
+    }
+    Ok(())
+}
+
+#[test]
+fn words_are_kept_in_order(rt: HostRuntime) -> Result<(), Fail> {
+    let wanted = ["homology", "", "--field"];
+    let mut words = Words::new(rt.alloc())?;
+    for word in wanted {
+        words.push(rt.alloc(), word)?;
+    }
+    assert_eq!(rt; words.count(), 3);
+    for place in 0..words.count() {
+        assert_eq!(rt;
+            wanted.get(place).copied(),
+            Some(words.word(place)),
+            "{place}"
+        );
+    }
+    Ok(())
+}
+
+fn code(arcs: &[[u8; 4]], loops: u8) -> RawCode {
+    let mut crossings = ArrayVec::new();
+    for slots in arcs {
+        let _ = crossings.try_push(Crossing(*slots));
+    }
+    RawCode { crossings, loops }
+}
+
+// The code whose slots hold the digits of a number to the base 4, each plus 1, from the lowest on.
+fn code_of_word(count: u8, word: u32) -> RawCode {
+    let mut crossings = ArrayVec::new();
+    let mut digits = word;
+    for _ in 0..count {
+        let slots = [digits, digits >> 2, digits >> 4, digits >> 6].map(arc_of_digit);
+        let _ = crossings.try_push(Crossing(slots));
+        digits >>= 8;
+    }
+    RawCode {
+        crossings,
+        loops: 0,
+    }
+}
+
+fn arc_of_digit(digits: u32) -> u8 {
+    (digits % 4) as u8 + 1
+}
