@@ -79,6 +79,15 @@ fn known_diagrams_have_their_codes_and_signs(rt: HostRuntime) -> Result<(), Fail
     Ok(())
 }
 
+/// No clause speaks of time. A torus link of sixteen crossings is accepted; the virtual knot that the same two strands
+/// make where each runs into the other has no checkerboard, and all 65,536 choices are tried.
+#[test]
+fn sixteen_crossings_are_not_slow(rt: HostRuntime) {
+    let link = Diagram::try_new(&two_strands((1, 17)));
+    assert_eq!(rt; link.map(|diagram| diagram.plus()), Ok(16));
+    assert!(rt; Diagram::try_new(&two_strands((17, 1))).is_err());
+}
+
 #[test]
 fn words_are_kept_in_order(rt: HostRuntime) -> Result<(), Fail> {
     let wanted = ["homology", "", "--field"];
@@ -103,6 +112,30 @@ fn code(arcs: &[[u8; 4]], loops: u8) -> RawCode {
         let _ = crossings.try_push(Crossing(*slots));
     }
     RawCode { crossings, loops }
+}
+
+// Two strands that cross sixteen times, each under and over in turn. They begin with the arcs 1 and 17, and run into the arcs
+// that are given.
+fn two_strands(ends: (u8, u8)) -> RawCode {
+    let mut crossings = ArrayVec::new();
+    for turn in 0..16u8 {
+        let (first, second) = (turn + 1, turn + 17);
+        let (after_first, after_second) = if turn < 15 {
+            (first + 1, second + 1)
+        } else {
+            ends
+        };
+        let slots = if turn % 2 == 0 {
+            [first, after_second, after_first, second]
+        } else {
+            [second, after_first, after_second, first]
+        };
+        let _ = crossings.try_push(Crossing(slots));
+    }
+    RawCode {
+        crossings,
+        loops: 0,
+    }
 }
 
 // The code whose slots hold the digits of a number to the base 4, each plus 1, from the lowest on.

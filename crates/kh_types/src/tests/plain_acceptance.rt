@@ -11,6 +11,7 @@ type Set = u32;
 
 type Pairs = ArrayVec<(u32, u32), 64>;
 
+/// Whether crossings keep the rules. The limit on components and loops is left out: so few crossings do not come near it.
 pub fn accepts(crossings: &[Crossing]) -> bool {
     let passes = passes_of(crossings);
     let ends = ends_of_arcs(crossings);
@@ -30,7 +31,7 @@ pub fn stands_twice(crossings: &[Crossing]) -> bool {
     })
 }
 
-// Only one arc of the component has a next number outside of it.
+// Of the arcs of a component exactly one has its next number outside of it.
 fn is_interval(component: Set) -> bool {
     (component & !(component >> 1)).count_ones() == 1
 }
@@ -74,10 +75,10 @@ fn colour(choice: Set, dart: u32) -> bool {
 fn is_on_a_sphere(crossings: &[Crossing], ends: &Pairs) -> bool {
     let faces = class_count(&face_steps(ends), dart_count(crossings));
     let pieces = class_count(&contacts(ends), crossing_count(crossings));
-    faces
-        == pieces
-            .wrapping_mul(2)
-            .wrapping_add(crossing_count(crossings))
+    let wanted = pieces
+        .wrapping_mul(2)
+        .wrapping_add(crossing_count(crossings));
+    faces == wanted
 }
 
 // From a dart on to the slot before the other end of its arc.
@@ -133,7 +134,8 @@ fn class_count(pairs: &Pairs, count: u32) -> u32 {
     classes
 }
 
-// What a number is joined with: a pair adds at least one number, or nothing at all, each time that all pairs are gone over.
+// What a number is joined with. Each time that all pairs are gone over they add a number, or nothing is left to add, so as
+// many times as there are pairs are enough.
 fn class_of(pairs: &Pairs, member: u32) -> Set {
     let mut class = only(member);
     for _ in 0..pairs.len() {
