@@ -1,8 +1,8 @@
 pub mod AnswerLemmas
-pub mod Powers
-pub mod Tables
-pub mod Lists
-pub mod Ranks
-pub mod Circles
-pub mod Generators
-pub mod Labels
+pub mod CircleLemmas
+pub mod GeneratorLemmas
+pub mod LabelLemmas
+pub mod ListLemmas
+pub mod PowerLemmas
+pub mod RankLemmas
+pub mod TableLemmas

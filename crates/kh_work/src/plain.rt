@@ -5,7 +5,6 @@ mod bits;
 mod circles;
 mod coefficient;
 mod cube;
-mod differential;
 mod field;
 mod generators;
 mod labels;

@@ -12,7 +12,7 @@ pub fn bit(number: u64, place: usize) -> u8
 }
 
 /// How many of the lowest bits of a number are 1.
-#[tactic(auto, using(crate::proofs::Circles::ones_more))]
+#[tactic(auto, using(crate::proofs::CircleLemmas::ones_more))]
 pub fn ones(count: usize, number: u64) -> u8
     requires { count ≤ 64 }
     ensures sum { result ≡ ones count number }

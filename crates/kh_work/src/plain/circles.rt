@@ -38,7 +38,7 @@ fn name_count(diagram: &Diagram) -> usize
 }
 
 /// The pairs of arcs that the smoothings of a state join.
-#[tactic(auto, using(crate::proofs::Circles::smoothings_more))]
+#[tactic(auto, using(crate::proofs::CircleLemmas::smoothings_more))]
 fn smoothings_of(diagram: &Diagram, state: u32) -> ArrayVec<(u8, u8), ARCS>
     ensures { result.items ≡ smoothings_of diagram.now.crossings state }
 {
@@ -78,7 +78,7 @@ fn smoothing_of(choice: u8, crossing: &Crossing) -> [(u8, u8); 2]
 }
 
 /// The circles by their least arcs, ascending, and the loops after them.
-#[tactic(auto, using(crate::proofs::Circles::names_more))]
+#[tactic(auto, using(crate::proofs::CircleLemmas::names_more))]
 pub fn circle_names(diagram: &Diagram, circles: &[u8]) -> Names
     ensures { result.items ≡ filter (is_least circles.now) (arcs_and_loops diagram.now) }
 {

@@ -11,7 +11,7 @@ use super::resolved::Resolved;
 use kh_types::Diagram;
 
 /// The coefficient from one generator to another, modulo `p`: along the one edge that leads from state to state, if any does.
-#[tactic(auto, using(crate::proofs::Circles::sum_from_one))]
+#[tactic(auto, using(crate::proofs::CircleLemmas::sum_from_one))]
 pub fn coefficient(p: u8, diagram: &Diagram, tail: Generator, head: Generator) -> u8
     requires low { 1 ≤ p }
     requires high { p ≤ 7 }

@@ -6,13 +6,14 @@ ghost use Rattle.kh_types.specs.Differential.{differential};
 ghost use Rattle.kh_types.specs.Rank.{rank};
 ghost use Rattle.kh_types.specs.Table.{dimension};
 ghost use Rattle.kh_types.specs.declared.limits.TheConstants.{CROSSINGS};
-ghost use Rattle.kh_work.specs.Placed.{placed_in};
+ghost use Rattle.kh_work.specs.Matrices.{rows_of};
+ghost use Rattle.kh_work.specs.Placed.{placed_in, row_for, rows_for};
 
-use super::differential::differential;
-use super::generators::{Placed, generators, generators_at};
+use super::coefficient::coefficient;
+use super::generators::{Generator, Placed, generators, generators_at};
 use super::rank::rank;
 use kh_types::{Diagram, NoMemory};
-use std::alloc::Global;
+use std::alloc::{AllocError, Global};
 
 /// A diagram, the number of elements of a field, and all generators with their degrees.
 #[derive(Drop)]
@@ -42,7 +43,7 @@ impl Cube {
     }
 
     /// The homology dimension at (i, j).
-    #[tactic(auto, using(crate::proofs::Tables::counting))]
+    #[tactic(auto, using(crate::proofs::TableLemmas::counting))]
     pub fn dimension(&self, alloc: Global, i: i16, j: i16) -> Result<usize, NoMemory>
         requires low { neg_ℤ (pos 1000) ≤ℤ i }
         requires high { i ≤ℤ pos 1000 }
@@ -55,7 +56,7 @@ impl Cube {
     }
 
     /// The rank of the differential from degree i at j.
-    #[tactic(auto, using(crate::proofs::Tables::matrices))]
+    #[tactic(auto, using(crate::proofs::TableLemmas::matrices))]
     fn differential_rank(&self, alloc: Global, i: i16, j: i16) -> Result<usize, NoMemory>
         requires { i ≤ℤ pos 1000 }
         ensures { let p = self.now.p in
@@ -63,12 +64,40 @@ impl Cube {
     {
         let tails = self.generators_at(alloc, i, j)?;
         let heads = self.generators_at(alloc, i + 1, j)?;
-        let rows = differential(alloc, self.p, &self.diagram, &tails, &heads)?;
+        let rows = self.matrix(alloc, &tails, &heads)?;
         rank(alloc, self.p, rows)
     }
 
+    /// The matrix with a row for each generator of one list and in it the coefficient from each generator of another.
+    fn matrix(
+        &self,
+        alloc: Global,
+        tails: &[Placed],
+        heads: &[Placed],
+    ) -> Result<Vec<Vec<u8>>, NoMemory>
+        ensures { IfOk result (λ made.
+            rows_of made.items ≡ rows_for self.now.p self.now.diagram tails.now heads.now) }
+    {
+        let mut made = Vec::new(alloc);
+        'rows: for head in heads {
+            made.push(self.row(alloc, tails, head.generator)?)?;
+        }
+        Ok(made)
+    }
+
+    /// The coefficients from each generator of a list to one generator.
+    fn row(&self, alloc: Global, tails: &[Placed], head: Generator) -> Result<Vec<u8>, AllocError>
+        ensures { IfOk result (λ made. made.items ≡ row_for self.now.p self.now.diagram tails.now head) }
+    {
+        let (p, diagram) = (self.p, &self.diagram);
+        tails
+            .iter()
+            .map(|tail| coefficient(p, diagram, tail.generator, head))
+            .collect(alloc)
+    }
+
     /// The generators of the degrees i and j.
-    #[tactic(auto, using(crate::proofs::Tables::placing))]
+    #[tactic(auto, using(crate::proofs::TableLemmas::placing))]
     fn generators_at(&self, alloc: Global, i: i16, j: i16) -> Result<Vec<Placed>, NoMemory>
         ensures { let code = self.now.diagram in
             IfOk result (λ made. made.items ≡ map (placed_in code) (generators_at code i j)) }

@@ -4,7 +4,7 @@ ghost use Rattle.std.specs.Prelude.{◌≡◌, ◌<◌, ◌≤◌};
 ghost use Rattle.kh_types.specs.Rank.{inverse, minus_mod};
 
 /// The inverse of a number modulo `p`, where it has one.
-#[tactic(auto, using(crate::proofs::Powers::byte_power))]
+#[tactic(auto, using(crate::proofs::PowerLemmas::byte_power))]
 pub fn inverse_of(p: u8, x: u8) -> u8
     requires low { 2 ≤ p }
     requires high { p ≤ 7 }

@@ -13,7 +13,7 @@ use std::marker::Model;
 
 /// A state with a label on each circle; the label's bit at a circle's place among the circles is 0 for v+ and 1 for v-.
 /// Contracts see the definition's generator. Source: Bar-Natan 2002, section 3.
-#[derive(Clone, Copy, Debug)]
+#[derive(Clone, Copy)]
 pub struct Generator {
     pub state: u32,
     pub label: u64,
@@ -30,7 +30,7 @@ impl Model for Generator {
 }
 
 /// A generator with its homological degree i and its quantum degree j.
-#[derive(Clone, Copy, Debug)]
+#[derive(Clone, Copy)]
 pub struct Placed {
     pub generator: Generator,
     pub i: i16,
@@ -46,7 +46,7 @@ struct Shared {
 }
 
 /// All generators, by state, then by label.
-#[tactic(auto, using(crate::proofs::Generators::states_more))]
+#[tactic(auto, using(crate::proofs::GeneratorLemmas::states_more))]
 pub fn generators(alloc: Global, diagram: &Diagram) -> Result<Vec<Placed>, NoMemory>
     ensures { IfOk result (λ made. made.items ≡ map (placed_in diagram.now) (generators diagram.now)) }
 {
@@ -58,7 +58,7 @@ pub fn generators(alloc: Global, diagram: &Diagram) -> Result<Vec<Placed>, NoMem
 }
 
 /// Adds the generators of a state to a list.
-#[tactic(auto, using(crate::proofs::Generators::labels_more))]
+#[tactic(auto, using(crate::proofs::GeneratorLemmas::labels_more))]
 fn push_generators(made: &mut Vec<Placed>, diagram: &Diagram, state: u32) -> Result<(), NoMemory>
     ensures { OnOk result (made.new.items
         ≡ made.old.items ++ map (placed_in diagram.now) (generators_of diagram.now state)) }

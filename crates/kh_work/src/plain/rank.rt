@@ -10,7 +10,7 @@ use kh_types::NoMemory;
 use std::alloc::Global;
 
 /// The rank of a matrix, given by its rows, over the field of `p` elements.
-#[tactic(auto, using(crate::proofs::Ranks::steps))]
+#[tactic(auto, using(crate::proofs::RankLemmas::steps))]
 pub fn rank(alloc: Global, p: u8, rows: Vec<Vec<u8>>) -> Result<usize, NoMemory>
     requires low { 2 ≤ p }
     requires high { p ≤ 7 }

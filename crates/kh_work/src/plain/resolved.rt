@@ -112,7 +112,7 @@ fn quadruple(diagram: &Diagram, crossing: usize) -> &Crossing
     &diagram.crossings()[crossing - 1]
 }
 
-#[tactic(auto, using(crate::proofs::Lists::places))]
+#[tactic(auto, using(crate::proofs::ListLemmas::places))]
 fn place_among(names: &[u8], circle: u8) -> usize
     ensures place { result ≡ position_or_len (nat_eq circle) names.now }
     ensures within { result ≤ length names.now }

@@ -17,7 +17,7 @@ pub fn has_entry(row: &[u8]) -> bool
 }
 
 /// The place of a row's first entry other than 0, or the row's length where it has none.
-#[tactic(auto, using(crate::proofs::Lists::position_or_length))]
+#[tactic(auto, using(crate::proofs::ListLemmas::position_or_length))]
 pub fn lead_of(row: &[u8]) -> usize
     ensures { result ≡ lead_of row.now }
 {

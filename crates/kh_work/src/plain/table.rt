@@ -12,7 +12,7 @@ use std::marker::Model;
 
 /// A row of a homology table: the quantum degree, the homological degree and the dimension.
 /// Contracts see the definition's row.
-#[derive(Clone, Copy, Debug)]
+#[derive(Clone, Copy)]
 pub struct Row {
     pub j: i16,
     pub i: i16,
@@ -30,7 +30,7 @@ impl Model for Row {
 }
 
 /// The rows with a dimension above 0, ascending by j, then by i, with j up to a size.
-#[tactic(auto, using(crate::proofs::Tables::degrees_more))]
+#[tactic(auto, using(crate::proofs::TableLemmas::degrees_more))]
 pub fn rows(alloc: Global, cube: &Cube, most: usize) -> Result<Vec<Row>, NoMemory>
     requires { most ≤ 1000 }
     ensures { IfOk result (λ made. made.items ≡ rows_within most cube.now.p cube.now.diagram) }
@@ -43,7 +43,7 @@ pub fn rows(alloc: Global, cube: &Cube, most: usize) -> Result<Vec<Row>, NoMemor
 }
 
 /// Adds the rows of one quantum degree.
-#[tactic(auto, using(crate::proofs::Tables::degrees))]
+#[tactic(auto, using(crate::proofs::TableLemmas::degrees))]
 fn push_rows(alloc: Global, made: &mut Vec<Row>, cube: &Cube, j: i16) -> Result<(), NoMemory>
     ensures { OnOk result (made.new.items ≡ made.old.items ++ rows_at cube.now.p cube.now.diagram j) }
 {

@@ -1,6 +1,6 @@
 use Rattle.std.proofs.Common.{◌≡◌, ◌∙◌}
 use Rattle.kh_types.specs.Differential.{keeps_labels, changes_labels}
-use Rattle.kh_work.proofs.Labels.{keeps_labels_same, changes_labels_same}
+use Rattle.kh_work.proofs.LabelLemmas.{keeps_labels_same, changes_labels_same}
 use Rattle.kh_work.proofs.plain.coefficient.changes.Goals as goal
 
 pub returns-then-keeps_labels : goal.returns-then-keeps_labels

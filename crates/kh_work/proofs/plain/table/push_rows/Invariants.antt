@@ -2,7 +2,7 @@ use Rattle.std.proofs.Common.{◌≡◌, ◌++◌, map}
 use Rattle.std.specs.List.{filter}
 use Rattle.kh_types.specs.Table.{row_at}
 use Rattle.kh_work.specs.Rows.{is_shown}
-use Rattle.kh_work.proofs.Tables.{from_minus_to}
+use Rattle.kh_work.proofs.TableLemmas.{from_minus_to}
 use Rattle.kh_work.proofs.plain.table.push_rows.Given as goal
 
 abbrev pub invariant-degrees : goal.invariant-degrees

@@ -1,7 +1,7 @@
 use Rattle.std.proofs.Common.{◌∙◌, ap, ℕ, string_bytes}
 use Rattle.kh_work.specs.Rows.{rows_within}
 use Rattle.kh_types.specs.declared.limits.TheConstants.{EXPONENT}
-use Rattle.kh_work.proofs.Tables.{table_text_found}
+use Rattle.kh_work.proofs.TableLemmas.{table_text_found}
 use Rattle.kh_work.proofs.plain.text.table_text_of.Goals as goal
 
 pub returns : goal.returns

@@ -7,7 +7,7 @@ use Rattle.std.proofs.lemmas.List.Edits.{length-remove}
 use Rattle.std.proofs.lemmas.List.Quantifiers.{position-Some}
 use Rattle.kh_types.specs.Rank.{has_entry, reduced_by, rank}
 use Rattle.kh_work.specs.Matrices.{rows_of}
-use Rattle.kh_work.proofs.Lists.{map-remove, position-map}
+use Rattle.kh_work.proofs.ListLemmas.{map-remove, position-map}
 
 pub rank-no_row : (p : ℕ) (rows : List (List ℕ)) → position has_entry rows ≡ None → rank p rows ≡ 0
 rank-no_row p [] none = refl

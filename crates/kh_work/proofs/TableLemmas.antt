@@ -14,7 +14,7 @@ use Rattle.kh_work.specs.declared.plain.generators.Placed.{Placed}
 use Rattle.kh_work.specs.Placed.{placed_in, is_placed_at, row_for, rows_for}
 use Rattle.kh_work.specs.Rows.{is_shown, rows_within}
 use Rattle.kh_types.proofs.Ranges.{range_from_zero}
-use Rattle.kh_work.proofs.Lists.{filter-map, map-map}
+use Rattle.kh_work.proofs.ListLemmas.{filter-map, map-map}
 
 -- the numbers from -n on, as many as a count says
 abbrev pub from_minus_to : ℕ → ℕ → List ℤ
