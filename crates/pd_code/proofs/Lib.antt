@@ -1,5 +1,5 @@
-mod Cuts
 mod FirstFaults
+mod LexerSteps
 mod MachineSteps
 mod Pieces
 mod Readings

@@ -4,6 +4,7 @@ use Rattle.std.proofs.lemmas.List.Sums.{prefix_len-le-length}
 use Rattle.std.proofs.lemmas.List.Folds.{length-prefix_len}
 use Rattle.std.specs.Char.{is_ascii_alphabetic, is_ascii_digit}
 use Rattle.std.specs.List.{prefix_len, take_while}
+use Rattle.pd_code.specs.declared.limits.TheConstants.{NUMBER_LIMIT}
 use Rattle.pd_code.specs.declared.token.Token.{Token}
 use Rattle.std.specs.Option.{option_map_or}
 use Rattle.std.specs.Result.{result_map_both}
@@ -71,7 +72,7 @@ number_stands : (place : ℕ) (text : List ℕ) (token : Token) → 0 < length t
 unfolding number_token
 number_stands place text token some begins read =
     let size = number_length (sign_length text) text (sign_length-le-one text) some begins in
-    elim (chosen (nat_lt 65535 (number_of (digits_at text))) (Err (stops.Number place)) (Ok (number_token place text)) (Ok token) read) [
+    elim (chosen (nat_lt NUMBER_LIMIT (number_of (digits_at text))) (Err (stops.Number place)) (Ok (number_token place text)) (Ok token) read) [
       | inl far ↦ absurd (cc)
       | inr near ↦ subst (StandsAt place (length text)) (ok_is near.1) (record { begin = refl; some = size.0; within = size.1 })
     ]

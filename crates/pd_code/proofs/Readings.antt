@@ -2,6 +2,7 @@
 use Rattle.std.proofs.Common.{◌≡◌, ◌≢◌, ℕ, List, Bool, true, false, cond, nat_lt, length, ◌⊎◌, inl, inr, Option, None, Some, Result, Ok, Err, sym, ◌∙◌, ap, refl}
 use Rattle.std.specs.List.{list_any}
 use Rattle.kh_types.specs.Code.{Code}
+use Rattle.pd_code.specs.declared.limits.TheConstants.{CROSSING_LIMIT}
 use Rattle.pd_code.specs.declared.token.Token.{Token}
 use Rattle.pd_code.specs.declared.token.LexStop.{LexStop}
 use Rattle.pd_code.specs.declared.token.LexStop.TheVariants as faults
@@ -59,7 +60,7 @@ spells-one text a b first second =
 
 -- no code of items is Text or NoMemory
 code_of-limits : (items : List Item) → (code_of items ≢ Err Text) × (code_of items ≢ Err NoMemory)
-code_of-limits items = go (list_any is_loop items) (nat_lt 4 (length (crossings_of items)))
+code_of-limits items = go (list_any is_loop items) (nat_lt CROSSING_LIMIT (length (crossings_of items)))
   where
     go : (loop many : Bool) → let code : Result Code PdStop = cond loop (Err NotBuilt) (cond many (Err (CrossingLimit (length (crossings_of items)))) (Ok (record { crossings = crossings_of items; loops = 0 })))
         in (code ≢ Err Text) × (code ≢ Err NoMemory)

@@ -2,6 +2,7 @@
 use Rattle.std.specs.Prelude.{ℕ, nat_le, nat_lt, if◌then◌else◌, Bool, true, false, List, [], ◌∷◌, length, Option, None, Some, Result, Ok, Err, ℤ, pos, negsuc}
 use Rattle.std.specs.List.{list_any, filter_map}
 use Rattle.kh_types.specs.Code.{Code}
+use Rattle.pd_code.specs.declared.limits.TheConstants.{CROSSING_LIMIT}
 use Rattle.pd_code.specs.declared.token.LexStop.{LexStop}
 use Rattle.pd_code.specs.declared.token.LexStop.TheVariants as faults
 use Rattle.pd_code.specs.declared.token.Token.{Token}
@@ -32,11 +33,11 @@ abbrev pub is_loop : Item → Bool
 is_loop (Crossing i j k l) = false
 is_loop (Loop n) = true
 
--- the code that items stand for: loops are not built, and then more than 4 crossings are above the limit
+-- the code that items stand for: loops are not built, and then more crossings than `CROSSING_LIMIT` are too many
 abbrev pub code_of : List Item → Result Code PdStop
 code_of items =
     if list_any is_loop items then Err NotBuilt
-    else if nat_lt 4 (length (crossings_of items)) then Err (CrossingLimit (length (crossings_of items)))
+    else if nat_lt CROSSING_LIMIT (length (crossings_of items)) then Err (CrossingLimit (length (crossings_of items)))
     else Ok (record { crossings = crossings_of items; loops = 0 })
 
 -- what a fault of the tokens is for the text
@@ -45,7 +46,7 @@ stop_of (faults.Bad place) = Text
 stop_of (faults.Number place) = Text
 stop_of faults.NoMemory = NoMemory
 
--- what symbols read as: the code of the items that they spell, and Text where they spell none
+-- the code of the items that the machine gives, and Text where it gives none
 abbrev pub code_of_symbols : Option (List Item) → Result Code PdStop
 code_of_symbols (Some items) = code_of items
 code_of_symbols None = Err Text
@@ -55,6 +56,7 @@ abbrev pub code_of_tokens : List ℕ → Result (List Token) LexStop → Result 
 code_of_tokens text (Ok tokens) = code_of_symbols (items_of (symbols_of text tokens))
 code_of_tokens text (Err stop) = Err Text
 
--- what a text reads as: the code of the items that it spells, and Text where it spells none
+-- what a text reads as, by way of the machine: the law `readings_are_of_the_grammar` says that this is the code of the
+-- one list of items that the text spells, and Text where it spells none
 unfoldable pub reading : List ℕ → Result Code PdStop
 reading text = code_of_tokens text (tokens_of text)

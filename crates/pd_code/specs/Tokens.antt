@@ -5,6 +5,7 @@ use Rattle.std.specs.Char.{is_ascii_alphabetic, is_ascii_digit}
 use Rattle.std.specs.Option.{option_map_or, option_to_list}
 use Rattle.std.specs.Result.{result_map_both}
 use Rattle.std.specs.List.{fold, prefix_len, take_while}
+use Rattle.pd_code.specs.declared.limits.TheConstants.{NUMBER_LIMIT}
 use Rattle.pd_code.specs.declared.token.Kind.{Kind}
 use Rattle.pd_code.specs.declared.token.Kind.TheVariants.{Word, Number, LeftBracket, RightBracket, LeftBrace, RightBrace, Comma}
 use Rattle.pd_code.specs.declared.token.Token.{Token}
@@ -61,11 +62,11 @@ begins_number text = is_ascii_digit (slice_index text (sign_length text))
 abbrev pub signed_as : List ℕ → ℕ → ℤ
 signed_as text size = if has_minus text then neg_ℤ (pos size) else pos size
 
--- the number at the front of a text, which is a fault where its size is above 65,535
+-- the number at the front of a text, which is a fault where its size is above `NUMBER_LIMIT`
 abbrev pub number_at : ℕ → List ℕ → Result Token LexStop
 number_at place text =
     let size = number_of (digits_at text) in
-    if nat_lt 65535 size then Err (stops.Number place)
+    if nat_lt NUMBER_LIMIT size then Err (stops.Number place)
     else Ok (record {
       kind = Number;
       place = place;

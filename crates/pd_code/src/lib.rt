@@ -4,6 +4,7 @@
 mod item;
 mod laws;
 mod lexer;
+mod limits;
 mod machine;
 mod reader;
 mod stop;
@@ -18,7 +19,8 @@ pub use laws::{
     the_machine_stops_at_the_first_fault, worked_texts, worked_tokens,
 };
 pub use lexer::tokens;
-pub use reader::{CROSSING_LIMIT, read_pd};
+pub use limits::{CROSSING_LIMIT, NUMBER_LIMIT};
+pub use reader::read_pd;
 pub use stop::PdStop;
 pub use symbol::Symbol;
 pub use token::{Kind, LexStop, Token};

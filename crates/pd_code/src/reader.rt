@@ -1,6 +1,6 @@
 //! Reads the code of a diagram from a planar diagram text.
 
-ghost use Rattle.std.specs.Prelude.{◌≡◌, ◌≢◌, ◌+◌, ◌++◌, ◌<◌, ◌≤◌, ℕ, List, Err, length};
+ghost use Rattle.std.specs.Prelude.{◌≡◌, ◌≢◌, ◌+◌, ◌++◌, ◌<◌, ◌≤◌, ℕ, List, Err, IfOk, length};
 ghost use Rattle.std.specs.List.{list_any};
 ghost use Rattle.std.specs.Option.{option_to_list};
 ghost use Rattle.pd_code.specs.Grammar.{Spells};
@@ -9,14 +9,12 @@ ghost use Rattle.pd_code.specs.declared.item.Item.{Item};
 
 use crate::item::{Item, crossing_of, is_loop};
 use crate::lexer::tokens;
+use crate::limits::CROSSING_LIMIT;
 use crate::machine::items_of;
 use crate::stop::PdStop;
 use arrayvec::ArrayVec;
 use kh_types::{CROSSINGS, Crossing, INPUT_BYTES, RawCode};
 use std::alloc::Global;
-
-/// The most crossings of a text that is read. This project's rule, until greater diagrams are computed.
-pub const CROSSING_LIMIT: usize = 4;
 
 /// Reads a planar diagram text. An arc number below 0 or above 255 is read as 0, which is no arc.
 /// Source: Knot Atlas, "Planar Diagrams"; the loops and the limits are this project's rule.
@@ -26,6 +24,8 @@ pub fn read_pd(alloc: Global, text: &[u8]) -> Result<RawCode, PdStop>
     ensures spelled { result ≢ Err PdStop.NoMemory → result ≢ Err PdStop.Text →
         (items : List Item) × Spells text.now items × (result ≡ code_of items) }
     ensures unspelled { result ≡ Err PdStop.Text → (items : List Item) → ¬ Spells text.now items }
+    ensures few { IfOk result (λ code. length code.crossings ≤ CROSSING_LIMIT) }
+    ensures no_loops { IfOk result (λ code. code.loops ≡ 0) }
 {
     let tokens = tokens(alloc, text)?;
     let items = items_of(alloc, text, &tokens)?;
@@ -35,7 +35,9 @@ pub fn read_pd(alloc: Global, text: &[u8]) -> Result<RawCode, PdStop>
 // The code of the items that a text spells.
 fn code_of(items: &[Item]) -> Result<RawCode, PdStop>
     requires { length items.now ≤ INPUT_BYTES }
-    ensures { result ≡ code_of items.now }
+    ensures code { result ≡ code_of items.now }
+    ensures few { IfOk result (λ code. length code.crossings ≤ CROSSING_LIMIT) }
+    ensures no_loops { IfOk result (λ code. code.loops ≡ 0) }
 {
     if has_loop(items) {
         return Err(PdStop::NotBuilt);

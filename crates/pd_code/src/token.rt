@@ -6,11 +6,9 @@ ghost use Rattle.std.specs.List.{prefix_len};
 ghost use Rattle.pd_code.specs.declared.token.LexStop.TheVariants.{NoMemory};
 ghost use Rattle.pd_code.specs.Tokens.{is_blank, mark_of, word_at, has_minus, sign_length, digits_at, begins_number, number_of, with_digit, signed_as, number_at, mark_at, token_at, piece_at, piece_length};
 
+use crate::limits::NUMBER_LIMIT;
 use kh_types::INPUT_BYTES;
 use std::alloc::{AllocError, AllocFailed};
-
-/// The greatest size of a number. This project's rule.
-const NUMBER_LIMIT: u32 = 65_535;
 
 /// What a token is: a longest run of letters, a number, or one of five marks. This project's rule.
 #[derive(Clone, Copy, Debug, PartialEq, Eq)]
@@ -25,7 +23,7 @@ pub enum Kind {
 }
 
 /// A token of a text, with the place of its first byte, counted from 0, and its length in bytes.
-/// `value` is a number's value, from -65,535 to 65,535, and 0 for other kinds.
+/// `value` is a number's value, at most `NUMBER_LIMIT` in size, and 0 for other kinds.
 #[derive(Clone, Copy, Debug, PartialEq, Eq)]
 pub struct Token {
     pub kind: Kind,
@@ -34,7 +32,7 @@ pub struct Token {
     pub value: i32,
 }
 
-/// Why a text has no tokens: at `place` stands a byte that begins none, or a number above 65,535 in size.
+/// Why a text has no tokens: at `place` stands a byte that begins none, or a number above `NUMBER_LIMIT` in size.
 #[derive(Clone, Copy, Debug, PartialEq, Eq)]
 pub enum LexStop {
     Bad { place: u32 },

@@ -1,7 +1,7 @@
 use Rattle.std.proofs.Common.{◌≡◌, Ok, Err, drop, sym, ◌∙◌, ap, arith}
 use Rattle.std.proofs.lemmas.Result.{err_from_is_err_and}
 use Rattle.pd_code.specs.Tokens.{piece_at}
-use Rattle.pd_code.proofs.Cuts.{cut_begins, cut_goes, cut_stops, cut_ends}
+use Rattle.pd_code.proofs.LexerSteps.{cut_begins, cut_goes, cut_stops, cut_ends}
 use Rattle.pd_code.proofs.lexer.tokens.Goals as goal
 
 -- nothing is cut yet

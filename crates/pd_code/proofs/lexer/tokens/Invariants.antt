@@ -1,5 +1,5 @@
 use Rattle.std.proofs.Common.{length, ◌-◌}
-use Rattle.pd_code.proofs.Cuts.{IsCut}
+use Rattle.pd_code.proofs.LexerSteps.{IsCut}
 use Rattle.pd_code.proofs.lexer.tokens.Given as goal
 
 -- the text before the place is cut into the tokens so far

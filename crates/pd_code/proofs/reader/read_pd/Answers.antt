@@ -34,7 +34,7 @@ returns-in_err-items-clause-unspelled c =
 
 -- the tokens spell the items
 pub returns-clause-read : goal.returns-clause-read
-returns-clause-read c = λ some. c.code_of.ensures ∙ ap code_of c.deref-2.ensures.value
+returns-clause-read c = λ some. c.code_of.ensures.code ∙ ap code_of c.deref-2.ensures.value
     ∙ sym (reading-tokens c.args.text.now c.in_ok-tokens.tokens.items (Some c.in_ok-items.items.items) c.in_ok-tokens.ensures.ok
     (ap (λ t. items_of (symbols_of c.args.text.now t)) (sym c.deref.ensures.value) ∙ c.in_ok-items.ensures.ok))
 
@@ -43,5 +43,5 @@ returns-clause-spelled c = λ some text. (
   c.in_ok-items.items.items,
   spells-read c.args.text.now c.in_ok-tokens.tokens.items c.in_ok-items.items.items c.in_ok-tokens.ensures.ok
       (ap (λ t. items_of (symbols_of c.args.text.now t)) (sym c.deref.ensures.value) ∙ c.in_ok-items.ensures.ok),
-  c.code_of.ensures ∙ ap code_of c.deref-2.ensures.value,
+  c.code_of.ensures.code ∙ ap code_of c.deref-2.ensures.value,
 )
