@@ -4,6 +4,7 @@ use Rattle.std.proofs.Math.ListN.{drop_of_length-le}
 use Rattle.std.proofs.Math.Seq.{drop-cons}
 use Rattle.std.proofs.lemmas.List.{append-nil, drop-drop}
 use Rattle.std.proofs.lemmas.List.Elements.{All-append, All-nil, All-push}
+use Rattle.pd_code.proofs.PieceReads.{token_dark}
 use Rattle.pd_code.proofs.Pieces.{StandsAt, piece_stands}
 use Rattle.std.specs.Option.{option_to_list}
 use Rattle.pd_code.specs.declared.token.Token.{Token}
@@ -19,11 +20,11 @@ pub record IsCut (text : List ℕ) (place : ℕ) (tokens : List Token) : Type 0 
   pub within : All (EndsWithin (length text)) tokens
   pub few : length tokens ≤ place
 
-preceded_by-none : (r : Result (List Token) LexStop) → preceded_by [] r ≡ r
+pub preceded_by-none : (r : Result (List Token) LexStop) → preceded_by [] r ≡ r
 preceded_by-none (Ok tokens) = refl
 preceded_by-none (Err stop) = refl
 
-preceded_by-append : (front more : List Token) (r : Result (List Token) LexStop) → preceded_by front (preceded_by more r) ≡ preceded_by (front ++ more) r
+pub preceded_by-append : (front more : List Token) (r : Result (List Token) LexStop) → preceded_by front (preceded_by more r) ≡ preceded_by (front ++ more) r
 preceded_by-append front more (Ok tokens) = ap Ok (sym (append_assoc front more tokens))
 preceded_by-append front more (Err stop) = refl
 
@@ -44,15 +45,16 @@ tokens_within-step : (steps place : ℕ) (text : List ℕ) → place < length te
 tokens_within-step steps place text left = rw (drop-cons text place 0) refl
 
 -- a piece takes a byte or more, and none that is not there
-piece_length-bounds : (place size : ℕ) (piece : Option Token) → 0 < size → IfSome piece (StandsAt place size) → (0 < piece_length piece) × (piece_length piece ≤ size)
-piece_length-bounds place size None some stands = (omega arith, omega arith)
-piece_length-bounds place size (Some token) some stands = (stands.some, stands.within)
+pub piece_length-bounds : (place : ℕ) (text : List ℕ) (piece : Option Token) → 0 < length text → IfSome piece (StandsAt place text) → (0 < piece_length piece) × (piece_length piece ≤ length text)
+piece_length-bounds place text None some stands = (omega arith, omega arith)
+piece_length-bounds place text (Some token) some stands =
+    let dark = token_dark place text token stands in (dark.some, dark.within)
 
 -- the token that a piece is ends within the text
-piece_within : (place size rest : ℕ) (piece : Option Token) → place + rest ≤ size → IfSome piece (StandsAt place rest) → All (EndsWithin size) (option_to_list piece)
-piece_within place size rest None room stands = All-nil (EndsWithin size)
-piece_within place size rest (Some token) room stands =
-    All-push (EndsWithin size) [] token (All-nil (EndsWithin size)) (omega (arith, stands.begin, stands.within))
+piece_within : (place size : ℕ) (text : List ℕ) (piece : Option Token) → place + length text ≤ size → IfSome piece (StandsAt place text) → All (EndsWithin size) (option_to_list piece)
+piece_within place size text None room stands = All-nil (EndsWithin size)
+piece_within place size text (Some token) room stands =
+    All-push (EndsWithin size) [] token (All-nil (EndsWithin size)) (omega (arith, stands.begin, (token_dark place text token stands).within))
 
 -- a piece is one token at most
 length-option_to_list : (piece : Option Token) → length (option_to_list piece) ≤ 1
@@ -68,11 +70,11 @@ cut_goes text place tokens piece left read cut = go cut.steps cut.enough cut.who
     size : length (drop place text) ≡ length text - place
     size = length-drop place text
 
-    stands : IfSome piece (StandsAt place (length (drop place text)))
-    stands = piece_stands place (drop place text) piece (omega (arith, size)) read
+    stands : IfSome piece (StandsAt place (drop place text))
+    stands = piece_stands place (drop place text) piece read (omega (arith, size))
 
     bounds : (0 < piece_length piece) × (piece_length piece ≤ length (drop place text))
-    bounds = piece_length-bounds place (length (drop place text)) piece (omega (arith, size)) stands
+    bounds = piece_length-bounds place (drop place text) piece (omega (arith, size)) stands
 
     step : (steps : ℕ) → tokens_within (suc steps) place (drop place text)
         ≡ preceded_by (option_to_list piece) (tokens_within steps (place + piece_length piece) (drop (place + piece_length piece) text))
@@ -89,7 +91,7 @@ cut_goes text place tokens piece left read cut = go cut.steps cut.enough cut.who
       whole = sym (preceded_by-append tokens (option_to_list piece) _) ∙ sym (ap (preceded_by tokens) (step steps)) ∙ whole;
       inside = omega (arith, bounds.1, size);
       within = All-append (EndsWithin (length text)) tokens (option_to_list piece) cut.within
-          (piece_within place (length text) (length (drop place text)) piece (omega (arith, size)) stands);
+          (piece_within place (length text) (drop place text) piece (omega (arith, size)) stands);
       few = omega (arith, cut.few, bounds.0, length-append tokens (option_to_list piece), length-option_to_list piece);
     }
 
@@ -103,10 +105,13 @@ cut_stops text place tokens stop left read cut = go cut.steps cut.enough cut.who
     go (suc steps) enough whole = sym whole ∙ ap (preceded_by tokens) (tokens_within-step steps place text left
         ∙ ap (λ r. followed_by r (λ n. tokens_within steps (place + n) (drop n (drop place text)))) read)
 
+-- nothing is read where nothing is left
+pub tokens_within-none : (steps place : ℕ) → tokens_within steps place [] ≡ Ok []
+tokens_within-none zero place = refl
+tokens_within-none (suc steps) place = refl
+
 -- nothing is left
 pub cut_ends : (text : List ℕ) (place : ℕ) (tokens : List Token) → length text ≤ place → IsCut text place tokens → tokens_of text ≡ Ok tokens
-cut_ends text place tokens end cut = sym cut.whole ∙ ap (preceded_by tokens) (ap (tokens_within cut.steps place) (drop_of_length-le text end) ∙ none cut.steps) ∙ ap Ok (append-nil tokens)
-  where
-    none : (steps : ℕ) → tokens_within steps place [] ≡ Ok []
-    none zero = refl
-    none (suc steps) = refl
+cut_ends text place tokens end cut = sym cut.whole
+    ∙ ap (preceded_by tokens) (ap (tokens_within cut.steps place) (drop_of_length-le text end) ∙ tokens_within-none cut.steps place)
+    ∙ ap Ok (append-nil tokens)

@@ -1,7 +1,13 @@
+mod CutReads
+mod Cuttings
+mod FirstBytes
 mod FirstFaults
 mod LexerSteps
 mod MachineSteps
+mod Numbers
+mod PieceReads
 mod Pieces
 mod Readings
+mod Runs
 mod SoFar
 mod Spellings

@@ -1,110 +1,173 @@
--- A piece is at the front of its text.
-use Rattle.std.proofs.Common.{◌≡◌, ℕ, ◌+◌, ◌<◌, ◌≤◌, nat_lt, Bool, true, false, cond, ◌⊎◌, inl, inr, List, [], ◌∷◌, length, drop, Option, None, Some, Result, Ok, Err, refl, subst, arith, slice_index, length-drop, zero, suc, IfSome}
-use Rattle.std.proofs.lemmas.List.Sums.{prefix_len-le-length}
+-- What stands at the first byte of a text: the token or the fault that is read there is the one of the definition.
+use Rattle.std.proofs.Common.{◌≡◌, ℕ, ◌+◌, ◌<◌, ◌≤◌, nat_lt, ◌==◌, nat_abs, ℤ, pos, Bool, true, false, cond, List, [], ◌∷◌, ◌++◌, length, IfSome, Option, None, Some, Result, Ok, Err, refl, sym, ◌∙◌, ap, subst, arith, slice_index, take-append-drop, length-append, drop}
+use Rattle.std.proofs.lemmas.Bool.{eqb-true, ltb-false, ltb-true}
 use Rattle.std.proofs.lemmas.List.Folds.{length-prefix_len}
-use Rattle.std.specs.Char.{is_ascii_alphabetic, is_ascii_digit}
+use Rattle.std.specs.Char.{is_ascii_alphabetic}
 use Rattle.std.specs.List.{prefix_len, take_while}
-use Rattle.pd_code.specs.declared.limits.TheConstants.{NUMBER_LIMIT}
-use Rattle.pd_code.specs.declared.token.Token.{Token}
 use Rattle.std.specs.Option.{option_map_or}
 use Rattle.std.specs.Result.{result_map_both}
+use Rattle.pd_code.specs.declared.limits.TheConstants.{NUMBER_LIMIT}
 use Rattle.pd_code.specs.declared.token.Kind.{Kind}
-use Rattle.pd_code.specs.declared.token.Kind.TheVariants.{Number}
+use Rattle.pd_code.specs.declared.token.Kind.TheVariants.{Word, Number, LeftBracket, RightBracket, LeftBrace, RightBrace, Comma}
 use Rattle.pd_code.specs.declared.token.LexStop.{LexStop}
 use Rattle.pd_code.specs.declared.token.LexStop.TheVariants as stops
-use Rattle.pd_code.specs.Tokens.{begins_number, digits_at, has_minus, is_blank, mark_at, mark_of, number_at, number_of, plain_token, piece_at, sign_length, signed_as, token_at, word_at}
+use Rattle.pd_code.specs.declared.token.Token.{Token}
+use Rattle.pd_code.specs.Cuts.{BeginsNone, IsFault, IsToken, begins_with, sign, signed}
+use Rattle.pd_code.specs.Tokens.{begins_number, digits_at, has_minus, is_blank, mark_at, mark_of, number_at, number_of, piece_at, plain_token, sign_length, token_at, word_at}
+use Rattle.pd_code.proofs.FirstBytes.{begins_with-first}
+use Rattle.pd_code.proofs.Numbers.{IsSplit, length-sign, nat_abs-signed, number_is, number_read, split}
+use Rattle.pd_code.proofs.Runs.{first_of_run, run_at}
 
--- a token stands at the front of a text that is not empty
-pub record StandsAt (place size : ℕ) (token : Token) : Type 0 where
+-- a token stands at the first byte of a text
+pub record StandsAt (place : ℕ) (text : List ℕ) (token : Token) : Type 0 where
+  pub bytes : List ℕ
+  pub rest : List ℕ
+  pub parts : text ≡ bytes ++ rest
   pub begin : token.place ≡ place
-  pub some : 0 < token.length
-  pub within : token.length ≤ size
+  pub size : token.length ≡ length bytes
+  pub kind : IsToken token.kind token.value bytes rest
+  pub limit : nat_abs token.value ≤ NUMBER_LIMIT
 
--- which of two values was taken
-chosen : {A : Type 0} (b : Bool) (x y z : A) → cond b x y ≡ z → ((b ≡ true) × (x ≡ z)) ⊎ ((b ≡ false) × (y ≡ z))
-chosen true x y z e = inl (refl, e)
-chosen false x y z e = inr (refl, e)
-
--- a run that begins has an element
-prefix_len-some : (p : ℕ → Bool) (text : List ℕ) → 0 < length text → p (slice_index text 0) ≡ true → 0 < prefix_len p text
-prefix_len-some p [] some first = absurd (omega arith)
-prefix_len-some p (b ∷ bs) some first = rw first (omega arith)
-
--- a word
-word_stands : (place : ℕ) (text : List ℕ) → 0 < length text → is_ascii_alphabetic (slice_index text 0) ≡ true → StandsAt place (length text) (word_at place text)
-word_stands place text some letter = record {
-  begin = refl;
-  some = prefix_len-some is_ascii_alphabetic text some letter;
-  within = prefix_len-le-length is_ascii_alphabetic text;
-}
-
--- what a sign of at most a byte and the digits behind it take
-number_length : (sign : ℕ) (text : List ℕ) → sign ≤ 1 → 0 < length text → is_ascii_digit (slice_index text sign) ≡ true
-    → (0 < sign + length (take_while is_ascii_digit (drop sign text))) × (sign + length (take_while is_ascii_digit (drop sign text)) ≤ length text)
-number_length zero text one some digit =
-    let run = length-prefix_len is_ascii_digit text in
-    let first = prefix_len-some is_ascii_digit text some digit in
-    let all = prefix_len-le-length is_ascii_digit text in
-    (omega (arith, run, first), omega (arith, run, all))
-number_length (suc n) text one some digit =
-    let run = length-prefix_len is_ascii_digit (drop (suc n) text) in
-    let all = prefix_len-le-length is_ascii_digit (drop (suc n) text) in
-    (omega arith, omega (arith, run, all, length-drop (suc n) text))
-
--- a sign is a byte at most
-sign_length-le-one : (text : List ℕ) → sign_length text ≤ 1
-sign_length-le-one text = elim (has_minus text) as (λ b. cond b 1 0 ≤ 1) [ true ↦ omega arith | false ↦ omega arith ]
+-- a token or a fault stands there
+abbrev pub Front : ℕ → List ℕ → Result Token LexStop → Type 0
+Front place text (Ok token) = StandsAt place text token
+Front place text (Err stop) = IsFault stop place text
 
 ok_is : {A E : Type 0} {x y : A} → ◌≡◌ {A = Result A E} (Ok x) (Ok y) → x ≡ y
 ok_is e = cc
 
--- the number at the front of a text, whatever its size
-number_token : ℕ → List ℕ → Token
-number_token place text = record {
-  kind = Number;
-  place = place;
-  length = sign_length text + length (digits_at text);
-  value = signed_as text (number_of (digits_at text));
+-- a word
+word_stands : (place : ℕ) (text : List ℕ) → 0 < length text → is_ascii_alphabetic (slice_index text 0) ≡ true → StandsAt place text (word_at place text)
+word_stands place text some letter = record {
+  bytes = take_while is_ascii_alphabetic text;
+  rest = drop (prefix_len is_ascii_alphabetic text) text;
+  parts = sym (take-append-drop (prefix_len is_ascii_alphabetic text) text);
+  begin = refl;
+  size = sym (length-prefix_len is_ascii_alphabetic text);
+  kind = (run_at is_ascii_alphabetic text some letter, refl);
+  limit = omega arith;
 }
 
 -- a number
-number_stands : (place : ℕ) (text : List ℕ) (token : Token) → 0 < length text → begins_number text ≡ true → number_at place text ≡ Ok token → StandsAt place (length text) token
-unfolding number_token
-number_stands place text token some begins read =
-    let size = number_length (sign_length text) text (sign_length-le-one text) some begins in
-    elim (chosen (nat_lt NUMBER_LIMIT (number_of (digits_at text))) (Err (stops.Number place)) (Ok (number_token place text)) (Ok token) read) [
-      | inl far ↦ absurd (cc)
-      | inr near ↦ subst (StandsAt place (length text)) (ok_is near.1) (record { begin = refl; some = size.0; within = size.1 })
-    ]
+number_stands : (place : ℕ) (text : List ℕ) → begins_number text ≡ true → Front place text (number_at place text)
+number_stands place text begins = go (nat_lt NUMBER_LIMIT (number_of (digits_at text))) refl
+  where
+    s : IsSplit (has_minus text) text (digits_at text)
+    s = split text begins
+
+    go : (great : Bool) → nat_lt NUMBER_LIMIT (number_of (digits_at text)) ≡ great
+        → Front place text (cond great (Err (stops.Number place)) (Ok (record {
+          kind = Number;
+          place = place;
+          length = sign_length text + length (digits_at text);
+          value = signed (has_minus text) (number_of (digits_at text));
+        })))
+    go true e = (
+      refl,
+      record {
+        value = signed (has_minus text) (number_of (digits_at text));
+        bytes = sign (has_minus text) ++ digits_at text;
+        rest = s.rest;
+        parts = s.parts;
+        number = number_is (has_minus text) text (digits_at text) s;
+        great = rw (nat_abs-signed (has_minus text) (number_of (digits_at text))) (ltb-true NUMBER_LIMIT (number_of (digits_at text)) e);
+      },
+    )
+    go false e = record {
+      bytes = sign (has_minus text) ++ digits_at text;
+      rest = s.rest;
+      parts = s.parts;
+      begin = refl;
+      size = rw (length-append (sign (has_minus text)) (digits_at text), length-sign (has_minus text)) refl;
+      kind = number_is (has_minus text) text (digits_at text) s;
+      limit = rw (nat_abs-signed (has_minus text) (number_of (digits_at text))) (ltb-false NUMBER_LIMIT (number_of (digits_at text)) e);
+    }
+
+-- no token of a kind stands where its first byte does not
+begins_none : (text : List ℕ) → 0 < length text → begins_with is_blank text ≡ false → is_ascii_alphabetic (slice_index text 0) ≡ false
+    → begins_number text ≡ false → mark_of (slice_index text 0) ≡ None → BeginsNone text
+begins_none text some dark no_letter no_number no_mark = record {
+  some = some;
+  dark = dark;
+  none = λ kind value bytes rest parts. none kind bytes rest value parts;
+}
+  where
+    marked : (byte : ℕ) (bytes rest : List ℕ) → text ≡ bytes ++ rest → bytes ≡ byte ∷ [] → mark_of byte ≡ None
+    marked byte bytes rest parts is = rw (← ap (λ t. slice_index t 0) (parts ∙ ap (λ b. b ++ rest) is)) no_mark
+
+    none : (kind : Kind) (bytes rest : List ℕ) (value : ℤ) → text ≡ bytes ++ rest → ¬ IsToken kind value bytes rest
+    none Word bytes rest value parts is =
+        let first = ap (λ t. is_ascii_alphabetic (slice_index t 0)) parts ∙ first_of_run is_ascii_alphabetic bytes rest is.0 in
+        absurd (cc)
+    none Number bytes rest value parts is =
+        let first = ap begins_number parts ∙ (number_read value bytes rest is).begins in
+        absurd (cc)
+    none LeftBracket bytes rest value parts is = let e = marked 91 bytes rest parts is.0 in absurd (cc)
+    none RightBracket bytes rest value parts is = let e = marked 93 bytes rest parts is.0 in absurd (cc)
+    none LeftBrace bytes rest value parts is = let e = marked 123 bytes rest parts is.0 in absurd (cc)
+    none RightBrace bytes rest value parts is = let e = marked 125 bytes rest parts is.0 in absurd (cc)
+    none Comma bytes rest value parts is = let e = marked 44 bytes rest parts is.0 in absurd (cc)
+
+-- a byte that is equal to a number begins a text
+byte_begins : (text : List ℕ) (byte : ℕ) → 0 < length text → slice_index text 0 ≡ byte → (rest : List ℕ) × (text ≡ byte ∷ rest)
+byte_begins [] byte some first = absurd (omega arith)
+byte_begins (b ∷ bs) byte some first = (bs, ap (λ b. b ∷ bs) first)
 
 -- a mark
-mark_stands : (place : ℕ) (text : List ℕ) (token : Token) → 0 < length text → mark_at place text ≡ Ok token → StandsAt place (length text) token
-mark_stands place text token some = marked (mark_of (slice_index text 0))
-  where
-    marked : (mark : Option Kind) → option_map_or (λ kind. Ok (plain_token kind place 1)) mark (Err (stops.Bad place)) ≡ Ok token → StandsAt place (length text) token
-    marked None read = absurd (cc)
-    marked (Some kind) read = subst (StandsAt place (length text)) (ok_is read) (record { begin = refl; some = omega arith; within = some })
+mark_stands : (place : ℕ) (text : List ℕ) (byte : ℕ) (kind : Kind) → 0 < length text → slice_index text 0 ≡ byte
+    → ((rest : List ℕ) → IsToken kind (pos 0) (byte ∷ []) rest) → StandsAt place text (plain_token kind place 1)
+mark_stands place text byte kind some first is =
+    let begins = byte_begins text byte some first in
+    record {
+      bytes = byte ∷ [];
+      rest = begins.0;
+      parts = begins.1;
+      begin = refl;
+      size = refl;
+      kind = is begins.0;
+      limit = omega arith;
+    }
 
--- any token
-token_stands : (place : ℕ) (text : List ℕ) (token : Token) → 0 < length text → token_at place text ≡ Ok token → StandsAt place (length text) token
-token_stands place text token some read =
-    let rest : Result Token LexStop = cond (begins_number text) (number_at place text) (mark_at place text) in
-    elim (chosen (is_ascii_alphabetic (slice_index text 0)) (Ok (word_at place text)) rest (Ok token) read) [
-      | inl word ↦ subst (StandsAt place (length text)) (ok_is word.1) (word_stands place text some word.0)
-      | inr other ↦ elim (chosen (begins_number text) (number_at place text) (mark_at place text) (Ok token) other.1) [
-        | inl number ↦ number_stands place text token some number.0 number.1
-        | inr mark ↦ mark_stands place text token some mark.1
-      ]
-    ]
-
--- any piece
-pub piece_stands : (place : ℕ) (text : List ℕ) (piece : Option Token) → 0 < length text → piece_at place text ≡ Ok piece → IfSome piece (StandsAt place (length text))
-piece_stands place text piece some read =
-    elim (chosen (is_blank (slice_index text 0)) (Ok None) (result_map_both Some (λ stop. stop) (token_at place text)) (Ok piece) read) [
-      | inl blank ↦ subst (λ p. IfSome p (StandsAt place (length text))) (ok_is blank.1) tt
-      | inr other ↦ tokened (token_at place text) refl other.1
-    ]
+-- a mark, or a byte that begins none
+marks : (place : ℕ) (text : List ℕ) → 0 < length text → begins_with is_blank text ≡ false → is_ascii_alphabetic (slice_index text 0) ≡ false
+    → begins_number text ≡ false → Front place text (mark_at place text)
+marks place text some dark no_letter no_number = go
+    (slice_index text 0 == 91) refl (slice_index text 0 == 93) refl (slice_index text 0 == 123) refl (slice_index text 0 == 125) refl (slice_index text 0 == 44) refl
   where
-    tokened : (r : Result Token LexStop) → token_at place text ≡ r → result_map_both Some (λ stop. stop) r ≡ Ok piece → IfSome piece (StandsAt place (length text))
-    tokened (Ok token) is e = subst (λ p. IfSome p (StandsAt place (length text))) (ok_is e) (token_stands place text token some is)
-    tokened (Err stop) is e = absurd (cc)
+    is : (byte : ℕ) → (slice_index text 0 == byte) ≡ true → slice_index text 0 ≡ byte
+    is byte e = eqb-true (slice_index text 0) byte e
+
+    go : (a : Bool) → (slice_index text 0 == 91) ≡ a → (b : Bool) → (slice_index text 0 == 93) ≡ b → (c : Bool) → (slice_index text 0 == 123) ≡ c
+        → (d : Bool) → (slice_index text 0 == 125) ≡ d → (e : Bool) → (slice_index text 0 == 44) ≡ e
+        → Front place text (option_map_or (λ kind. Ok (plain_token kind place 1))
+        (cond a (Some LeftBracket) (cond b (Some RightBracket) (cond c (Some LeftBrace) (cond d (Some RightBrace) (cond e (Some Comma) None)))))
+        (Err (stops.Bad place)))
+    go true a b _ c _ d _ e _ = mark_stands place text 91 LeftBracket some (is 91 a) (λ rest. (refl, refl))
+    go false _ true b c _ d _ e _ = mark_stands place text 93 RightBracket some (is 93 b) (λ rest. (refl, refl))
+    go false _ false _ true c d _ e _ = mark_stands place text 123 LeftBrace some (is 123 c) (λ rest. (refl, refl))
+    go false _ false _ false _ true d e _ = mark_stands place text 125 RightBrace some (is 125 d) (λ rest. (refl, refl))
+    go false _ false _ false _ false _ true e = mark_stands place text 44 Comma some (is 44 e) (λ rest. (refl, refl))
+    go false a false b false c false d false e = (refl, begins_none text some dark no_letter no_number (rw (a, b, c, d, e) refl))
+
+-- the token or the fault that is read stands there
+pub stands : (place : ℕ) (text : List ℕ) → 0 < length text → begins_with is_blank text ≡ false → Front place text (token_at place text)
+stands place text some dark = go (is_ascii_alphabetic (slice_index text 0)) refl (begins_number text) refl
+  where
+    go : (letter : Bool) → is_ascii_alphabetic (slice_index text 0) ≡ letter → (number : Bool) → begins_number text ≡ number
+        → Front place text (cond letter (Ok (word_at place text)) (cond number (number_at place text) (mark_at place text)))
+    go true letter number _ = word_stands place text some letter
+    go false no_letter true begins = number_stands place text begins
+    go false no_letter false no_number = marks place text some dark no_letter no_number
+
+-- what is read at the front of a text is a blank or stands there
+pub piece_stands : (place : ℕ) (text : List ℕ) (piece : Option Token) → piece_at place text ≡ Ok piece → 0 < length text → IfSome piece (StandsAt place text)
+piece_stands place text piece read some = go (is_blank (slice_index text 0)) refl read
+  where
+    taken : (r : Result Token LexStop) → Front place text r → result_map_both Some (λ stop. stop) r ≡ Ok piece → IfSome piece (StandsAt place text)
+    taken (Ok token) front e = subst (λ p. IfSome p (StandsAt place text)) (ok_is e) front
+    taken (Err stop) front e = absurd (cc)
+
+    go : (blank : Bool) → is_blank (slice_index text 0) ≡ blank → cond blank (Ok None) (result_map_both Some (λ stop. stop) (token_at place text)) ≡ Ok piece
+        → IfSome piece (StandsAt place text)
+    go true blank e = subst (λ p. IfSome p (StandsAt place text)) (ok_is e) tt
+    go false dark e = taken (token_at place text) (stands place text some (begins_with-first is_blank text refl ∙ dark)) e

@@ -14,6 +14,7 @@ use Rattle.pd_code.specs.Symbols.{symbols_of}
 use Rattle.pd_code.specs.Grammar.{Spells}
 use Rattle.pd_code.specs.Machine.{items_of}
 use Rattle.pd_code.specs.Reading.{code_of, code_of_symbols, code_of_tokens, crossings_of, is_loop, reading, stop_of}
+use Rattle.pd_code.proofs.CutReads.{cut_exactly, cuts_one, stops_exactly, stops_uncut}
 use Rattle.pd_code.proofs.Spellings.{items_of-spelled}
 use Rattle.pd_code.proofs.SoFar.{spelled-items_of}
 
@@ -22,11 +23,19 @@ pub reading-fault : (text : List ℕ) (stop : LexStop) → tokens_of text ≡ Er
 unfolding reading
 reading-fault text stop cut = ap (code_of_tokens text) cut
 
+-- and then nothing is spelled
+pub fault_unspelled : (text : List ℕ) (stop : LexStop) → tokens_of text ≡ Err stop → (items : List Item) → ¬ Spells text items
+fault_unspelled text stop cut items spells = stops_uncut text stop spells.tokens ((stops_exactly text stop).0 cut) spells.cut
+
 -- every fault but that of memory is Text
 pub stop_of-text : (stop : LexStop) → stop_of stop ≢ NoMemory → stop_of stop ≡ Text
 stop_of-text (faults.Bad place) some = refl
 stop_of-text (faults.Number place) some = refl
 stop_of-text faults.NoMemory some = absurd (some refl)
+
+-- Text is no want of memory
+pub stop_of-some : (stop : LexStop) → stop_of stop ≡ Text → stop ≢ faults.NoMemory
+stop_of-some stop text e = let none = ap stop_of e in cc
 
 -- the tokens spell items, or none
 pub reading-tokens : (text : List ℕ) (tokens : List Token) (items : Option (List Item)) → tokens_of text ≡ Ok tokens → items_of (symbols_of text tokens) ≡ items
@@ -37,16 +46,16 @@ reading-tokens text tokens items cut read = ap (code_of_tokens text) cut ∙ ap 
 -- what a text spells is read
 pub reading-spelled : (text : List ℕ) (items : List Item) → Spells text items → reading text ≡ code_of items
 reading-spelled text items spells =
-    reading-tokens text spells.tokens (Some items) spells.cut (ap items_of spells.meaning ∙ items_of-spelled items)
+    reading-tokens text spells.tokens (Some items) ((cut_exactly text spells.tokens).1 spells.cut) (ap items_of spells.meaning ∙ items_of-spelled items)
 
 -- what is read is spelled
 pub spells-read : (text : List ℕ) (tokens : List Token) (items : List Item) → tokens_of text ≡ Ok tokens → items_of (symbols_of text tokens) ≡ Some items → Spells text items
-spells-read text tokens items cut read = record { tokens = tokens; cut = cut; meaning = spelled-items_of (symbols_of text tokens) items read }
+spells-read text tokens items cut read = record { tokens = tokens; cut = (cut_exactly text tokens).0 cut; meaning = spelled-items_of (symbols_of text tokens) items read }
 
 -- where the tokens spell no items, the text spells none
 pub spells-none : (text : List ℕ) (tokens : List Token) (items : List Item) → tokens_of text ≡ Ok tokens → items_of (symbols_of text tokens) ≡ None → ¬ Spells text items
 spells-none text tokens items cut read spells =
-    let same : spells.tokens ≡ tokens = cc (spells.cut, cut) in
+    let same : spells.tokens ≡ tokens = cuts_one text spells.tokens tokens spells.cut ((cut_exactly text tokens).0 cut) in
     let some : items_of (symbols_of text tokens) ≡ Some items
     = ap (λ t. items_of (symbols_of text t)) (sym same) ∙ ap items_of spells.meaning ∙ items_of-spelled items in
     cc (read, some)
@@ -54,7 +63,7 @@ spells-none text tokens items cut read spells =
 -- a text spells one list of items at most
 pub spells-one : (text : List ℕ) (a b : List Item) → Spells text a → Spells text b → a ≡ b
 spells-one text a b first second =
-    let same : first.tokens ≡ second.tokens = cc (first.cut, second.cut) in
+    let same : first.tokens ≡ second.tokens = cuts_one text first.tokens second.tokens first.cut second.cut in
     let e : Some a ≡ Some b = sym (items_of-spelled a) ∙ ap items_of (sym first.meaning ∙ ap (symbols_of text) same ∙ second.meaning) ∙ items_of-spelled b in
     cc e
 
@@ -80,7 +89,7 @@ reading-cases text = by_tokens (tokens_of text) refl
     by_tokens : (r : Result (List Token) LexStop) → tokens_of text ≡ r
         → ((items : List Item) × Spells text items × (reading text ≡ code_of items)) ⊎ ((reading text ≡ Err Text) × ((items : List Item) → ¬ Spells text items))
     by_tokens (Ok tokens) cut = by_items tokens cut (items_of (symbols_of text tokens)) refl
-    by_tokens (Err stop) cut = inr (reading-fault text stop cut, λ items spells. cc (spells.cut, cut))
+    by_tokens (Err stop) cut = inr (reading-fault text stop cut, fault_unspelled text stop cut)
 
 -- a text that spells nothing reads as Text
 pub reading-unspelled : (text : List ℕ) → ((items : List Item) → ¬ Spells text items) → reading text ≡ Err Text

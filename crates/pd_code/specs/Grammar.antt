@@ -2,7 +2,7 @@
 -- (Knot Atlas, "Planar Diagrams"; `Loop` is this project's rule):
 --     text = "PD" "[" [ item { "," item } ] "]"
 --     item = "X" "[" number "," number "," number "," number "]"  or  "Loop" "[" number "]"
-use Rattle.std.specs.Prelude.{◌≡◌, ℕ, ◌+◌, ◌<◌, ◌≤◌, List, [], ◌∷◌, ◌++◌, length, take, Ok}
+use Rattle.std.specs.Prelude.{◌≡◌, ℕ, ◌+◌, ◌<◌, ◌≤◌, List, [], ◌∷◌, ◌++◌, length, take}
 use Rattle.std.specs.List.{flat_map}
 use Rattle.pd_code.specs.declared.token.Token.{Token}
 use Rattle.pd_code.specs.declared.symbol.Symbol.{Symbol}
@@ -10,7 +10,7 @@ use Rattle.pd_code.specs.declared.symbol.Symbol.TheVariants.{Pd, X, Number, Left
 use Rattle.pd_code.specs.declared.symbol.Symbol.TheVariants as symbols
 use Rattle.pd_code.specs.declared.item.Item.{Item}
 use Rattle.pd_code.specs.declared.item.Item.TheVariants.{Crossing, Loop}
-use Rattle.pd_code.specs.Tokens.{tokens_of}
+use Rattle.pd_code.specs.Cuts.{Cuts}
 use Rattle.pd_code.specs.Symbols.{symbols_of}
 
 -- an item: `X[i, j, k, l]` or `Loop[n]`
@@ -32,10 +32,10 @@ listed (item ∷ items) = item_symbols item ++ flat_map next_symbols items
 abbrev pub spelled : List Item → List Symbol
 spelled items = Pd ∷ LeftBracket ∷ (listed items ++ RightBracket ∷ [])
 
--- a text spells a list of items: it has tokens, and these mean the spelling of the items
+-- a text spells a list of items: tokens cut it, and these mean the spelling of the items
 pub record Spells (text : List ℕ) (items : List Item) : Type 0 where
   pub tokens : List Token
-  pub cut : tokens_of text ≡ Ok tokens
+  pub cut : Cuts 0 text tokens
   pub meaning : symbols_of text tokens ≡ spelled items
 
 -- symbols can go on to a spelling

@@ -1,4 +1,5 @@
 pub mod Tokens
+pub mod Cuts
 pub mod Symbols
 pub mod Grammar
 pub mod Machine

@@ -1,4 +1,4 @@
--- The tokens of a text: longest runs of letters, numbers and five marks, with white space between them.
+-- The tokens of a text as they are read, from its front on. What tokens are is told by the relation `Cuts`.
 -- The rules are this project's own.
 use Rattle.std.specs.Prelude.{ℕ, zero, suc, ◌+◌, ◌-◌, ◌≤◌, ◌*◌, ◌==◌, ◌||◌, nat_lt, Bool, if◌then◌else◌, List, [], ◌∷◌, ◌++◌, length, drop, slice_index, Option, None, Some, Result, Ok, Err, ℤ, pos, neg_ℤ}
 use Rattle.std.specs.Char.{is_ascii_alphabetic, is_ascii_digit}
@@ -115,7 +115,8 @@ tokens_within (suc steps) place [] = Ok []
 tokens_within (suc steps) place (byte ∷ bytes) =
     followed_by (piece_at place (byte ∷ bytes)) (λ n. tokens_within steps (place + n) (drop n (byte ∷ bytes)))
 
--- the tokens of a text in order, or its first fault; no text has more pieces than bytes
+-- the tokens of a text in order, or its first fault, piece by piece: the law `tokens_cut_the_text` says that these are the
+-- tokens that cut the text, and the fault that is its first; no text has more pieces than bytes
 abbrev pub tokens_of : List ℕ → Result (List Token) LexStop
 tokens_of text = tokens_within (length text) 0 text
 

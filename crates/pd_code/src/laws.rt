@@ -1,10 +1,13 @@
 //! What holds of the definitions that the contracts cite, beyond any one call.
 
-ghost use Rattle.std.specs.Prelude.{◌≡◌, ◌≢◌, ℕ, List, [], ◌∷◌, codes, pos, negsuc, Ok, Err, Some, None};
+ghost use Rattle.std.specs.Prelude.{◌≡◌, ◌≢◌, ◌↔◌, ℕ, List, [], ◌∷◌, codes, pos, negsuc, Ok, Err, Some, None};
 ghost use Rattle.pd_code.specs.declared.item.Item.{Item};
 ghost use Rattle.pd_code.specs.declared.machine.State.TheVariants.{Start};
 ghost use Rattle.pd_code.specs.declared.symbol.Symbol.{Symbol};
 ghost use Rattle.pd_code.specs.declared.token.Kind.TheVariants.{Word, Number, Comma};
+ghost use Rattle.pd_code.specs.declared.token.LexStop.{LexStop};
+ghost use Rattle.pd_code.specs.declared.token.Token.{Token};
+ghost use Rattle.pd_code.specs.Cuts.{Cuts, Stops};
 ghost use Rattle.pd_code.specs.Tokens.{tokens_of};
 ghost use Rattle.pd_code.specs.Grammar.{IsFirstFault, Spells, spelled};
 ghost use Rattle.pd_code.specs.Machine.{fault_from, items_of};
@@ -12,6 +15,18 @@ ghost use Rattle.pd_code.specs.Reading.{code_of, reading};
 
 use crate::stop::PdStop;
 use crate::token::LexStop;
+
+/// The tokens of a text are those that cut it, and a fault in their place is the first of the text.
+/// No text is cut in two ways, and none that has a fault is cut.
+pub fn tokens_cut_the_text()
+    ensures cut { (text : List ℕ) (tokens : List Token) →
+        (tokens_of text ≡ Ok tokens) ↔ Cuts 0 text tokens }
+    ensures fault { (text : List ℕ) (stop : LexStop) →
+        (tokens_of text ≡ Err stop) ↔ Stops 0 text stop }
+    ensures one { (text : List ℕ) (a b : List Token) → Cuts 0 text a → Cuts 0 text b → a ≡ b }
+    ensures uncut { (text : List ℕ) (stop : LexStop) (tokens : List Token) →
+        Stops 0 text stop → ¬ Cuts 0 text tokens }
+{}
 
 /// The machine gives the items that symbols spell, and gives none where they spell none.
 /// So no symbols spell two lists of items.

@@ -16,7 +16,7 @@ mod token;
 pub use item::Item;
 pub use laws::{
     readings_are_of_the_grammar, the_machine_reads_the_grammar,
-    the_machine_stops_at_the_first_fault, worked_texts, worked_tokens,
+    the_machine_stops_at_the_first_fault, tokens_cut_the_text, worked_texts, worked_tokens,
 };
 pub use lexer::tokens;
 pub use limits::{CROSSING_LIMIT, NUMBER_LIMIT};

@@ -3,7 +3,7 @@ use Rattle.std.proofs.lemmas.Result.{err_from_is_err_and}
 use Rattle.pd_code.specs.Symbols.{symbols_of}
 use Rattle.pd_code.specs.Machine.{items_of}
 use Rattle.pd_code.specs.Reading.{code_of, stop_of}
-use Rattle.pd_code.proofs.Readings.{stop_of-text, reading-fault, reading-tokens, spells-read, spells-none}
+use Rattle.pd_code.proofs.Readings.{fault_unspelled, stop_of-some, stop_of-text, reading-fault, reading-tokens, spells-read, spells-none}
 use Rattle.pd_code.proofs.reader.read_pd.Goals as goal
 
 -- a fault stands in the place of the tokens
@@ -14,6 +14,13 @@ returns-in_err-tokens-clause-read c =
     rw (p.1, p.2) (λ some.
     ap Err (stop_of-text stop (λ e. some (ap Err e)))
     ∙ sym (reading-fault c.args.text.now stop (c.in_err-tokens.ensures.fault (λ e. some (ap (λ s. Err (stop_of s)) e)))))
+
+pub returns-in_err-tokens-clause-unspelled : goal.returns-in_err-tokens-clause-unspelled
+returns-in_err-tokens-clause-unspelled c =
+    let p = err_from_is_err_and c.from_residual.result c.from_residual.ensures.1 in
+    let stop = c.in_err-tokens.field-0.0 in
+    rw (p.1, p.2) (λ text.
+    fault_unspelled c.args.text.now stop (c.in_err-tokens.ensures.fault (λ e. stop_of-some stop (cc) (cc))))
 
 -- the tokens spell no items
 pub returns-in_err-items-clause-read : goal.returns-in_err-items-clause-read
