@@ -1,6 +1,8 @@
 pub mod AcceptedCodes
 pub mod Ranges
 pub mod RankLemmas
+pub mod MatrixTests
+pub mod ComplexLemmas
 pub mod ClassLemmas
 pub mod FaultLemmas
 pub mod FaceLemmas

@@ -16,6 +16,7 @@ pub mod Rank
 pub mod Table
 pub mod StateSum
 pub mod Complex
+pub mod ComplexTests
 pub mod History
 pub mod WorkedCodes
 pub mod WorkedHistories

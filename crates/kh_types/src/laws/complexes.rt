@@ -1,11 +1,12 @@
-//! Legal histories of a block of the trefoil, and that they leave the dimensions of its table.
+//! What makes plain data a complex, worked blocks, and legal histories that leave the dimensions of the trefoil's table.
 
-ghost use Rattle.std.specs.Prelude.{◌≡◌, ℤ, pos, neg_ℤ, [], ◌∷◌, Bool, true};
+ghost use Rattle.std.specs.Prelude.{◌≡◌, ℕ, ◌<◌, ◌↔◌, IsTrue, ℤ, pos, neg_ℤ, [], ◌∷◌, Bool, true};
 ghost use Rattle.kh_types.specs.WorkedCodes.{hopf_link, trefoil, figure_eight};
 ghost use Rattle.kh_types.specs.WorkedHistories.{trefoil_block, hopf_block, pivot_at, pivot_of, history_over_two, history_over_five};
 ghost use Rattle.kh_types.specs.Differential.{differential};
 ghost use Rattle.kh_types.specs.Table.{dimension};
-ghost use Rattle.kh_types.specs.Complex.{alive_count, cancel, cancelled_matrix, degree_of, dimension_of, is_zero, squares_to_zero};
+ghost use Rattle.kh_types.specs.Complex.{Complex, IsComplex, alive_count, cancel, cancelled_matrix, degree_of, dimension_of, is_zero, squares_to_zero};
+ghost use Rattle.kh_types.specs.ComplexTests.{is_complex};
 ghost use Rattle.kh_types.specs.History.{block, IsLegal, replay};
 
 /// Over two elements two cancellations leave a zero complex, with as many places alive as the table has dimensions.
@@ -69,4 +70,26 @@ pub fn worked_blocks_square_to_zero()
     ensures lower { squares_to_zero 3 (block 3 trefoil (neg_ℤ (pos 5))) ≡ true }
     ensures upper { squares_to_zero 5 (block 5 trefoil (neg_ℤ (pos 3))) ≡ true }
     ensures four { squares_to_zero 3 (block 3 figure_eight (neg_ℤ (pos 1))) ≡ true }
+{}
+
+/// Plain data is a complex exactly where its test over the degrees, rows and columns that there are holds.
+pub fn complexes_are_tested()
+    ensures { (p : ℕ) (complex : Complex) → 0 < p → IsTrue (is_complex p complex) ↔ IsComplex p complex }
+{}
+
+/// These blocks of the cube are complexes, and so is what a cancellation and a history leave of two of them.
+pub fn worked_blocks_are_complexes()
+    ensures hopf { IsComplex 3 hopf_block }
+    ensures first_over_two { IsComplex 2 (block 2 trefoil (neg_ℤ (pos 5))) }
+    ensures second_over_two { IsComplex 2 (trefoil_block 2) }
+    ensures over_five { IsComplex 5 (block 5 trefoil (neg_ℤ (pos 5))) }
+    ensures four { IsComplex 3 (block 3 figure_eight (neg_ℤ (pos 1))) }
+    ensures cancelled { IsComplex 3 (cancel 3 hopf_block (pivot_at (neg_ℤ (pos 2)) 0 0)) }
+    ensures replayed { IsComplex 2 (replay 2 (trefoil_block 2) history_over_two) }
+{}
+
+/// Data over three elements is no complex over five, where a product is not 0, nor over two, where an entry is too large.
+pub fn data_of_another_field_is_no_complex()
+    ensures product { IsComplex 5 hopf_block → ⊥ }
+    ensures entry { IsComplex 2 hopf_block → ⊥ }
 {}
