@@ -3,6 +3,7 @@ pub mod Ranges
 pub mod RankLemmas
 pub mod MatrixTests
 pub mod ComplexLemmas
+pub mod CancelLemmas
 pub mod ClassLemmas
 pub mod FaultLemmas
 pub mod FaceLemmas

@@ -1,11 +1,11 @@
 //! What makes plain data a complex, worked blocks, and legal histories that leave the dimensions of the trefoil's table.
 
-ghost use Rattle.std.specs.Prelude.{◌≡◌, ℕ, ◌<◌, ◌↔◌, IsTrue, ℤ, pos, neg_ℤ, [], ◌∷◌, Bool, true};
+ghost use Rattle.std.specs.Prelude.{◌≡◌, ℕ, ◌<◌, ◌↔◌, IsTrue, ℤ, pos, neg_ℤ, [], ◌∷◌, length, map, slice_index_or, Bool, true, false};
 ghost use Rattle.kh_types.specs.WorkedCodes.{hopf_link, trefoil, figure_eight};
 ghost use Rattle.kh_types.specs.WorkedHistories.{trefoil_block, hopf_block, pivot_at, pivot_of, history_over_two, history_over_five};
 ghost use Rattle.kh_types.specs.Differential.{differential};
 ghost use Rattle.kh_types.specs.Table.{dimension};
-ghost use Rattle.kh_types.specs.Complex.{Complex, IsComplex, alive_count, cancel, cancelled_matrix, degree_of, dimension_of, is_zero, squares_to_zero};
+ghost use Rattle.kh_types.specs.Complex.{Complex, IsComplex, Pivot, alive_count, cancel, cancelled_matrix, degree_of, dimension_of, is_zero, squares_to_zero};
 ghost use Rattle.kh_types.specs.ComplexTests.{is_complex};
 ghost use Rattle.kh_types.specs.History.{block, IsLegal, replay};
 
@@ -92,4 +92,17 @@ pub fn worked_blocks_are_complexes()
 pub fn data_of_another_field_is_no_complex()
     ensures product { IsComplex 5 hopf_block → ⊥ }
     ensures entry { IsComplex 2 hopf_block → ⊥ }
+{}
+
+/// A cancellation keeps the number of degrees, and in each the size of the matrix, the places, and the dead ones dead.
+pub fn cancellations_keep_sizes_and_dead_places()
+    ensures degrees { (p : ℕ) (complex : Complex) (pivot : Pivot)
+        → length (cancel p complex pivot).degrees ≡ length complex.degrees }
+    ensures sizes { (p : ℕ) (complex : Complex) (pivot : Pivot) (i : ℤ)
+        → map length (degree_of (cancel p complex pivot) i).matrix ≡ map length (degree_of complex i).matrix }
+    ensures places { (p : ℕ) (complex : Complex) (pivot : Pivot) (i : ℤ)
+        → length (degree_of (cancel p complex pivot) i).alive ≡ length (degree_of complex i).alive }
+    ensures dead { (p : ℕ) (complex : Complex) (pivot : Pivot) (i : ℤ) (place : ℕ)
+        → slice_index_or (degree_of complex i).alive place true ≡ false
+        → slice_index_or (degree_of (cancel p complex pivot) i).alive place true ≡ false }
 {}
