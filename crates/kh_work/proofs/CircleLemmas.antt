@@ -13,7 +13,8 @@ ones_more n x = sum_by-range_more (bit x) 0 n n (omega arith)
 pub sum_from_one : (f : ℕ → ℕ) (n : ℕ) → sum_by f (range_with_len 1 (n + 1)) ≡ sum_by f (range_with_len 1 n) + f (n + 1)
 sum_from_one f n = sum_by-range_more f 1 n (n + 1) (omega arith)
 
-pub names_more : (p : ℕ → Bool) (n : ℕ) → filter p (range_with_len 1 (n + 1)) ≡ filter p (range_with_len 1 n) ++ filter p ((n + 1) ∷ [])
+pub names_more : (p : ℕ → Bool) (n : ℕ)
+    → filter p (range_with_len 1 (n + 1)) ≡ filter p (range_with_len 1 n) ++ filter p ((n + 1) ∷ [])
 names_more p n = filter-range_more p 1 n (n + 1) (omega arith)
 
 enumerate_from_push : {X : Type 0} (n : ℕ) (xs : List X) (x : X)
@@ -28,13 +29,16 @@ enumerate_from_push {X} n (y ∷ xs) x =
 -- the smoothings of the crossings up to one more
 pub smoothings_more : (crossings : List (List ℕ)) (state at : ℕ) (crossing : List ℕ) → at < length crossings
     → crossing ≡ get_or crossings at crossing
-    → smoothings_of (take (at + 1) crossings) state ≡ smoothings_of (take at crossings) state ++ smoothing_of (bit state at) crossing
+    → smoothings_of (take (at + 1) crossings) state
+    ≡ smoothings_of (take at crossings) state ++ smoothing_of (bit state at) crossing
 smoothings_more crossings state at crossing within is_crossing =
     let front : List (List ℕ) = take at crossings in
     let long : length front ≡ at = length-take-le at crossings (omega arith) in
     let piece : ℕ × List ℕ → List (ℕ × ℕ) = λ at. smoothing_of (bit state at.0) at.1 in
     let all : enumerate_from 0 (take (at + 1) crossings) ≡ enumerate_from 0 front ++ (at, crossing) ∷ [] =
     ap (enumerate_from 0) (take_more crossings at crossing within ∙ ap (λ (x : List ℕ). front ++ x ∷ []) (sym is_crossing))
-    ∙ enumerate_from_push 0 front crossing ∙ ap (λ (m : ℕ). enumerate_from 0 front ++ (m, crossing) ∷ []) (omega (arith, long)) in
-    ap (flat_map piece) all ∙ flat_map-append piece (enumerate_from 0 front) ((at, crossing) ∷ [])
+    ∙ enumerate_from_push 0 front crossing
+    ∙ ap (λ (m : ℕ). enumerate_from 0 front ++ (m, crossing) ∷ []) (omega (arith, long)) in
+    ap (flat_map piece) all
+    ∙ flat_map-append piece (enumerate_from 0 front) ((at, crossing) ∷ [])
     ∙ ap (λ (ys : List (ℕ × ℕ)). smoothings_of front state ++ ys) (append-nil (smoothing_of (bit state at) crossing))

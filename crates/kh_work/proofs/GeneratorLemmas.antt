@@ -15,10 +15,13 @@ pub states_more : (code : Code) (made next : List Placed) (state : ℕ)
     → next ≡ made ++ map (placed_in code) (generators_of code state)
     → next ≡ map (placed_in code) (flat_map (generators_of code) (range_with_len 0 (state + 1)))
 states_more code made next state is_made is_next =
-    let all : flat_map (generators_of code) (range_with_len 0 (state + 1)) ≡ flat_map (generators_of code) (range_with_len 0 state) ++ generators_of code state =
-    ap (flat_map (generators_of code)) (range_from_zero state) ∙ flat_map-append (generators_of code) (range_with_len 0 state) (state ∷ [])
-    ∙ ap (λ (xs : List Generator). flat_map (generators_of code) (range_with_len 0 state) ++ xs) (append-nil (generators_of code state)) in
-    rw (all, map-append (placed_in code) (flat_map (generators_of code) (range_with_len 0 state)) (generators_of code state), ← is_made) is_next
+    let front : List Generator = flat_map (generators_of code) (range_with_len 0 state) in
+    let last : List Generator = generators_of code state in
+    let all : flat_map (generators_of code) (range_with_len 0 (state + 1)) ≡ front ++ last =
+    ap (flat_map (generators_of code)) (range_from_zero state)
+    ∙ flat_map-append (generators_of code) (range_with_len 0 state) (state ∷ [])
+    ∙ ap (λ (xs : List Generator). front ++ xs) (append-nil last) in
+    rw (all, map-append (placed_in code) front last, ← is_made) is_next
 
 -- the generators of a state with the labels up to one more
 pub labels_more : (code : Code) (start made next : List Placed) (state label : ℕ)
@@ -27,10 +30,9 @@ pub labels_more : (code : Code) (start made next : List Placed) (state label : �
     → next ≡ start ++ map (placed_in code) (map (generator_of state) (range_with_len 0 (label + 1)))
 labels_more code start made next state label is_made is_next =
     let front : List Placed = map (placed_in code) (map (generator_of state) (range_with_len 0 label)) in
-    let all : map (placed_in code) (map (generator_of state) (range_with_len 0 (label + 1))) ≡ front ++ placed_in code (generator_of state label) ∷ [] =
+    let last : Placed = placed_in code (generator_of state label) in
+    let all : map (placed_in code) (map (generator_of state) (range_with_len 0 (label + 1))) ≡ front ++ last ∷ [] =
     ap (λ (xs : List ℕ). map (placed_in code) (map (generator_of state) xs)) (range_from_zero label)
     ∙ ap (map (placed_in code)) (map_push (generator_of state) (range_with_len 0 label) label)
     ∙ map_push (placed_in code) (map (generator_of state) (range_with_len 0 label)) (generator_of state label) in
-    rw (all, ← append_assoc start front (placed_in code (generator_of state label) ∷ []), ← is_made) is_next
-
-pub ruleset steps = (states_more, labels_more)
+    rw (all, ← append_assoc start front (last ∷ []), ← is_made) is_next

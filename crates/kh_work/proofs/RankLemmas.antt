@@ -9,13 +9,16 @@ use Rattle.kh_types.specs.Rank.{has_entry, reduced_by, rank}
 use Rattle.kh_work.specs.Matrices.{rows_of}
 use Rattle.kh_work.proofs.ListLemmas.{map-remove, position-map}
 
+-- no row has an entry
 pub rank-no_row : (p : ℕ) (rows : List (List ℕ)) → position has_entry rows ≡ None → rank p rows ≡ 0
 rank-no_row p [] none = refl
 rank-no_row p (row ∷ rows) none = rw none
 
+-- a step keeps the number of the other rows
 pub length-reduced_by : (p : ℕ) (pivot : List ℕ) (others : List (List ℕ)) → length (reduced_by p pivot others) ≡ length others
 length-reduced_by p pivot others = length-map others _
 
+-- a row has an entry
 pub rank-row : (p : ℕ) (rows : List (List ℕ)) (at : ℕ) → position has_entry rows ≡ Some at
     → rank p rows ≡ suc (rank p (reduced_by p (get_or rows at []) (remove rows at)))
 rank-row p [] at found = absurd (cc)
@@ -35,11 +38,14 @@ rank-step p rows left next at pivot found is_pivot is_left is_next =
     let within : at < length rows = (position-Some (λ (row : Vec ℕ). has_entry row.items) rows at pivot found).0 in
     let row : get_or (rows_of rows) at [] ≡ pivot.items = get_or-map items rows at pivot [] within ∙ ap items (sym is_pivot) in
     let others : remove (rows_of rows) at ≡ rows_of left = sym (map-remove items rows at) ∙ ap rows_of (sym is_left) in
-    let reduced : reduced_by p (get_or (rows_of rows) at []) (remove (rows_of rows) at) ≡ rows_of next = rw (row, others) (sym is_next) in
-    rank-row p (rows_of rows) at (position-map has_entry items rows ∙ found) ∙ ap (λ (made : List (List ℕ)). suc (rank p made)) reduced
+    let reduced : reduced_by p (get_or (rows_of rows) at []) (remove (rows_of rows) at) ≡ rows_of next =
+    rw (row, others) (sym is_next) in
+    rank-row p (rows_of rows) at (position-map has_entry items rows ∙ found)
+    ∙ ap (λ (made : List (List ℕ)). suc (rank p made)) reduced
 
 -- the elimination ends where no row has an entry
-pub rank-end : (p : ℕ) (rows : List (Vec ℕ)) → position (λ (row : Vec ℕ). has_entry row.items) rows ≡ None → rank p (rows_of rows) ≡ 0
+pub rank-end : (p : ℕ) (rows : List (Vec ℕ))
+    → position (λ (row : Vec ℕ). has_entry row.items) rows ≡ None → rank p (rows_of rows) ≡ 0
 rank-end p rows none =
     let items : Vec ℕ → List ℕ = λ row. row.items in rank-no_row p (rows_of rows) (position-map has_entry items rows ∙ none)
 

@@ -20,18 +20,24 @@ use Rattle.kh_work.proofs.ListLemmas.{filter-map, map-map}
 abbrev pub from_minus_to : ℕ → ℕ → List ℤ
 from_minus_to n count = map (λ k. pos k -ℤ pos n) (range_with_len 0 count)
 
+-- one number more
 pub from_minus_more : (n count : ℕ) → from_minus_to n (count + 1) ≡ from_minus_to n count ++ (pos count -ℤ pos n) ∷ []
 from_minus_more n count =
-    ap (map (λ (k : ℕ). pos k -ℤ pos n)) (range_from_zero count) ∙ map_push (λ (k : ℕ). pos k -ℤ pos n) (range_with_len 0 count) count
+    ap (map (λ (k : ℕ). pos k -ℤ pos n)) (range_from_zero count)
+    ∙ map_push (λ (k : ℕ). pos k -ℤ pos n) (range_with_len 0 count) count
 
 -- the generators of two degrees, among all
 pub placed_at : (code : Code) (i j : ℤ) (all made : List Placed) → all ≡ map (placed_in code) (generators code)
     → made ≡ filter (is_placed_at i j) all → made ≡ map (placed_in code) (generators_at code i j)
-placed_at code i j all made is_all is_made = is_made ∙ ap (filter (is_placed_at i j)) is_all ∙ filter-map (is_placed_at i j) (placed_in code) (generators code)
+placed_at code i j all made is_all is_made =
+    is_made ∙ ap (filter (is_placed_at i j)) is_all
+    ∙ filter-map (is_placed_at i j) (placed_in code) (generators code)
 
+-- the row for a list of generators
 pub row_for_placed : (p : ℕ) (code : Code) (tails : List Generator) (head : Generator)
     → row_for p code (map (placed_in code) tails) head ≡ map (λ tail. coefficient p code tail head) tails
-row_for_placed p code tails head = map-map (λ (tail : Placed). coefficient p code tail.generator head) (placed_in code) tails
+row_for_placed p code tails head =
+    map-map (λ (tail : Placed). coefficient p code tail.generator head) (placed_in code) tails
 
 -- the rows for two lists of generators
 pub rows_for_placed : (p : ℕ) (code : Code) (tails heads : List Generator)
@@ -39,9 +45,12 @@ pub rows_for_placed : (p : ℕ) (code : Code) (tails heads : List Generator)
     ≡ map (λ head. map (λ tail. coefficient p code tail head) tails) heads
 rows_for_placed p code tails [] = refl
 rows_for_placed p code tails (head ∷ heads) =
-    ap (λ (row : List ℕ). row ∷ rows_for p code (map (placed_in code) tails) (map (placed_in code) heads)) (row_for_placed p code tails head)
-    ∙ ap (λ (rows : List (List ℕ)). map (λ (tail : Generator). coefficient p code tail head) tails ∷ rows) (rows_for_placed p code tails heads)
+    let first : List ℕ = map (λ (tail : Generator). coefficient p code tail head) tails in
+    let others : List (List ℕ) = rows_for p code (map (placed_in code) tails) (map (placed_in code) heads) in
+    ap (λ (row : List ℕ). row ∷ others) (row_for_placed p code tails head)
+    ∙ ap (λ (rows : List (List ℕ)). first ∷ rows) (rows_for_placed p code tails heads)
 
+-- how many generators two degrees have
 pub placed_count : (code : Code) (i j : ℤ) (made : List Placed) → made ≡ map (placed_in code) (generators_at code i j)
     → length made ≡ length (generators_at code i j)
 placed_count code i j made is_made = ap length is_made ∙ length-map (generators_at code i j) (placed_in code)
@@ -58,7 +67,8 @@ differential_placed p code i j tails heads rows is_tails is_heads is_rows =
 -- the rows of a quantum degree, up to one more homological degree
 pub rows_more : (p : ℕ) (code : Code) (j i : ℤ) (n k dim : ℕ) (start made next : List Row)
     → made ≡ start ++ filter is_shown (map (row_at p code j) (from_minus_to n k))
-    → i ≡ pos k -ℤ pos n → dim ≡ dimension p code i j → next ≡ made ++ filter is_shown (record { j = j; i = i; dim = dim } ∷ [])
+    → i ≡ pos k -ℤ pos n → dim ≡ dimension p code i j
+    → next ≡ made ++ filter is_shown (record { j = j; i = i; dim = dim } ∷ [])
     → next ≡ start ++ filter is_shown (map (row_at p code j) (from_minus_to n (k + 1)))
 rows_more p code j i n k dim start made next is_made is_i is_dim is_next =
     let front : List Row = map (row_at p code j) (from_minus_to n k) in
@@ -78,11 +88,13 @@ pub degrees_more : (p : ℕ) (code : Code) (j : ℤ) (n k : ℕ) (made next : Li
     → next ≡ flat_map (rows_at p code) (from_minus_to n (k + 1))
 degrees_more p code j n k made next is_made is_j is_next =
     let last : ℤ = pos k -ℤ pos n in
-    let all : flat_map (rows_at p code) (from_minus_to n (k + 1)) ≡ flat_map (rows_at p code) (from_minus_to n k) ++ rows_at p code last =
-    ap (flat_map (rows_at p code)) (from_minus_more n k) ∙ flat_map-append (rows_at p code) (from_minus_to n k) (last ∷ [])
-    ∙ ap (λ (rows : List Row). flat_map (rows_at p code) (from_minus_to n k) ++ rows) (append-nil (rows_at p code last)) in
+    let front : List Row = flat_map (rows_at p code) (from_minus_to n k) in
+    let all : flat_map (rows_at p code) (from_minus_to n (k + 1)) ≡ front ++ rows_at p code last =
+    ap (flat_map (rows_at p code)) (from_minus_more n k)
+    ∙ flat_map-append (rows_at p code) (from_minus_to n k) (last ∷ [])
+    ∙ ap (λ (rows : List Row). front ++ rows) (append-nil (rows_at p code last)) in
     is_next ∙ ap (λ (rows : List Row). rows ++ rows_at p code j) is_made
-    ∙ ap (λ (d : ℤ). flat_map (rows_at p code) (from_minus_to n k) ++ rows_at p code d) is_j ∙ sym all
+    ∙ ap (λ (d : ℤ). front ++ rows_at p code d) is_j ∙ sym all
 
 -- the text of the rows within the program's sizes is the text of the table
 pub table_text_within : (p : ℕ) (code : Code) (rows : List Row) → rows ≡ rows_within EXPONENT p code
@@ -90,6 +102,7 @@ pub table_text_within : (p : ℕ) (code : Code) (rows : List Row) → rows ≡ r
 table_text_within p code rows is_rows =
     ap (λ (rows : List Row). let t : Table = record { field = p; rows = rows } in table_text t) is_rows
 
+-- the same for what a call that may fail has made
 pub table_text_found : {T E : Type 0} (bytes : T → List ℕ) (p : ℕ) (code : Code) (rows : List Row) (result : Result T E)
     → rows ≡ rows_within EXPONENT p code
     → IfOk result (λ text. bytes text ≡ table_text (record { field = p; rows = rows }))
@@ -97,6 +110,7 @@ pub table_text_found : {T E : Type 0} (bytes : T → List ℕ) (p : ℕ) (code :
 table_text_found bytes p code rows (Ok text) is_rows is_text = is_text ∙ table_text_within p code rows is_rows
 table_text_found bytes p code rows (Err e) is_rows is_text = tt
 
+-- each with the fact that a signed argument arrives as it was passed
 pub ruleset placing = (placed_at, to_z-of_z)
 
 pub ruleset matrices = (differential_placed, to_z-of_z)

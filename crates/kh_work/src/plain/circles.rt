@@ -57,7 +57,8 @@ fn smoothings_of(diagram: &Diagram, state: u32) -> ArrayVec<(u8, u8), ARCS>
 /// Adds the two pairs of arcs that a smoothing of a crossing joins.
 fn push_smoothing(smoothings: &mut ArrayVec<(u8, u8), ARCS>, choice: u8, crossing: &Crossing)
     requires { array_vec_len smoothings.old + 2 ≤ ARCS }
-    ensures added { smoothings.new.items ≡ smoothings.old.items ++ smoothing_of choice crossing.now }
+    ensures added { smoothings.new.items
+        ≡ smoothings.old.items ++ smoothing_of choice crossing.now }
     ensures size { array_vec_len smoothings.new ≡ array_vec_len smoothings.old + 2 }
 {
     let [first, second] = smoothing_of(choice, crossing);

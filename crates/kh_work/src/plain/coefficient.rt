@@ -1,4 +1,4 @@
-//! The coefficients of the differential, one pair of generators at a time. Crossings are crossinged from 1.
+//! The coefficients of the differential, one pair of generators at a time. Crossings are numbered from 1.
 
 ghost use Rattle.std.specs.Prelude.{◌≡◌, ◌≤◌, ◌||◌, ◌&&◌, length, nat_eq};
 ghost use Rattle.kh_types.specs.Differential.{label_of, is_touched, is_edge, keeps_labels, changes_labels, edge_sign, coefficient_at, coefficient};
@@ -11,6 +11,7 @@ use super::resolved::Resolved;
 use kh_types::Diagram;
 
 /// The coefficient from one generator to another, modulo `p`: along the one edge that leads from state to state, if any does.
+/// Source: Bar-Natan 2002, section 3.
 #[tactic(auto, using(crate::proofs::CircleLemmas::sum_from_one))]
 pub fn coefficient(p: u8, diagram: &Diagram, tail: Generator, head: Generator) -> u8
     requires low { 1 ≤ p }
@@ -56,7 +57,8 @@ fn is_edge(tail: Generator, head: Generator, crossing: usize) -> bool
 fn changes(diagram: &Diagram, tail: Generator, head: Generator, crossing: usize) -> bool
     requires low { 1 ≤ crossing }
     requires high { crossing ≤ length diagram.now.crossings }
-    ensures { result ≡ (keeps_labels diagram.now tail head crossing && changes_labels diagram.now tail head crossing) }
+    ensures { result ≡ (keeps_labels diagram.now tail head crossing
+        && changes_labels diagram.now tail head crossing) }
 {
     let tail = Resolved::new(diagram, tail);
     let head = Resolved::new(diagram, head);
@@ -68,20 +70,23 @@ fn keeps_labels(tail: &Resolved, head: &Resolved, crossing: usize) -> bool
     requires low { 1 ≤ crossing }
     requires high { crossing ≤ length tail.now.diagram.crossings }
     requires same { head.now.diagram ≡ tail.now.diagram }
-    ensures { result ≡ keeps_labels tail.now.diagram tail.now.generator head.now.generator crossing }
+    ensures { let code = tail.now.diagram in
+        result ≡ keeps_labels code tail.now.generator head.now.generator crossing }
 {
     tail.names()
         .iter()
         .all(|circle| keeps_label(tail, head, crossing, *circle))
 }
 
+/// Whether a circle that is not touched has the same label in both.
 fn keeps_label(tail: &Resolved, head: &Resolved, crossing: usize, circle: u8) -> bool
     requires low { 1 ≤ crossing }
     requires high { crossing ≤ length tail.now.diagram.crossings }
     requires same { head.now.diagram ≡ tail.now.diagram }
     ensures { let code = tail.now.diagram in
         result ≡ (is_touched code tail.now.generator.state crossing circle
-        || nat_eq (label_of code tail.now.generator circle) (label_of code head.now.generator circle)) }
+        || nat_eq (label_of code tail.now.generator circle)
+        (label_of code head.now.generator circle)) }
 {
     tail.is_touched(crossing, circle) || tail.label_of(circle) == head.label_of(circle)
 }
@@ -91,14 +96,15 @@ fn changes_labels(tail: &Resolved, head: &Resolved, crossing: usize) -> bool
     requires low { 1 ≤ crossing }
     requires high { crossing ≤ length tail.now.diagram.crossings }
     requires same { head.now.diagram ≡ tail.now.diagram }
-    ensures { result ≡ changes_labels tail.now.diagram tail.now.generator head.now.generator crossing }
+    ensures { let code = tail.now.diagram in
+        result ≡ changes_labels code tail.now.generator head.now.generator crossing }
 {
     let before = tail.touched_labels(crossing);
     let after = head.touched_labels(crossing);
     is_merge(before.as_slice(), after.as_slice()) || is_split(before.as_slice(), after.as_slice())
 }
 
-/// Modulo `p`, -1 to the crossing of crossings listed before this one that have their 1-smoothing.
+/// Modulo `p`, -1 to the number of crossings listed before this one that have their 1-smoothing.
 fn edge_sign(p: u8, state: u32, crossing: usize) -> u8
     requires p_low { 1 ≤ p }
     requires p_high { p ≤ 7 }

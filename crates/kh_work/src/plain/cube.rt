@@ -87,7 +87,8 @@ impl Cube {
 
     /// The coefficients from each generator of a list to one generator.
     fn row(&self, alloc: Global, tails: &[Placed], head: Generator) -> Result<Vec<u8>, AllocError>
-        ensures { IfOk result (λ made. made.items ≡ row_for self.now.p self.now.diagram tails.now head) }
+        ensures { IfOk result (λ made.
+            made.items ≡ row_for self.now.p self.now.diagram tails.now head) }
     {
         let (p, diagram) = (self.p, &self.diagram);
         tails

@@ -3,6 +3,7 @@
 ghost use Rattle.std.specs.Prelude.{◌≡◌, ◌≤◌, ◌+◌, ◌*◌, ◌++◌, map, pos, neg_ℤ, ◌-ℤ◌, ◌≤ℤ◌, IfOk, OnOk};
 ghost use Rattle.std.specs.List.{filter};
 ghost use Rattle.kh_types.specs.Generators.{generators, generators_of};
+ghost use Rattle.kh_work.specs.declared.plain.circles.TheConstants.{NAMES};
 ghost use Rattle.kh_work.specs.Placed.{placed_in, placed_by, shared_in, is_placed_at};
 
 use super::bits::ones;
@@ -48,7 +49,8 @@ struct Shared {
 /// All generators, by state, then by label.
 #[tactic(auto, using(crate::proofs::GeneratorLemmas::states_more))]
 pub fn generators(alloc: Global, diagram: &Diagram) -> Result<Vec<Placed>, NoMemory>
-    ensures { IfOk result (λ made. made.items ≡ map (placed_in diagram.now) (generators diagram.now)) }
+    ensures { IfOk result (λ made.
+        made.items ≡ map (placed_in diagram.now) (generators diagram.now)) }
 {
     let mut made = Vec::new(alloc);
     'states: for state in 0..1u32 << diagram.count() {
@@ -70,9 +72,10 @@ fn push_generators(made: &mut Vec<Placed>, diagram: &Diagram, state: u32) -> Res
     Ok(())
 }
 
+/// What the generators of a state share.
 fn shared_by(diagram: &Diagram, state: u32) -> Shared
     ensures shared { result ≡ shared_in diagram.now state }
-    ensures circles { result.circles ≤ 57 }
+    ensures circles { result.circles ≤ NAMES }
     ensures low { neg_ℤ (pos 1000) ≤ℤ result.shift }
     ensures high { result.shift ≤ℤ pos 1000 }
 {
@@ -86,6 +89,7 @@ fn shared_by(diagram: &Diagram, state: u32) -> Shared
     }
 }
 
+/// The degree i.
 fn homological_degree(raised: u8, minus: u8) -> i16
     ensures { result ≡ pos raised -ℤ pos minus }
 {
@@ -101,8 +105,9 @@ fn shift(raised: u8, plus: u8, minus: u8) -> i16
     i16::from(raised) + i16::from(plus) - 2 * i16::from(minus)
 }
 
+/// A generator with its two degrees.
 fn with_degrees(shared: Shared, generator: Generator) -> Placed
-    requires circles { shared.circles ≤ 57 }
+    requires circles { shared.circles ≤ NAMES }
     requires low { neg_ℤ (pos 1000) ≤ℤ shared.shift }
     requires high { shared.shift ≤ℤ pos 1000 }
     ensures { result ≡ placed_by shared generator }

@@ -14,7 +14,7 @@ use std::alloc::Global;
 pub fn rank(alloc: Global, p: u8, rows: Vec<Vec<u8>>) -> Result<usize, NoMemory>
     requires low { 2 ≤ p }
     requires high { p ≤ 7 }
-    ensures { IfOk result (λ rank_found. rank_found ≡ rank p (rows_of rows.items)) }
+    ensures { IfOk result (λ found. found ≡ rank p (rows_of rows.items)) }
 {
     let mut rows = rows;
     let mut found = 0;
@@ -40,7 +40,8 @@ fn reduced_by(
 ) -> Result<Vec<Vec<u8>>, NoMemory>
     requires low { 2 ≤ p }
     requires high { p ≤ 7 }
-    ensures rows { IfOk result (λ made. rows_of made.items ≡ reduced_by p pivot.now (rows_of others.now)) }
+    ensures rows { IfOk result (λ made.
+        rows_of made.items ≡ reduced_by p pivot.now (rows_of others.now)) }
     ensures size { IfOk result (λ made. vec_len made ≡ length others.now) }
 {
     let mut made = Vec::new(alloc);

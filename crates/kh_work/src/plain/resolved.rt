@@ -94,8 +94,9 @@ impl Resolved {
         requires high { crossing ≤ length self.now.diagram.crossings }
         requires room { array_vec_len labels.old < NAMES }
         ensures labels { let code = self.now.diagram in let generator = self.now.generator in
-            labels.new.items
-            ≡ labels.old.items ++ map (label_of code generator) (filter (is_touched code generator.state crossing) (circle ∷ [])) }
+            labels.new.items ≡ labels.old.items
+            ++ map (label_of code generator)
+            (filter (is_touched code generator.state crossing) (circle ∷ [])) }
         ensures size { array_vec_len labels.new ≤ array_vec_len labels.old + 1 }
     {
         if self.is_touched(crossing, circle) {
@@ -104,6 +105,7 @@ impl Resolved {
     }
 }
 
+/// The four arcs of a crossing.
 fn quadruple(diagram: &Diagram, crossing: usize) -> &Crossing
     requires low { 1 ≤ crossing }
     requires high { crossing ≤ length diagram.now.crossings }
@@ -112,6 +114,7 @@ fn quadruple(diagram: &Diagram, crossing: usize) -> &Crossing
     &diagram.crossings()[crossing - 1]
 }
 
+/// The place of a circle among the names, or their number where it is none of them.
 #[tactic(auto, using(crate::proofs::ListLemmas::places))]
 fn place_among(names: &[u8], circle: u8) -> usize
     ensures place { result ≡ position_or_len (nat_eq circle) names.now }

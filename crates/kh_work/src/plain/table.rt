@@ -45,7 +45,8 @@ pub fn rows(alloc: Global, cube: &Cube, most: usize) -> Result<Vec<Row>, NoMemor
 /// Adds the rows of one quantum degree.
 #[tactic(auto, using(crate::proofs::TableLemmas::degrees))]
 fn push_rows(alloc: Global, made: &mut Vec<Row>, cube: &Cube, j: i16) -> Result<(), NoMemory>
-    ensures { OnOk result (made.new.items ≡ made.old.items ++ rows_at cube.now.p cube.now.diagram j) }
+    ensures { OnOk result (made.new.items
+        ≡ made.old.items ++ rows_at cube.now.p cube.now.diagram j) }
 {
     let most = cube.crossing_count();
     'degrees: for k in 0..2 * most + 1 {
@@ -69,8 +70,7 @@ fn degree(place: usize, most: usize) -> i16
 
 /// Adds a row where its dimension is above 0.
 fn push_row(made: &mut Vec<Row>, row: Row) -> Result<(), NoMemory>
-    ensures { OnOk result (made.new.items
-        ≡ made.old.items ++ filter is_shown (row ∷ [])) }
+    ensures { OnOk result (made.new.items ≡ made.old.items ++ filter is_shown (row ∷ [])) }
 {
     if row.dim > 0 {
         made.push(row)?;

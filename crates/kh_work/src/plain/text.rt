@@ -21,7 +21,8 @@ pub fn table_text_of(alloc: Global, p: u8, diagram: &Diagram) -> Result<String, 
 
 /// The text of a table: the line of its field, then the lines of its rows.
 fn table_text(alloc: Global, p: u8, rows: &[Row]) -> Result<String, NoMemory>
-    ensures { IfOk result (λ text. string_bytes text ≡ table_text (record { field = p; rows = rows.now })) }
+    ensures { IfOk result (λ text.
+        string_bytes text ≡ table_text (record { field = p; rows = rows.now })) }
 {
     let mut text = format!(in alloc; "field {p}\n")?;
     'rows: for row in rows {
