@@ -1,11 +1,12 @@
 -- The answer to a command line and its input: a status and the bytes to write. All of it is this project's rule.
-use Rattle.std.specs.Prelude.{ℕ, List, [], ◌∷◌, ◌++◌, Bool, false, if◌then◌else◌, nat_lt, length, codes, Result, Ok, Err}
+use Rattle.std.specs.Prelude.{ℕ, ◌+◌, List, [], ◌∷◌, ◌++◌, Bool, false, if◌then◌else◌, nat_lt, length, codes, Result, Ok, Err}
 use Rattle.std.specs.Str.{bytes_eq}
 use Rattle.std.specs.Fmt.{decimal}
 use Rattle.kh_types.specs.declared.limits.TheConstants.{INPUT_BYTES}
 use Rattle.kh_types.specs.Code.{Code}
 use Rattle.kh_types.specs.Acceptance.{accepted}
 use Rattle.kh_types.specs.Table.{table, table_text}
+use Rattle.pd_code.specs.declared.limits.TheConstants.{CROSSING_LIMIT}
 use Rattle.pd_code.specs.declared.stop.PdStop.{PdStop}
 use Rattle.pd_code.specs.declared.stop.PdStop.TheVariants as stops
 use Rattle.pd_code.specs.Reading.{reading}
@@ -32,7 +33,8 @@ usage = reply_of Usage (codes "usage: kh COMMAND [OPTIONS]\n")
 
 -- a byte more than an input may have was read
 abbrev pub too_many_bytes : Reply
-too_many_bytes = reply_of Limit (codes "limit bytes 65537 of 65536\n")
+too_many_bytes =
+    reply_of Limit (codes "limit bytes " ++ (decimal (INPUT_BYTES + 1) ++ (codes " of " ++ (decimal INPUT_BYTES ++ codes "\n"))))
 
 -- the bytes are no planar diagram text, or its code is not accepted
 abbrev pub refused_code : Reply
@@ -44,7 +46,8 @@ not_built = reply_of CodeRefused (codes "refused not built\n")
 
 -- the text has more crossings than this program takes
 abbrev pub too_many_crossings : ℕ → Reply
-too_many_crossings count = reply_of Limit (codes "limit crossings " ++ (decimal count ++ codes " of 4\n"))
+too_many_crossings count =
+    reply_of Limit (codes "limit crossings " ++ (decimal count ++ (codes " of " ++ (decimal CROSSING_LIMIT ++ codes "\n"))))
 
 -- the homology table over two elements
 abbrev pub homology_of : Code → Reply

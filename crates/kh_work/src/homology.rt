@@ -7,7 +7,7 @@ use crate::plain::table_text_of;
 use crate::reply::{Reply, make_reply};
 use crate::status::Status;
 use kh_types::{Diagram, INPUT_BYTES, NoMemory, RawCode};
-use pd_code::{PdStop, read_pd};
+use pd_code::{CROSSING_LIMIT, PdStop, read_pd};
 use std::alloc::Global;
 
 /// The reply to the bytes of an input.
@@ -48,6 +48,6 @@ fn too_many_crossings(alloc: Global, count: u32) -> Result<Reply, NoMemory>
 {
     Ok(Reply {
         status: Status::Limit,
-        text: format!(in alloc; "limit crossings {count} of 4\n")?,
+        text: format!(in alloc; "limit crossings {count} of {CROSSING_LIMIT}\n")?,
     })
 }

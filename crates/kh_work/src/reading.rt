@@ -2,7 +2,7 @@
 
 ghost use Rattle.std.specs.Prelude.{◌≡◌, ◌≢◌, ◌≤◌, Bool, true, false, IfOk, OnOk, Err};
 ghost use Rattle.kh_io.specs.Faults.{Rose};
-ghost use Rattle.kh_work.specs.Answer.{is_homology, usage, answer_to_bytes};
+ghost use Rattle.kh_work.specs.Answer.{is_homology, usage, answer_to_bytes, too_many_bytes};
 ghost use Rattle.kh_work.specs.Statuses.{IsWhole};
 ghost use Rattle.kh_work.specs.Told.{Answers, AnswersBytes, IsReadOut};
 
@@ -10,7 +10,7 @@ use crate::homology::reply_to_bytes;
 use crate::reply::{Reply, make_reply};
 use crate::status::Status;
 use kh_io::{ReadStop, Source, read_all};
-use kh_types::{NoMemory, Words};
+use kh_types::{INPUT_BYTES, NoMemory, Words};
 use std::alloc::Global;
 
 /// Why there is no reply: the source could not be read, or there was no memory.
@@ -66,12 +66,18 @@ fn reply_to_source<S: Source>(alloc: Global, source: &mut S) -> Result<Reply, Re
 {
     match read_all(alloc, source) {
         Ok(bytes) => Ok(reply_to_bytes(alloc, &bytes)?),
-        Err(ReadStop::ByteLimit) => Ok(make_reply(
-            alloc,
-            Status::Limit,
-            "limit bytes 65537 of 65536\n",
-        )?),
+        Err(ReadStop::ByteLimit) => Ok(too_many_bytes(alloc)?),
         Err(ReadStop::Fault) => Err(ReplyStop::ReadFault),
         Err(ReadStop::NoMemory) => Err(ReplyStop::NoMemory),
     }
+}
+
+fn too_many_bytes(alloc: Global) -> Result<Reply, NoMemory>
+    ensures { IfOk result (λ reply. reply ≡ too_many_bytes) }
+{
+    let count = INPUT_BYTES + 1;
+    Ok(Reply {
+        status: Status::Limit,
+        text: format!(in alloc; "limit bytes {count} of {INPUT_BYTES}\n")?,
+    })
 }

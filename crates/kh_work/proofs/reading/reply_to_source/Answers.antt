@@ -12,7 +12,7 @@ returns-in_ok-reply_to_bytes-in-Ok-clause-no_usage g c = (status_when _ _ c.in_o
 pub returns-in_ok-reply_to_bytes-in-Ok-clause-no_moves : goal.returns-in_ok-reply_to_bytes-in-Ok-clause-no_moves
 returns-in_ok-reply_to_bytes-in-Ok-clause-no_moves g c = (status_when _ _ c.in_ok-reply_to_bytes-in-Ok.ensures).no_moves
 
-pub returns-in_ok-make_reply-in-Err-ByteLimit-clause-told : goal.returns-in_ok-make_reply-in-Err-ByteLimit-clause-told
-returns-in_ok-make_reply-in-Err-ByteLimit-clause-told g c =
+pub returns-in_ok-too_many_bytes-in-Err-ByteLimit-clause-told : goal.returns-in_ok-too_many_bytes-in-Err-ByteLimit-clause-told
+returns-in_ok-too_many_bytes-in-Err-ByteLimit-clause-told g c =
     let taken = rw c.in-Err-ByteLimit.field-0-is at c.in-Err-ByteLimit.ensures.taken in
-    told_when_long _ _ taken.0 _ taken.1 (taken.2.0 refl) c.in_ok-make_reply-in-Err-ByteLimit.ensures
+    told_when_long _ _ taken.0 _ taken.1 (taken.2.0 refl) c.in_ok-too_many_bytes-in-Err-ByteLimit.ensures
