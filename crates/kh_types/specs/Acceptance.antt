@@ -21,12 +21,13 @@ abbrev pub first_of : (ℕ → Option CodeFault) → List ℕ → Option CodeFau
 first_of fault_at [] = None
 first_of fault_at (x ∷ xs) = option_or (fault_at x) (first_of fault_at xs)
 
--- a slot holds a number that is no arc; slots in order of crossing, then slot
+-- a slot holds a number that is no arc
 abbrev pub arc_range_at : List (List ℕ) → ℕ → Option CodeFault
 arc_range_at crossings place =
     let arc = arc_of crossings (dart_at place) in
     fault_if (nat_lt arc 1 || nat_lt (arc_count crossings) arc) (ArcRange (dart_at place).crossing (dart_at place).slot)
 
+-- the first slot, in order of crossing, then slot, that holds no arc
 abbrev pub arc_range_fault : List (List ℕ) → Option CodeFault
 arc_range_fault crossings = first_of (arc_range_at crossings) (range_with_len 0 (dart_count crossings))
 
@@ -38,6 +39,7 @@ times crossings arc = count_by (nat_eq arc) (concat crossings)
 abbrev pub arc_times_at : List (List ℕ) → ℕ → Option CodeFault
 arc_times_at crossings arc = fault_if (not (nat_eq (times crossings arc) 2)) (ArcTimes arc (times crossings arc))
 
+-- the least arc that does not stand exactly twice
 abbrev pub arc_times_fault : List (List ℕ) → Option CodeFault
 arc_times_fault crossings = first_of (arc_times_at crossings) (arcs crossings)
 
@@ -45,6 +47,7 @@ arc_times_fault crossings = first_of (arc_times_at crossings) (arcs crossings)
 abbrev pub interval_at : List ℕ → ℕ → Option CodeFault
 interval_at components arc = fault_if (is_least components arc && not (is_interval components arc)) (Interval arc)
 
+-- the first component, by its least arc, that is no interval
 abbrev pub interval_fault : List (List ℕ) → Option CodeFault
 interval_fault crossings = first_of (interval_at (components_of crossings)) (arcs crossings)
 
@@ -54,6 +57,7 @@ under_at crossings components crossing =
     let quadruple = crossing_at crossings crossing in
     fault_if (not (nat_eq (arc_in quadruple 2) (next_in components (arc_in quadruple 0)))) (Under crossing)
 
+-- the first crossing, in list order, whose under pass goes to another arc than the next
 abbrev pub under_fault : List (List ℕ) → Option CodeFault
 under_fault crossings = first_of (under_at crossings (components_of crossings)) (crossing_numbers crossings)
 
@@ -66,6 +70,7 @@ over_at crossings components crossing =
     && not (nat_eq (arc_in quadruple 1) (next_in components (arc_in quadruple 3))))
     (Over crossing)
 
+-- the first crossing, in list order, at which neither arc of the over pass is the next of the other
 abbrev pub over_fault : List (List ℕ) → Option CodeFault
 over_fault crossings = first_of (over_at crossings (components_of crossings)) (crossing_numbers crossings)
 
@@ -79,6 +84,7 @@ two_arc_at crossings components crossing =
     && list_any (λ earlier. nat_eq (arc_in (crossing_at crossings earlier) 0) incoming) (range_with_len 1 (place_of crossing)))
     (TwoArc crossing)
 
+-- the first crossing, in list order, whose under pass is the second in one direction on a component of two arcs
 abbrev pub two_arc_fault : List (List ℕ) → Option CodeFault
 two_arc_fault crossings = first_of (two_arc_at crossings (components_of crossings)) (crossing_numbers crossings)
 
@@ -86,6 +92,7 @@ two_arc_fault crossings = first_of (two_arc_at crossings (components_of crossing
 abbrev pub checkerboard_at : List (List ℕ) → ℕ → Option CodeFault
 checkerboard_at crossings arc = fault_if (not (has_choice crossings arc)) (Checkerboard arc)
 
+-- the least arc up to which the checkerboard equations have no solution together
 abbrev pub checkerboard_fault : List (List ℕ) → Option CodeFault
 checkerboard_fault crossings = first_of (checkerboard_at crossings) (arcs crossings)
 

@@ -112,10 +112,11 @@ cancelled_matrix p pivot matrix =
     (entry_in matrix row pivot.column * (inverse p (entry_in matrix pivot.row pivot.column) * entry_in matrix pivot.row column)))
     matrix
 
--- the matrix into the pivot's degree loses the row of the dead place, the matrix out of the next degree loses its column
+-- the matrix with entries 0 in the row of a dead place: so the matrix into the pivot's degree
 abbrev pub without_row : ℕ → List (List ℕ) → List (List ℕ)
 without_row dead matrix = with_entries (λ row column. if nat_eq row dead then 0 else entry_in matrix row column) matrix
 
+-- the matrix with entries 0 in the column of a dead place: so the matrix out of the degree after the pivot's
 abbrev pub without_column : ℕ → List (List ℕ) → List (List ℕ)
 without_column dead matrix = with_entries (λ row column. if nat_eq column dead then 0 else entry_in matrix row column) matrix
 

@@ -28,6 +28,7 @@ arc_of crossings dart = arc_in (crossing_at crossings dart.crossing) dart.slot
 abbrev pub first_dart : List (List ℕ) → ℕ → Dart
 first_dart crossings arc = unwrap_or (find (λ dart. nat_eq (arc_of crossings dart) arc) (darts crossings)) (dart_at 0)
 
+-- whether two darts are one: at the same crossing and the same slot
 abbrev pub is_same_dart : Dart → Dart → Bool
 is_same_dart dart other = nat_eq dart.crossing other.crossing && nat_eq dart.slot other.slot
 

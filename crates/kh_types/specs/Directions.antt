@@ -6,19 +6,21 @@ use Rattle.kh_types.specs.Darts.{dart_at, darts, arc_of}
 use Rattle.kh_types.specs.declared.dart.Dart.{Dart}
 use Rattle.kh_types.specs.Components.{components_of, component_of, arcs_in, next_in}
 
--- whether the under pass, or the over pass, of a crossing is in a component
+-- whether the under pass of a crossing is in a component
 abbrev pub passes_under : List (List ℕ) → List ℕ → ℕ → ℕ → Bool
 passes_under crossings components component crossing =
     nat_eq (component_of components (arc_in (crossing_at crossings crossing) 0)) component
 
+-- whether the over pass of a crossing is in a component
 abbrev pub passes_over : List (List ℕ) → List ℕ → ℕ → ℕ → Bool
 passes_over crossings components component crossing =
     nat_eq (component_of components (arc_in (crossing_at crossings crossing) 1)) component
 
--- the first crossing at which a component of two arcs passes under, or over
+-- the first crossing, in list order, at which a component passes under, if it does
 abbrev pub first_under : List (List ℕ) → List ℕ → ℕ → Option ℕ
 first_under crossings components component = find (passes_under crossings components component) (crossing_numbers crossings)
 
+-- the first crossing, in list order, at which a component passes over, if it does
 abbrev pub first_over : List (List ℕ) → List ℕ → ℕ → Option ℕ
 first_over crossings components component = find (passes_over crossings components component) (crossing_numbers crossings)
 
@@ -54,6 +56,7 @@ is_positive_in crossings components crossing =
     if nat_le 3 (arcs_in components (component_of components (arc_in quadruple 1))) then is_positive_by_next components quadruple
     else is_positive_of_two crossings components crossing
 
+-- whether a crossing is positive, with the components of all crossings
 abbrev pub is_positive : List (List ℕ) → ℕ → Bool
 is_positive crossings crossing = is_positive_in crossings (components_of crossings) crossing
 
@@ -61,10 +64,11 @@ is_positive crossings crossing = is_positive_in crossings (components_of crossin
 abbrev pub sign_of : List (List ℕ) → ℕ → ℤ
 sign_of crossings crossing = if is_positive crossings crossing then pos 1 else neg_ℤ (pos 1)
 
--- n+ and n-, the numbers of positive and of negative crossings
+-- n+, the number of positive crossings
 abbrev pub plus_count : List (List ℕ) → ℕ
 plus_count crossings = count_by (is_positive_in crossings (components_of crossings)) (crossing_numbers crossings)
 
+-- n-, the number of negative crossings, which are all others
 abbrev pub minus_count : List (List ℕ) → ℕ
 minus_count crossings = length crossings - plus_count crossings
 

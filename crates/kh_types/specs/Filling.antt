@@ -8,17 +8,21 @@ use Rattle.kh_types.specs.declared.limits.TheConstants.{CROSSINGS}
 abbrev pub blank : List ℕ
 blank = 0 ∷ 0 ∷ 0 ∷ 0 ∷ []
 
+-- the array of some crossings: they stand at its front, and the rest is blank
 abbrev pub filled : List (List ℕ) → List (List ℕ)
 filled crossings = crossings ++ replicate (CROSSINGS - length crossings) blank
 
+-- an array has as many places as a diagram may have crossings, and they are blank from the place `count` on
 pub record IsFilled (table : List (List ℕ)) (count : ℕ) : Type 0 where
   pub size : length table ≡ CROSSINGS
   pub fits : count ≤ CROSSINGS
   pub rest : drop count table ≡ replicate (CROSSINGS - count) blank
 
+-- the front of such an array has `count` crossings
 pub length-take_filled : (table : List (List ℕ)) (count : ℕ) → IsFilled table count → length (take count table) ≡ count
 length-take_filled table count h = length-take-le count table (omega (arith, h.size, h.fits))
 
+-- such an array is the array of the crossings at its front
 pub filled-take : (table : List (List ℕ)) (count : ℕ) → IsFilled table count → filled (take count table) ≡ table
 filled-take table count h =
     ap (λ n. take count table ++ replicate (CROSSINGS - n) blank) (length-take_filled table count h)

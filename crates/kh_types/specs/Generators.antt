@@ -13,6 +13,7 @@ pub record Generator : Type 0 where
   pub state : ℕ
   pub label : ℕ
 
+-- the generator of a state and a label
 abbrev pub generator_of : ℕ → ℕ → Generator
 generator_of state label = record { state = state; label = label }
 
@@ -48,6 +49,7 @@ generators_of code state = map (generator_of state) (range_with_len 0 (2 ^ circl
 abbrev pub generators : Code → List Generator
 generators code = flat_map (generators_of code) (states code)
 
+-- whether a generator has the homological degree i and the quantum degree j
 abbrev pub has_degrees : Code → ℤ → ℤ → Generator → Bool
 has_degrees code i j generator = int_eq (homological_degree code generator) i && int_eq (quantum_degree code generator) j
 

@@ -7,6 +7,7 @@ use Rattle.kh_types.specs.Differential.{differential}
 use Rattle.kh_types.specs.Table.{from_minus}
 use Rattle.kh_types.specs.Complex.{Complex, Pivot, IsPivot, cancel}
 
+-- whether a list has no element
 abbrev pub is_empty : {X : Type 0} → List X → Bool
 is_empty [] = true
 is_empty (x ∷ xs) = false
@@ -30,6 +31,7 @@ first_to_last test xs =
 abbrev pub block_degrees : Code → ℤ → List ℤ
 block_degrees code j = first_to_last (λ i. not (is_empty (generators_at code i j))) (from_minus (length code.crossings))
 
+-- the first of some integers, and 0 where there are none
 abbrev pub first_or_zero : List ℤ → ℤ
 first_or_zero [] = pos 0
 first_or_zero (i ∷ is) = i

@@ -7,6 +7,7 @@ use Rattle.kh_types.specs.Acceptance.{accepted}
 use Rattle.kh_types.specs.Filling.{filled, IsFilled, filled-take, length-take_filled}
 use Rattle.kh_types.specs.declared.diagram.Diagram.TheInside.{Inside}
 
+-- the code that contracts see: the crossings at the front of the array, and the loops
 abbrev pub code_of_diagram : Inside → Code
 code_of_diagram diagram = record { crossings = take diagram.count diagram.table; loops = diagram.loops }
 
@@ -15,9 +16,11 @@ pub record IsKept (diagram : Inside) : Type 0 where
   pub table : IsFilled diagram.table diagram.count
   pub code : IsTrue (accepted (code_of_diagram diagram))
 
+-- what a diagram keeps: an array, the number of crossings at its front, and the number of loops
 abbrev pub made : List (List ℕ) → ℕ → ℕ → Inside
 made table count loops = record { table = table; count = count; loops = loops }
 
+-- what the diagram of a code keeps
 abbrev pub inside_of : Code → Inside
 inside_of code = made (filled code.crossings) (length code.crossings) code.loops
 

@@ -3,6 +3,7 @@ use Rattle.std.specs.Prelude.{ℕ, zero, suc, ◌+◌, ◌-◌, ◌*◌, ◌%◌
 use Rattle.std.specs.List.{zip, remove, list_any, position, position_or_len}
 use Rattle.std.specs.Option.{option_map_or}
 
+-- whether a row has an entry other than 0
 abbrev pub has_entry : List ℕ → Bool
 has_entry row = list_any (λ x. not (nat_eq x 0)) row
 

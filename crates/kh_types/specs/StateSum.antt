@@ -11,6 +11,7 @@ use Rattle.kh_types.specs.Generators.{one_count, states}
 use Rattle.kh_types.specs.Table.{Table, from_minus}
 use Rattle.kh_types.specs.declared.limits.TheConstants.{EXPONENT}
 
+-- the sum of some integers
 abbrev pub int_sum : List ℤ → ℤ
 int_sum [] = pos 0
 int_sum (x ∷ xs) = x +ℤ int_sum xs

@@ -29,6 +29,7 @@ pub record Table : Type 0 where
   pub field : ℕ
   pub rows : List Row
 
+-- the row of a quantum degree and a homological degree
 abbrev pub row_at : ℕ → Code → ℤ → ℤ → Row
 row_at p code j i = record { j = j; i = i; dim = dimension p code i j }
 

@@ -23,7 +23,9 @@ impl Model for Crossing {
 /// Contracts see it as a `Code`. Source: Knot Atlas, "Planar Diagrams"; the loops are this project's rule.
 #[derive(Debug, Drop)]
 pub struct RawCode {
+    /// The crossings, in list order.
     pub crossings: ArrayVec<Crossing, CROSSINGS>,
+    /// How many loops there are, which meet no crossing.
     pub loops: u8,
 }
 

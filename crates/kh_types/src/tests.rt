@@ -7,7 +7,7 @@ use arrayvec::ArrayVec;
 use std::test::Fail;
 
 /// All codes of one crossing and of two over the arcs 1 to 4. How many have each of their arcs twice, and how many of these
-/// are accepted, was counted by a program in another language.
+/// are accepted, was counted by a Python program written for this test from the rules of acceptance.
 #[test]
 fn accepts_what_the_plain_acceptance_accepts(rt: HostRuntime) {
     for (count, words, arrangements, accepted) in [(1, 256, 6, 4), (2, 65_536, 2_520, 120)] {

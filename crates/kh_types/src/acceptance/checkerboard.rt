@@ -54,7 +54,8 @@ fn first_choice(equations: &[Equation], from: u32, choices: u32) -> u32
     requires { from ≤ choices }
     ensures within { result ≤ choices }
     ensures later { from ≤ result }
-    ensures before { (k : ℕ) → from ≤ k → k < result → list_all (is_solved k) equations.now ≡ false }
+    ensures before { (k : ℕ) → from ≤ k → k < result
+        → list_all (is_solved k) equations.now ≡ false }
     ensures solved { result < choices → list_all (is_solved result) equations.now ≡ true }
 {
     for choice in from..choices {

@@ -61,7 +61,8 @@ fn faces_of(crossings: &[Crossing]) -> ArrayVec<u8, CLASS_MEMBERS>
 fn face_pair(crossings: &[Crossing], place: u8) -> (u8, u8)
     requires crossings { length crossings.now ≤ CROSSINGS }
     requires place { place < 4 * length crossings.now }
-    ensures { let dart = dart_at place in result ≡ (dart_place dart, dart_place (face_step crossings.now dart)) }
+    ensures { let dart = dart_at place in
+        result ≡ (dart_place dart, dart_place (face_step crossings.now dart)) }
 {
     let dart = dart_at(place);
     (dart_place(dart), dart_place(face_step(crossings, dart)))
@@ -84,7 +85,8 @@ fn pieces_of(crossings: &[Crossing]) -> ArrayVec<u8, CLASS_MEMBERS>
 fn piece_pair(crossings: &[Crossing], place: u8) -> (u8, u8)
     requires crossings { length crossings.now ≤ CROSSINGS }
     requires place { place < 4 * length crossings.now }
-    ensures { let dart = dart_at place in result ≡ (place_of dart.crossing, place_of (partner crossings.now dart).crossing) }
+    ensures { let dart = dart_at place in
+        result ≡ (place_of dart.crossing, place_of (partner crossings.now dart).crossing) }
 {
     let dart = dart_at(place);
     (

@@ -15,5 +15,6 @@ pub fn accepted_breaks_no_rule()
 
 /// An accepted code with n crossings in k pieces has n + 2k faces.
 pub fn accepted_is_planar()
-    ensures { (code : Code) → IsTrue (accepted code) → face_count code.crossings ≡ planar_face_count code.crossings }
+    ensures { (code : Code) → IsTrue (accepted code)
+        → face_count code.crossings ≡ planar_face_count code.crossings }
 {}

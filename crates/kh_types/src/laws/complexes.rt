@@ -41,14 +41,16 @@ pub fn block_dimensions()
 /// first matrix clears a column of the second, and one of the second a row of the first.
 pub fn neighbours_are_cleared()
     ensures before { (degree_of hopf_block (neg_ℤ (pos 1))).matrix ≡ (2 ∷ 1 ∷ []) ∷ [] }
-    ensures second { (degree_of (cancel 3 hopf_block (pivot_at (neg_ℤ (pos 2)) 0 0)) (neg_ℤ (pos 1))).matrix ≡ (0 ∷ 1 ∷ []) ∷ [] }
-    ensures first { (degree_of (cancel 3 hopf_block (pivot_at (neg_ℤ (pos 1)) 1 0)) (neg_ℤ (pos 2))).matrix
-        ≡ (1 ∷ 1 ∷ []) ∷ (0 ∷ 0 ∷ []) ∷ [] }
+    ensures second { (degree_of (cancel 3 hopf_block (pivot_at (neg_ℤ (pos 2)) 0 0))
+        (neg_ℤ (pos 1))).matrix ≡ (0 ∷ 1 ∷ []) ∷ [] }
+    ensures first { (degree_of (cancel 3 hopf_block (pivot_at (neg_ℤ (pos 1)) 1 0))
+        (neg_ℤ (pos 2))).matrix ≡ (1 ∷ 1 ∷ []) ∷ (0 ∷ 0 ∷ []) ∷ [] }
 {}
 
 /// Over five elements the inverse of 2 is 3: the update uses the inverse of the pivot and not the pivot.
 pub fn update_uses_the_inverse()
-    ensures { cancelled_matrix 5 (pivot_at (pos 0) 0 0) ((2 ∷ 1 ∷ []) ∷ (1 ∷ 1 ∷ []) ∷ []) ≡ (0 ∷ 0 ∷ []) ∷ (0 ∷ 3 ∷ []) ∷ [] }
+    ensures { cancelled_matrix 5 (pivot_at (pos 0) 0 0) ((2 ∷ 1 ∷ []) ∷ (1 ∷ 1 ∷ []) ∷ [])
+        ≡ (0 ∷ 0 ∷ []) ∷ (0 ∷ 3 ∷ []) ∷ [] }
 {}
 
 /// A differential over three elements in which both signs occur: from the states with one 1 to those with two.
@@ -61,7 +63,8 @@ pub fn signs_of_edges()
 pub fn entry_zero_is_no_pivot()
     ensures first { IsLegal 2 (trefoil_block 2) (pivot_of 0 0 ∷ []) → ⊥ }
     ensures later { IsLegal 2 (trefoil_block 2) (pivot_of 1 0 ∷ pivot_of 2 0 ∷ []) → ⊥ }
-    ensures third { IsLegal 2 (trefoil_block 2) (pivot_of 1 0 ∷ pivot_of 0 1 ∷ pivot_of 2 2 ∷ []) → ⊥ }
+    ensures third { IsLegal 2 (trefoil_block 2) (pivot_of 1 0 ∷ pivot_of 0 1 ∷ pivot_of 2 2 ∷ [])
+        → ⊥ }
 {}
 
 /// The differential of the cube squares to zero on these blocks, also where signs matter.
@@ -74,7 +77,8 @@ pub fn worked_blocks_square_to_zero()
 
 /// Plain data is a complex exactly where its test over the degrees, rows and columns that there are holds.
 pub fn complexes_are_tested()
-    ensures { (p : ℕ) (complex : Complex) → 0 < p → IsTrue (is_complex p complex) ↔ IsComplex p complex }
+    ensures { (p : ℕ) (complex : Complex) → 0 < p
+        → IsTrue (is_complex p complex) ↔ IsComplex p complex }
 {}
 
 /// These blocks of the cube are complexes, and so is what a cancellation and a history leave of two of them.
@@ -99,7 +103,8 @@ pub fn cancellations_keep_sizes_and_dead_places()
     ensures degrees { (p : ℕ) (complex : Complex) (pivot : Pivot)
         → length (cancel p complex pivot).degrees ≡ length complex.degrees }
     ensures sizes { (p : ℕ) (complex : Complex) (pivot : Pivot) (i : ℤ)
-        → map length (degree_of (cancel p complex pivot) i).matrix ≡ map length (degree_of complex i).matrix }
+        → map length (degree_of (cancel p complex pivot) i).matrix
+        ≡ map length (degree_of complex i).matrix }
     ensures places { (p : ℕ) (complex : Complex) (pivot : Pivot) (i : ℤ)
         → length (degree_of (cancel p complex pivot) i).alive ≡ length (degree_of complex i).alive }
     ensures dead { (p : ℕ) (complex : Complex) (pivot : Pivot) (i : ℤ) (place : ℕ)

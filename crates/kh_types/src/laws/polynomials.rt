@@ -11,8 +11,10 @@ pub fn state_sums()
     ensures empty { polynomial_text (state_sum empty_link) ≡ codes "jones 1*q^0\n" }
     ensures loop_alone { polynomial_text (state_sum one_loop) ≡ codes "jones 1*q^-1 1*q^1\n" }
     ensures curled { polynomial_text (state_sum curl) ≡ codes "jones 1*q^-1 1*q^1\n" }
-    ensures hopf { polynomial_text (state_sum hopf_link) ≡ codes "jones 1*q^-6 1*q^-4 1*q^-2 1*q^0\n" }
-    ensures three { polynomial_text (state_sum trefoil) ≡ codes "jones -1*q^-9 1*q^-5 1*q^-3 1*q^-1\n" }
+    ensures hopf { polynomial_text (state_sum hopf_link)
+        ≡ codes "jones 1*q^-6 1*q^-4 1*q^-2 1*q^0\n" }
+    ensures three { polynomial_text (state_sum trefoil)
+        ≡ codes "jones -1*q^-9 1*q^-5 1*q^-3 1*q^-1\n" }
     ensures four { polynomial_text (state_sum figure_eight) ≡ codes "jones 1*q^-5 1*q^5\n" }
 {}
 

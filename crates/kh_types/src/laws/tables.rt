@@ -11,14 +11,17 @@ pub fn empty_link_table()
 
 /// The unknot as a loop, and with one curl.
 pub fn unknot_tables()
-    ensures loop_alone { table_text (table 2 one_loop) ≡ codes "field 2\nj -1 i 0 dim 1\nj 1 i 0 dim 1\n" }
+    ensures loop_alone { table_text (table 2 one_loop)
+        ≡ codes "field 2\nj -1 i 0 dim 1\nj 1 i 0 dim 1\n" }
     ensures curled { table_text (table 2 curl) ≡ codes "field 2\nj -1 i 0 dim 1\nj 1 i 0 dim 1\n" }
 {}
 
 /// Unlinks: two curls apart, a circle over another, and a curl with two loops, whose labels no edge changes.
 pub fn unlink_tables()
-    ensures apart { table_text (table 2 two_curls) ≡ codes "field 2\nj -2 i 0 dim 1\nj 0 i 0 dim 2\nj 2 i 0 dim 1\n" }
-    ensures over { table_text (table 2 over_circle) ≡ codes "field 2\nj -2 i 0 dim 1\nj 0 i 0 dim 2\nj 2 i 0 dim 1\n" }
+    ensures apart { table_text (table 2 two_curls)
+        ≡ codes "field 2\nj -2 i 0 dim 1\nj 0 i 0 dim 2\nj 2 i 0 dim 1\n" }
+    ensures over { table_text (table 2 over_circle)
+        ≡ codes "field 2\nj -2 i 0 dim 1\nj 0 i 0 dim 2\nj 2 i 0 dim 1\n" }
     ensures with_loops { table_text (table 2 (record curl { loops = 2 }))
         ≡ codes "field 2\nj -3 i 0 dim 1\nj -1 i 0 dim 3\nj 1 i 0 dim 3\nj 3 i 0 dim 1\n" }
 {}

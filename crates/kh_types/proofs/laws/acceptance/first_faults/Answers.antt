@@ -26,10 +26,6 @@ pub returns-clause-two_arc : goal.returns-clause-two_arc
 unfolding first_fault
 returns-clause-two_arc c = refl
 
-pub returns-clause-checkerboard : goal.returns-clause-checkerboard
-unfolding first_fault
-returns-clause-checkerboard c = refl
-
 pub returns-clause-components : goal.returns-clause-components
 unfolding first_fault
 returns-clause-components c = refl
