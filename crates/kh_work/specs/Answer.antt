@@ -18,6 +18,7 @@ pub record Reply : Type 0 where
   pub status : Status
   pub text : List ℕ
 
+-- the reply of a status and the bytes to write
 abbrev pub reply_of : Status → List ℕ → Reply
 reply_of status text = record { status = status; text = text }
 

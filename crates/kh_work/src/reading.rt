@@ -16,7 +16,9 @@ use std::alloc::Global;
 /// Why there is no reply: the source could not be read, or there was no memory.
 #[derive(Clone, Copy, Debug, PartialEq, Eq)]
 pub enum ReplyStop {
+    /// The source failed while it was read.
     ReadFault,
+    /// There was no memory for the input, or for the reply.
     NoMemory,
 }
 
@@ -35,11 +37,14 @@ pub fn reply_to<S: Source>(alloc: Global, words: &Words, source: &mut S) -> Resu
     ensures told { IfOk result (λ reply. Answers (S.left source.old) words.now reply) }
     ensures whole { IfOk result (λ reply. IsWhole reply.status) }
     ensures usage { is_homology words.now ≡ false → IfOk result (λ reply. reply ≡ usage) }
-    ensures usage_only { IfOk result (λ reply. reply.status ≡ Status.Usage → is_homology words.now ≡ false) }
+    ensures usage_only { IfOk result (λ reply.
+        reply.status ≡ Status.Usage → is_homology words.now ≡ false) }
     ensures no_moves { IfOk result (λ reply. reply.status ≢ Status.MoveRefused) }
     ensures unread { is_homology words.now ≡ false → source.new ≡ source.old }
-    ensures read_out { is_homology words.now ≡ true → OnOk result (IsReadOut (S.left source.old) (S.left source.new)) }
-    ensures fault { result ≡ Err ReplyStop.ReadFault → Rose (S.faults source.old) (S.faults source.new) }
+    ensures read_out { is_homology words.now ≡ true
+        → OnOk result (IsReadOut (S.left source.old) (S.left source.new)) }
+    ensures fault { result ≡ Err ReplyStop.ReadFault
+        → Rose (S.faults source.old) (S.faults source.new) }
 {
     if is_homology(words) {
         reply_to_source(alloc, source)
@@ -62,7 +67,8 @@ fn reply_to_source<S: Source>(alloc: Global, source: &mut S) -> Result<Reply, Re
     ensures no_usage { IfOk result (λ reply. reply.status ≢ Status.Usage) }
     ensures no_moves { IfOk result (λ reply. reply.status ≢ Status.MoveRefused) }
     ensures read_out { OnOk result (IsReadOut (S.left source.old) (S.left source.new)) }
-    ensures fault { result ≡ Err ReplyStop.ReadFault → Rose (S.faults source.old) (S.faults source.new) }
+    ensures fault { result ≡ Err ReplyStop.ReadFault
+        → Rose (S.faults source.old) (S.faults source.new) }
 {
     match read_all(alloc, source) {
         Ok(bytes) => Ok(reply_to_bytes(alloc, &bytes)?),

@@ -11,7 +11,9 @@ use std::marker::Model;
 /// A status, and the text to write with it. Contracts see it as plain data of the same name.
 #[derive(Debug, Drop)]
 pub struct Reply {
+    /// How the run ends once the text is written.
     pub status: Status,
+    /// All that the run writes.
     pub text: String,
 }
 

@@ -7,7 +7,7 @@ ghost use Rattle.std.specs.Prelude.{◌≡◌};
 pub enum Status {
     /// 0: the answer was written.
     Done,
-    /// 1: the input is no code of an accepted diagram.
+    /// 1: the input is no code of an accepted diagram, or is not built.
     CodeRefused,
     /// 2: the words give no command.
     Usage,

@@ -26,11 +26,13 @@ pub fn run<S: Source, K: Sink>(alloc: Global, words: &Words, source: &mut S, sin
     ensures no_moves { result ≢ Status.MoveRefused }
     ensures unread { is_homology words.now ≡ false → source.new ≡ source.old }
     // A command that reads takes all bytes, those beyond the byte limit excepted.
-    ensures read_out { is_homology words.now ≡ true → result ≢ Status.ReadFault → result ≢ Status.NoMemory
-        → IsReadOut (S.left source.old) (S.left source.new) }
+    ensures read_out { is_homology words.now ≡ true → result ≢ Status.ReadFault
+        → result ≢ Status.NoMemory → IsReadOut (S.left source.old) (S.left source.new) }
     // A fault comes only where its count rose, and nothing or a front of the answer is written.
-    ensures read_fault { result ≡ Status.ReadFault → Rose (S.faults source.old) (S.faults source.new) × (sink.new ≡ sink.old) }
-    ensures write_fault { result ≡ Status.WriteFault → Rose (K.faults sink.old) (K.faults sink.new) }
+    ensures read_fault { result ≡ Status.ReadFault
+        → Rose (S.faults source.old) (S.faults source.new) × (sink.new ≡ sink.old) }
+    ensures write_fault { result ≡ Status.WriteFault
+        → Rose (K.faults sink.old) (K.faults sink.new) }
     ensures front { result ≡ Status.WriteFault → IfSome (S.left source.old) (λ bytes.
         GivesFront (answer words.now bytes) (K.written sink.old) (K.written sink.new)) }
     ensures usage_front { result ≡ Status.WriteFault → is_homology words.now ≡ false

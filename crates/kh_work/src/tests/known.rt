@@ -1,4 +1,5 @@
-//! Tables of known links. The values come from another program, written apart from this one; those of links that lie apart are the
+//! Tables of known links. The values come from a Python program written for these tests from the definition of the cube, with
+//! ranks by row reduction; it lists slots counterclockwise and takes v+ for 1 as here. Those of links that lie apart are the
 //! products of the tables of the parts, and a curl changes no table.
 
 /// A diagram by its text, and the lines of its table over two elements behind the first.
@@ -8,6 +9,7 @@ pub struct Known {
     pub lines: &'static str,
 }
 
+/// Diagrams of up to four crossings, with curls and with parts that lie apart, and their tables.
 pub const KNOWN: [Known; 27] = [
     Known {
         name: "the left-handed trefoil",
