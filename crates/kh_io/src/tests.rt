@@ -3,7 +3,47 @@
 use crate::{
     Failed, MemSink, MemSource, ReadStop, Sink, Source, StdSink, StdSource, read_all, write_all,
 };
+use std::io;
+use std::io::{Read, Write};
 use std::test::Fail;
+
+// A reader of std that fails once, and then gives its bytes.
+#[derive(Drop)]
+struct FailsOnce {
+    bytes: &'static [u8],
+    has_failed: bool,
+}
+
+impl Read for FailsOnce {
+    fn read(&mut self, buffer: &mut [u8]) -> io::Result<usize> {
+        if self.has_failed {
+            return self.bytes.read(buffer);
+        }
+        self.has_failed = true;
+        Err(io::ErrorKind::Other.into())
+    }
+}
+
+// A writer of std that takes all bytes, counts its flushes, and fails in the one that is bad.
+#[derive(Drop)]
+struct CountsFlushes {
+    flushes: u8,
+    bad: u8,
+}
+
+impl Write for CountsFlushes {
+    fn write(&mut self, piece: &[u8]) -> io::Result<usize> {
+        Ok(piece.len())
+    }
+
+    fn flush(&mut self) -> io::Result<()> {
+        self.flushes = self.flushes.saturating_add(1);
+        if self.flushes == self.bad {
+            return Err(io::ErrorKind::Other.into());
+        }
+        Ok(())
+    }
+}
 
 #[test]
 fn a_source_gives_its_pieces_and_fails_where_told(rt: HostRuntime) -> Result<(), Fail> {
@@ -66,6 +106,22 @@ fn a_reader_of_std_is_a_source(rt: HostRuntime) -> Result<(), Fail> {
 }
 
 #[test]
+fn a_source_goes_on_after_an_error_of_its_reader(rt: HostRuntime) -> Result<(), Fail> {
+    let mut source = StdSource::new(FailsOnce {
+        bytes: b"field",
+        has_failed: false,
+    });
+    assert_eq!(rt;
+        read_all(rt.alloc(), &mut source).err(),
+        Some(ReadStop::Fault)
+    );
+    let mut buffer = [0; 8];
+    assert_eq!(rt; source.read(&mut buffer), Ok(5));
+    assert_eq!(rt; &buffer[..5], b"field".as_slice());
+    Ok(())
+}
+
+#[test]
 fn a_writer_of_std_is_a_sink_that_fails_where_it_takes_nothing(
     rt: HostRuntime,
 ) -> Result<(), Fail> {
@@ -75,4 +131,14 @@ fn a_writer_of_std_is_a_sink_that_fails_where_it_takes_nothing(
     assert_eq!(rt; write_all(&mut sink, b" 2"), Err(Failed));
     assert_eq!(rt; room, *b"field");
     Ok(())
+}
+
+#[test]
+fn each_write_is_flushed_and_fails_where_its_flush_does(rt: HostRuntime) {
+    let mut writer = CountsFlushes { flushes: 0, bad: 2 };
+    let mut sink = StdSink::new(&mut writer);
+    assert_eq!(rt; sink.write(b"field"), Ok(5));
+    assert_eq!(rt; sink.write(b" 2"), Err(Failed));
+    assert_eq!(rt; sink.write(b" 2"), Ok(2));
+    assert_eq!(rt; writer.flushes, 3);
 }

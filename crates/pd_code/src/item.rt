@@ -5,11 +5,13 @@ ghost use Rattle.pd_code.specs.Reading.{arc_of, crossing_of, is_loop};
 
 use kh_types::Crossing;
 
-/// A crossing by the numbers of its arcs, counterclockwise from the incoming under arc, or a crossingless loop by its number.
+/// What a text lists: a crossing, or a crossingless loop.
 /// Source: Knot Atlas, "Planar Diagrams"; the loops are this project's rule.
 #[derive(Clone, Copy, Debug, PartialEq, Eq)]
 pub enum Item {
+    /// A crossing by the numbers of its arcs, counterclockwise from the incoming under arc.
     Crossing(i32, i32, i32, i32),
+    /// A crossingless loop by its number.
     Loop(i32),
 }
 

@@ -79,6 +79,7 @@ pub fn worked_texts()
     ensures no_number { reading (codes "PD[X[1,1,2,65536]]") ≡ Err PdStop.Text }
     ensures no_arc { reading (codes "PD[X[1,1,2,257]]")
         ≡ Ok (record { crossings = (1 ∷ 1 ∷ 2 ∷ 0 ∷ []) ∷ []; loops = 0 }) }
-    ensures too_many { reading (codes "PD[X[1,1,2,2],X[3,3,4,4],X[5,5,6,6],X[7,7,8,8],X[9,9,10,10]]")
+    ensures too_many { reading (codes
+        "PD[X[1,1,2,2],X[3,3,4,4],X[5,5,6,6],X[7,7,8,8],X[9,9,10,10]]")
         ≡ Err (PdStop.CrossingLimit 5) }
 {}

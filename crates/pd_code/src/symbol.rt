@@ -11,13 +11,21 @@ use crate::token::{Kind, Token};
 /// Source: Knot Atlas, "Planar Diagrams".
 #[derive(Clone, Copy, Debug, PartialEq, Eq)]
 pub enum Symbol {
+    /// The word `PD`.
     Pd,
+    /// The word `X`.
     X,
+    /// The word `Loop`.
     Loop,
+    /// A number, by its value.
     Number(i32),
+    /// `[`.
     LeftBracket,
+    /// `]`.
     RightBracket,
+    /// `,`.
     Comma,
+    /// Another word, or a brace: nothing of the grammar.
     Other,
 }
 

@@ -13,30 +13,43 @@ use std::alloc::{AllocError, AllocFailed};
 /// What a token is: a longest run of letters, a number, or one of five marks. This project's rule.
 #[derive(Clone, Copy, Debug, PartialEq, Eq)]
 pub enum Kind {
+    /// A longest run of ASCII letters.
     Word,
+    /// A longest run of decimal digits, with a minus sign before it or none.
     Number,
+    /// `[`.
     LeftBracket,
+    /// `]`.
     RightBracket,
+    /// `{`.
     LeftBrace,
+    /// `}`.
     RightBrace,
+    /// `,`.
     Comma,
 }
 
-/// A token of a text, with the place of its first byte, counted from 0, and its length in bytes.
-/// `value` is a number's value, at most `NUMBER_LIMIT` in size, and 0 for other kinds.
+/// A word, a number or a mark that stands in a text. This project's rule.
 #[derive(Clone, Copy, Debug, PartialEq, Eq)]
 pub struct Token {
+    /// What it is.
     pub kind: Kind,
+    /// The place of its first byte in the text, counted from 0.
     pub place: u32,
+    /// The number of its bytes, one at least.
     pub length: u32,
+    /// The value of a number, at most `NUMBER_LIMIT` in size, and 0 for other kinds.
     pub value: i32,
 }
 
-/// Why a text has no tokens: at `place` stands a byte that begins none, or a number above `NUMBER_LIMIT` in size.
+/// Why a text has no tokens. A fault bears the place of its first byte, counted from 0.
 #[derive(Clone, Copy, Debug, PartialEq, Eq)]
 pub enum LexStop {
+    /// The byte at `place` begins no token.
     Bad { place: u32 },
+    /// The number at `place` is above `NUMBER_LIMIT` in size.
     Number { place: u32 },
+    /// There was no memory, whatever the text is.
     NoMemory,
 }
 
