@@ -1,5 +1,7 @@
 //! The words after the program's name.
 
+ghost use Rattle.std.specs.Prelude.{◌≡◌, ◌⊎◌, IfErr};
+
 use kh_types::Words;
 use kh_work::Status;
 use std::env;
@@ -8,7 +10,9 @@ use std::rt::Env;
 
 /// The words after the program's name. Where one of them is no text the answer is the status `Usage`, and for want of memory
 /// `NoMemory`.
-pub fn words_of<R: Env + AllocGlobal>(rt: &R) -> Result<Words, Status> {
+pub fn words_of<R: Env + AllocGlobal>(rt: &R) -> Result<Words, Status>
+    ensures stop { IfErr result (λ status. (status ≡ Status.Usage) ⊎ (status ≡ Status.NoMemory)) }
+{
     match env::args(rt) {
         Ok(args) => {
             let mut words = Words::new(rt.alloc()).map_err(|_| Status::NoMemory)?;
