@@ -1,11 +1,13 @@
 -- The first dart of an arc and the partner of a dart, by the places of darts.
 use Rattle.std.proofs.Common.{◌≡◌, ℕ, ◌+◌, ◌*◌, ◌<◌, ◌∙◌, List, length, ap, sym, arith, Bool, true, false}
 use Rattle.std.specs.Prelude.{None, nat_eq, unwrap_or}
-use Rattle.std.specs.List.{range_with_len, find}
+use Rattle.std.specs.List.{filter, range_with_len, find}
+use Rattle.std.proofs.lemmas.List.Sums.{length-filter}
 use Rattle.std.specs.Option.{option_map}
 use Rattle.std.proofs.lemmas.Bool.Decides.{nat_tests}
 use Rattle.kh_types.specs.declared.dart.Dart.{Dart}
-use Rattle.kh_types.specs.Darts.{dart_at, arc_of, first_dart, is_partner, partner}
+use Rattle.kh_types.specs.Darts.{dart_at, arc_of, times, first_dart, is_partner, partner}
+use Rattle.kh_types.proofs.Lists.{count_by-map}
 use Rattle.kh_types.proofs.Ranges.{find_at_range, find_none_more, find-map}
 
 -- whether the dart at a place is of an arc, or is the partner of a dart
@@ -14,6 +16,13 @@ is_dart_of crossings arc place = nat_eq (arc_of crossings (dart_at place)) arc
 
 abbrev pub is_partner_at : List (List ℕ) → Dart → ℕ → Bool
 is_partner_at crossings dart place = is_partner crossings dart (dart_at place)
+
+-- the places of the darts of an arc are as many as its darts
+pub times_by_places : (crossings : List (List ℕ)) (arc : ℕ)
+    → length (filter (is_dart_of crossings arc) (range_with_len 0 (4 * length crossings))) ≡ times crossings arc
+times_by_places crossings arc =
+    length-filter (is_dart_of crossings arc) (range_with_len 0 (4 * length crossings))
+    ∙ sym (count_by-map (λ dart. nat_eq (arc_of crossings dart) arc) dart_at (range_with_len 0 (4 * length crossings)))
 
 pub first_dart-at : (crossings : List (List ℕ)) (arc place : ℕ) (dart : Dart) → place < 4 * length crossings
     → find (is_dart_of crossings arc) (range_with_len 0 place) ≡ None → dart ≡ dart_at place → arc_of crossings dart ≡ arc

@@ -1,4 +1,5 @@
 pub mod AcceptedCodes
+pub mod Lists
 pub mod Ranges
 pub mod RankLemmas
 pub mod MatrixTests
@@ -6,7 +7,6 @@ pub mod ComplexLemmas
 pub mod CancelLemmas
 pub mod ClassLemmas
 pub mod FaultLemmas
-pub mod FaceLemmas
 pub mod DartLemmas
 pub mod CrossingLemmas
 pub mod CheckerboardLemmas

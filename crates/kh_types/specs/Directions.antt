@@ -1,7 +1,7 @@
 -- The direction of over passes, and the signs of crossings.
 use Rattle.std.specs.Prelude.{ℕ, ◌-◌, ℤ, pos, neg_ℤ, List, length, nat_eq, nat_lt, nat_le, Bool, not, ◌&&◌, ◌||◌, is_some, Option, unwrap_or, if◌then◌else◌}
 use Rattle.std.specs.List.{find, count_by}
-use Rattle.kh_types.specs.Code.{arc_in, crossing_at, crossing_numbers}
+use Rattle.kh_types.specs.Code.{arc_in, slots_of, crossing_numbers}
 use Rattle.kh_types.specs.Darts.{dart_at, darts, arc_of}
 use Rattle.kh_types.specs.declared.dart.Dart.{Dart}
 use Rattle.kh_types.specs.Components.{components_of, component_of, arcs_in, next_in}
@@ -9,12 +9,12 @@ use Rattle.kh_types.specs.Components.{components_of, component_of, arcs_in, next
 -- whether the under pass of a crossing is in a component
 abbrev pub passes_under : List (List ℕ) → List ℕ → ℕ → ℕ → Bool
 passes_under crossings components component crossing =
-    nat_eq (component_of components (arc_in (crossing_at crossings crossing) 0)) component
+    nat_eq (component_of components (arc_in (slots_of crossings crossing) 0)) component
 
 -- whether the over pass of a crossing is in a component
 abbrev pub passes_over : List (List ℕ) → List ℕ → ℕ → ℕ → Bool
 passes_over crossings components component crossing =
-    nat_eq (component_of components (arc_in (crossing_at crossings crossing) 1)) component
+    nat_eq (component_of components (arc_in (slots_of crossings crossing) 1)) component
 
 -- the first crossing, in list order, at which a component passes under, if it does
 abbrev pub first_under : List (List ℕ) → List ℕ → ℕ → Option ℕ
@@ -26,34 +26,34 @@ first_over crossings components component = find (passes_over crossings componen
 
 -- in a component of three arcs or more an over pass goes from an arc to its next: whether it goes from slot 3 to slot 1
 abbrev pub is_positive_by_next : List ℕ → List ℕ → Bool
-is_positive_by_next components quadruple = nat_eq (arc_in quadruple 1) (next_in components (arc_in quadruple 3))
+is_positive_by_next components slots = nat_eq (arc_in slots 1) (next_in components (arc_in slots 3))
 
 -- in a component of two arcs that passes under somewhere, that pass gives the direction, and the over pass goes the other way:
 -- it begins where the under pass ends
 abbrev pub is_positive_by_under : List (List ℕ) → List ℕ → ℕ → Bool
-is_positive_by_under crossings quadruple under = nat_eq (arc_in quadruple 3) (arc_in (crossing_at crossings under) 2)
+is_positive_by_under crossings slots under = nat_eq (arc_in slots 3) (arc_in (slots_of crossings under) 2)
 
 -- a component of two arcs that is over at both its crossings goes from the smaller to the greater arc at the first listed of
 -- them, and back at the other
 abbrev pub is_positive_by_order : List ℕ → Bool → Bool
-is_positive_by_order quadruple is_first =
-    if is_first then nat_lt (arc_in quadruple 3) (arc_in quadruple 1) else nat_lt (arc_in quadruple 1) (arc_in quadruple 3)
+is_positive_by_order slots is_first =
+    if is_first then nat_lt (arc_in slots 3) (arc_in slots 1) else nat_lt (arc_in slots 1) (arc_in slots 3)
 
 -- the same two rules together
 abbrev pub is_positive_of_two : List (List ℕ) → List ℕ → ℕ → Bool
 is_positive_of_two crossings components crossing =
-    let quadruple = crossing_at crossings crossing in
-    let component = component_of components (arc_in quadruple 1) in
+    let slots = slots_of crossings crossing in
+    let component = component_of components (arc_in slots 1) in
     let under = first_under crossings components component in
-    if is_some under then is_positive_by_under crossings quadruple (unwrap_or under 0)
-    else is_positive_by_order quadruple (nat_eq (unwrap_or (first_over crossings components component) 0) crossing)
+    if is_some under then is_positive_by_under crossings slots (unwrap_or under 0)
+    else is_positive_by_order slots (nat_eq (unwrap_or (first_over crossings components component) 0) crossing)
 
 -- a crossing is positive where its over pass goes from slot 3 to slot 1, and negative where it goes from slot 1 to slot 3
 -- (Knot Atlas, "Planar Diagrams"; the directions in components of two arcs are this project's rule)
 abbrev pub is_positive_in : List (List ℕ) → List ℕ → ℕ → Bool
 is_positive_in crossings components crossing =
-    let quadruple = crossing_at crossings crossing in
-    if nat_le 3 (arcs_in components (component_of components (arc_in quadruple 1))) then is_positive_by_next components quadruple
+    let slots = slots_of crossings crossing in
+    if nat_le 3 (arcs_in components (component_of components (arc_in slots 1))) then is_positive_by_next components slots
     else is_positive_of_two crossings components crossing
 
 -- whether a crossing is positive, with the components of all crossings

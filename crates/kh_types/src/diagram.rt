@@ -29,11 +29,11 @@ impl Model for Diagram {
 
     ghost Value = { Code };
 
-    ghost use Rattle.kh_types.specs.Inside.{code_of_diagram, IsKept, inside_of, inside_of-code_of_diagram};
+    ghost use Rattle.kh_types.specs.Inside.{code_of_diagram, IsDiagram, inside_of, inside_of-code_of_diagram};
 
     ghost view = { code_of_diagram };
 
-    ghost invariant = { IsKept };
+    ghost invariant = { IsDiagram };
 
     ghost inverse = { inside_of };
 

@@ -3,8 +3,9 @@
 ghost use Rattle.std.specs.Prelude.{◌≡◌, ◌*◌, ◌^◌, ◌≤◌, ◌<◌, ℕ, List, length, map, false, true};
 ghost use Rattle.std.specs.List.{list_all};
 ghost use Rattle.kh_types.specs.declared.limits.TheConstants.{CROSSINGS, ARCS};
-ghost use Rattle.kh_types.specs.Bits.{bit_for};
-ghost use Rattle.kh_types.specs.Equations.{equation_of, equations_of, is_solved};
+ghost use Rattle.kh_types.specs.Bits.{bit};
+ghost use Rattle.kh_types.specs.Code.{place_of};
+ghost use Rattle.kh_types.specs.Checkerboard.{equation_of, equations_of, is_solved};
 ghost use Rattle.kh_types.specs.Acceptance.{checkerboard_fault};
 
 use crate::acceptance::darts::{first_dart, partner};
@@ -87,7 +88,7 @@ fn is_solved(choice: u32, equation: Equation) -> bool
 
 /// The bit of a choice for a crossing.
 fn bit_for(choice: u32, number: u8) -> u32
-    ensures bit { result ≡ bit_for choice number }
+    ensures bit { result ≡ bit choice (place_of number) }
     ensures within { result < 2 }
 {
     choice

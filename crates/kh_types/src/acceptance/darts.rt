@@ -1,8 +1,9 @@
 //! Darts, the ends of arcs.
 
-ghost use Rattle.std.specs.Prelude.{◌≡◌, ◌≤◌, ◌<◌, length};
+ghost use Rattle.std.specs.Prelude.{◌≡◌, ◌≤◌, ◌<◌, ◌*◌, length, nat_eq};
+ghost use Rattle.std.specs.List.{filter, range_with_len};
 ghost use Rattle.kh_types.specs.declared.limits.TheConstants.{CROSSINGS};
-ghost use Rattle.kh_types.specs.Darts.{dart_at, dart_place, arc_of, first_dart, is_same_dart, is_partner, partner, face_step};
+ghost use Rattle.kh_types.specs.Darts.{dart_at, dart_place, arc_of, times, first_dart, is_same_dart, is_partner, partner, partner_at, turned};
 
 use crate::acceptance::arcs::arc_at;
 use crate::code::Crossing;
@@ -33,6 +34,27 @@ pub fn arc_of(crossings: &[Crossing], dart: Dart) -> u8
     ensures { result ≡ arc_of crossings.now dart }
 {
     arc_at(crossings, dart.crossing, dart.slot)
+}
+
+/// How often a number stands: how many darts are of this arc.
+pub fn times(crossings: &[Crossing], arc: u8) -> u8
+    requires { length crossings.now ≤ CROSSINGS }
+    ensures { result ≡ times crossings.now arc }
+{
+    place_count(crossings, arc) as u8
+}
+
+/// How many places have a dart of an arc.
+fn place_count(crossings: &[Crossing], arc: u8) -> usize
+    requires { length crossings.now ≤ CROSSINGS }
+    ensures count { result ≡ length (filter
+        (λ place. nat_eq (arc_of crossings.now (dart_at place)) arc)
+        (range_with_len 0 (4 * length crossings.now))) }
+    ensures within { result ≤ 4 * CROSSINGS }
+{
+    (0..4 * crossings.len())
+        .filter(|place| arc_of(crossings, dart_at(*place as u8)) == arc)
+        .count()
 }
 
 /// The first dart of an arc.
@@ -76,18 +98,20 @@ pub fn partner(crossings: &[Crossing], dart: Dart) -> Dart
     dart
 }
 
-/// The dart that follows in a face.
-pub fn face_step(crossings: &[Crossing], dart: Dart) -> Dart
+/// The place of the other dart of the arc of the dart at a place.
+pub fn partner_at(crossings: &[Crossing], place: u8) -> u8
     requires crossings { length crossings.now ≤ CROSSINGS }
-    requires crossing { dart.crossing ≤ CROSSINGS }
-    requires slot { dart.slot < 4 }
-    ensures dart { result ≡ face_step crossings.now dart }
-    ensures crossing { result.crossing ≤ CROSSINGS }
-    ensures slot { result.slot < 4 }
+    requires place { place < 4 * length crossings.now }
+    ensures place { result ≡ partner_at crossings.now place }
+    ensures below { result < 4 * CROSSINGS }
 {
-    let other = partner(crossings, dart);
-    Dart {
-        crossing: other.crossing,
-        slot: (other.slot + 3) % 4,
-    }
+    dart_place(partner(crossings, dart_at(place)))
+}
+
+/// The place of the dart at the slot before, round the same crossing.
+pub fn turned(place: u8) -> u8
+    requires { place < 4 * CROSSINGS }
+    ensures { result ≡ turned place }
+{
+    4 * (place / 4) + (place % 4 + 3) % 4
 }

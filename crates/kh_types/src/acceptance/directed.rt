@@ -2,15 +2,15 @@
 
 ghost use Rattle.std.specs.Prelude.{◌≡◌, ◌≤◌, length, nat_eq};
 ghost use Rattle.std.specs.List.{list_any, range_with_len};
-ghost use Rattle.kh_types.specs.Code.{arc_in, place_of, crossing_at};
+ghost use Rattle.kh_types.specs.Code.{arc_in, place_of, slots_of};
 ghost use Rattle.kh_types.specs.declared.limits.TheConstants.{CROSSINGS};
 ghost use Rattle.kh_types.specs.Acceptance.{fault_if, arc_range_at, arc_range_fault, arc_times_at, arc_times_fault, interval_at, interval_fault, under_at, under_fault, over_at, over_fault, two_arc_at, two_arc_fault, components_fault, direction_fault};
 
-use crate::acceptance::arcs::{arc_at, times};
+use crate::acceptance::arcs::arc_at;
 use crate::acceptance::components::{
     arcs_in, component_count, components_of, is_interval, next_in,
 };
-use crate::acceptance::darts::dart_at;
+use crate::acceptance::darts::{dart_at, times};
 use crate::classes::{class_of, is_least};
 use crate::code::{Crossing, RawCode};
 use crate::dart::Dart;
@@ -198,7 +198,7 @@ fn two_arc_at(crossings: &[Crossing], components: &[u8], number: u8) -> Option<C
 /// Whether a crossing listed before this one has an under pass that comes in on an arc.
 fn comes_in_before(crossings: &[Crossing], number: u8, incoming: u8) -> bool
     ensures { result ≡ list_any
-        (λ earlier. nat_eq (arc_in (crossing_at crossings.now earlier) 0) incoming)
+        (λ earlier. nat_eq (arc_in (slots_of crossings.now earlier) 0) incoming)
         (range_with_len 1 (place_of number)) }
 {
     (1..number.max(1)).any(|earlier| arc_at(crossings, earlier, 0) == incoming)

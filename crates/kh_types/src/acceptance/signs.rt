@@ -2,7 +2,7 @@
 
 ghost use Rattle.std.specs.Prelude.{◌≡◌, ◌≤◌, length, count_by};
 ghost use Rattle.kh_types.specs.declared.limits.TheConstants.{CROSSINGS};
-ghost use Rattle.kh_types.specs.Code.{arc_in, crossing_at, crossing_numbers};
+ghost use Rattle.kh_types.specs.Code.{arc_in, slots_of, crossing_numbers};
 ghost use Rattle.kh_types.specs.Directions.{passes_under, passes_over, first_under, first_over, is_positive_by_next, is_positive_by_under, is_positive_by_order, is_positive_of_two, is_positive_in, is_positive, plus_count};
 
 use crate::acceptance::arcs::arc_at;
@@ -55,7 +55,7 @@ fn is_positive_in(crossings: &[Crossing], components: &[u8], number: u8) -> bool
 
 /// In a component of three arcs or more an over pass goes from an arc to its next.
 fn is_positive_by_next(crossings: &[Crossing], components: &[u8], number: u8) -> bool
-    ensures { result ≡ is_positive_by_next components.now (crossing_at crossings.now number) }
+    ensures { result ≡ is_positive_by_next components.now (slots_of crossings.now number) }
 {
     u16::from(arc_at(crossings, number, 1)) == next_in(components, arc_at(crossings, number, 3))
 }
@@ -77,7 +77,7 @@ fn is_positive_of_two(crossings: &[Crossing], components: &[u8], number: u8) -> 
 
 /// At the first of two over passes the component goes from the smaller to the greater arc, and back at the other.
 fn is_positive_by_order(crossings: &[Crossing], number: u8, is_first: bool) -> bool
-    ensures { result ≡ is_positive_by_order (crossing_at crossings.now number) is_first }
+    ensures { result ≡ is_positive_by_order (slots_of crossings.now number) is_first }
 {
     let (start, end) = (arc_at(crossings, number, 3), arc_at(crossings, number, 1));
     if is_first { start < end } else { end < start }

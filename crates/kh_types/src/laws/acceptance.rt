@@ -3,7 +3,7 @@
 ghost use Rattle.std.specs.Prelude.{◌≡◌, Some, None, [], ◌∷◌, true, reverse, pos, neg_ℤ};
 ghost use Rattle.kh_types.specs.declared.fault.CodeFault.{CodeFault};
 ghost use Rattle.kh_types.specs.declared.fault.CodeFault.TheVariants.{ArcRange, ArcTimes, Interval, Under, Over, TwoArc, Checkerboard, Genus, Components};
-ghost use Rattle.kh_types.specs.WorkedCodes.{code_of, crossing_of, empty_link, one_loop, curl, two_curls, over_circle, hopf_link, trefoil, figure_eight, turned_trefoil, virtual_trefoil};
+ghost use Rattle.kh_types.specs.WorkedCodes.{without_loops, slots_with, empty_link, one_loop, curl, two_curls, over_circle, hopf_link, trefoil, figure_eight, turned_trefoil, virtual_trefoil};
 ghost use Rattle.kh_types.specs.Components.{component_count};
 ghost use Rattle.kh_types.specs.Faces.{face_count, piece_count, planar_face_count};
 ghost use Rattle.kh_types.specs.Directions.{sign_of, plus_count, minus_count, head_of, tail_of};
@@ -57,30 +57,30 @@ pub fn heads_and_tails()
 
 /// The first rule that each of these codes breaks, with what shows it.
 pub fn first_faults()
-    ensures arc_range { first_fault (code_of (crossing_of 0 1 2 2 ∷ [])) ≡ Some (ArcRange 1 0) }
+    ensures arc_range { first_fault (without_loops (slots_with 0 1 2 2 ∷ [])) ≡ Some (ArcRange 1 0) }
     ensures arc_times { first_fault
-        (code_of (crossing_of 1 4 2 5 ∷ crossing_of 3 6 4 1 ∷ crossing_of 5 2 6 6 ∷ []))
+        (without_loops (slots_with 1 4 2 5 ∷ slots_with 3 6 4 1 ∷ slots_with 5 2 6 6 ∷ []))
         ≡ Some (ArcTimes 3 1) }
-    ensures interval { first_fault (code_of (crossing_of 4 1 2 3 ∷ crossing_of 3 2 1 4 ∷ []))
+    ensures interval { first_fault (without_loops (slots_with 4 1 2 3 ∷ slots_with 3 2 1 4 ∷ []))
         ≡ Some (Interval 1) }
     ensures under { first_fault
-        (code_of (crossing_of 2 5 1 4 ∷ crossing_of 3 6 4 1 ∷ crossing_of 5 2 6 3 ∷ []))
+        (without_loops (slots_with 2 5 1 4 ∷ slots_with 3 6 4 1 ∷ slots_with 5 2 6 3 ∷ []))
         ≡ Some (Under 1) }
-    ensures over { first_fault (code_of (crossing_of 1 1 2 3 ∷ crossing_of 3 2 4 4 ∷ []))
+    ensures over { first_fault (without_loops (slots_with 1 1 2 3 ∷ slots_with 3 2 4 4 ∷ []))
         ≡ Some (Over 1) }
-    ensures two_arc { first_fault (code_of (crossing_of 1 4 2 3 ∷ crossing_of 1 4 2 3 ∷ []))
+    ensures two_arc { first_fault (without_loops (slots_with 1 4 2 3 ∷ slots_with 1 4 2 3 ∷ []))
         ≡ Some (TwoArc 2) }
     ensures components { first_fault (record empty_link { loops = 25 }) ≡ Some (Components 25) }
     ensures component_counts { first_fault (record curl { loops = 24 }) ≡ Some (Components 25) }
     // Of the pairs of under passes at the crossings 1 and 4, and 2 and 3, the one whose second comes first.
     ensures least_second { first_fault
-        (code_of (crossing_of 1 5 2 6 ∷ crossing_of 3 7 4 8 ∷ crossing_of 3 8 4 7
-        ∷ crossing_of 1 5 2 6 ∷ []))
+        (without_loops (slots_with 1 5 2 6 ∷ slots_with 3 7 4 8 ∷ slots_with 3 8 4 7
+        ∷ slots_with 1 5 2 6 ∷ []))
         ≡ Some (TwoArc 3) }
     // A component of one arc has itself as its next, so an under pass from it to it breaks no rule of passes.
-    ensures one_arc { first_fault (code_of (crossing_of 1 2 1 2 ∷ [])) ≡ Some (Checkerboard 1) }
+    ensures one_arc { first_fault (without_loops (slots_with 1 2 1 2 ∷ [])) ≡ Some (Checkerboard 1) }
     // Two components are no intervals: the least arc of both.
-    ensures least_interval { first_fault (code_of (crossing_of 1 2 3 4 ∷ crossing_of 3 4 1 2 ∷ []))
+    ensures least_interval { first_fault (without_loops (slots_with 1 2 3 4 ∷ slots_with 3 4 1 2 ∷ []))
         ≡ Some (Interval 1) }
 {}
 

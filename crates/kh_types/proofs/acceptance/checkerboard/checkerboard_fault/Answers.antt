@@ -1,6 +1,6 @@
 use Rattle.std.proofs.Common.{◌≡◌, ℕ, ◌+◌, ◌*◌, ◌<◌, ◌≤◌, ◌∙◌, length, take, true, false, sym, ap, arith}
 use Rattle.std.specs.List.{list_all}
-use Rattle.kh_types.specs.Equations.{equations_of, is_solved}
+use Rattle.kh_types.specs.Checkerboard.{equations_of, is_solved}
 use Rattle.kh_types.specs.Acceptance.{checkerboard_at}
 use Rattle.kh_types.proofs.FaultLemmas.{first_of_from_one, none_from_one}
 use Rattle.kh_types.proofs.CheckerboardLemmas.{checkerboard-fault, checkerboard-none, tried_more}
