@@ -13,4 +13,5 @@ pub mod DartPairs
 pub mod CrossingLemmas
 pub mod CheckerboardLemmas
 pub mod AcceptedLemmas
+pub mod DartColours
 pub mod DirectionLemmas
