@@ -23,7 +23,7 @@ first_of-append fault_at (x ∷ xs) ys =
     ∙ sym (option_or_assoc (fault_at x) (first_of fault_at xs) (first_of fault_at ys))
 
 -- the fault of a number, where the numbers before it have none
-first_of_at : (fault_at : ℕ → Option CodeFault) (a n k j : ℕ) (fault : CodeFault) → k < n → a + k ≡ j
+pub first_of_at : (fault_at : ℕ → Option CodeFault) (a n k j : ℕ) (fault : CodeFault) → k < n → a + k ≡ j
     → first_of fault_at (range_with_len a k) ≡ None → fault_at j ≡ Some fault
     → first_of fault_at (range_with_len a n) ≡ Some fault
 first_of_at fault_at a n k j fault below is_j none has =
@@ -44,7 +44,7 @@ pub first_of_from_one : (fault_at : ℕ → Option CodeFault) (n k : ℕ) (fault
 first_of_from_one fault_at n k fault below = first_of_at fault_at 1 n k (k + 1) fault below (omega arith)
 
 -- no fault, where one more number has none
-none_of_more : (fault_at : ℕ → Option CodeFault) (a k j : ℕ) → a + k ≡ j
+pub none_of_more : (fault_at : ℕ → Option CodeFault) (a k j : ℕ) → a + k ≡ j
     → first_of fault_at (range_with_len a k) ≡ None → fault_at j ≡ None
     → first_of fault_at (range_with_len a (k + 1)) ≡ None
 none_of_more fault_at a k j is_j none has_none =
@@ -62,7 +62,7 @@ pub none_from_one : (fault_at : ℕ → Option CodeFault) (k : ℕ) → first_of
 none_from_one fault_at k = none_of_more fault_at 1 k (k + 1) (omega arith)
 
 -- where the numbers of a range have no fault, none of them has one, and the other way round
-option_or-none : (a b : Option CodeFault) → option_or a b ≡ None → (a ≡ None) × (b ≡ None)
+pub option_or-none : (a b : Option CodeFault) → option_or a b ≡ None → (a ≡ None) × (b ≡ None)
 option_or-none None b none = (refl, none)
 option_or-none (Some x) b none = absurd (cc)
 

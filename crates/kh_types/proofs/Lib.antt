@@ -7,7 +7,11 @@ pub mod ComplexLemmas
 pub mod CancelLemmas
 pub mod ClassLemmas
 pub mod FaultLemmas
+pub mod RangeCounts
 pub mod DartLemmas
+pub mod DartPairs
 pub mod CrossingLemmas
 pub mod CheckerboardLemmas
+pub mod AcceptedLemmas
+pub mod DartColours
 pub mod DirectionLemmas

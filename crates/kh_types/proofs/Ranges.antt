@@ -110,6 +110,23 @@ pub find-map : {X : Type 0} (p : X → Bool) (f : ℕ → X) (xs : List ℕ)
 find-map p f [] = refl
 find-map p f (x ∷ xs) = find-map_step (p (f x)) f x (find p (map f xs)) (find (λ y. p (f y)) xs) (find-map p f xs)
 
+-- the first of what a function makes of the numbers from 0 on that passes a test, where those before it do not
+pub find-map_range : {X : Type 0} (p : X → Bool) (f : ℕ → X) (n k : ℕ) → k < n → find p (map f (range_with_len 0 k)) ≡ None
+    → p (f k) ≡ true → find p (map f (range_with_len 0 n)) ≡ Some (f k)
+find-map_range p f n k below none passes =
+    let later = range_with_len (k + 1) (n - (k + 1)) in
+    ap (λ xs. find p (map f xs)) (range_around 0 n k k below (omega arith))
+    ∙ ap (λ xs. find p xs) (map-append f (range_with_len 0 k) (k ∷ later))
+    ∙ find-append p (map f (range_with_len 0 k)) (map f (k ∷ later))
+    ∙ ap (λ o. option_or o (find p (map f (k ∷ later)))) none ∙ ap (λ b. cond b (Some (f k)) (find p (map f later))) passes
+
+-- none of them passes, where one more does not
+pub find-map_range_more : {X : Type 0} (p : X → Bool) (f : ℕ → X) (k : ℕ) → find p (map f (range_with_len 0 k)) ≡ None
+    → p (f k) ≡ false → find p (map f (range_with_len 0 (k + 1))) ≡ None
+find-map_range_more p f k none fails =
+    ap (λ xs. find p xs) (map-range_more f 0 k k (omega arith)) ∙ find-append p (map f (range_with_len 0 k)) (f k ∷ [])
+    ∙ ap (λ o. option_or o (find p (f k ∷ []))) none ∙ ap (λ b. cond b (Some (f k)) None) fails
+
 -- both tests hold where they hold together
 first_true : (a b : Bool) → (a && b) ≡ true → a ≡ true
 first_true true b both = refl

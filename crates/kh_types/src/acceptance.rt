@@ -6,9 +6,10 @@ ghost use Rattle.kh_types.specs.Acceptance.{first_fault};
 mod arcs;
 mod checkerboard;
 mod components;
-mod darts;
+pub(crate) mod darts;
 mod directed;
 mod faces;
+pub(crate) mod heads;
 mod signs;
 
 use crate::code::RawCode;
@@ -16,6 +17,7 @@ use crate::fault::CodeFault;
 use checkerboard::checkerboard_fault;
 use directed::{components_fault, direction_fault};
 use faces::genus_fault;
+pub(crate) use faces::{face_count, planar_face_count};
 pub(crate) use signs::{is_positive, plus_count};
 
 /// The first rule that a code breaks.

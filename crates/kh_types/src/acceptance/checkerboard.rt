@@ -4,7 +4,7 @@ ghost use Rattle.std.specs.Prelude.{◌≡◌, ◌*◌, ◌^◌, ◌≤◌, ◌<
 ghost use Rattle.std.specs.List.{list_all};
 ghost use Rattle.kh_types.specs.declared.limits.TheConstants.{CROSSINGS, ARCS};
 ghost use Rattle.kh_types.specs.Bits.{bit};
-ghost use Rattle.kh_types.specs.Code.{place_of};
+ghost use Rattle.kh_types.specs.Code.{place_of, IsArc};
 ghost use Rattle.kh_types.specs.Checkerboard.{equation_of, equations_of, is_solved};
 ghost use Rattle.kh_types.specs.Acceptance.{checkerboard_fault};
 
@@ -113,7 +113,8 @@ fn equations_of(crossings: &[Crossing]) -> ArrayVec<Equation, ARCS>
 
 /// The equation of an arc.
 fn equation_of(crossings: &[Crossing], arc: u8) -> Equation
-    requires { length crossings.now ≤ CROSSINGS }
+    requires crossings { length crossings.now ≤ CROSSINGS }
+    requires arc { IsArc crossings.now arc }
     ensures { result ≡ equation_of crossings.now arc }
 {
     let dart = first_dart(crossings, arc);

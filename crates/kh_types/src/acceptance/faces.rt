@@ -28,7 +28,7 @@ pub fn genus_fault(crossings: &[Crossing]) -> Option<CodeFault>
 }
 
 /// The number of faces; loops count for none.
-fn face_count(crossings: &[Crossing]) -> u8
+pub fn face_count(crossings: &[Crossing]) -> u8
     requires { length crossings.now ≤ CROSSINGS }
     ensures { result ≡ face_count crossings.now }
 {
@@ -36,7 +36,7 @@ fn face_count(crossings: &[Crossing]) -> u8
 }
 
 /// The number of faces of a drawing on the sphere.
-fn planar_face_count(crossings: &[Crossing]) -> u8
+pub fn planar_face_count(crossings: &[Crossing]) -> u8
     requires { length crossings.now ≤ CROSSINGS }
     ensures { result ≡ planar_face_count crossings.now }
 {
