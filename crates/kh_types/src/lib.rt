@@ -19,6 +19,6 @@ pub use code::{Crossing, RawCode};
 pub use dart::Dart;
 pub use diagram::{BadCode, Diagram};
 pub use fault::CodeFault;
-pub use limits::{ARCS, CIRCLES, COMPONENTS, CROSSINGS, EXPONENT, INPUT_BYTES};
+pub use limits::{ARCS, CIRCLES, COMPONENTS, CROSSINGS, EXPONENT, INPUT_BYTES, LOOPS};
 pub use memory::NoMemory;
 pub use words::Words;

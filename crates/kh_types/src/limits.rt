@@ -9,6 +9,9 @@ pub const ARCS: usize = 2 * CROSSINGS;
 /// The most components and crossingless loops of a diagram, counted together.
 pub const COMPONENTS: usize = 24;
 
+/// The most crossingless loops of a text.
+pub const LOOPS: usize = 8;
+
 /// The most circles of a state: one for each component or loop, and one more at most for each crossing. This follows by
 /// counting, and no law carries it yet.
 pub const CIRCLES: usize = 40;
