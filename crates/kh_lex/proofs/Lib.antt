@@ -6,3 +6,6 @@ mod PieceReads
 mod Cuttings
 mod CutReads
 mod LexerSteps
+pub mod GrammarLemmas
+pub mod MachineLemmas
+pub mod WrittenTexts
