@@ -1,0 +1,4 @@
+mod Elements
+mod Counts
+mod Crossings
+mod Readings
