@@ -1,5 +1,5 @@
 -- From the bytes of an input to the code of a diagram, or to the reply that refuses them. All of it is this project's rule.
-use Rattle.std.specs.Prelude.{◌≡◌, ◌⊎◌, ℕ, ◌≤◌, ◌<◌, List, [], ◌∷◌, length, nat_eq, Bool, true, false, Result, Ok, Err, None, Some}
+use Rattle.std.specs.Prelude.{◌≡◌, ◌⊎◌, ℕ, List, [], ◌∷◌, nat_eq, Bool, true, false, Result, Ok, Err, None, Some}
 use Rattle.kh_types.specs.Code.{Code}
 use Rattle.kh_types.specs.Acceptance.{first_fault}
 use Rattle.kh_types.specs.declared.fault.CodeFault.{CodeFault}

@@ -13,6 +13,7 @@ use crate::commands::{reply_to_convert, reply_to_homology};
 use crate::input::{InputStop, read_diagram};
 use crate::refusals::{too_many_bytes, usage};
 use crate::reply::Reply;
+use crate::status::Status;
 use kh_io::{ReadStop, Source, read_all};
 use kh_types::{Diagram, INPUT_BYTES, NoMemory, Words};
 use std::alloc::Global;
@@ -57,7 +58,11 @@ pub fn reply_to<S: Source>(alloc: Global, words: &Words, source: &mut S) -> Resu
 }
 
 // The reply of a command to all bytes of a source.
-fn reply_to_source<S: Source>(alloc: Global, command: Command, source: &mut S) -> Result<Reply, ReplyStop>
+fn reply_to_source<S: Source>(
+    alloc: Global,
+    command: Command,
+    source: &mut S,
+) -> Result<Reply, ReplyStop>
     ensures known { IfOk result (λ reply. Replies (S.left source.old) command reply) }
     ensures whole { IfOk result (λ reply. IsWhole reply.status) }
     ensures no_usage { IfOk result (λ reply. reply.status ≢ Status.Usage) }

@@ -10,11 +10,9 @@ mod limits;
 mod refusals;
 mod reply;
 mod status;
-#[cfg(test)]
-mod tests;
 mod top;
 
-pub use laws::{one_answer, limits_of_commands};
+pub use laws::{limits_of_commands, one_answer};
 pub use limits::HOMOLOGY_CROSSINGS;
 pub use status::Status;
 pub use top::run;

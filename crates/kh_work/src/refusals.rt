@@ -101,7 +101,9 @@ fn fault_line(alloc: Global, fault: CodeFault) -> Result<String, NoMemory>
         CodeFault::ArcRange { crossing, slot } => {
             format!(in alloc; "refused arc range at crossing {crossing} slot {slot}\n")?
         }
-        CodeFault::ArcTimes { arc, times } => format!(in alloc; "refused arc {arc} times {times}\n")?,
+        CodeFault::ArcTimes { arc, times } => format!(in alloc;
+            "refused arc {arc} times {times}\n"
+        )?,
         CodeFault::Interval { arc } => format!(in alloc; "refused interval of arc {arc}\n")?,
         CodeFault::Under { crossing } => {
             format!(in alloc; "refused under pass at crossing {crossing}\n")?

@@ -1,5 +1,5 @@
 -- Each turn takes two words, and the last leaves none or one.
-use Rattle.std.proofs.Common.{◌∙◌, ◌≡◌, ◌+◌, ◌≤◌, length, sym, arith}
+use Rattle.std.proofs.Common.{◌∙◌, ◌≡◌, ◌+◌, length, sym, arith}
 use Rattle.kh_work.proofs.CommandLemmas.{with_options-taken, with_options-refused, with_options-single}
 use Rattle.kh_work.proofs.command.options_from.Goals as goal
 

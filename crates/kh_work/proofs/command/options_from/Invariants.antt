@@ -1,4 +1,4 @@
-use Rattle.std.proofs.Common.{◌≡◌, ◌-◌, ◌<◌, ◌≤◌, length, drop}
+use Rattle.std.proofs.Common.{◌≡◌, ◌-◌, ◌≤◌, length, drop}
 use Rattle.kh_work.specs.Commands.{no_options, with_options}
 use Rattle.kh_work.proofs.command.options_from.Given as goal
 
