@@ -1,19 +1,22 @@
--- Darts and their places.
-use Rattle.std.proofs.Common.{◌≡◌, ℕ, ◌+◌, ◌*◌, ◌/◌, ◌%◌, ◌<◌, List, length, ap₂, arith}
+-- Searches over darts as searches over their places.
+use Rattle.std.proofs.Common.{◌≡◌, ℕ, ◌*◌, ◌∙◌, List, length, sym, Bool}
+use Rattle.std.specs.Prelude.{nat_eq}
+use Rattle.std.specs.List.{filter, range_with_len}
+use Rattle.std.proofs.lemmas.List.Sums.{length-filter}
 use Rattle.kh_types.specs.declared.dart.Dart.{Dart}
-use Rattle.kh_types.specs.Darts.{dart_at, dart_place, IsDart}
+use Rattle.kh_types.specs.Darts.{dart_at, arc_of, times, is_partner}
+use Rattle.kh_types.proofs.Lists.{count_by-map}
 
--- the dart at a place below 4n is one of the code's
-pub dart_at-is : (crossings : List (List ℕ)) (place : ℕ) → place < 4 * length crossings → IsDart crossings (dart_at place)
-dart_at-is crossings place below =
-    record { crossing = record { positive = omega arith; within = omega arith }; slot = omega arith }
+-- whether the dart at a place is of an arc, or is the partner of a dart
+abbrev pub is_dart_of : List (List ℕ) → ℕ → ℕ → Bool
+is_dart_of crossings arc place = nat_eq (arc_of crossings (dart_at place)) arc
 
--- the place of a dart of the code is below 4n, and it is the place where the dart stands
-pub dart_place-below : (crossings : List (List ℕ)) (dart : Dart) → IsDart crossings dart → dart_place dart < 4 * length crossings
-dart_place-below crossings dart is = omega (arith, is.crossing.positive, is.crossing.within, is.slot)
+abbrev pub is_partner_at : List (List ℕ) → Dart → ℕ → Bool
+is_partner_at crossings dart place = is_partner crossings dart (dart_at place)
 
-pub dart_at-dart_place : (crossings : List (List ℕ)) (dart : Dart) → IsDart crossings dart → dart_at (dart_place dart) ≡ dart
-dart_at-dart_place crossings dart is =
-    let crossing_is : dart_place dart / 4 + 1 ≡ dart.crossing = omega (arith, is.crossing.positive, is.slot) in
-    let slot_is : dart_place dart % 4 ≡ dart.slot = omega (arith, is.crossing.positive, is.slot) in
-    ap₂ (λ (c s : ℕ). record { crossing = c; slot = s }) crossing_is slot_is
+-- the places of the darts of an arc are as many as its darts
+pub times_by_places : (crossings : List (List ℕ)) (arc : ℕ)
+    → length (filter (is_dart_of crossings arc) (range_with_len 0 (4 * length crossings))) ≡ times crossings arc
+times_by_places crossings arc =
+    length-filter (is_dart_of crossings arc) (range_with_len 0 (4 * length crossings))
+    ∙ sym (count_by-map (λ dart. nat_eq (arc_of crossings dart) arc) dart_at (range_with_len 0 (4 * length crossings)))

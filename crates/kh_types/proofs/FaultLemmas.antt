@@ -62,7 +62,7 @@ pub none_from_one : (fault_at : ℕ → Option CodeFault) (k : ℕ) → first_of
 none_from_one fault_at k = none_of_more fault_at 1 k (k + 1) (omega arith)
 
 -- where the numbers of a range have no fault, none of them has one, and the other way round
-pub option_or-none : (a b : Option CodeFault) → option_or a b ≡ None → (a ≡ None) × (b ≡ None)
+option_or-none : (a b : Option CodeFault) → option_or a b ≡ None → (a ≡ None) × (b ≡ None)
 option_or-none None b none = (refl, none)
 option_or-none (Some x) b none = absurd (cc)
 

@@ -10,7 +10,7 @@ pub mod FaultLemmas
 pub mod RangeCounts
 pub mod DartLemmas
 pub mod DartPairs
-pub mod CrossingLemmas
+pub mod BitLemmas
 pub mod CheckerboardLemmas
 pub mod AcceptedLemmas
 pub mod DartColours

@@ -2,6 +2,7 @@
 #![tactic(auto)]
 
 mod acceptance;
+mod bits;
 mod classes;
 mod code;
 mod dart;
@@ -15,6 +16,7 @@ mod memory;
 mod tests;
 mod words;
 
+pub use bits::{bit, ones};
 pub use classes::{CLASS_MEMBERS, class_count, class_of, classes_of, is_least};
 pub use code::{Crossing, RawCode};
 pub use dart::Dart;
