@@ -1,7 +1,7 @@
 -- A checkerboard choice gives each arc one dart of either colour.
 use Rattle.std.proofs.Common.{◌≡◌, ◌≢◌, ℕ, ◌⊎◌, inl, inr, ◌+◌, ◌-◌, ◌*◌, ◌%◌, ◌<◌, ◌∙◌, List, [], length, refl, sym, ap, subst, arith, IsTrue, true}
-use Rattle.std.specs.Prelude.{nat_eq, slice_index_or}
-use Rattle.std.proofs.lemmas.Bool.Decides.{nat_tests}
+use Rattle.std.specs.Prelude.{slice_index_or}
+use Rattle.std.proofs.lemmas.Bool.{eqb-true}
 use Rattle.kh_types.specs.declared.dart.Dart.{Dart}
 use Rattle.kh_types.specs.Code.{Code, IsArc, arc_in, place_of}
 use Rattle.kh_types.specs.Bits.{bit}
@@ -20,13 +20,10 @@ differ-solved crossings choice arc solves same =
     let dart = first_dart crossings arc in
     let other = partner crossings dart in
     odd_sum (bit choice (place_of dart.crossing)) dart.slot (bit choice (place_of other.crossing)) other.slot
-    (same_number ((bit choice (place_of dart.crossing) + (bit choice (place_of other.crossing) + (dart.slot + other.slot))) % 2) 1
+    (eqb-true ((bit choice (place_of dart.crossing) + (bit choice (place_of other.crossing) + (dart.slot + other.slot))) % 2) 1
     solves)
     same
   where
-    same_number : (x y : ℕ) → nat_eq x y ≡ true → x ≡ y
-    same_number x y holds = grind (arith, nat_tests)
-
     odd_sum : (x s y t : ℕ) → (x + (y + (s + t))) % 2 ≡ 1 → (x + s) % 2 ≢ (y + t) % 2
     odd_sum x s y t odd alike = absurd (omega (arith, odd, alike))
 
