@@ -7,6 +7,10 @@ pub mod ComplexLemmas
 pub mod CancelLemmas
 pub mod ClassLemmas
 pub mod JoinedClasses
+pub mod ClassCounts
+pub mod CircleBound
+pub mod QuantumDegrees
+pub mod TableRows
 pub mod FaultLemmas
 pub mod DartLemmas
 pub mod CrossingLemmas

@@ -1,8 +1,8 @@
 -- General lemmas on lists, for all crates.
 use Rattle.std.proofs.Common.{◌≡◌, ◌≢◌, ℕ, zero, suc, ◌+◌, ◌-◌, ◌<◌, ◌≤◌, ◌∙◌, List, [], ◌∷◌, ◌++◌, length, map, refl, sym, ap, arith, Bool, true, false, cond}
-use Rattle.std.specs.List.{AllByRecursion, filter, count_by, range_with_len}
-use Rattle.std.proofs.lemmas.List.{length-append}
-use Rattle.std.proofs.lemmas.List.Elements.{filter-append}
+use Rattle.std.specs.List.{All, AllByRecursion, Contains, filter, flat_map, count_by, range_with_len}
+use Rattle.std.proofs.lemmas.List.{length-append, length-map, get_or-map}
+use Rattle.std.proofs.lemmas.List.Elements.{filter-append, All-nil, All-append, All-head, Contains-append_left, Contains-append_right}
 use Rattle.std.proofs.lemmas.List.Sums.{sum_by-cons}
 use Rattle.kh_types.proofs.Ranges.{range_around}
 
@@ -76,3 +76,46 @@ HasMore-filter_range p q a n m from below passes fails same =
       short = ap (λ xs. filter q xs) around ∙ filter-append q front (m ∷ back)
           ∙ ap (λ b. filter q front ++ cond b (m ∷ filter q back) (filter q back)) fails;
     }
+
+-- a test that each number of a range passes keeps them all
+pub filter-range_all : (p : ℕ → Bool) (a n : ℕ) → ((x : ℕ) → a ≤ x → x < a + n → p x ≡ true)
+    → filter p (range_with_len a n) ≡ range_with_len a n
+filter-range_all p a zero passes = refl
+filter-range_all p a (suc n) passes =
+    filter-step (p a) true a (filter p (range_with_len (a + 1) n)) (range_with_len (a + 1) n) (passes a (omega arith) (omega arith))
+    (filter-range_all p (a + 1) n (λ x from below. passes x (omega arith) (omega arith)))
+
+-- the elements of lists that are made of others
+
+pub Contains-map : {X Y : Type 0} (f : X → Y) (xs : List X) (x : X) → Contains xs x → Contains (map f xs) (f x)
+Contains-map f xs x (k, below, is) =
+    (k, omega (arith, length-map xs f), get_or-map f xs k x (f x) below ∙ ap f is)
+
+Contains-cond : {X : Type 0} (b : Bool) (y : X) (xs : List X) (x : X) → Contains xs x → Contains (cond b (y ∷ xs) xs) x
+Contains-cond true y xs x (k, below, is) = (suc k, omega arith, is)
+Contains-cond false y xs x has = has
+
+pub Contains-filter : {X : Type 0} (p : X → Bool) (xs : List X) (x : X) → p x ≡ true → Contains xs x → Contains (filter p xs) x
+Contains-filter p [] x passes (k, below, is) = absurd (omega arith)
+Contains-filter p (y ∷ ys) x passes (zero, below, is) =
+    let later = filter p ys in
+    rw (ap p is ∙ passes) (zero, omega arith, is)
+Contains-filter p (y ∷ ys) x passes (suc k, below, is) =
+    Contains-cond (p y) y (filter p ys) x (Contains-filter p ys x passes (k, omega arith, is))
+
+pub Contains-flat_map : {X Y : Type 0} (f : X → List Y) (xs : List X) (x : X) (y : Y) → Contains xs x → Contains (f x) y
+    → Contains (flat_map f xs) y
+Contains-flat_map f [] x y (k, below, is) has = absurd (omega arith)
+Contains-flat_map f (z ∷ xs) x y (zero, below, is) has =
+    Contains-append_left (f z) (flat_map f xs) y (rw is has)
+Contains-flat_map f (z ∷ xs) x y (suc k, below, is) has =
+    Contains-append_right (f z) (flat_map f xs) y (Contains-flat_map f xs x y (k, omega arith, is) has)
+
+pub All-flat_map : {X Y : Type 0} (P : Y → Type 0) (f : X → List Y) (xs : List X) → ((x : X) → All P (f x)) → All P (flat_map f xs)
+All-flat_map P f [] holds = All-nil P
+All-flat_map P f (x ∷ xs) holds = All-append P (f x) (flat_map f xs) (holds x) (All-flat_map P f xs holds)
+
+-- what holds of all of a list that is not empty holds of one of them
+pub All-some : {X : Type 0} (P : X → Type 0) (xs : List X) → All P xs → 0 < length xs → (x : X) × P x
+All-some P [] holds some = absurd (omega arith)
+All-some P (x ∷ xs) holds some = (x, All-head P x xs holds)

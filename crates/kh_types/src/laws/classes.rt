@@ -13,11 +13,12 @@ pub fn classes_are_finest()
         → slice_index (classes_of n pairs) x ≡ slice_index (classes_of n pairs) y → f x ≡ f y }
 {}
 
-/// What joining pairs does. Each class is named by its least number; pairs that the same functions respect have the same
-/// classes, so that neither the order of pairs nor the direction of each matters; one more pair lowers the number of classes
-/// by one where it joins two of them, and changes nothing where its numbers are in one.
+/// Each class is named by its least number. Pairs that the same functions respect have the same
+/// classes, so neither their order nor their direction matters. One more pair lowers the number of
+/// classes by one where it joins two of them, and changes nothing where its numbers are in one.
 pub fn classes_by_pairs()
-    ensures named { (n : ℕ) (pairs : List (ℕ × ℕ)) → AreBelow n pairs → IsNamed n (classes_of n pairs) }
+    ensures named { (n : ℕ) (pairs : List (ℕ × ℕ)) → AreBelow n pairs
+        → IsNamed n (classes_of n pairs) }
     ensures same { (n : ℕ) (pairs others : List (ℕ × ℕ)) → AreBelow n pairs → AreBelow n others
         → ((f : ℕ → ℕ) → Respects f pairs ↔ Respects f others)
         → classes_of n pairs ≡ classes_of n others }
