@@ -12,7 +12,11 @@ pub mod CircleBound
 pub mod QuantumDegrees
 pub mod TableRows
 pub mod FaultLemmas
+pub mod RangeCounts
 pub mod DartLemmas
+pub mod DartPairs
 pub mod CrossingLemmas
 pub mod CheckerboardLemmas
+pub mod AcceptedLemmas
+pub mod DartColours
 pub mod DirectionLemmas

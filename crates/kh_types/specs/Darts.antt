@@ -1,7 +1,7 @@
 -- Darts, the ends of arcs.
-use Rattle.std.specs.Prelude.{ℕ, ◌+◌, ◌*◌, ◌/◌, ◌%◌, ◌<◌, List, length, map, nat_eq, Bool, not, ◌&&◌, unwrap_or}
+use Rattle.std.specs.Prelude.{◌≡◌, ◌≢◌, ◌⊎◌, ℕ, ◌+◌, ◌*◌, ◌/◌, ◌%◌, ◌<◌, List, length, map, nat_eq, Bool, not, ◌&&◌, unwrap_or}
 use Rattle.std.specs.List.{find, count_by, range_with_len}
-use Rattle.kh_types.specs.Code.{arc_in, place_of, slots_of, IsCrossing}
+use Rattle.kh_types.specs.Code.{arc_in, place_of, slots_of, IsCrossing, IsArc}
 use Rattle.kh_types.specs.declared.dart.Dart.{Dart}
 
 -- darts are ordered by crossing, then by slot: the dart at a place of this order
@@ -62,3 +62,33 @@ turned place = 4 * (place / 4) + (place % 4 + 3) % 4
 -- arc that leaves along it)
 abbrev pub face_step : (ℕ → ℕ) → ℕ → ℕ
 face_step partner place = turned (partner place)
+
+-- each slot holds an arc, and each arc stands twice
+pub record HasArcsTwice (crossings : List (List ℕ)) : Type 0 where
+  pub slots : (dart : Dart) → IsDart crossings dart → IsArc crossings (arc_of crossings dart)
+  pub twice : (arc : ℕ) → IsArc crossings arc → times crossings arc ≡ 2
+
+-- a dart of the code on an arc
+pub record IsDartOf (crossings : List (List ℕ)) (arc : ℕ) (dart : Dart) : Type 0 where
+  pub within : IsDart crossings dart
+  pub on_arc : arc_of crossings dart ≡ arc
+
+-- another dart of the code on the same arc
+pub record IsOtherDart (crossings : List (List ℕ)) (dart other : Dart) : Type 0 where
+  pub within : IsDart crossings other
+  pub differs : other ≢ dart
+  pub same_arc : arc_of crossings other ≡ arc_of crossings dart
+
+-- the darts of a code are partners in pairs: each arc has a first dart, the partner of a dart is another dart of its arc, there is
+-- no third dart of that arc, and the partner's partner is the dart itself
+pub record HasPairedDarts (crossings : List (List ℕ)) : Type 0 where
+  pub first : (arc : ℕ) → IsArc crossings arc → IsDartOf crossings arc (first_dart crossings arc)
+  pub other : (dart : Dart) → IsDart crossings dart → IsOtherDart crossings dart (partner crossings dart)
+  pub two : (dart other : Dart) → IsDart crossings dart → IsDartOf crossings (arc_of crossings dart) other
+      → (other ≡ dart) ⊎ (other ≡ partner crossings dart)
+  pub back : (dart : Dart) → IsDart crossings dart → partner crossings (partner crossings dart) ≡ dart
+
+-- the places below m are partners in pairs, or alone
+pub record IsPartner (m : ℕ) (partner : ℕ → ℕ) : Type 0 where
+  pub below : (place : ℕ) → place < m → partner place < m
+  pub back : (place : ℕ) → place < m → partner (partner place) ≡ place
