@@ -35,7 +35,8 @@ Respects f pairs = AllByRecursion (λ pair. f pair.0 ≡ f pair.1) pairs
 abbrev pub AreBelow : ℕ → List (ℕ × ℕ) → Type 0
 AreBelow n pairs = AllByRecursion (λ pair. (pair.0 < n) × (pair.1 < n)) pairs
 
--- each class of the numbers below n is named by its least number: the class of a number is at most the number, and is in itself
+-- each class of the numbers below n is named by its least number: the class of a number is at most the number, and is itself one
+-- of that class
 pub record IsNamed (n : ℕ) (classes : List ℕ) : Type 0 where
   pub size : length classes ≡ n
   pub least : (x : ℕ) → x < n → slice_index classes x ≤ x
