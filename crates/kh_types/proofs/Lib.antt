@@ -6,6 +6,11 @@ pub mod MatrixTests
 pub mod ComplexLemmas
 pub mod CancelLemmas
 pub mod ClassLemmas
+pub mod JoinedClasses
+pub mod ClassCounts
+pub mod CircleBound
+pub mod QuantumDegrees
+pub mod TableRows
 pub mod FaultLemmas
 pub mod RangeCounts
 pub mod DartLemmas

@@ -8,4 +8,5 @@ pub mod complexes;
 pub mod darts;
 pub mod polynomials;
 pub mod ranks;
+pub mod sizes;
 pub mod tables;
