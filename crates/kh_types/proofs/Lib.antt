@@ -6,6 +6,7 @@ pub mod MatrixTests
 pub mod ComplexLemmas
 pub mod CancelLemmas
 pub mod ClassLemmas
+pub mod JoinedClasses
 pub mod FaultLemmas
 pub mod RangeCounts
 pub mod DartLemmas

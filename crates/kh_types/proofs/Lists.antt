@@ -1,7 +1,10 @@
 -- General lemmas on lists, for all crates.
-use Rattle.std.proofs.Common.{◌≡◌, ◌+◌, ◌∙◌, List, [], ◌∷◌, map, refl, sym, ap, Bool, cond}
-use Rattle.std.specs.List.{count_by}
+use Rattle.std.proofs.Common.{◌≡◌, ◌≢◌, ℕ, zero, suc, ◌+◌, ◌-◌, ◌<◌, ◌≤◌, ◌∙◌, List, [], ◌∷◌, ◌++◌, length, map, refl, sym, ap, arith, Bool, true, false, cond}
+use Rattle.std.specs.List.{AllByRecursion, filter, count_by, range_with_len}
+use Rattle.std.proofs.lemmas.List.{length-append}
+use Rattle.std.proofs.lemmas.List.Elements.{filter-append}
 use Rattle.std.proofs.lemmas.List.Sums.{sum_by-cons}
+use Rattle.kh_types.proofs.Ranges.{range_around}
 
 pub count_by-map : {X Y : Type 0} (p : Y → Bool) (f : X → Y) (xs : List X) → count_by p (map f xs) ≡ count_by (λ x. p (f x)) xs
 count_by-map p f [] = refl
@@ -9,3 +12,67 @@ count_by-map p f (x ∷ xs) =
     sum_by-cons (λ y. cond (p y) 1 0) (f x) (map f xs)
     ∙ ap (λ n. cond (p (f x)) 1 0 + n) (count_by-map p f xs)
     ∙ sym (sum_by-cons (λ y. cond (p (f y)) 1 0) x xs)
+
+-- what holds of all of two lists, and of both in one
+
+pub AllByRecursion-append : {X : Type 0} (P : X → Type 0) (xs ys : List X) → AllByRecursion P xs → AllByRecursion P ys
+    → AllByRecursion P (xs ++ ys)
+AllByRecursion-append P [] ys holds later = later
+AllByRecursion-append P (x ∷ xs) ys holds later = (holds.0, AllByRecursion-append P xs ys holds.1 later)
+
+pub AllByRecursion-first : {X : Type 0} (P : X → Type 0) (xs ys : List X) → AllByRecursion P (xs ++ ys) → AllByRecursion P xs
+AllByRecursion-first P [] ys holds = tt
+AllByRecursion-first P (x ∷ xs) ys holds = (holds.0, AllByRecursion-first P xs ys holds.1)
+
+pub AllByRecursion-second : {X : Type 0} (P : X → Type 0) (xs ys : List X) → AllByRecursion P (xs ++ ys) → AllByRecursion P ys
+AllByRecursion-second P [] ys holds = holds
+AllByRecursion-second P (x ∷ xs) ys holds = AllByRecursion-second P xs ys holds.1
+
+-- tests that agree on a range pass the same of its numbers
+
+filter-step : (b d : Bool) (x : ℕ) (xs ys : List ℕ) → b ≡ d → xs ≡ ys → cond b (x ∷ xs) xs ≡ cond d (x ∷ ys) ys
+filter-step b d x xs ys same same_rest =
+    ap (λ c. cond c (x ∷ xs) xs) same ∙ ap (λ zs. cond d (x ∷ zs) zs) same_rest
+
+pub filter-range_agree : (p q : ℕ → Bool) (a n : ℕ) → ((x : ℕ) → a ≤ x → x < a + n → p x ≡ q x)
+    → filter p (range_with_len a n) ≡ filter q (range_with_len a n)
+filter-range_agree p q a zero same = refl
+filter-range_agree p q a (suc n) same =
+    filter-step (p a) (q a) a (filter p (range_with_len (a + 1) n)) (filter q (range_with_len (a + 1) n))
+    (same a (omega arith) (omega arith))
+    (filter-range_agree p q (a + 1) n (λ x from below. same x (omega arith) (omega arith)))
+
+-- a list has one element more than another, which is x
+pub record HasMore (x : ℕ) (longer shorter : List ℕ) : Type 0 where
+  pub front : List ℕ
+  pub back : List ℕ
+  pub long : longer ≡ front ++ x ∷ back
+  pub short : shorter ≡ front ++ back
+
+pub length-HasMore : (x : ℕ) (longer shorter : List ℕ) → HasMore x longer shorter → length longer ≡ length shorter + 1
+length-HasMore x longer shorter more =
+    ap length more.long ∙ length-append more.front (x ∷ more.back)
+    ∙ omega (arith, ap length more.short ∙ length-append more.front more.back)
+
+-- of tests that agree on a range but for one of its numbers, the one passes that number more than the other
+pub HasMore-filter_range : (p q : ℕ → Bool) (a n m : ℕ) → a ≤ m → m < a + n → p m ≡ true → q m ≡ false
+    → ((x : ℕ) → a ≤ x → x < a + n → x ≢ m → p x ≡ q x)
+    → HasMore m (filter p (range_with_len a n)) (filter q (range_with_len a n))
+HasMore-filter_range p q a n m from below passes fails same =
+    let k = m - a in
+    let rest = n - (k + 1) in
+    let around = range_around a n k m (omega arith) (omega arith) in
+    let front = range_with_len a k in
+    let back = range_with_len (m + 1) rest in
+    record {
+      front = filter q front;
+      back = filter q back;
+      long = ap (λ xs. filter p xs) around ∙ filter-append p front (m ∷ back)
+          ∙ ap (λ b. filter p front ++ cond b (m ∷ filter p back) (filter p back)) passes
+          ∙ ap (λ xs. xs ++ m ∷ filter p back)
+          (filter-range_agree p q a k (λ x x_from x_below. same x (omega arith) (omega arith) (omega arith)))
+          ∙ ap (λ xs. filter q front ++ m ∷ xs)
+          (filter-range_agree p q (m + 1) rest (λ x x_from x_below. same x (omega arith) (omega arith) (omega arith)));
+      short = ap (λ xs. filter q xs) around ∙ filter-append q front (m ∷ back)
+          ∙ ap (λ b. filter q front ++ cond b (m ∷ filter q back) (filter q back)) fails;
+    }
