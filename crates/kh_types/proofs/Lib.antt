@@ -15,3 +15,5 @@ pub mod CrossingLemmas
 pub mod CheckerboardLemmas
 pub mod AcceptedLemmas
 pub mod DirectionLemmas
+pub mod PassLemmas
+pub mod NextLemmas
