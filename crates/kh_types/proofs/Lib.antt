@@ -15,5 +15,6 @@ pub mod CrossingLemmas
 pub mod CheckerboardLemmas
 pub mod AcceptedLemmas
 pub mod DirectionLemmas
-pub mod PassLemmas
-pub mod NextLemmas
+pub mod PassPairs
+pub mod NextArcs
+pub mod DirectedPasses

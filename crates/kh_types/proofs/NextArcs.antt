@@ -12,7 +12,7 @@ use Rattle.kh_types.specs.Accepted.{IsDirected}
 use Rattle.kh_types.proofs.Lists.{count_by-more_than}
 use Rattle.kh_types.proofs.ClassLemmas.{classes-finest}
 use Rattle.kh_types.proofs.JoinedClasses.{IsNamed-classes_of}
-use Rattle.kh_types.proofs.PassLemmas.{passes-all, slots-hold_arcs, passes-below}
+use Rattle.kh_types.proofs.PassPairs.{passes-below, passes-positive}
 
 -- the components are named by their least numbers
 pub IsNamed-components_of : (crossings : List (List ℕ)) → IsDirected crossings
@@ -37,18 +37,7 @@ component-own : (crossings : List (List ℕ)) → IsDirected crossings → (arc 
 component-own crossings directed arc is =
     (IsNamed-components_of crossings directed).own arc (omega (arith, is.within))
 
--- the number 0 is in no pair, so the least arc of a component is an arc
-passes-positive : (crossings : List (List ℕ)) → IsDirected crossings → Respects (λ z. min z 1) (flat_map passes_of crossings)
-passes-positive crossings directed =
-    passes-all (λ pair. min pair.0 1 ≡ min pair.1 1) crossings
-    (λ place below.
-    let arc = λ (slot : ℕ) (slot_below : slot < 4). slots-hold_arcs crossings directed place slot below slot_below in
-    let a = arc 0 (omega arith) in
-    let b = arc 1 (omega arith) in
-    let c = arc 2 (omega arith) in
-    let d = arc 3 (omega arith) in
-    (omega (arith, a.positive, c.positive), (omega (arith, b.positive, d.positive), tt)))
-
+-- the number 0 is in no pass, so the least arc of a component is an arc
 component-positive : (crossings : List (List ℕ)) → IsDirected crossings → (arc : ℕ) → IsArc crossings arc
     → 1 ≤ component crossings arc
 component-positive crossings directed arc is =
