@@ -18,3 +18,4 @@ pub mod DirectionLemmas
 pub mod PassPairs
 pub mod NextArcs
 pub mod DirectedPasses
+pub mod TwoHeads

@@ -1,6 +1,7 @@
 -- General lemmas on lists, for all crates.
 use Rattle.std.proofs.Common.{◌≡◌, ◌≢◌, ℕ, zero, suc, ◌+◌, ◌-◌, ◌<◌, ◌≤◌, ◌∙◌, List, [], ◌∷◌, ◌++◌, length, map, get_or, refl, sym, ap, arith, Bool, true, false, cond}
-use Rattle.std.specs.List.{AllByRecursion, filter, count_by, range_with_len}
+use Rattle.std.specs.Prelude.{Option, Some, None}
+use Rattle.std.specs.List.{AllByRecursion, filter, find, count_by, range_with_len}
 use Rattle.std.proofs.lemmas.List.{length-append}
 use Rattle.std.proofs.lemmas.List.Elements.{filter-append}
 use Rattle.std.proofs.lemmas.List.Sums.{sum_by-cons}
@@ -105,3 +106,10 @@ count_by-more_than p (x ∷ xs) default (suc a) n (suc k) passes behind below la
     (λ j from j_below. passes (suc j) (omega (arith, from)) (omega (arith, j_below)))
     (omega (arith, behind)) (omega (arith, below)) last in
     omega (arith, rest, count_by-later p x xs)
+
+-- a search among numbers of which none passes
+pub find-none : (p : ℕ → Bool) (a n : ℕ) → ((k : ℕ) → a ≤ k → k < a + n → p k ≡ false) → find p (range_with_len a n) ≡ None
+find-none p a zero fails = refl
+find-none p a (suc n) fails =
+    ap (λ b. cond b (Some a) (find p (range_with_len (a + 1) n))) (fails a (omega arith) (omega arith))
+    ∙ find-none p (a + 1) n (λ k from below. fails k (omega (arith, from)) (omega (arith, below)))

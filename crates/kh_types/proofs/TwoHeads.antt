@@ -1,0 +1,265 @@
+-- No arc of a directed code has two heads.
+use Rattle.std.proofs.Common.{◌≡◌, ◌≢◌, ℕ, zero, suc, ◌⊎◌, inl, inr, ◌+◌, ◌%◌, ◌<◌, ◌≤◌, ◌∙◌, List, refl, sym, ap, length, arith, Bool, true, false, not, cond}
+use Rattle.std.specs.Prelude.{nat_eq, nat_lt, ◌||◌, if◌then◌else◌, Option, Some, None}
+use Rattle.std.specs.List.{find, flat_map, range_with_len}
+use Rattle.std.proofs.lemmas.Bool.{cases_lt, cases_eq, cases_Bool}
+use Rattle.std.proofs.lemmas.Bool.Decides.{nat_tests}
+use Rattle.kh_types.specs.declared.dart.Dart.{Dart}
+use Rattle.kh_types.specs.Code.{arc_in, arc_count, slots_of, IsArc, IsCrossing}
+use Rattle.kh_types.specs.Classes.{Respects}
+use Rattle.kh_types.specs.Components.{passes_of, components_of, component_of, arcs_in, next}
+use Rattle.kh_types.specs.Darts.{arc_of, partner, IsDart, HasArcsTwice, IsOtherDart}
+use Rattle.kh_types.specs.Directions.{first_under, first_over, passes_under, passes_over, is_positive, is_head}
+use Rattle.kh_types.specs.Accepted.{IsDirected}
+use Rattle.kh_types.proofs.ClassLemmas.{classes-finest}
+use Rattle.kh_types.proofs.RangeCounts.{found-counted, count_by-but}
+use Rattle.kh_types.proofs.DartPairs.{dart_or_partner, partner-only}
+use Rattle.kh_types.proofs.AcceptedLemmas.{HasArcsTwice-directed}
+use Rattle.kh_types.proofs.PassPairs.{dart_of, passes-all, passes-below, IsArc-at, IsDart-of}
+use Rattle.kh_types.proofs.NextArcs.{component, size_at, component-next, next-alone, size-of_two}
+use Rattle.kh_types.proofs.DirectedPasses.{across, IsDart-across, same_dart, across-across, is_head-across, head-cases, arc_of-across, is_positive-under, is_positive-order}
+
+-- two darts of one arc that are both heads
+pub record TwoHeads (crossings : List (List ℕ)) (dart other : Dart) : Type 0 where
+  pub within : IsDart crossings dart
+  pub beside : IsOtherDart crossings dart other
+  pub head : is_head crossings dart ≡ true
+  pub other_head : is_head crossings other ≡ true
+
+turned : (crossings : List (List ℕ)) (dart other : Dart) → TwoHeads crossings dart other → TwoHeads crossings other dart
+turned crossings dart other two = record {
+  within = two.beside.within;
+  beside = record { within = two.within; differs = λ same. two.beside.differs (sym same); same_arc = sym two.beside.same_arc };
+  head = two.other_head;
+  other_head = two.head;
+}
+
+-- of two darts of one arc each dart of the arc is one
+one_of : (crossings : List (List ℕ)) (dart other third : Dart) → IsDirected crossings → IsDart crossings dart
+    → IsOtherDart crossings dart other → IsDart crossings third → arc_of crossings third ≡ arc_of crossings dart
+    → (third ≡ dart) ⊎ (third ≡ other)
+one_of crossings dart other third directed is beside third_is same =
+    let twice = HasArcsTwice-directed crossings directed in
+    elim (dart_or_partner crossings dart third twice is third_is same) [
+      | inl is_dart ↦ inl is_dart
+      | inr is_partner ↦ inr (is_partner ∙ sym (partner-only crossings dart other twice is beside))
+    ]
+
+-- the darts across from two heads of one arc are the two darts of the next arc
+beside-across : (crossings : List (List ℕ)) (dart other : Dart) → IsDirected crossings → TwoHeads crossings dart other
+    → IsOtherDart crossings (across dart) (across other)
+beside-across crossings dart other directed two = record {
+  within = IsDart-across crossings other two.beside.within;
+  differs = λ same. two.beside.differs
+      (sym (across-across other two.beside.within.slot) ∙ ap across same ∙ across-across dart two.within.slot);
+  same_arc =
+      arc_of-across crossings other directed two.beside.within two.other_head
+      ∙ ap (λ arc. next crossings arc) two.beside.same_arc
+      ∙ sym (arc_of-across crossings dart directed two.within two.head);
+}
+
+-- a pass that begins or ends on the arc or on its next arc does so at both its ends
+stays : (crossings : List (List ℕ)) (dart other third : Dart) → IsDirected crossings → TwoHeads crossings dart other
+    → IsDart crossings third
+    → (arc_of crossings third ≡ arc_of crossings dart) ⊎ (arc_of crossings third ≡ next crossings (arc_of crossings dart))
+    → (arc_of crossings (across third) ≡ arc_of crossings dart)
+    ⊎ (arc_of crossings (across third) ≡ next crossings (arc_of crossings dart))
+stays crossings dart other third directed two is one =
+    let leads = arc_of-across crossings dart directed two.within two.head in
+    let other_leads : arc_of crossings (across other) ≡ next crossings (arc_of crossings dart) =
+    arc_of-across crossings other directed two.beside.within two.other_head ∙ ap (λ arc. next crossings arc) two.beside.same_arc in
+    let arc = λ (d : Dart). arc_of crossings d in
+    elim one [
+      | inl here ↦ elim (one_of crossings dart other third directed two.within two.beside is here) [
+        | inl is_dart ↦ inr (ap (λ d. arc (across d)) is_dart ∙ leads)
+        | inr is_other ↦ inr (ap (λ d. arc (across d)) is_other ∙ other_leads)
+      ]
+      | inr there ↦ elim (one_of crossings (across dart) (across other) third directed (IsDart-across crossings dart two.within)
+          (beside-across crossings dart other directed two) is (there ∙ sym leads)) [
+            | inl is_dart ↦ inl (ap (λ d. arc (across d)) is_dart ∙ ap arc (across-across dart two.within.slot))
+            | inr is_other ↦ inl
+                (ap (λ d. arc (across d)) is_other ∙ ap arc (across-across other two.beside.within.slot) ∙ two.beside.same_arc)
+          ]
+    ]
+
+-- 1 at two numbers, and 0 at all others
+abbrev flag : ℕ → ℕ → ℕ → ℕ
+flag x y z = if nat_eq z x || nat_eq z y then 1 else 0
+
+flag-same : (x y a b : ℕ) → ((a ≡ x) ⊎ (a ≡ y) → (b ≡ x) ⊎ (b ≡ y)) → ((b ≡ x) ⊎ (b ≡ y) → (a ≡ x) ⊎ (a ≡ y))
+    → flag x y a ≡ flag x y b
+flag-same x y a b to from = grind (arith, nat_tests)
+
+flag-tells : (x y z : ℕ) → flag x y x ≡ flag x y z → (z ≡ x) ⊎ (z ≡ y)
+flag-tells x y z same = grind (arith, nat_tests)
+
+flag-across : (crossings : List (List ℕ)) (dart other third : Dart) → IsDirected crossings → TwoHeads crossings dart other
+    → IsDart crossings third
+    → flag (arc_of crossings dart) (next crossings (arc_of crossings dart)) (arc_of crossings third)
+    ≡ flag (arc_of crossings dart) (next crossings (arc_of crossings dart)) (arc_of crossings (across third))
+flag-across crossings dart other third directed two is =
+    let x = arc_of crossings dart in
+    let y = next crossings x in
+    let back : arc_of crossings (across (across third)) ≡ arc_of crossings third =
+    ap (λ d. arc_of crossings d) (across-across third is.slot) in
+    flag-same x y (arc_of crossings third) (arc_of crossings (across third)) (stays crossings dart other third directed two is)
+    (λ one. moved x y (arc_of crossings (across (across third))) (arc_of crossings third) back
+    (stays crossings dart other (across third) directed two (IsDart-across crossings third is) one))
+  where
+    moved : (x y a b : ℕ) → a ≡ b → (a ≡ x) ⊎ (a ≡ y) → (b ≡ x) ⊎ (b ≡ y)
+    moved x y a b same one = grind arith
+
+-- so the arc and its next arc are the whole component
+component-of_two : (crossings : List (List ℕ)) (dart other : Dart) (arc : ℕ) → IsDirected crossings → TwoHeads crossings dart other
+    → IsArc crossings arc → component crossings arc ≡ component crossings (arc_of crossings dart)
+    → (arc ≡ arc_of crossings dart) ⊎ (arc ≡ next crossings (arc_of crossings dart))
+component-of_two crossings dart other arc directed two is same =
+    let x = arc_of crossings dart in
+    let y = next crossings x in
+    let is_x = directed.slots dart two.within in
+    flag-tells x y arc
+    (classes-finest (flag x y) (arc_count crossings + 1) (flat_map passes_of crossings)
+    (passes-all (λ pair. flag x y pair.0 ≡ flag x y pair.1) crossings
+    (λ crossing is_crossing. (
+      flag-across crossings dart other (dart_of crossing 0) directed two (IsDart-of crossings crossing 0 is_crossing (omega arith)),
+      (flag-across crossings dart other (dart_of crossing 1) directed two (IsDart-of crossings crossing 1 is_crossing (omega arith)), tt),
+    )))
+    (passes-below crossings directed) x arc (omega (arith, is_x.within)) (omega (arith, is.within)) (sym same))
+
+size-two : (crossings : List (List ℕ)) (dart other : Dart) → IsDirected crossings → TwoHeads crossings dart other
+    → next crossings (arc_of crossings dart) ≢ arc_of crossings dart → size_at crossings (arc_of crossings dart) ≡ 2
+size-two crossings dart other directed two moves =
+    let x = arc_of crossings dart in
+    let is_x = directed.slots dart two.within in
+    let most = size-of_two crossings directed x x (next crossings x) is_x
+    (λ arc is same. component-of_two crossings dart other arc directed two is same) in
+    elim (cases_lt (size_at crossings x) 2) [
+      | inl less ↦ absurd (moves (next-alone crossings directed x is_x (omega (arith, less))))
+      | inr many ↦ omega (arith, most, many)
+    ]
+
+-- and every head in the component is one of the two
+head-one_of : (crossings : List (List ℕ)) (dart other third : Dart) → IsDirected crossings → TwoHeads crossings dart other
+    → IsDart crossings third → is_head crossings third ≡ true
+    → component crossings (arc_of crossings third) ≡ component crossings (arc_of crossings dart) → (third ≡ dart) ⊎ (third ≡ other)
+head-one_of crossings dart other third directed two is head same =
+    let no_head = λ (tail : Dart) (is_tail : third ≡ across tail) (below : tail.slot < 4) (tail_head : is_head crossings tail ≡ true).
+    true_not_false (is_head crossings third) head
+    (ap (λ d. is_head crossings d) is_tail ∙ is_head-across crossings tail below ∙ ap not tail_head) in
+    elim (component-of_two crossings dart other (arc_of crossings third) directed two (directed.slots third is) same) [
+      | inl here ↦ one_of crossings dart other third directed two.within two.beside is here
+      | inr there ↦ elim (one_of crossings (across dart) (across other) third directed (IsDart-across crossings dart two.within)
+          (beside-across crossings dart other directed two) is (there ∙ sym (arc_of-across crossings dart directed two.within two.head))) [
+            | inl is_dart ↦ absurd (no_head dart is_dart two.within.slot two.head)
+            | inr is_other ↦ absurd (no_head other is_other two.beside.within.slot two.other_head)
+          ]
+    ]
+  where
+    true_not_false : (b : Bool) → b ≡ true → b ≡ false → ⊥
+    true_not_false b holds fails = cc
+
+-- two under passes: the rule of components of two arcs forbids them
+under_under : (crossings : List (List ℕ)) (dart other : Dart) → IsDirected crossings → TwoHeads crossings dart other
+    → next crossings (arc_of crossings dart) ≢ arc_of crossings dart → dart.slot ≡ 0 → other.slot ≡ 0 → ⊥
+under_under crossings dart other directed two moves is_under other_under =
+    let x = arc_of crossings dart in
+    let size = size-two crossings dart other directed two moves in
+    let arc : arc_in (slots_of crossings dart.crossing) 0 ≡ x = ap (λ s. arc_in (slots_of crossings dart.crossing) s) (sym is_under) in
+    let other_arc : arc_in (slots_of crossings other.crossing) 0 ≡ x =
+    ap (λ s. arc_in (slots_of crossings other.crossing) s) (sym other_under) ∙ two.beside.same_arc in
+    let is = two.within.crossing in
+    let other_is = two.beside.within.crossing in
+    elim (cases_lt dart.crossing other.crossing) [
+      | inl earlier ↦ directed.two_arcs dart.crossing other.crossing is other_is earlier (arc ∙ sym other_arc)
+          (ap (λ z. size_at crossings z) other_arc ∙ size)
+      | inr later ↦ elim (cases_eq dart.crossing other.crossing) [
+        | inl same ↦ two.beside.differs (same_dart other dart (sym same) (other_under ∙ sym is_under))
+        | inr differ ↦ directed.two_arcs other.crossing dart.crossing other_is is (omega (arith, later, differ))
+            (other_arc ∙ sym arc) (ap (λ z. size_at crossings z) arc ∙ size)
+      ]
+    ]
+
+-- a head of an over pass
+abbrev IsOverHead : List (List ℕ) → Dart → Type 0
+IsOverHead crossings dart =
+    ((is_positive crossings dart.crossing ≡ true) × (dart.slot ≡ 3)) ⊎ ((is_positive crossings dart.crossing ≡ false) × (dart.slot ≡ 1))
+
+-- its pass goes from x to y
+abbrev OverGoes : Bool → ℕ → ℕ → ℕ → ℕ → Type 0
+OverGoes positive one three x y =
+    ((positive ≡ true) × (three ≡ x) × (one ≡ y)) ⊎ ((positive ≡ false) × (one ≡ x) × (three ≡ y))
+
+over-goes : (crossings : List (List ℕ)) (dart : Dart) (x : ℕ) → IsDirected crossings → IsDart crossings dart
+    → is_head crossings dart ≡ true → arc_of crossings dart ≡ x → IsOverHead crossings dart
+    → OverGoes (is_positive crossings dart.crossing) (arc_in (slots_of crossings dart.crossing) 1)
+    (arc_in (slots_of crossings dart.crossing) 3) x (next crossings x)
+over-goes crossings dart x directed is head is_x over =
+    let slots = slots_of crossings dart.crossing in
+    let leads : arc_of crossings (across dart) ≡ next crossings x =
+    arc_of-across crossings dart directed is head ∙ ap (λ z. next crossings z) is_x in
+    let here = λ (slot : ℕ) (is_slot : slot ≡ dart.slot). ap (λ s. arc_in slots s) is_slot ∙ is_x in
+    let there = λ (slot : ℕ) (is_slot : slot ≡ (dart.slot + 2) % 4). ap (λ s. arc_in slots s) is_slot ∙ leads in
+    elim over [
+      | inl positive ↦ inl (positive.0, here 3 (sym positive.1), there 1 (omega (arith, positive.1)))
+      | inr negative ↦ inr (negative.0, here 1 (sym negative.1), there 3 (omega (arith, negative.1)))
+    ]
+
+over-component : (crossings : List (List ℕ)) (x one three : ℕ) (positive : Bool) → IsDirected crossings → IsArc crossings x
+    → OverGoes positive one three x (next crossings x) → component crossings one ≡ component crossings x
+over-component crossings x one three positive directed is goes = elim goes [
+  | inl from_three ↦ ap (λ z. component crossings z) from_three.2 ∙ component-next crossings directed x is
+  | inr from_one ↦ ap (λ z. component crossings z) from_one.1
+]
+
+not_zero : (crossings : List (List ℕ)) (dart : Dart) → IsOverHead crossings dart → dart.slot ≢ 0
+not_zero crossings dart over is_zero = elim over [
+  | inl positive ↦ omega (arith, positive.1, is_zero)
+  | inr negative ↦ omega (arith, negative.1, is_zero)
+]
+
+-- an under pass and an over pass: the over pass begins where the under pass ends
+under_over : (crossings : List (List ℕ)) (dart other : Dart) → IsDirected crossings → TwoHeads crossings dart other
+    → next crossings (arc_of crossings dart) ≢ arc_of crossings dart → dart.slot ≡ 0 → IsOverHead crossings other → ⊥
+under_over crossings dart other directed two moves is_under over =
+    let x = arc_of crossings dart in
+    let y = next crossings x in
+    let components = components_of crossings in
+    let is_x = directed.slots dart two.within in
+    let small = size-two crossings dart other directed two moves in
+    let goes = over-goes crossings other x directed two.beside.within two.other_head two.beside.same_arc over in
+    let one = arc_in (slots_of crossings other.crossing) 1 in
+    let three = arc_in (slots_of crossings other.crossing) 3 in
+    let positive = is_positive crossings other.crossing in
+    let together = over-component crossings x one three positive directed is_x goes in
+    let same_size : size_at crossings one ≡ size_at crossings x = ap (λ first. arcs_in components first) together in
+    let p = passes_under crossings components (component crossings x) in
+    let passes : p dart.crossing ≡ true =
+    test_holds (component crossings (arc_in (slots_of crossings dart.crossing) 0)) (component crossings x)
+    (ap (λ s. component crossings (arc_in (slots_of crossings dart.crossing) s)) (sym is_under)) in
+    let some = count_by-but p 1 (length crossings) dart.crossing two.within.crossing.positive
+    (omega (arith, two.within.crossing.within)) passes in
+    let found = found-counted p 1 (length crossings) (omega (arith, some)) in
+    let under = found.0 in
+    let third = dart_of under 0 in
+    let third_is = IsDart-of crossings under 0
+    (record { positive = found.1.from; within = omega (arith, found.1.below) }) (omega arith) in
+    elim (head-one_of crossings dart other third directed two third_is refl
+    (test_tells (component crossings (arc_of crossings third)) (component crossings x) found.1.passes)) [
+      | inr is_other ↦ not_zero crossings other over (sym (ap (λ (d : Dart). d.slot) is_other))
+      | inl is_dart ↦
+          let ends : arc_in (slots_of crossings under) 2 ≡ y =
+          ap (λ (d : Dart). arc_of crossings (across d)) is_dart ∙ arc_of-across crossings dart directed two.within two.head in
+          let sign = is_positive-under crossings other.crossing under (omega (arith, same_size, small))
+          (ap (λ c. first_under crossings components c) together ∙ found.1.first) in
+          against positive one three x y (arc_in (slots_of crossings under) 2) sign ends moves goes
+    ]
+  where
+    test_holds : (x y : ℕ) → x ≡ y → nat_eq x y ≡ true
+    test_holds x y same = grind (arith, nat_tests)
+
+    test_tells : (x y : ℕ) → nat_eq x y ≡ true → x ≡ y
+    test_tells x y holds = grind (arith, nat_tests)
+
+    against : (positive : Bool) (one three x y end : ℕ) → positive ≡ nat_eq three end → end ≡ y → y ≢ x
+        → OverGoes positive one three x y → ⊥
+    against positive one three x y end sign ends differ goes = grind (arith, nat_tests)
