@@ -8,7 +8,7 @@ use Rattle.std.proofs.lemmas.Bool.Decides.{nat_tests}
 use Rattle.std.proofs.lemmas.List.Sums.{length-filter}
 use Rattle.kh_types.specs.declared.dart.Dart.{Dart}
 use Rattle.kh_types.specs.Code.{IsArc}
-use Rattle.kh_types.specs.Darts.{dart_at, dart_place, arc_of, times, first_dart, is_same_dart, is_partner, partner, partner_at, IsDart, IsDartOf, HasArcsTwice, IsOtherDart, IsPartner}
+use Rattle.kh_types.specs.Darts.{dart_at, dart_place, arc_of, times, first_dart, is_same_dart, is_partner, partner, partner_at, IsDart, IsDartOf, HasArcsTwice, IsOtherDart, HasPairedDarts, IsPartner}
 use Rattle.kh_types.proofs.Ranges.{find-map}
 use Rattle.kh_types.proofs.RangeCounts.{count_by-one_more, found-counted, only-counted}
 use Rattle.kh_types.proofs.DartLemmas.{is_dart_of, is_partner_at, times_by_places}
@@ -259,3 +259,11 @@ pub first_dart_or_partner : (crossings : List (List ℕ)) (arc : ℕ) (dart : Da
 first_dart_or_partner crossings arc dart twice is_arc is =
     let first = IsDartOf-first_dart crossings arc twice is_arc in
     dart_or_partner crossings (first_dart crossings arc) dart twice first.within is.within (is.on_arc ∙ sym first.on_arc)
+
+pub HasPairedDarts-twice : (crossings : List (List ℕ)) → HasArcsTwice crossings → HasPairedDarts crossings
+HasPairedDarts-twice crossings twice = record {
+  first = λ arc is. IsDartOf-first_dart crossings arc twice is;
+  other = λ dart is. IsOtherDart-partner crossings dart twice is;
+  two = λ dart other is is_other. dart_or_partner crossings dart other twice is is_other.within is_other.on_arc;
+  back = λ dart is. partner-partner crossings dart twice is;
+}

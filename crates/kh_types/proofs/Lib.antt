@@ -14,6 +14,7 @@ pub mod DartPairs
 pub mod CrossingLemmas
 pub mod CheckerboardLemmas
 pub mod AcceptedLemmas
+pub mod DartColours
 pub mod DirectionLemmas
 pub mod PassPairs
 pub mod NextArcs

@@ -1,10 +1,46 @@
--- How many numbers of a range pass a test, and what a search for one of them finds.
-use Rattle.std.proofs.Common.{◌≡◌, ◌≢◌, ℕ, zero, suc, inl, inr, ◌+◌, ◌<◌, ◌≤◌, ◌∙◌, List, ◌∷◌, refl, sym, ap, arith, Bool, true, false, not, ◌&&◌, cond}
+-- Which numbers of a range pass a test, how many, and what a search for one of them finds.
+use Rattle.std.proofs.Common.{◌≡◌, ◌≢◌, ℕ, zero, suc, inl, inr, ◌+◌, ◌<◌, ◌≤◌, ◌∙◌, List, ◌∷◌, get_or, length, ◌-◌, refl, sym, ap, arith, Bool, true, false, not, ◌&&◌, cond}
 use Rattle.std.specs.Prelude.{nat_eq, Some}
-use Rattle.std.specs.List.{count_by, find, range_with_len}
+use Rattle.std.specs.List.{count_by, find, list_all, list_any, range_with_len}
 use Rattle.std.proofs.lemmas.Bool.{cases_Bool, cases_eq}
 use Rattle.std.proofs.lemmas.Bool.Decides.{nat_tests}
-use Rattle.std.proofs.lemmas.List.Sums.{sum_by-cons}
+use Rattle.std.proofs.lemmas.List.Sums.{sum_by-cons, AllPass-from_list_all, list_all-from_AllPass}
+use Rattle.std.proofs.lemmas.List.Folds.{Any-from_list_any, list_any_at}
+use Rattle.std.proofs.lemmas.List.FromFn.{length-range_with_len, get_or-range_with_len}
+
+-- the number at a place of a range
+get_or-range : (a n x d : ℕ) → a ≤ x → x < a + n → get_or (range_with_len a n) (x - a) d ≡ x
+get_or-range a n x d from below = get_or-range_with_len a n (x - a) d (omega arith) ∙ omega arith
+
+place-within : (a n x : ℕ) → a ≤ x → x < a + n → x - a < length (range_with_len a n)
+place-within a n x from below = omega (arith, length-range_with_len a n, from, below)
+
+-- all numbers of a range pass exactly where each does
+pub list_all-at : (p : ℕ → Bool) (a n x : ℕ) → list_all p (range_with_len a n) ≡ true → a ≤ x → x < a + n → p x ≡ true
+list_all-at p a n x holds from below =
+    ap p (sym (get_or-range a n x 0 from below))
+    ∙ AllPass-from_list_all p (range_with_len a n) holds (x - a) 0 (place-within a n x from below)
+
+pub list_all-each : (p : ℕ → Bool) (a n : ℕ) → ((x : ℕ) → a ≤ x → x < a + n → p x ≡ true) → list_all p (range_with_len a n) ≡ true
+list_all-each p a n each =
+    list_all-from_AllPass p (range_with_len a n)
+    (λ k d below.
+    let within : k < n = omega (arith, below, length-range_with_len a n) in
+    ap p (get_or-range_with_len a n k d within) ∙ each (a + k) (omega arith) (omega arith))
+
+-- some number of a range passes exactly where one does
+pub list_any-at : (p : ℕ → Bool) (a n x : ℕ) → a ≤ x → x < a + n → p x ≡ true → list_any p (range_with_len a n) ≡ true
+list_any-at p a n x from below passes =
+    list_any_at p (range_with_len a n) (x - a) 0 (place-within a n x from below)
+    (ap p (get_or-range a n x 0 from below) ∙ passes)
+
+pub list_any-one : (p : ℕ → Bool) (a n : ℕ) → list_any p (range_with_len a n) ≡ true
+    → (x : ℕ) × (a ≤ x) × (x < a + n) × (p x ≡ true)
+list_any-one p a n passes =
+    let found = Any-from_list_any p (range_with_len a n) passes in
+    let within : found.0 < n = omega (arith, length-range_with_len a n, found.2) in
+    let is : found.1 ≡ a + found.0 = sym found.3 ∙ get_or-range_with_len a n found.0 found.1 within in
+    (a + found.0, omega arith, omega arith, ap p (sym is) ∙ found.4)
 
 -- what one number adds to a count
 abbrev counted : Bool → ℕ

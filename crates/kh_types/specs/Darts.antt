@@ -1,5 +1,5 @@
 -- Darts, the ends of arcs.
-use Rattle.std.specs.Prelude.{◌≡◌, ◌≢◌, ℕ, ◌+◌, ◌*◌, ◌/◌, ◌%◌, ◌<◌, List, length, map, nat_eq, Bool, not, ◌&&◌, unwrap_or}
+use Rattle.std.specs.Prelude.{◌≡◌, ◌≢◌, ◌⊎◌, ℕ, ◌+◌, ◌*◌, ◌/◌, ◌%◌, ◌<◌, List, length, map, nat_eq, Bool, not, ◌&&◌, unwrap_or}
 use Rattle.std.specs.List.{find, count_by, range_with_len}
 use Rattle.kh_types.specs.Code.{arc_in, place_of, slots_of, IsCrossing, IsArc}
 use Rattle.kh_types.specs.declared.dart.Dart.{Dart}
@@ -78,6 +78,15 @@ pub record IsOtherDart (crossings : List (List ℕ)) (dart other : Dart) : Type 
   pub within : IsDart crossings other
   pub differs : other ≢ dart
   pub same_arc : arc_of crossings other ≡ arc_of crossings dart
+
+-- the darts of a code are partners in pairs: each arc has a first dart, the partner of a dart is another dart of its arc, there is
+-- no third dart of that arc, and the partner's partner is the dart itself
+pub record HasPairedDarts (crossings : List (List ℕ)) : Type 0 where
+  pub first : (arc : ℕ) → IsArc crossings arc → IsDartOf crossings arc (first_dart crossings arc)
+  pub other : (dart : Dart) → IsDart crossings dart → IsOtherDart crossings dart (partner crossings dart)
+  pub two : (dart other : Dart) → IsDart crossings dart → IsDartOf crossings (arc_of crossings dart) other
+      → (other ≡ dart) ⊎ (other ≡ partner crossings dart)
+  pub back : (dart : Dart) → IsDart crossings dart → partner crossings (partner crossings dart) ≡ dart
 
 -- the places below m are partners in pairs, or alone
 pub record IsPartner (m : ℕ) (partner : ℕ → ℕ) : Type 0 where

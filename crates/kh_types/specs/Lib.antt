@@ -8,6 +8,7 @@ pub mod Faces
 pub mod Checkerboard
 pub mod Acceptance
 pub mod Accepted
+pub mod Colours
 pub mod Directions
 pub mod Circles
 pub mod Generators

@@ -5,6 +5,7 @@ pub mod accepted;
 pub mod checkerboard;
 pub mod classes;
 pub mod complexes;
+pub mod darts;
 pub mod polynomials;
 pub mod ranks;
 pub mod tables;
