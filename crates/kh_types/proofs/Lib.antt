@@ -20,3 +20,4 @@ pub mod PassPairs
 pub mod NextArcs
 pub mod DirectedPasses
 pub mod TwoHeads
+pub mod Heads

@@ -308,9 +308,11 @@ over_first crossings dart other directed two moves over other_over none found =
     up : (c : ℕ) (p : Bool) (one three x y : ℕ) → p ≡ (if nat_eq c c then nat_lt three one else nat_lt one three) → y ≢ x
         → OverGoes p one three x y → x < y
     up c p one three x y sign differ goes = grind (arith, nat_tests)
+
     down : (c e : ℕ) (p : Bool) (one three x y : ℕ) → p ≡ (if nat_eq c e then nat_lt three one else nat_lt one three) → c ≢ e
         → OverGoes p one three x y → y ≤ x
     down c e p one three x y sign apart goes = grind (arith, nat_tests)
+
     against : (c e : ℕ) (p q : Bool) (one three other_one other_three x y : ℕ)
         → p ≡ (if nat_eq c c then nat_lt three one else nat_lt one three)
         → q ≡ (if nat_eq c e then nat_lt other_three other_one else nat_lt other_one other_three) → c ≢ e → y ≢ x
@@ -351,10 +353,13 @@ over_head crossings crossing directed is = elim (cases_Bool (is_head crossings (
       let three = dart_of crossing 3 in
       let three_is = IsDart-of crossings crossing 3 is (omega arith) in
       let head : is_head crossings three ≡ true =
-      is_head-across crossings (dart_of crossing 1) (omega arith) ∙ ap not tail in
-      (3, omega arith, head,
-      sym (component-next crossings directed (arc_of crossings three) (directed.slots three three_is))
-      ∙ ap (λ z. component crossings z) (sym (arc_of-across crossings three directed three_is head)))
+      is_head-across crossings (dart_of crossing 1) (omega arith) ∙ ap not tail in (
+        3,
+        omega arith,
+        head,
+        sym (component-next crossings directed (arc_of crossings three) (directed.slots three three_is))
+            ∙ ap (λ z. component crossings z) (sym (arc_of-across crossings three directed three_is head)),
+      )
 ]
 
 over_over : (crossings : List (List ℕ)) (dart other : Dart) → IsDirected crossings → TwoHeads crossings dart other
@@ -392,6 +397,7 @@ over_over crossings dart other directed two moves over other_over =
   where
     test_holds : (x y : ℕ) → x ≡ y → nat_eq x y ≡ true
     test_holds x y same = grind (arith, nat_tests)
+
     test_tells : (x y : ℕ) → nat_eq x y ≡ true → x ≡ y
     test_tells x y holds = grind (arith, nat_tests)
 
