@@ -1,15 +1,15 @@
 -- Each pass of a directed code leads from the arc whose head it is to the next arc.
-use Rattle.std.proofs.Common.{◌≡◌, ◌≢◌, ℕ, zero, suc, ◌⊎◌, inl, inr, ◌+◌, ◌%◌, ◌<◌, ◌≤◌, ◌∙◌, List, refl, sym, ap, arith, Bool, true, false, not, cond}
-use Rattle.std.specs.Prelude.{nat_eq, nat_lt, nat_le, ◌||◌, if◌then◌else◌, Option, Some, None, is_some, unwrap_or}
-use Rattle.std.proofs.lemmas.Bool.{cases_lt}
+use Rattle.std.proofs.Common.{◌≡◌, ◌≢◌, ℕ, zero, suc, ◌⊎◌, inl, inr, ◌+◌, ◌%◌, ◌<◌, ◌≤◌, ◌∙◌, List, refl, sym, ap, arith, Bool, true, false, not}
+use Rattle.std.specs.Prelude.{nat_eq, nat_le, ◌||◌, if◌then◌else◌, Option, Some, None, is_some, unwrap_or}
+use Rattle.std.proofs.lemmas.Bool.{cases_lt, eqb-true}
 use Rattle.std.proofs.lemmas.Bool.Decides.{nat_tests}
 use Rattle.kh_types.specs.declared.dart.Dart.{Dart}
-use Rattle.kh_types.specs.Code.{arc_in, slots_of, IsArc, IsCrossing}
-use Rattle.kh_types.specs.Components.{components_of, component_of, arcs_in, next}
+use Rattle.kh_types.specs.Code.{arc_in, slots_of, IsCrossing}
+use Rattle.kh_types.specs.Components.{components_of, arcs_in, next}
 use Rattle.kh_types.specs.Darts.{arc_of, IsDart}
 use Rattle.kh_types.specs.Directions.{first_under, first_over, is_positive_by_next, is_positive_by_under, is_positive_by_order, is_positive_of_two, is_positive, is_head}
 use Rattle.kh_types.specs.Accepted.{IsDirected}
-use Rattle.kh_types.proofs.PassPairs.{dart_of, IsArc-at}
+use Rattle.kh_types.proofs.PassPairs.{dart_with, IsArc-at}
 use Rattle.kh_types.proofs.NextArcs.{component, size_at, component-next, next-twice}
 
 -- the dart across its crossing, at the other end of its pass
@@ -22,7 +22,7 @@ IsDart-across crossings dart is = record { crossing = is.crossing; slot = omega 
 -- darts at the same crossing and slot are one
 pub same_dart : (dart other : Dart) → dart.crossing ≡ other.crossing → dart.slot ≡ other.slot → dart ≡ other
 same_dart dart other same same_slot =
-    ap (λ crossing. dart_of crossing dart.slot) same ∙ ap (λ slot. dart_of other.crossing slot) same_slot
+    ap (λ crossing. dart_with crossing dart.slot) same ∙ ap (λ slot. dart_with other.crossing slot) same_slot
 
 pub across-across : (dart : Dart) → dart.slot < 4 → across (across dart) ≡ dart
 across-across dart below = same_dart (across (across dart)) dart refl (omega arith)
@@ -98,15 +98,12 @@ over-positive crossings crossing directed is positive =
     elim (cases_lt 2 (size_at crossings (arc_in slots 1))) [
       | inr small ↦ (over-both crossings crossing directed is small).1
       | inl large ↦
-          test_tells (arc_in slots 1) (next crossings (arc_in slots 3))
+          eqb-true (arc_in slots 1) (next crossings (arc_in slots 3))
           (sym
           (by_size (size_at crossings (arc_in slots 1)) (is_positive_by_next components slots)
           (is_positive_of_two crossings components crossing) large)
           ∙ positive)
     ]
-  where
-    test_tells : (x y : ℕ) → nat_eq x y ≡ true → x ≡ y
-    test_tells x y holds = grind (arith, nat_tests)
 
 -- that of any other leads from slot 1 to slot 3
 pub over-negative : (crossings : List (List ℕ)) (crossing : ℕ) → IsDirected crossings → IsCrossing crossings crossing

@@ -20,4 +20,5 @@ pub mod PassPairs
 pub mod NextArcs
 pub mod DirectedPasses
 pub mod TwoHeads
+pub mod OneHead
 pub mod Heads

@@ -3,10 +3,10 @@ use Rattle.std.proofs.Common.{◌≡◌, ◌≢◌, ℕ, ◌⊎◌, inl, inr, �
 use Rattle.std.specs.Prelude.{slice_index, min, nat_eq, if◌then◌else◌}
 use Rattle.std.specs.List.{flat_map}
 use Rattle.std.proofs.lemmas.List.{get_or_past}
-use Rattle.std.proofs.lemmas.Bool.{cases_lt}
+use Rattle.std.proofs.lemmas.Bool.{cases_lt, eq-eqb}
 use Rattle.std.proofs.lemmas.Bool.Decides.{nat_tests}
 use Rattle.kh_types.specs.Code.{arc_count, IsArc}
-use Rattle.kh_types.specs.Classes.{Respects, IsNamed}
+use Rattle.kh_types.specs.Classes.{IsNamed}
 use Rattle.kh_types.specs.Components.{passes_of, components_of, component_of, arcs_in, next}
 use Rattle.kh_types.specs.Accepted.{IsDirected}
 use Rattle.kh_types.proofs.Lists.{count_by-more_than}
@@ -67,15 +67,12 @@ component-below crossings directed arc is behind =
     let first = component crossings arc in
     let components = components_of crossings in
     let same : (other : ℕ) → component crossings other ≡ first → nat_eq first (slice_index components other) ≡ true =
-    λ other is_same. test_holds first (component crossings other) (sym is_same) in
+    λ other is_same. eq-eqb first (component crossings other) (sym is_same) in
     let more = count_by-more_than (nat_eq first) components 0 first (size_at crossings arc) arc
     (λ other from below. same other (component-inside crossings directed arc other is from below)) behind
     (omega (arith, is.within, (IsNamed-components_of crossings directed).size))
     (same arc refl) in
     omega (arith, more)
-  where
-    test_holds : (x y : ℕ) → x ≡ y → nat_eq x y ≡ true
-    test_holds x y same = grind (arith, nat_tests)
 
 -- what is in a component other than that of 0 is an arc
 component-past : (crossings : List (List ℕ)) → IsDirected crossings → (other : ℕ) → arc_count crossings < other

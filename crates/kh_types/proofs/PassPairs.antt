@@ -29,18 +29,18 @@ passes-all P crossings each =
     (each (place + 1) (record { positive = omega arith; within = omega (arith, below) })))
 
 -- the dart at a slot of a crossing
-abbrev pub dart_of : ℕ → ℕ → Dart
-dart_of crossing slot = record { crossing = crossing; slot = slot }
+abbrev pub dart_with : ℕ → ℕ → Dart
+dart_with crossing slot = record { crossing = crossing; slot = slot }
 
-pub IsDart-of : (crossings : List (List ℕ)) (crossing slot : ℕ) → IsCrossing crossings crossing → slot < 4
-    → IsDart crossings (dart_of crossing slot)
-IsDart-of crossings crossing slot is below = record { crossing = is; slot = below }
+pub IsDart-with : (crossings : List (List ℕ)) (crossing slot : ℕ) → IsCrossing crossings crossing → slot < 4
+    → IsDart crossings (dart_with crossing slot)
+IsDart-with crossings crossing slot is below = record { crossing = is; slot = below }
 
 -- the arc at a slot of a crossing
 pub IsArc-at : (crossings : List (List ℕ)) (crossing slot : ℕ) → IsDirected crossings → IsCrossing crossings crossing → slot < 4
     → IsArc crossings (arc_in (slots_of crossings crossing) slot)
 IsArc-at crossings crossing slot directed is below =
-    directed.slots (dart_of crossing slot) (IsDart-of crossings crossing slot is below)
+    directed.slots (dart_with crossing slot) (IsDart-with crossings crossing slot is below)
 
 -- the pairs of a directed code are of arcs
 pub passes-below : (crossings : List (List ℕ)) → IsDirected crossings

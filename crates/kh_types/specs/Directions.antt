@@ -1,7 +1,7 @@
 -- The direction of over passes, and the signs of crossings.
-use Rattle.std.specs.Prelude.{◌≡◌, ℕ, ◌-◌, ℤ, pos, neg_ℤ, List, length, nat_eq, nat_lt, nat_le, Bool, IsTrue, not, ◌&&◌, ◌||◌, is_some, Option, unwrap_or, if◌then◌else◌}
+use Rattle.std.specs.Prelude.{◌≡◌, ◌≢◌, ℕ, ◌-◌, ℤ, pos, neg_ℤ, List, length, nat_eq, nat_lt, nat_le, Bool, IsTrue, not, ◌&&◌, ◌||◌, is_some, Option, unwrap_or, if◌then◌else◌}
 use Rattle.std.specs.List.{find, count_by}
-use Rattle.kh_types.specs.Code.{arc_in, slots_of, crossing_numbers}
+use Rattle.kh_types.specs.Code.{arc_in, slots_of, crossing_numbers, IsArc}
 use Rattle.kh_types.specs.Darts.{dart_at, darts, arc_of, partner, IsDartOf}
 use Rattle.kh_types.specs.declared.dart.Dart.{Dart}
 use Rattle.kh_types.specs.Components.{components_of, component_of, arcs_in, next_in, next}
@@ -86,6 +86,10 @@ head_of crossings arc =
 abbrev pub tail_of : List (List ℕ) → ℕ → Dart
 tail_of crossings arc =
     unwrap_or (find (λ dart. nat_eq (arc_of crossings dart) arc && not (is_head crossings dart)) (darts crossings)) (dart_at 0)
+
+-- no component has a single arc: no arc is its own next
+abbrev pub HasNoSingleArcs : List (List ℕ) → Type 0
+HasNoSingleArcs crossings = (arc : ℕ) → IsArc crossings arc → next crossings arc ≢ arc
 
 -- the ends of an arc are its two darts: its head is one by which it enters a crossing, its tail one by which it leaves one, there
 -- is no other head and no other tail, and each is the partner of the other
