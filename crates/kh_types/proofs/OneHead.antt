@@ -210,38 +210,47 @@ over_head crossings crossing directed is = elim (cases_Bool (is_head crossings (
       )
 ]
 
+-- two over passes: the first over pass of the component is one of them
+over_over_at : (crossings : List (List ℕ)) (dart other : Dart) (first : ℕ) → IsDirected crossings → TwoHeads crossings dart other
+    → next crossings (arc_of crossings dart) ≢ arc_of crossings dart → IsOverHead crossings dart → IsOverHead crossings other
+    → IsCrossing crossings first
+    → passes_over crossings (components_of crossings) (component crossings (arc_of crossings dart)) first ≡ true
+    → first_over crossings (components_of crossings) (component crossings (arc_of crossings dart)) ≡ Some first → ⊥
+over_over_at crossings dart other first directed two moves over other_over is passes found =
+    let components = components_of crossings in
+    let none = over-nowhere_under crossings dart other directed two over other_over in
+    let head = over_head crossings first directed is in
+    let same = eqb-true (component crossings (arc_of crossings (dart_with first 1))) (component crossings (arc_of crossings dart))
+    passes in
+    elim (head-one_of crossings dart other (dart_with first head.0) directed two (IsDart-with crossings first head.0 is head.1) head.2
+    (head.3 ∙ same)) [
+      | inl is_dart ↦
+          let here : first ≡ dart.crossing = ap (λ (d : Dart). d.crossing) is_dart in
+          over_first crossings dart other directed two moves over other_over none (found ∙ ap (λ n. Some n) here)
+      | inr is_other ↦
+          let back = two.beside.same_arc in
+          let there : first ≡ other.crossing = ap (λ (d : Dart). d.crossing) is_other in
+          over_first crossings other dart directed (turned_round crossings dart other two)
+          (λ alone. moves (sym (ap (λ z. next crossings z) back) ∙ alone ∙ back)) other_over over
+          (ap (λ z. first_under crossings components (component crossings z)) back ∙ none)
+          (ap (λ z. first_over crossings components (component crossings z)) back ∙ found ∙ ap (λ n. Some n) there)
+    ]
+
 over_over : (crossings : List (List ℕ)) (dart other : Dart) → IsDirected crossings → TwoHeads crossings dart other
     → next crossings (arc_of crossings dart) ≢ arc_of crossings dart → IsOverHead crossings dart → IsOverHead crossings other → ⊥
 over_over crossings dart other directed two moves over other_over =
     let x = arc_of crossings dart in
-    let components = components_of crossings in
-    let is_x = directed.slots dart two.within in
-    let none = over-nowhere_under crossings dart other directed two over other_over in
+    let is = two.within.crossing in
     let goes = over-goes crossings dart x directed two.within two.head refl over in
     let slots = slots_of crossings dart.crossing in
-    let together = over-component crossings x (arc_in slots 1) (arc_in slots 3) (is_positive crossings dart.crossing) directed is_x
-    goes in
-    let p = passes_over crossings components (component crossings x) in
+    let together = over-component crossings x (arc_in slots 1) (arc_in slots 3) (is_positive crossings dart.crossing) directed
+    (directed.slots dart two.within) goes in
+    let p = passes_over crossings (components_of crossings) (component crossings x) in
     let passes : p dart.crossing ≡ true = eq-eqb (component crossings (arc_in slots 1)) (component crossings x) together in
-    let some = count_by-but p 1 (length crossings) dart.crossing two.within.crossing.positive
-    (omega (arith, two.within.crossing.within)) passes in
+    let some = count_by-but p 1 (length crossings) dart.crossing is.positive (omega (arith, is.within)) passes in
     let found = found-counted p 1 (length crossings) (omega (arith, some)) in
-    let is_found : IsCrossing crossings found.0 = record { positive = found.1.from; within = omega (arith, found.1.below) } in
-    let head = over_head crossings found.0 directed is_found in
-    let same = eqb-true (component crossings (arc_of crossings (dart_with found.0 1))) (component crossings x) found.1.passes in
-    elim (head-one_of crossings dart other (dart_with found.0 head.0) directed two (IsDart-with crossings found.0 head.0 is_found head.1)
-    head.2 (head.3 ∙ same)) [
-      | inl is_dart ↦
-          over_first crossings dart other directed two moves over other_over none
-          (found.1.first ∙ ap (λ (d : Dart). Some d.crossing) is_dart)
-      | inr is_other ↦
-          let back = two.beside.same_arc in
-          over_first crossings other dart directed (turned_round crossings dart other two)
-          (λ stays. moves (sym (ap (λ z. next crossings z) back) ∙ stays ∙ back)) other_over over
-          (ap (λ z. first_under crossings components (component crossings z)) back ∙ none)
-          (ap (λ z. first_over crossings components (component crossings z)) back ∙ found.1.first
-          ∙ ap (λ (d : Dart). Some d.crossing) is_other)
-    ]
+    over_over_at crossings dart other found.0 directed two moves over other_over
+    (record { positive = found.1.from; within = omega (arith, found.1.below) }) found.1.passes found.1.first
 
 -- no arc has two heads, where it is not its own next
 pub two_heads-none : (crossings : List (List ℕ)) (dart other : Dart) → IsDirected crossings → TwoHeads crossings dart other
@@ -255,7 +264,7 @@ two_heads-none crossings dart other directed two moves = elim (head-cases crossi
     | inl other_under ↦
         let back = two.beside.same_arc in
         under_over crossings other dart directed (turned_round crossings dart other two)
-        (λ stays. moves (sym (ap (λ z. next crossings z) back) ∙ stays ∙ back)) other_under over
+        (λ alone. moves (sym (ap (λ z. next crossings z) back) ∙ alone ∙ back)) other_under over
     | inr other_over ↦ over_over crossings dart other directed two moves over other_over
   ]
 ]

@@ -5,7 +5,7 @@ use Rattle.std.specs.List.{flat_map}
 use Rattle.std.proofs.lemmas.Bool.{cases_lt}
 use Rattle.std.proofs.lemmas.Bool.Decides.{nat_tests}
 use Rattle.kh_types.specs.declared.dart.Dart.{Dart}
-use Rattle.kh_types.specs.Code.{arc_count, IsArc}
+use Rattle.kh_types.specs.Code.{arc_count, IsArc, IsCrossing}
 use Rattle.kh_types.specs.Components.{passes_of, next}
 use Rattle.kh_types.specs.Darts.{arc_of, IsDart, IsOtherDart}
 use Rattle.kh_types.specs.Directions.{is_head}
@@ -115,15 +115,15 @@ component-of_two crossings dart other arc directed two is same =
     let x = arc_of crossings dart in
     let y = next crossings x in
     let is_x = directed.slots dart two.within in
+    let at = λ (slot : ℕ) (below : slot < 4) (crossing : ℕ) (is_crossing : IsCrossing crossings crossing).
+    flag-across crossings dart other (dart_with crossing slot) directed two (IsDart-with crossings crossing slot is_crossing below) in
     flag-tells x y arc
     (classes-finest (flag x y) (arc_count crossings + 1) (flat_map passes_of crossings)
     (passes-all (λ pair. flag x y pair.0 ≡ flag x y pair.1) crossings
-    (λ crossing is_crossing. (
-      flag-across crossings dart other (dart_with crossing 0) directed two (IsDart-with crossings crossing 0 is_crossing (omega arith)),
-      (flag-across crossings dart other (dart_with crossing 1) directed two (IsDart-with crossings crossing 1 is_crossing (omega arith)), tt),
-    )))
+    (λ crossing is_crossing. (at 0 (omega arith) crossing is_crossing, (at 1 (omega arith) crossing is_crossing, tt))))
     (passes-below crossings directed) x arc (omega (arith, is_x.within)) (omega (arith, is.within)) (sym same))
 
+-- so a component with two heads on an arc has two arcs
 pub size-two : (crossings : List (List ℕ)) (dart other : Dart) → IsDirected crossings → TwoHeads crossings dart other
     → next crossings (arc_of crossings dart) ≢ arc_of crossings dart → size_at crossings (arc_of crossings dart) ≡ 2
 size-two crossings dart other directed two moves =
