@@ -20,3 +20,9 @@ pub mod CheckerboardLemmas
 pub mod AcceptedLemmas
 pub mod DartColours
 pub mod DirectionLemmas
+pub mod PassPairs
+pub mod NextArcs
+pub mod DirectedPasses
+pub mod TwoHeads
+pub mod OneHead
+pub mod Heads

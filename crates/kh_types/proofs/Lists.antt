@@ -1,6 +1,7 @@
 -- General lemmas on lists, for all crates.
-use Rattle.std.proofs.Common.{◌≡◌, ◌≢◌, ℕ, zero, suc, ◌+◌, ◌-◌, ◌<◌, ◌≤◌, ◌∙◌, List, [], ◌∷◌, ◌++◌, length, map, refl, sym, ap, arith, Bool, true, false, cond}
-use Rattle.std.specs.List.{All, AllByRecursion, Contains, filter, flat_map, count_by, range_with_len}
+use Rattle.std.proofs.Common.{◌≡◌, ◌≢◌, ℕ, zero, suc, ◌+◌, ◌-◌, ◌<◌, ◌≤◌, ◌∙◌, List, [], ◌∷◌, ◌++◌, length, map, get_or, refl, sym, ap, arith, Bool, true, false, cond}
+use Rattle.std.specs.Prelude.{Some, None}
+use Rattle.std.specs.List.{All, AllByRecursion, Contains, filter, flat_map, find, count_by, range_with_len}
 use Rattle.std.proofs.lemmas.List.{length-append, length-map, get_or-map}
 use Rattle.std.proofs.lemmas.List.Elements.{filter-append, All-nil, All-append, All-head, Contains-append_left, Contains-append_right}
 use Rattle.std.proofs.lemmas.List.Sums.{sum_by-cons}
@@ -119,3 +120,39 @@ All-flat_map P f (x ∷ xs) holds = All-append P (f x) (flat_map f xs) (holds x)
 pub All-some : {X : Type 0} (P : X → Type 0) (xs : List X) → All P xs → 0 < length xs → (x : X) × P x
 All-some P [] holds some = absurd (omega arith)
 All-some P (x ∷ xs) holds some = (x, All-head P x xs holds)
+
+-- one element more in front, which passes a test or may
+count_by-first : {X : Type 0} (p : X → Bool) (x : X) (xs : List X) → p x ≡ true → count_by p (x ∷ xs) ≡ 1 + count_by p xs
+count_by-first p x xs passes = sum_by-cons (λ y. cond (p y) 1 0) x xs ∙ ap (λ b. cond b 1 0 + count_by p xs) passes
+
+count_by-later : {X : Type 0} (p : X → Bool) (x : X) (xs : List X) → count_by p xs ≤ count_by p (x ∷ xs)
+count_by-later p x xs = omega (arith, sum_by-cons (λ y. cond (p y) 1 0) x xs)
+
+-- where n elements from a place on pass a test, and one more behind them, more than n pass
+pub count_by-more_than : {X : Type 0} (p : X → Bool) (xs : List X) (default : X) (a n k : ℕ)
+    → ((j : ℕ) → a ≤ j → j < a + n → p (get_or xs j default) ≡ true) → a + n ≤ k → k < length xs → p (get_or xs k default) ≡ true
+    → n < count_by p xs
+count_by-more_than p [] default a n k passes behind below last = absurd (omega (arith, below))
+count_by-more_than p (x ∷ xs) default zero zero zero passes behind below last = omega (arith, count_by-first p x xs last)
+count_by-more_than p (x ∷ xs) default zero (suc n) zero passes behind below last = absurd (omega (arith, behind))
+count_by-more_than p (x ∷ xs) default (suc a) n zero passes behind below last = absurd (omega (arith, behind))
+count_by-more_than p (x ∷ xs) default zero zero (suc k) passes behind below last =
+    let rest = count_by-more_than p xs default zero zero k (λ j from j_below. absurd (omega (arith, j_below))) (omega arith)
+    (omega (arith, below)) last in
+    omega (arith, rest, count_by-later p x xs)
+count_by-more_than p (x ∷ xs) default zero (suc n) (suc k) passes behind below last =
+    let rest = count_by-more_than p xs default zero n k (λ j from j_below. passes (suc j) (omega arith) (omega (arith, j_below)))
+    (omega (arith, behind)) (omega (arith, below)) last in
+    omega (arith, rest, count_by-first p x xs (passes zero (omega arith) (omega arith)))
+count_by-more_than p (x ∷ xs) default (suc a) n (suc k) passes behind below last =
+    let rest = count_by-more_than p xs default a n k
+    (λ j from j_below. passes (suc j) (omega (arith, from)) (omega (arith, j_below)))
+    (omega (arith, behind)) (omega (arith, below)) last in
+    omega (arith, rest, count_by-later p x xs)
+
+-- a search among numbers of which none passes
+pub find-none : (p : ℕ → Bool) (a n : ℕ) → ((k : ℕ) → a ≤ k → k < a + n → p k ≡ false) → find p (range_with_len a n) ≡ None
+find-none p a zero fails = refl
+find-none p a (suc n) fails =
+    ap (λ b. cond b (Some a) (find p (range_with_len (a + 1) n))) (fails a (omega arith) (omega arith))
+    ∙ find-none p (a + 1) n (λ k from below. fails k (omega (arith, from)) (omega (arith, below)))
