@@ -17,7 +17,7 @@ use Rattle.kh_types.proofs.Ranges.{find-map}
 use Rattle.kh_types.proofs.RangeCounts.{found-counted, count_by-but}
 use Rattle.kh_types.proofs.DartPairs.{IsDart-at, dart_place-below, dart_at-place, IsOtherDart-partner, dart_or_partner, IsDartOf-first_dart}
 use Rattle.kh_types.proofs.AcceptedLemmas.{IsAccepted-is, HasArcsTwice-directed}
-use Rattle.kh_types.proofs.DartColours.{IsOriented-checkerboard}
+use Rattle.kh_types.proofs.DartColours.{IsColoured-checkerboard}
 use Rattle.kh_types.proofs.PassPairs.{dart_with, IsDart-with}
 use Rattle.kh_types.proofs.NextArcs.{next-injective}
 use Rattle.kh_types.proofs.DirectedPasses.{across, IsDart-across, across-across, is_head-across, arc_of-across}
@@ -43,7 +43,7 @@ pub HasNoSingleArcs-checkerboard : (crossings : List (List ℕ)) → IsDirected 
     → HasNoSingleArcs crossings
 HasNoSingleArcs-checkerboard crossings directed board arc is_arc alone =
     let twice = HasArcsTwice-directed crossings directed in
-    let oriented = IsOriented-checkerboard crossings board twice in
+    let oriented = IsColoured-checkerboard crossings board twice in
     let first = IsDartOf-first_dart crossings arc twice is_arc in
     let dart = first_dart crossings arc in
     let same_arc = across-alone crossings dart directed first.within

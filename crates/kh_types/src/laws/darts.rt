@@ -4,7 +4,7 @@ ghost use Rattle.std.specs.Prelude.{◌≡◌, ◌≢◌, ◌<◌, ℕ, List, Is
 ghost use Rattle.kh_types.specs.Code.{Code};
 ghost use Rattle.kh_types.specs.Darts.{dart_count, partner_at, HasArcsTwice, HasPairedDarts, IsPartner};
 ghost use Rattle.kh_types.specs.Acceptance.{accepted};
-ghost use Rattle.kh_types.specs.Colours.{IsOriented};
+ghost use Rattle.kh_types.specs.Colours.{IsColoured};
 
 /// In an accepted code each slot holds an arc, and each arc stands twice. Where this is so, the darts
 /// are partners in pairs: an arc has two of them, and the partner of one is the other. The same by the
@@ -23,5 +23,5 @@ pub fn darts_of_accepted_codes()
 /// colour.
 pub fn accepted_codes_are_coloured()
     ensures { (code : Code) → IsTrue (accepted code)
-        → (choice : ℕ) × IsOriented code.crossings choice }
+        → (choice : ℕ) × IsColoured code.crossings choice }
 {}
