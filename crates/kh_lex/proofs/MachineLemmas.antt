@@ -7,7 +7,7 @@ use Rattle.std.proofs.lemmas.Option.{slice_get-get_or, slice_get_past}
 use Rattle.std.proofs.Math.Seq.{take-length}
 use Rattle.kh_lex.specs.declared.symbol.Symbol.{Symbol}
 use Rattle.kh_lex.specs.declared.token.Token.{Token}
-use Rattle.kh_lex.specs.Grammar.{IsFirstFault, IsViable, LeavesAt, fault_place}
+use Rattle.kh_lex.specs.Grammar.{IsFirstFault, IsViable, LeavesAt}
 use Rattle.kh_lex.specs.Machine.{run}
 use Rattle.kh_lex.specs.Symbols.{symbol_of, symbols_of}
 

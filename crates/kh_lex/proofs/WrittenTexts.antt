@@ -1,13 +1,13 @@
 -- How a text is written so that it means some symbols: symbol by symbol, from its end on.
-use Rattle.std.proofs.Common.{◌≡◌, suc, ◌+◌, ◌<◌, ◌≤◌, ◌^◌, ℕ, ℤ, pos, negsuc, neg_ℤ, nat_abs, Bool, true, false, List, [], ◌∷◌, ◌++◌, length, take, drop, refl, sym, ◌∙◌, ap, subst, arith, append_assoc, length-append, length-drop, codes}
+use Rattle.std.proofs.Common.{◌≡◌, suc, ◌+◌, ◌<◌, ◌≤◌, ℕ, ℤ, pos, negsuc, neg_ℤ, nat_abs, true, false, List, [], ◌∷◌, ◌++◌, length, take, drop, refl, sym, ◌∙◌, ap, arith, codes}
 use Rattle.std.proofs.Math.Seq.{drop-append_seam, take-append_seam}
-use Rattle.std.proofs.lemmas.List.{append-nil, drop-drop}
+use Rattle.std.proofs.lemmas.List.{drop-drop}
 use Rattle.std.proofs.lemmas.Bool.{and_from}
 use Rattle.std.proofs.lemmas.Fmt.{decimal_is_IsNumeral}
 use Rattle.std.proofs.lemmas.Str.Parse.{digit_from_value}
-use Rattle.std.specs.Char.{digit_value, is_ascii_alphabetic, is_ascii_digit}
+use Rattle.std.specs.Char.{is_ascii_alphabetic, is_ascii_digit}
 use Rattle.std.specs.Fmt.{decimal, signed_decimal}
-use Rattle.std.specs.List.{list_all, slice_range}
+use Rattle.std.specs.List.{list_all}
 use Rattle.std.specs.Str.Parse.{AllDigits, digits_value}
 use Rattle.kh_lex.specs.declared.limits.TheConstants.{NUMBER_LIMIT}
 use Rattle.kh_lex.specs.declared.symbol.Symbol.{Symbol}
@@ -15,9 +15,9 @@ use Rattle.kh_lex.specs.declared.symbol.Symbol.TheVariants as symbols
 use Rattle.kh_lex.specs.declared.token.Kind.{Kind}
 use Rattle.kh_lex.specs.declared.token.Kind.TheVariants.{Word, Number, LeftBracket, RightBracket, LeftBrace, RightBrace, Comma}
 use Rattle.kh_lex.specs.declared.token.Token.{Token}
-use Rattle.kh_lex.specs.Cuts.{Cuts, IsFirstToken, IsNumber, IsRun, IsToken, SkipsBlanks, begins_with, is_blank}
+use Rattle.kh_lex.specs.Cuts.{Cuts, IsRun, IsToken, SkipsBlanks, begins_with}
 use Rattle.kh_lex.proofs.Cuttings.{skip-cons}
-use Rattle.kh_lex.specs.Symbols.{Means, bytes_of, kind_symbol, symbol_of, symbols_of, word_symbol}
+use Rattle.kh_lex.specs.Symbols.{Means, bytes_of, kind_symbol, symbols_of, word_symbol}
 
 -- bytes behind blanks are the first token of a text, which means a symbol, and leave a rest
 pub record WritesFirst (text : List ℕ) (symbol : Symbol) (rest : List ℕ) : Type 0 where

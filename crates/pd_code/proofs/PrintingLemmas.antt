@@ -1,7 +1,7 @@
 -- A code in print: its text spells its items, and these stand for it.
-use Rattle.std.proofs.Common.{◌≡◌, ℕ, zero, suc, ◌+◌, ◌-◌, ◌≤◌, ℤ, pos, nat_abs, nat_le, true, All, Some, List, [], ◌∷◌, ◌++◌, map, length, get_or, codes, Ok, refl, ap, sym, subst, ◌∙◌, arith, append_assoc}
+use Rattle.std.proofs.Common.{◌≡◌, ℕ, zero, suc, ◌+◌, ◌-◌, ◌≤◌, nat_abs, All, Some, List, [], ◌∷◌, ◌++◌, map, length, codes, Ok, refl, ap, sym, subst, ◌∙◌, arith, append_assoc}
 use Rattle.std.specs.Fmt.{signed_decimal}
-use Rattle.std.specs.List.{AllByRecursion, cons_option, filter, filter_map, flat_map, range_with_len}
+use Rattle.std.specs.List.{AllByRecursion, cons_option, filter, flat_map, range_with_len}
 use Rattle.std.proofs.lemmas.Bool.{le-leb}
 use Rattle.std.proofs.lemmas.List.FromFn.{length-range_with_len, map-range_with_len_more}
 use Rattle.std.proofs.lemmas.List.Sums.{length-filter}
@@ -10,12 +10,11 @@ use Rattle.kh_types.specs.Code.{Code, arc_count}
 use Rattle.kh_types.specs.declared.limits.TheConstants.{CROSSINGS, LOOPS}
 use Rattle.kh_lex.specs.declared.limits.TheConstants.{NUMBER_LIMIT}
 use Rattle.kh_lex.specs.declared.symbol.Symbol.{Symbol}
-use Rattle.kh_lex.specs.declared.symbol.Symbol.TheVariants.{Comma}
 use Rattle.kh_lex.proofs.WrittenTexts.{IsWritten, Means-written, comma-written, left_bracket-written, nothing-written, number-written, right_bracket-written, space-written, word-written}
 use Rattle.pd_code.specs.declared.item.Item.{Item}
 use Rattle.pd_code.specs.declared.item.Item.TheVariants.{Crossing, Loop}
 use Rattle.pd_code.specs.Grammar.{Spells, item_symbols, listed, next_symbols, spelled}
-use Rattle.pd_code.specs.Items.{arc_named, code_of_items, crossings_of, is_loop, loop_count, quadruple_of}
+use Rattle.pd_code.specs.Items.{crossings_of, is_loop, loop_count, quadruple_of}
 use Rattle.pd_code.specs.Printing.{IsQuadruple, crossing_item, item_text, items_of_code, listed_text, loop_item, loop_names, next_text, pd_text, text_of_items}
 use Rattle.pd_code.specs.Reading.{IsReading}
 
@@ -41,7 +40,7 @@ item-written {rest = rest} {more = more} (Crossing i j k l) small written =
     (number-written i small.0 refl (comma-written (space-written
     (number-written j small.1 refl (comma-written (space-written
     (number-written k small.2 refl (comma-written (space-written
-    (number-written l small.3 refl (right_bracket-written written))))))))))))) 
+    (number-written l small.3 refl (right_bracket-written written)))))))))))))
   where
     regrouped : item_text (Crossing i j k l) ++ rest ≡ codes "X[" ++ (signed_decimal i ++ (codes ", " ++ (signed_decimal j ++ (codes ", "
         ++ (signed_decimal k ++ (codes ", " ++ (signed_decimal l ++ (codes "]" ++ rest))))))))

@@ -1,5 +1,5 @@
 -- Each text has a reading, and one only.
-use Rattle.std.proofs.Common.{◌≡◌, ℕ, nat_lt, Bool, true, false, cond, ◌<◌, ◌≤◌, ◌⊎◌, inl, inr, List, [], length, Result, Ok, Err, Some, refl, sym, ◌∙◌, ap, subst, arith}
+use Rattle.std.proofs.Common.{◌≡◌, ℕ, nat_lt, Bool, true, false, cond, ◌<◌, inl, inr, List, [], length, Result, Ok, Err, Some, refl, sym, ◌∙◌, ap, subst, arith}
 use Rattle.std.proofs.lemmas.Bool.{le-ltb, lt-ltb, ltb-false, ltb-true}
 use Rattle.kh_types.specs.Code.{Code}
 use Rattle.kh_types.specs.declared.limits.TheConstants.{CROSSINGS, LOOPS}
@@ -22,7 +22,7 @@ use Rattle.pd_code.specs.Grammar.{IsText, Spells, spelled}
 use Rattle.pd_code.specs.Items.{code_of_items, crossings_of, loop_count}
 use Rattle.pd_code.specs.Limits.{code_within}
 use Rattle.pd_code.specs.Machine.{Progress, advanced, is_end, progress_at}
-use Rattle.pd_code.specs.Reading.{HasManyCrossings, HasManyLoops, IsReading, ReadsAs}
+use Rattle.pd_code.specs.Reading.{HasManyCrossings, HasManyLoops, IsReading}
 use Rattle.pd_code.specs.Stops.{stop_of}
 use Rattle.pd_code.proofs.MachineReads.{reads_grammar}
 use Rattle.pd_code.proofs.SoFar.{run-done}
