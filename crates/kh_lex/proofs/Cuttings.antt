@@ -17,21 +17,21 @@ IsLexed place text (Ok tokens) = Cuts place text tokens
 IsLexed place text (Err stop) = Stops place text stop
 
 -- one more blank
-abbrev skip_more : (byte : ℕ) (text end : List ℕ) → is_blank byte ≡ true → SkipsBlanks text end → SkipsBlanks (byte ∷ text) end
-skip_more byte text end blank skip = record {
+abbrev pub skip-cons : (byte : ℕ) (text end : List ℕ) → is_blank byte ≡ true → SkipsBlanks text end → SkipsBlanks (byte ∷ text) end
+skip-cons byte text end blank skip = record {
   blanks = byte ∷ skip.blanks;
   parts = ap (λ t. byte ∷ t) skip.parts;
   blank = and_from (is_blank byte) (list_all is_blank skip.blanks) blank skip.blank;
 }
 
 cuts_more : (byte place : ℕ) (text end : List ℕ) (tokens : List Token) → is_blank byte ≡ true → CutsTo end (place + 1) text tokens → CutsTo end place (byte ∷ text) tokens
-cuts_more byte place text end [] blank cut = skip_more byte text end blank cut
+cuts_more byte place text end [] blank cut = skip-cons byte text end blank cut
 cuts_more byte place text end (token ∷ tokens) blank cut =
     let first = cut.1 in (
       cut.0,
       record {
         bytes = first.bytes;
-        skip = skip_more byte text (first.bytes ++ cut.0) blank first.skip;
+        skip = skip-cons byte text (first.bytes ++ cut.0) blank first.skip;
         begin = omega (arith, first.begin);
         size = first.size;
         kind = first.kind;

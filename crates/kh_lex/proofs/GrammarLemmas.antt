@@ -1,13 +1,11 @@
 -- A text leaves a grammar in one place at most, and in none where it is in the grammar.
-use Rattle.std.proofs.Common.{◌≡◌, ℕ, ◌+◌, ◌<◌, ◌≤◌, ◌⊎◌, inl, inr, List, [], ◌++◌, length, take, drop, Err, refl, sym, ◌∙◌, ap, subst, arith, append_assoc, take-append-drop}
+use Rattle.std.proofs.Common.{◌≡◌, ℕ, ◌+◌, ◌<◌, ◌≤◌, inl, inr, List, [], ◌++◌, length, take, drop, sym, ◌∙◌, ap, subst, arith, append_assoc, take-append-drop}
 use Rattle.std.proofs.lemmas.Bool.{cases_order}
 use Rattle.std.proofs.lemmas.List.{append-nil, length-take-le, take-append-le}
 use Rattle.kh_lex.specs.declared.symbol.Symbol.{Symbol}
 use Rattle.kh_lex.specs.declared.stop.LexStop.{LexStop}
-use Rattle.kh_lex.specs.declared.token.Token.{Token}
 use Rattle.kh_lex.specs.Cuts.{Stops}
 use Rattle.kh_lex.specs.Grammar.{IsFirstFault, IsViable, LeavesAt, LeavesGrammar, fault_place}
-use Rattle.kh_lex.specs.Lexer.{tokens_of}
 use Rattle.kh_lex.specs.Symbols.{Means, symbols_of}
 use Rattle.kh_lex.proofs.CutReads.{cuts_one, stops_exactly, stops_uncut}
 

@@ -4,7 +4,7 @@ mod Numbers
 mod Pieces
 mod PieceReads
 mod Cuttings
-mod CutReads
+pub mod CutReads
 mod LexerSteps
 pub mod GrammarLemmas
 pub mod MachineLemmas

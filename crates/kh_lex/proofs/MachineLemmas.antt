@@ -1,12 +1,13 @@
 -- What a machine that reads a grammar shows: where it refuses a symbol, or ends too early, is the first fault.
-use Rattle.std.proofs.Common.{◌≡◌, ℕ, ◌+◌, ◌<◌, Bool, true, false, ◌⊎◌, inl, inr, List, [], ◌∷◌, ◌++◌, length, drop, get_or, take, Option, None, Some, refl, sym, ◌∙◌, ap, subst, arith, append_assoc, length-append, take-append-drop}
+use Rattle.std.proofs.Common.{◌≡◌, ℕ, suc, ◌+◌, ◌<◌, Bool, true, false, cond, List, [], ◌∷◌, ◌++◌, length, drop, get_or, take, Option, None, Some, Result, Ok, Err, refl, sym, ◌∙◌, ap, subst, arith, add-zero, append_assoc, length-append, take-append-drop}
 use Rattle.std.specs.Option.{option_and_then, option_map_or}
+use Rattle.std.specs.Result.{result_map_both}
 use Rattle.std.proofs.lemmas.List.{append-nil, length-map, length-take-le, map-append, map_more, take_at}
 use Rattle.std.proofs.lemmas.Option.{slice_get-get_or, slice_get_past}
 use Rattle.std.proofs.Math.Seq.{take-length}
 use Rattle.kh_lex.specs.declared.symbol.Symbol.{Symbol}
 use Rattle.kh_lex.specs.declared.token.Token.{Token}
-use Rattle.kh_lex.specs.Grammar.{IsFirstFault, IsViable, LeavesAt, fault_place}
+use Rattle.kh_lex.specs.Grammar.{IsFirstFault, IsViable, LeavesAt}
 use Rattle.kh_lex.specs.Machine.{run}
 use Rattle.kh_lex.specs.Symbols.{symbol_of, symbols_of}
 
@@ -89,31 +90,51 @@ IsFirstFault-early IsText step start is_end reads symbols state ran early = reco
       cc (ended, early);
 }
 
--- symbols behind those that are taken are a text, or have a first fault
-text_or_fault-behind : {State : Type 0} (IsText : List Symbol → Type 0) (step : State → Symbol → Option State) (start : State) (is_end : State → Bool)
+-- where symbols lead a machine from a state: to an end, or to a first fault, by how many symbols stand before that
+abbrev pub outcome : {State : Type 0} → (State → Symbol → Option State) → (State → Bool) → State → List Symbol → Result State ℕ
+outcome step is_end state [] = cond (is_end state) (Ok state) (Err 0)
+outcome step is_end state (symbol ∷ symbols) =
+    option_map_or (λ next. result_map_both (λ end. end) suc (outcome step is_end next symbols)) (step state symbol) (Err 0)
+
+-- what an outcome says of all symbols, where some were taken before
+abbrev pub IsOutcome : {State : Type 0} → (List Symbol → Type 0) → (State → Symbol → Option State) → State → (State → Bool) → List Symbol → ℕ → Result State ℕ → Type 0
+IsOutcome IsText step start is_end all before (Ok end) = (run step start all ≡ Some end) × (is_end end ≡ true)
+IsOutcome IsText step start is_end all before (Err at) = IsFirstFault IsText all (before + at)
+
+-- one symbol more was taken before
+IsOutcome-suc : {State : Type 0} (IsText : List Symbol → Type 0) (step : State → Symbol → Option State) (start : State) (is_end : State → Bool) (all : List Symbol) (before : ℕ) (r : Result State ℕ)
+    → IsOutcome IsText step start is_end all (before + 1) r → IsOutcome IsText step start is_end all before (result_map_both (λ end. end) suc r)
+IsOutcome-suc IsText step start is_end all before (Ok end) is = is
+IsOutcome-suc IsText step start is_end all before (Err at) is = subst (IsFirstFault IsText all) (omega arith) is
+
+IsOutcome-outcome : {State : Type 0} (IsText : List Symbol → Type 0) (step : State → Symbol → Option State) (start : State) (is_end : State → Bool)
     → ReadsGrammar IsText step start is_end → (symbols first : List Symbol) (state : State) → run step start first ≡ Some state
-    → IsText (first ++ symbols) ⊎ ((at : ℕ) × IsFirstFault IsText (first ++ symbols) at)
-text_or_fault-behind IsText step start is_end reads [] first state ran =
-    subst (λ all. IsText all ⊎ ((at : ℕ) × IsFirstFault IsText all at)) (sym (append-nil first)) (go (is_end state) refl)
+    → IsOutcome IsText step start is_end (first ++ symbols) (length first) (outcome step is_end state symbols)
+IsOutcome-outcome IsText step start is_end reads [] first state ran =
+    subst (λ all. IsOutcome IsText step start is_end all (length first) (outcome step is_end state [])) (sym (append-nil first)) (go (is_end state) refl)
   where
-    go : (ends : Bool) → is_end state ≡ ends → IsText first ⊎ ((at : ℕ) × IsFirstFault IsText first at)
-    go true ends = inl (reads.sound first state ran ends)
-    go false early = inr (length first, IsFirstFault-early IsText step start is_end reads first state ran early)
-text_or_fault-behind {State = State} IsText step start is_end reads (symbol ∷ symbols) first state ran =
-    go (step state symbol) refl (λ next. text_or_fault-behind IsText step start is_end reads symbols (first ++ symbol ∷ []) next)
+    go : (ends : Bool) → is_end state ≡ ends → IsOutcome IsText step start is_end first (length first) (cond ends (Ok state) (Err 0))
+    go true ends = (ran, ends)
+    go false early = rw add-zero (IsFirstFault-early IsText step start is_end reads first state ran early)
+IsOutcome-outcome {State = State} IsText step start is_end reads (symbol ∷ symbols) first state ran =
+    go (step state symbol) refl (λ next. IsOutcome-outcome IsText step start is_end reads symbols (first ++ symbol ∷ []) next)
   where
     go : (next : Option State) → step state symbol ≡ next
-        → ((q : State) → run step start (first ++ symbol ∷ []) ≡ Some q → IsText ((first ++ symbol ∷ []) ++ symbols) ⊎ ((at : ℕ) × IsFirstFault IsText ((first ++ symbol ∷ []) ++ symbols) at))
-        → IsText (first ++ symbol ∷ symbols) ⊎ ((at : ℕ) × IsFirstFault IsText (first ++ symbol ∷ symbols) at)
-    go None refused rest = inr (length first, IsFirstFault-refused IsText step start is_end reads first symbols symbol state ran refused)
+        → ((q : State) → run step start (first ++ symbol ∷ []) ≡ Some q
+        → IsOutcome IsText step start is_end ((first ++ symbol ∷ []) ++ symbols) (length (first ++ symbol ∷ [])) (outcome step is_end q symbols))
+        → IsOutcome IsText step start is_end (first ++ symbol ∷ symbols) (length first)
+        (option_map_or (λ next. result_map_both (λ end. end) suc (outcome step is_end next symbols)) next (Err 0))
+    go None refused rest = rw add-zero (IsFirstFault-refused IsText step start is_end reads first symbols symbol state ran refused)
     go (Some next) steps rest =
-        subst (λ all. IsText all ⊎ ((at : ℕ) × IsFirstFault IsText all at)) (append_assoc first (symbol ∷ []) symbols)
-        (rest next (run-push step start state next first symbol ran steps))
+        IsOutcome-suc IsText step start is_end (first ++ symbol ∷ symbols) (length first) (outcome step is_end next symbols)
+        (subst (λ all. IsOutcome IsText step start is_end all (length first + 1) (outcome step is_end next symbols)) (append_assoc first (symbol ∷ []) symbols)
+        (subst (λ n. IsOutcome IsText step start is_end ((first ++ symbol ∷ []) ++ symbols) n (outcome step is_end next symbols)) (length-append first (symbol ∷ []))
+        (rest next (run-push step start state next first symbol ran steps))))
 
--- all symbols are a text, or have a first fault
-pub text_or_fault : {State : Type 0} (IsText : List Symbol → Type 0) (step : State → Symbol → Option State) (start : State) (is_end : State → Bool)
-    → ReadsGrammar IsText step start is_end → (symbols : List Symbol) → IsText symbols ⊎ ((at : ℕ) × IsFirstFault IsText symbols at)
-text_or_fault IsText step start is_end reads symbols = text_or_fault-behind IsText step start is_end reads symbols [] start refl
+-- all symbols lead to an end, or have a first fault
+pub outcome_from_start : {State : Type 0} (IsText : List Symbol → Type 0) (step : State → Symbol → Option State) (start : State) (is_end : State → Bool)
+    → ReadsGrammar IsText step start is_end → (symbols : List Symbol) → IsOutcome IsText step start is_end symbols 0 (outcome step is_end start symbols)
+outcome_from_start IsText step start is_end reads symbols = IsOutcome-outcome IsText step start is_end reads symbols [] start refl
 
 -- the tokens up to one and that one
 symbols_of-more : (text : List ℕ) (tokens : List Token) (i : ℕ) (d : Token) → i < length tokens

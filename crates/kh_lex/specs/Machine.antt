@@ -1,5 +1,5 @@
 -- A machine that reads symbols one after another.
-use Rattle.std.specs.Prelude.{List, [], ◌∷◌, Option, None, Some}
+use Rattle.std.specs.Prelude.{List, [], ◌∷◌, Option, Some}
 use Rattle.std.specs.Option.{option_and_then}
 
 -- the state of a machine after symbols, if it refuses none of them; `step` is the state after one symbol, if the machine

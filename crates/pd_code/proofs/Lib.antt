@@ -2,3 +2,4 @@ mod Spellings
 mod SoFar
 mod MachineReads
 mod PrintingLemmas
+mod ReadingLemmas

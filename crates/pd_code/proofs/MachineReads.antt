@@ -1,6 +1,6 @@
 -- The machine reads the grammar: what it reads to its end is a text, each text it reads so, and from each state it can come
 -- to its end.
-use Rattle.std.proofs.Common.{◌≡◌, ◌≢◌, ℕ, ◌+◌, ◌<◌, true, false, List, [], ◌∷◌, length, get_or, take, None, Some, pos, ap, subst, refl, ◌∙◌}
+use Rattle.std.proofs.Common.{◌≡◌, ◌≢◌, ℕ, ◌+◌, ◌<◌, false, List, [], ◌∷◌, length, get_or, take, None, Some, pos, ap, subst, refl, ◌∙◌}
 use Rattle.std.proofs.Math.Seq.{take-length}
 use Rattle.kh_lex.specs.declared.symbol.Symbol.{Symbol}
 use Rattle.kh_lex.specs.declared.symbol.Symbol.TheVariants as symbols

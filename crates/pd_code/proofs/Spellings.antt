@@ -1,17 +1,15 @@
 -- What is spelled is read: a spelling leads the machine to its end, with the items that it spells.
 use Rattle.std.proofs.Common.{◌≡◌, List, [], ◌∷◌, ◌++◌, Some, sym, ◌∙◌, ap, refl, append_assoc}
 use Rattle.std.specs.List.{flat_map}
-use Rattle.std.specs.Option.{option_and_then}
 use Rattle.std.proofs.lemmas.List.{append-nil}
 use Rattle.kh_lex.specs.declared.symbol.Symbol.{Symbol}
 use Rattle.kh_lex.specs.declared.symbol.Symbol.TheVariants.{RightBracket}
-use Rattle.pd_code.specs.declared.machine.State.{State}
 use Rattle.pd_code.specs.declared.machine.State.TheVariants.{Start, Listed, Done}
 use Rattle.pd_code.specs.declared.item.Item.{Item}
 use Rattle.pd_code.specs.declared.item.Item.TheVariants as kinds
 use Rattle.pd_code.specs.Grammar.{next_symbols, spelled}
 use Rattle.kh_lex.specs.Machine.{run}
-use Rattle.pd_code.specs.Machine.{Progress, advanced, progress_at}
+use Rattle.pd_code.specs.Machine.{advanced, progress_at}
 
 -- items behind commas are read
 run-next : (items more : List Item) (rest : List Symbol) → run advanced (progress_at Listed items) (flat_map next_symbols more ++ rest) ≡ run advanced (progress_at Listed (items ++ more)) rest

@@ -1,5 +1,5 @@
 -- The code of items within the limits, as the way of the code.
-use Rattle.std.specs.Prelude.{ℕ, nat_lt, if◌then◌else◌, List, length, Result, Ok, Err}
+use Rattle.std.specs.Prelude.{nat_lt, if◌then◌else◌, List, length, Result, Ok, Err}
 use Rattle.kh_types.specs.Code.{Code}
 use Rattle.kh_types.specs.declared.limits.TheConstants.{CROSSINGS, LOOPS}
 use Rattle.pd_code.specs.declared.item.Item.{Item}

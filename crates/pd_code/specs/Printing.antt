@@ -1,10 +1,15 @@
 -- The text of a code in print (Knot Atlas, "Planar Diagrams"; the spaces and the loops are this project's rule).
-use Rattle.std.specs.Prelude.{ℕ, ◌+◌, List, [], ◌∷◌, ◌++◌, map, codes, pos}
+use Rattle.std.specs.Prelude.{◌≡◌, ℕ, ◌+◌, ◌≤◌, length, List, [], ◌∷◌, ◌++◌, map, codes, pos}
 use Rattle.std.specs.Fmt.{signed_decimal}
 use Rattle.std.specs.List.{flat_map, range_with_len}
 use Rattle.kh_types.specs.Code.{Code, arc_count, arc_in}
 use Rattle.pd_code.specs.declared.item.Item.{Item}
 use Rattle.pd_code.specs.declared.item.Item.TheVariants.{Crossing, Loop}
+
+-- a quadruple as a crossing holds it: four arcs, each a byte
+pub record IsQuadruple (arcs : List ℕ) : Type 0 where
+  pub four : length arcs ≡ 4
+  pub bytes : (slot : ℕ) → arc_in arcs slot ≤ 255
 
 -- the item of a crossing, by the arcs at its slots 0 to 3
 abbrev pub crossing_item : List ℕ → Item

@@ -11,7 +11,7 @@ mod stop;
 mod tests;
 
 pub use item::Item;
-// pub use laws::{each_text_has_one_reading, printed_codes_are_read_back, worked_texts};
+pub use laws::{each_text_has_one_reading, printed_codes_are_read_back, worked_texts};
 pub use printer::print_pd;
 pub use reader::read_pd;
 pub use stop::PdStop;

@@ -1,17 +1,19 @@
 //! Prints the code of a diagram as a planar diagram text.
 
-ghost use Rattle.std.specs.Prelude.{◌≡◌, ◌+◌, ◌*◌, ◌≤◌, ◌++◌, [], ◌∷◌, pos, length, map, string_bytes, IfOk, OnOk, Ok};
-ghost use Rattle.pd_code.specs.Printing.{crossing_item, item_text, items_of_code, listed_text, loop_item, pd_text, text_of_items};
+ghost use Rattle.std.specs.Prelude.{◌≡◌, ◌≤◌, ◌++◌, All, length, string_bytes, IfOk, OnOk, Ok};
+ghost use Rattle.pd_code.specs.Printing.{IsQuadruple, crossing_item, item_text, items_of_code, listed_text, loop_item, pd_text, text_of_items};
 ghost use Rattle.pd_code.specs.Reading.{IsReading};
 
 use crate::item::Item;
-use kh_types::{Crossing, Diagram, LOOPS, NoMemory};
+use kh_types::{CROSSINGS, Crossing, Diagram, LOOPS, NoMemory};
 use std::alloc::Global;
 
 /// The text of a diagram: its crossings in order and then its loops, by the names that follow those of the arcs.
 /// Source: Knot Atlas, "Planar Diagrams"; the spaces and the loops are this project's rule.
 pub fn print_pd(alloc: Global, diagram: &Diagram) -> Result<Vec<u8>, NoMemory>
     ensures text { IfOk result (λ text. text.items ≡ pd_text diagram.now) }
+    ensures reads_back { diagram.now.loops ≤ LOOPS →
+        IfOk result (λ text. IsReading text.items (Ok diagram.now)) }
 {
     let items = items_of_code(alloc, diagram)?;
     let text = text_of_items(alloc, &items)?;
@@ -20,7 +22,9 @@ pub fn print_pd(alloc: Global, diagram: &Diagram) -> Result<Vec<u8>, NoMemory>
 
 // The items of a diagram.
 fn items_of_code(alloc: Global, diagram: &Diagram) -> Result<Vec<Item>, NoMemory>
-    ensures { IfOk result (λ items. items.items ≡ items_of_code diagram.now) }
+    ensures items { IfOk result (λ items. items.items ≡ items_of_code diagram.now) }
+    ensures quadruples { OnOk result (All IsQuadruple diagram.now.crossings) }
+    ensures few { OnOk result (length diagram.now.crossings ≤ CROSSINGS) }
 {
     let mut items = Vec::new(alloc);
     for crossing in diagram.crossings() {
@@ -35,7 +39,8 @@ fn items_of_code(alloc: Global, diagram: &Diagram) -> Result<Vec<Item>, NoMemory
 
 // The item of a crossing.
 fn crossing_item(crossing: &Crossing) -> Item
-    ensures { result ≡ crossing_item crossing.now }
+    ensures item { result ≡ crossing_item crossing.now }
+    ensures quadruple { IsQuadruple crossing.now }
 {
     let [i, j, k, l] = crossing.0;
     Item::Crossing(i.into(), j.into(), k.into(), l.into())
