@@ -1,8 +1,8 @@
 -- What is computed of an element is a quadruple of numbers or its first wrong slot, and it is the only such thing.
-use Rattle.std.proofs.Common.{◌≡◌, ◌≢◌, ℕ, zero, suc, ◌+◌, ◌<◌, ◌≤◌, Bool, true, false, nat_lt, cond, List, [], ◌∷◌, length, map, ◌⊎◌, inl, inr, Option, None, Some, option_map, option_and_then, ok_or, Result, Ok, Err, refl, sym, ◌∙◌, ap, subst, arith, below_more, below_none}
+use Rattle.std.proofs.Common.{◌≡◌, ◌≢◌, ℕ, zero, suc, ◌<◌, ◌≤◌, Bool, true, false, nat_lt, cond, List, [], ◌∷◌, length, map, inl, inr, Option, None, Some, option_map, option_and_then, ok_or, Result, Ok, Err, refl, sym, ◌∙◌, ap, subst, arith, below_more, below_none}
 use Rattle.std.proofs.lemmas.List.{length-map}
 use Rattle.std.specs.Prelude.{slice_get}
-use Rattle.serde_json.specs.Data.{Data, Num, null, boolean, number, string, array, object, unsigned, negative, float}
+use Rattle.serde_json.specs.Data.{Data, null, boolean, number, string, array, object, unsigned, negative, float}
 use Rattle.serde_json.specs.Find.{as_array}
 use Rattle.json_code.specs.declared.stop.JsonStop.{JsonStop}
 use Rattle.json_code.specs.declared.stop.JsonStop.TheVariants.{Shape, JsonText, CrossingLimit, NoMemory}

@@ -1,9 +1,10 @@
 -- What is computed of the value of a text is the reading of the text, and no text has another.
-use Rattle.std.proofs.Common.{◌≡◌, ◌≢◌, ℕ, zero, suc, ◌+◌, ◌<◌, ◌≤◌, Bool, true, false, nat_lt, cond, List, [], ◌∷◌, ◌++◌, length, map, All, ◌⊎◌, inl, inr, Option, None, Some, IsUtf8, Result, Ok, Err, refl, sym, ◌∙◌, ap, subst, arith}
+use Rattle.std.proofs.Common.{◌≡◌, ℕ, suc, ◌+◌, ◌<◌, ◌≤◌, Bool, true, false, nat_lt, cond, List, [], ◌∷◌, ◌++◌, length, map, All, ◌⊎◌, inl, inr, Option, None, Some, IsUtf8, Result, Ok, Err, refl, sym, ◌∙◌, ap, subst, arith}
 use Rattle.std.proofs.lemmas.Bool.{ltb-true, ltb-false, le-ltb, lt-ltb}
 use Rattle.std.proofs.lemmas.List.{append-nil, length-map}
 use Rattle.std.proofs.lemmas.List.Elements.{All-cons, All-nil}
 use Rattle.std.proofs.lemmas.Str.{IsUtf8-from_is_utf8, is_utf8-from_IsUtf8}
+use Rattle.std.specs.Option.{option_map_or}
 use Rattle.std.specs.Str.{is_utf8}
 use Rattle.kh_types.specs.Code.{Code}
 use Rattle.kh_types.specs.declared.limits.TheConstants.{CROSSINGS}
@@ -12,8 +13,8 @@ use Rattle.serde_json.specs.Read.{read}
 use Rattle.json_code.specs.declared.stop.JsonStop.{JsonStop}
 use Rattle.json_code.specs.declared.stop.JsonStop.TheVariants.{JsonText, Shape, CrossingLimit, NoMemory}
 use Rattle.json_code.specs.Values.{IsJson, array_of, numbers_of}
-use Rattle.json_code.specs.Reading.{HasFour, IsAboveLimit, IsCode, IsNoArray, IsNoJson, IsReading, IsWrong, IsWrongCrossing, arc_of}
-use Rattle.json_code.specs.Steps.{and_then, code_of, code_of_crossings, code_of_elements, crossing_of, crossings_from, elements_of, preceded_by}
+use Rattle.json_code.specs.Reading.{HasFour, IsNoArray, IsNoJson, IsReading, IsWrong, arc_of}
+use Rattle.json_code.specs.Steps.{and_then, code_of, code_of_crossings, code_of_elements, crossing_of, crossings_from, elements_of, preceded_by, reading_of}
 use Rattle.json_code.proofs.Crossings.{IsCrossing, as_array-none, crossing_of-numbers, crossing_of-sound, crossing_of-wrong}
 use Rattle.json_code.proofs.Elements.{elements_of-items_of, items_of-elements_of}
 
@@ -224,14 +225,15 @@ readings-one text a b first second = go (made_of text a first) (made_of text b s
     go (inr x) (inl y) = absurd (y.1 x.0 x.1)
     go (inr x) (inr y) = x.2 ∙ ap code_of (json-one text x.0 y.0 x.1 y.1) ∙ sym y.2
 
--- and it has one
-pub readings-some : (text : List ℕ) → (r : Result Code JsonStop) × IsReading text r
-readings-some text = by_utf8 (is_utf8 text) refl
+-- and what is computed of it is one
+pub reading_of-sound : (text : List ℕ) → IsReading text (reading_of text)
+unfolding reading_of
+reading_of-sound text = by_utf8 (is_utf8 text) refl
   where
-    by_value : IsUtf8 text → (found : Option Data) → read text ≡ found → (r : Result Code JsonStop) × IsReading text r
-    by_value utf8 None none = (Err JsonText, λ value json. let some = json.meaning in cc)
-    by_value utf8 (Some value) is = (code_of value, code_of-sound text value (record { utf8 = utf8; meaning = is }))
+    by_value : IsUtf8 text → (found : Option Data) → read text ≡ found → IsReading text (option_map_or code_of found (Err JsonText))
+    by_value utf8 None none = λ value json. let some = json.meaning in cc
+    by_value utf8 (Some value) is = code_of-sound text value (record { utf8 = utf8; meaning = is })
 
-    by_utf8 : (utf8 : Bool) → is_utf8 text ≡ utf8 → (r : Result Code JsonStop) × IsReading text r
+    by_utf8 : (utf8 : Bool) → is_utf8 text ≡ utf8 → IsReading text (cond utf8 (option_map_or code_of (read text) (Err JsonText)) (Err JsonText))
     by_utf8 true e = by_value (IsUtf8-from_is_utf8 text e) (read text) refl
-    by_utf8 false e = (Err JsonText, λ value json. let yes = is_utf8-from_IsUtf8 text json.utf8 in cc)
+    by_utf8 false e = λ value json. let yes = is_utf8-from_IsUtf8 text json.utf8 in cc
