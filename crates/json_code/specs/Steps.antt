@@ -1,5 +1,5 @@
--- What the functions of this crate compute, step by step. No public clause cites it: `read_json` says that what they
--- compute is the reading.
+-- What the functions of this crate compute, step by step. That it is the reading of a text is told by `read_json`, and by the
+-- law `each_text_has_one_reading`.
 use Rattle.std.specs.Prelude.{ℕ, ◌+◌, nat_lt, if◌then◌else◌, List, [], ◌∷◌, ◌++◌, length, Option, option_and_then, option_map, ok_or, Result, Ok, Err, slice_get}
 use Rattle.std.specs.Option.{option_map_or}
 use Rattle.std.specs.Str.{is_utf8}
@@ -75,6 +75,6 @@ code_of_elements elements =
 abbrev pub code_of : Data → Result Code JsonStop
 code_of value = option_map_or (λ items. code_of_elements (elements_of items)) (as_array value) (Err (Shape 0 0))
 
--- the code that a text stands for, if it has a value: the law `each_text_has_one_reading` says that this is its reading
+-- the code that a text stands for, or why there is none
 unfoldable pub reading_of : List ℕ → Result Code JsonStop
 reading_of text = if is_utf8 text then option_map_or code_of (read text) (Err JsonText) else Err JsonText

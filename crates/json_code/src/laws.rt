@@ -5,7 +5,7 @@ ghost use Rattle.kh_types.specs.Code.{Code};
 ghost use Rattle.json_code.specs.declared.stop.JsonStop.{JsonStop};
 ghost use Rattle.json_code.specs.Reading.{IsReading};
 ghost use Rattle.json_code.specs.Steps.{number_in, reading_of};
-ghost use Rattle.json_code.specs.Values.{whole};
+ghost use Rattle.json_code.specs.Values.{whole_number};
 ghost use Rattle.serde_json.specs.Data.{Data};
 
 use crate::stop::JsonStop;
@@ -17,9 +17,9 @@ pub fn each_text_has_one_reading()
         IsReading text a → IsReading text b → a ≡ b }
 {}
 
-/// `as_u64` gives a number for the whole number alone that is written so, and gives none for any other value.
+/// `as_u64` gives a number for that whole number alone, so it gives none for any value that is no whole number.
 pub fn as_u64_gives_whole_numbers()
-    ensures { (value : Data) (n : ℕ) → (number_in value ≡ Some n) ↔ (value ≡ whole n) }
+    ensures { (value : Data) (n : ℕ) → (number_in value ≡ Some n) ↔ (value ≡ whole_number n) }
 {}
 
 /// What some texts read as: the trefoil, no crossing, great numbers, wrong slots, too many elements, no array, no JSON.
