@@ -1,9 +1,10 @@
 -- What is computed of the value of a text is the reading of the text, and no text has another.
-use Rattle.std.proofs.Common.{◌≡◌, ◌≢◌, ℕ, zero, suc, ◌+◌, ◌<◌, ◌≤◌, Bool, true, false, nat_lt, cond, List, [], ◌∷◌, ◌++◌, length, map, All, ◌⊎◌, inl, inr, Option, None, Some, IsUtf8, Result, Ok, Err, refl, sym, ◌∙◌, ap, subst, arith}
+use Rattle.std.proofs.Common.{◌≡◌, ℕ, suc, ◌+◌, ◌<◌, ◌≤◌, Bool, true, false, nat_lt, cond, List, [], ◌∷◌, ◌++◌, length, map, All, ◌⊎◌, inl, inr, Option, None, Some, IsUtf8, Result, Ok, Err, refl, sym, ◌∙◌, ap, subst, arith}
 use Rattle.std.proofs.lemmas.Bool.{ltb-true, ltb-false, le-ltb, lt-ltb}
 use Rattle.std.proofs.lemmas.List.{append-nil, length-map}
 use Rattle.std.proofs.lemmas.List.Elements.{All-cons, All-nil}
 use Rattle.std.proofs.lemmas.Str.{IsUtf8-from_is_utf8, is_utf8-from_IsUtf8}
+use Rattle.std.specs.Option.{option_map_or}
 use Rattle.std.specs.Str.{is_utf8}
 use Rattle.kh_types.specs.Code.{Code}
 use Rattle.kh_types.specs.declared.limits.TheConstants.{CROSSINGS}
@@ -11,10 +12,10 @@ use Rattle.serde_json.specs.Data.{Data, null, boolean, number, string, array, ob
 use Rattle.serde_json.specs.Read.{read}
 use Rattle.json_code.specs.declared.stop.JsonStop.{JsonStop}
 use Rattle.json_code.specs.declared.stop.JsonStop.TheVariants.{JsonText, Shape, CrossingLimit, NoMemory}
-use Rattle.json_code.specs.Values.{IsJson, array_of, numbers_of}
-use Rattle.json_code.specs.Reading.{HasFour, IsAboveLimit, IsCode, IsNoArray, IsNoJson, IsReading, IsWrong, IsWrongCrossing, arc_of}
-use Rattle.json_code.specs.Steps.{and_then, code_of, code_of_crossings, code_of_elements, crossing_of, crossings_from, elements_of, preceded_by}
-use Rattle.json_code.proofs.Crossings.{IsCrossing, as_array-none, crossing_of-numbers, crossing_of-sound, crossing_of-wrong}
+use Rattle.json_code.specs.Values.{IsJson, array_of, array_of_numbers}
+use Rattle.json_code.specs.Reading.{HasFour, IsNoArray, IsNoJson, IsReading, IsWrongAt, arc_of}
+use Rattle.json_code.specs.Steps.{and_then, code_of, code_of_crossings, code_of_elements, crossing_of, crossings_from, elements_of, preceded_by, reading_of}
+use Rattle.json_code.proofs.Crossings.{IsElementRead, as_array-none, crossing_of-numbers, crossing_of-sound, crossing_of-wrong}
 use Rattle.json_code.proofs.Elements.{elements_of-items_of, items_of-elements_of}
 
 -- ---- what is computed is a reading
@@ -24,19 +25,19 @@ record IsStop (first : ℕ) (elements : List Data) (crossing slot : ℕ) : Type 
   quadruples : List (List ℕ)
   element : Data
   later : List Data
-  parts : elements ≡ map numbers_of quadruples ++ element ∷ later
+  parts : elements ≡ map array_of_numbers quadruples ++ element ∷ later
   fours : All HasFour quadruples
   numbered : crossing ≡ length quadruples + first
-  wrong : IsWrong element slot
+  wrong : IsWrongAt element slot
 
 -- what is made of elements: the crossings of quadruples, or where the first wrong one is wrong
 abbrev AreCrossings : ℕ → List Data → Result (List (List ℕ)) JsonStop → Type 0
-AreCrossings first elements (Ok crossings) = (quadruples : List (List ℕ)) × All HasFour quadruples × (elements ≡ map numbers_of quadruples) × (crossings ≡ map (map arc_of) quadruples)
+AreCrossings first elements (Ok crossings) = (quadruples : List (List ℕ)) × All HasFour quadruples × (elements ≡ map array_of_numbers quadruples) × (crossings ≡ map (map arc_of) quadruples)
 AreCrossings first elements (Err (Shape crossing slot)) = IsStop first elements crossing slot
 AreCrossings first elements (Err _) = ⊥
 
 -- a quadruple comes before others
-next_crossing : (first : ℕ) (element : Data) (elements : List Data) (arcs : List ℕ) (r : Result (List (List ℕ)) JsonStop) → IsCrossing first element (Ok arcs)
+next_crossing : (first : ℕ) (element : Data) (elements : List Data) (arcs : List ℕ) (r : Result (List (List ℕ)) JsonStop) → IsElementRead first element (Ok arcs)
     → AreCrossings (first + 1) elements r → AreCrossings first (element ∷ elements) (preceded_by (arcs ∷ []) r)
 next_crossing first element elements arcs (Ok crossings) made found =
     (made.0 ∷ found.0, All-cons HasFour made.0 found.0 made.1 found.1, cc (made.2, found.2), cc (made.3, found.3))
@@ -54,7 +55,7 @@ next_crossing first element elements arcs (Err (CrossingLimit count)) made found
 next_crossing first element elements arcs (Err NoMemory) made found = found
 
 -- the first element is a quadruple, or it is wrong
-first_crossing : (first : ℕ) (element : Data) (elements : List Data) (r : Result (List ℕ) JsonStop) → IsCrossing first element r → AreCrossings (first + 1) elements (crossings_from (first + 1) elements)
+first_crossing : (first : ℕ) (element : Data) (elements : List Data) (r : Result (List ℕ) JsonStop) → IsElementRead first element r → AreCrossings (first + 1) elements (crossings_from (first + 1) elements)
     → AreCrossings first (element ∷ elements) (and_then (λ arcs. preceded_by (arcs ∷ []) (crossings_from (first + 1) elements)) r)
 first_crossing first element elements (Ok arcs) made found = next_crossing first element elements arcs (crossings_from (first + 1) elements) made found
 first_crossing first element elements (Err (Shape crossing slot)) made found = record {
@@ -82,7 +83,7 @@ of_crossings text elements json few (Ok crossings) found = record {
   quadruples = found.0;
   json = subst (λ l. IsJson text (array_of l)) found.2 json;
   fours = found.1;
-  within = omega (arith, ap length found.2, length-map found.0 numbers_of, few);
+  within = omega (arith, ap length found.2, length-map found.0 array_of_numbers, few);
   arcs = found.3;
   no_loops = refl;
 }
@@ -102,7 +103,7 @@ of_crossings text elements json few (Err NoMemory) found = found
 
 of_elements : (text : List ℕ) (elements : List Data) → IsJson text (array_of elements) → (many : Bool) → nat_lt CROSSINGS (length elements) ≡ many
     → IsReading text (cond many (Err (CrossingLimit (length elements))) (and_then code_of_crossings (crossings_from 1 elements)))
-of_elements text elements json true e = record { elements = elements; json = json; above = ltb-true CROSSINGS (length elements) e; counted = refl }
+of_elements text elements json true e = record { elements = elements; json = json; counted = refl; above = ltb-true CROSSINGS (length elements) e }
 of_elements text elements json false e = of_crossings text elements json (ltb-false CROSSINGS (length elements) e) (crossings_from 1 elements) (crossings_from-sound 1 elements)
 
 of_other : (text : List ℕ) (value : Data) → IsJson text value → IsNoArray value → IsReading text (Err (Shape 0 0))
@@ -132,14 +133,14 @@ preceded_by-cons arcs front (Err stop) = refl
 
 -- quadruples are read as their arcs, and then what comes behind them, which has the next number
 crossings_from-quadruples : (first next : ℕ) (quadruples : List (List ℕ)) (later : List Data) → next ≡ length quadruples + first → All HasFour quadruples
-    → crossings_from first (map numbers_of quadruples ++ later) ≡ preceded_by (map (map arc_of) quadruples) (crossings_from next later)
+    → crossings_from first (map array_of_numbers quadruples ++ later) ≡ preceded_by (map (map arc_of) quadruples) (crossings_from next later)
 crossings_from-quadruples first next [] later e fours =
     let same : first ≡ next = omega arith in
     ap (λ n. crossings_from n later) same ∙ sym (preceded_by-nil (crossings_from next later))
 crossings_from-quadruples first next (numbers ∷ quadruples) later e fours =
-    let made : crossing_of first (numbers_of numbers) ≡ Ok (map arc_of numbers) = crossing_of-numbers first numbers (fours 0 [] (omega arith)) in
+    let made : crossing_of first (array_of_numbers numbers) ≡ Ok (map arc_of numbers) = crossing_of-numbers first numbers (fours 0 [] (omega arith)) in
     let others = crossings_from-quadruples (first + 1) next quadruples later (omega arith) (λ k d lt. fours (suc k) d (omega arith)) in
-    ap (and_then (λ arcs. preceded_by (arcs ∷ []) (crossings_from (first + 1) (map numbers_of quadruples ++ later)))) made
+    ap (and_then (λ arcs. preceded_by (arcs ∷ []) (crossings_from (first + 1) (map array_of_numbers quadruples ++ later)))) made
     ∙ ap (preceded_by (map arc_of numbers ∷ [])) others ∙ preceded_by-cons (map arc_of numbers) (map (map arc_of) quadruples) (crossings_from next later)
 
 -- the code of an array is that of its elements
@@ -167,14 +168,14 @@ code_is : (code : Code) (crossings : List (List ℕ)) → code.crossings ≡ cro
 code_is code crossings same none = λ i. Ok (record { crossings = same i; loops = none i })
 
 -- quadruples alone are read as their arcs
-crossings_from-fours : (quadruples : List (List ℕ)) → All HasFour quadruples → crossings_from 1 (map numbers_of quadruples) ≡ Ok (map (map arc_of) quadruples)
+crossings_from-fours : (quadruples : List (List ℕ)) → All HasFour quadruples → crossings_from 1 (map array_of_numbers quadruples) ≡ Ok (map (map arc_of) quadruples)
 crossings_from-fours quadruples fours =
-    ap (crossings_from 1) (sym (append-nil (map numbers_of quadruples))) ∙ crossings_from-quadruples 1 (length quadruples + 1) quadruples [] refl fours
+    ap (crossings_from 1) (sym (append-nil (map array_of_numbers quadruples))) ∙ crossings_from-quadruples 1 (length quadruples + 1) quadruples [] refl fours
     ∙ ap Ok (append-nil (map (map arc_of) quadruples))
 
 -- quadruples and then a wrong element are read as where that is wrong
-crossings_from-wrong : (crossing slot : ℕ) (quadruples : List (List ℕ)) (element : Data) (later : List Data) → crossing ≡ length quadruples + 1 → All HasFour quadruples → IsWrong element slot
-    → crossings_from 1 (map numbers_of quadruples ++ element ∷ later) ≡ Err (Shape crossing slot)
+crossings_from-wrong : (crossing slot : ℕ) (quadruples : List (List ℕ)) (element : Data) (later : List Data) → crossing ≡ length quadruples + 1 → All HasFour quadruples → IsWrongAt element slot
+    → crossings_from 1 (map array_of_numbers quadruples ++ element ∷ later) ≡ Err (Shape crossing slot)
 crossings_from-wrong crossing slot quadruples element later numbered fours wrong =
     crossings_from-quadruples 1 crossing quadruples (element ∷ later) numbered fours
     ∙ ap (λ r. preceded_by (map (map arc_of) quadruples) (and_then (λ arcs. preceded_by (arcs ∷ []) (crossings_from (crossing + 1) later)) r)) (crossing_of-wrong crossing element slot wrong)
@@ -186,9 +187,9 @@ code_of-few elements r few is = code_of-array elements ∙ code_of_elements-few 
 -- a reading is of no JSON text, or it is what is computed of the value of the text
 made_of : (text : List ℕ) (r : Result Code JsonStop) → IsReading text r → ((r ≡ Err JsonText) × IsNoJson text) ⊎ ((value : Data) × IsJson text value × (r ≡ code_of value))
 made_of text (Ok code) reading =
-    let few : length (map numbers_of reading.quadruples) ≤ CROSSINGS = omega (arith, length-map reading.quadruples numbers_of, reading.within) in
+    let few : length (map array_of_numbers reading.quadruples) ≤ CROSSINGS = omega (arith, length-map reading.quadruples array_of_numbers, reading.within) in
     inr (
-      array_of (map numbers_of reading.quadruples),
+      array_of (map array_of_numbers reading.quadruples),
       reading.json,
       code_is code _ reading.arcs reading.no_loops ∙ sym (code_of-few _ _ few (crossings_from-fours reading.quadruples reading.fours)),
     )
@@ -197,7 +198,7 @@ made_of text (Err (Shape crossing slot)) (inl other) =
     inr (other.value, other.json, (λ i. Err (Shape (other.no_crossing i) (other.no_slot i))) ∙ sym (code_of-other other.value other.no_array))
 made_of text (Err (Shape crossing slot)) (inr wrong) =
     inr (
-      array_of (map numbers_of wrong.quadruples ++ wrong.element ∷ wrong.later),
+      array_of (map array_of_numbers wrong.quadruples ++ wrong.element ∷ wrong.later),
       wrong.json,
       sym (code_of-few _ _ wrong.within (crossings_from-wrong crossing slot wrong.quadruples wrong.element wrong.later wrong.numbered wrong.fours wrong.wrong)),
     )
@@ -205,7 +206,7 @@ made_of text (Err (CrossingLimit count)) reading =
     inr (
       array_of reading.elements,
       reading.json,
-      ap (λ n. Err (CrossingLimit n)) reading.counted ∙ sym (code_of-array reading.elements ∙ code_of_elements-many reading.elements reading.above),
+      ap (λ n. Err (CrossingLimit n)) reading.counted ∙ sym (code_of-array reading.elements ∙ code_of_elements-many reading.elements (subst (λ n. CROSSINGS < n) reading.counted reading.above)),
     )
 made_of text (Err NoMemory) reading = absurd reading
 
@@ -224,14 +225,15 @@ readings-one text a b first second = go (made_of text a first) (made_of text b s
     go (inr x) (inl y) = absurd (y.1 x.0 x.1)
     go (inr x) (inr y) = x.2 ∙ ap code_of (json-one text x.0 y.0 x.1 y.1) ∙ sym y.2
 
--- and it has one
-pub readings-some : (text : List ℕ) → (r : Result Code JsonStop) × IsReading text r
-readings-some text = by_utf8 (is_utf8 text) refl
+-- and what is computed of it is one
+pub reading_of-sound : (text : List ℕ) → IsReading text (reading_of text)
+unfolding reading_of
+reading_of-sound text = by_utf8 (is_utf8 text) refl
   where
-    by_value : IsUtf8 text → (found : Option Data) → read text ≡ found → (r : Result Code JsonStop) × IsReading text r
-    by_value utf8 None none = (Err JsonText, λ value json. let some = json.meaning in cc)
-    by_value utf8 (Some value) is = (code_of value, code_of-sound text value (record { utf8 = utf8; meaning = is }))
+    by_value : IsUtf8 text → (found : Option Data) → read text ≡ found → IsReading text (option_map_or code_of found (Err JsonText))
+    by_value utf8 None none = λ value json. let some = json.meaning in cc
+    by_value utf8 (Some value) is = code_of-sound text value (record { utf8 = utf8; meaning = is })
 
-    by_utf8 : (utf8 : Bool) → is_utf8 text ≡ utf8 → (r : Result Code JsonStop) × IsReading text r
+    by_utf8 : (utf8 : Bool) → is_utf8 text ≡ utf8 → IsReading text (cond utf8 (option_map_or code_of (read text) (Err JsonText)) (Err JsonText))
     by_utf8 true e = by_value (IsUtf8-from_is_utf8 text e) (read text) refl
-    by_utf8 false e = (Err JsonText, λ value json. let yes = is_utf8-from_IsUtf8 text json.utf8 in cc)
+    by_utf8 false e = λ value json. let yes = is_utf8-from_IsUtf8 text json.utf8 in cc

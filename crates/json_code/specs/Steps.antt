@@ -1,13 +1,15 @@
--- What the functions of this crate compute, step by step. No public clause cites it: `read_json` says that what they
--- compute is the reading.
-use Rattle.std.specs.Prelude.{ℕ, ◌+◌, ◌^◌, ◌<◌, nat_lt, if◌then◌else◌, List, [], ◌∷◌, ◌++◌, length, Option, option_and_then, option_map, ok_or, Result, Ok, Err, slice_get}
+-- What the functions of this crate compute, step by step. That it is the reading of a text is told by `read_json`, and by the
+-- law `each_text_has_one_reading`.
+use Rattle.std.specs.Prelude.{ℕ, ◌+◌, nat_lt, if◌then◌else◌, List, [], ◌∷◌, ◌++◌, length, Option, option_and_then, option_map, ok_or, Result, Ok, Err, slice_get}
 use Rattle.std.specs.Option.{option_map_or}
+use Rattle.std.specs.Str.{is_utf8}
 use Rattle.kh_types.specs.Code.{Code}
 use Rattle.kh_types.specs.declared.limits.TheConstants.{CROSSINGS}
 use Rattle.serde_json.specs.Data.{Data, Items, no_items, item}
 use Rattle.serde_json.specs.Find.{as_array, as_number, as_u64}
+use Rattle.serde_json.specs.Read.{read}
 use Rattle.json_code.specs.declared.stop.JsonStop.{JsonStop}
-use Rattle.json_code.specs.declared.stop.JsonStop.TheVariants.{Shape, CrossingLimit}
+use Rattle.json_code.specs.declared.stop.JsonStop.TheVariants.{JsonText, Shape, CrossingLimit}
 use Rattle.json_code.specs.Reading.{arc_of}
 
 -- the elements of an array, in order
@@ -72,3 +74,7 @@ code_of_elements elements =
 -- the code that a value stands for
 abbrev pub code_of : Data → Result Code JsonStop
 code_of value = option_map_or (λ items. code_of_elements (elements_of items)) (as_array value) (Err (Shape 0 0))
+
+-- the code that a text stands for, or why there is none
+unfoldable pub reading_of : List ℕ → Result Code JsonStop
+reading_of text = if is_utf8 text then option_map_or code_of (read text) (Err JsonText) else Err JsonText

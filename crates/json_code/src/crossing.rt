@@ -9,7 +9,7 @@ use crate::stop::JsonStop;
 use kh_types::Crossing;
 use serde_json::Value;
 
-/// The crossing that an element is, of a number from 1; or its first wrong slot.
+/// The crossing that an element is, or its first wrong slot. The number of the crossing is counted from 1.
 pub fn crossing_of(element: &Value, crossing: u32) -> Result<Crossing, JsonStop>
     ensures { result ≡ crossing_of crossing (view element.now) }
 {

@@ -13,7 +13,7 @@ use serde_json::Value;
 use std::alloc::Global;
 
 /// Reads a JSON text: an array of crossings, each an array of four numbers. A number above 255 is read as 0, which is no
-/// arc. There are no loops. Where there is no memory, any text but the empty one may end so. This project's rule.
+/// arc, and there are no loops. Memory may run out on any text but the empty one. This project's rule.
 pub fn read_json(alloc: Global, text: &[u8]) -> Result<RawCode, JsonStop>
     requires { length text.now ≤ INPUT_BYTES }
     ensures reads { result ≢ Err JsonStop.NoMemory → IsReading text.now result }

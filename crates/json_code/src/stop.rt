@@ -4,18 +4,17 @@ ghost use Rattle.std.specs.Prelude.{◌≡◌};
 ghost use Rattle.serde_json.specs.Errors.{IsMemory};
 ghost use Rattle.json_code.specs.declared.stop.JsonStop.TheVariants.{JsonText, NoMemory};
 
-/// Why no code was read from a text. Each stands for a text that none of those before it stands for.
-/// This project's rule.
+/// Why no code was read from a JSON text. This project's rule.
 #[derive(Clone, Copy, Debug, PartialEq, Eq)]
 pub enum JsonStop {
-    /// The bytes are no JSON text.
+    /// The text is no JSON.
     JsonText,
-    /// A crossing, from 1, is no array of four numbers. `slot` is the first of its slots 0 to 3 that is missing or no
-    /// number; 4 stands for a fifth member, and 0 for no array too. `crossing` is 0 where the text is no array.
+    /// The first crossing that is no array of four numbers, from 1, and the first of its slots 0 to 3 that is missing or holds
+    /// no number, or 4 for a fifth member. A crossing that is no array has slot 0; both are 0 where the text is no array.
     Shape { crossing: u32, slot: u8 },
-    /// The array has `count` elements, and these are above the limit.
+    /// The array has `count` elements, and these are more than `CROSSINGS`. It comes before a crossing that is wrong.
     CrossingLimit { count: u32 },
-    /// There was no memory, whatever the text is.
+    /// Memory ran out, whatever the text is.
     NoMemory,
 }
 

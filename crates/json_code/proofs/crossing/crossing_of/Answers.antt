@@ -1,4 +1,4 @@
-use Rattle.std.proofs.Common.{Err, ◌∙◌, ap, sym}
+use Rattle.std.proofs.Common.{Err, sym}
 use Rattle.serde_json.specs.View.{view}
 use Rattle.json_code.specs.declared.stop.JsonStop.TheVariants.{Shape}
 use Rattle.json_code.specs.Steps.{arcs_at}

@@ -1,4 +1,4 @@
-use Rattle.std.proofs.Common.{Err, length, ◌^◌, arith, sym, ◌∙◌}
+use Rattle.std.proofs.Common.{Err, length, arith, sym}
 use Rattle.std.proofs.lemmas.List.{length-map}
 use Rattle.serde_json.specs.View.{view}
 use Rattle.json_code.specs.declared.stop.JsonStop.TheVariants.{Shape}

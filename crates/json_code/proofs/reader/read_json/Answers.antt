@@ -1,4 +1,4 @@
-use Rattle.std.proofs.Common.{Err, ◌∙◌, sym, ap, subst, arith}
+use Rattle.std.proofs.Common.{◌∙◌, sym, subst, arith}
 use Rattle.serde_json.specs.View.{view}
 use Rattle.json_code.specs.Reading.{IsReading}
 use Rattle.json_code.proofs.Counts.{elements-few}
