@@ -25,20 +25,30 @@ values_of-set {F} value_of rows i j row x within is_row =
     ∙ ap (set (values_of value_of rows) i)
     (map-set value_of row.items j x ∙ ap (λ values. set values j (value_of x)) (sym (row-values_of value_of rows i row within is_row)))
 
--- rows of the same values have the same size
-pub size-from_values : {F : Type 0} (value_of : F → ℕ) (rows : List (Vec F)) (n columns value : ℕ) → n < 2 ^ 32
-    → values_of value_of rows ≡ replicate n (replicate columns value) → HasSize rows columns
-size-from_values {F} value_of rows n columns value fits are =
+-- rows have the size that their values have
+pub size-from_values : {F : Type 0} (value_of : F → ℕ) (rows : List (Vec F)) (columns : ℕ) → length rows < 2 ^ 32
+    → ((i : ℕ) → i < length (values_of value_of rows) → length (slice_index_or (values_of value_of rows) i []) ≡ columns)
+    → HasSize rows columns
+size-from_values {F} value_of rows columns fits width =
     let values : Vec F → List ℕ = λ row. map value_of row.items in
-    let height : length rows ≡ n = sym (length-map rows values) ∙ ap length are ∙ length-replicate n (replicate columns value) in
     record {
-      width = λ k row within.
-          sym (length-map (get_or rows k row).items value_of)
-          ∙ ap length (sym (get_or-map values rows k row [] within))
-          ∙ ap (λ rows. length (get_or rows k [])) are
-          ∙ ap length (get_or-replicate n k (replicate columns value) [] (omega arith)) ∙ length-replicate columns value;
-      height = omega (arith, height, fits);
+      width = λ i row within.
+          sym (length-map (get_or rows i row).items value_of) ∙ ap length (sym (get_or-map values rows i row [] within))
+          ∙ width i (omega (arith, within, length-map rows values));
+      height = fits;
     }
+
+-- the rows of a matrix of zeros have its size
+pub size-zeros : {F : Type 0} (value_of : F → ℕ) (rows : List (Vec F)) (n columns : ℕ) → n < 2 ^ 32
+    → values_of value_of rows ≡ replicate n (replicate columns 0) → HasSize rows columns
+size-zeros {F} value_of rows n columns fits are =
+    let values : Vec F → List ℕ = λ row. map value_of row.items in
+    let height : length rows ≡ n = sym (length-map rows values) ∙ ap length are ∙ length-replicate n (replicate columns 0) in
+    size-from_values value_of rows columns (omega (arith, height, fits))
+    (λ i within.
+    ap (λ rows. length (get_or rows i [])) are
+    ∙ ap length (get_or-replicate n i (replicate columns 0) [] (omega (arith, within, height, length-map rows values)))
+    ∙ length-replicate columns 0)
 
 -- values are below p
 slice_index-values : {F : Type 0} (value_of : F → ℕ) (p : ℕ) (row : List F) (j : ℕ) → ((x : F) → value_of x < p) → 0 < p

@@ -1,12 +1,15 @@
 -- The entries, the size and the rank of a transpose.
-use Rattle.std.proofs.Common.{◌≡◌, ℕ, zero, suc, ◌<◌, ◌≤◌, ◌∙◌, inl, inr, List, [], ◌∷◌, length, refl, ap, sym, subst, arith}
+use Rattle.std.proofs.Common.{◌≡◌, ℕ, zero, suc, ◌+◌, ◌^◌, ◌++◌, map, ap₂, ◌<◌, ◌≤◌, ◌∙◌, inl, inr, List, [], ◌∷◌, length, refl, ap, sym, subst, arith}
 use Rattle.std.specs.Prelude.{slice_index, slice_index_or}
 use Rattle.std.proofs.lemmas.Bool.Decides.{leb_tells}
-use Rattle.std.proofs.lemmas.List.{length-map}
-use Rattle.std.proofs.lemmas.List.FromFn.{length-map-range_with_len, get_or-map-range_with_len}
+use Rattle.std.proofs.lemmas.List.{length-map, map-append}
+use Rattle.std.proofs.lemmas.List.FromFn.{length-map-range_with_len, get_or-map-range_with_len, map-range_with_len_more}
 use Rattle.kh_types.specs.Complex.{entry_in}
 use Rattle.kh_types.specs.Rank.{rank}
 use Rattle.prime_field.specs.Residues.{IsField}
+use Rattle.std.specs.Global.{Vec}
+use Rattle.plain_matrix.specs.Inside.{HasSize, values_of}
+use Rattle.plain_matrix.proofs.InsideLemmas.{size-from_values}
 use Rattle.plain_matrix.specs.Matrices.{IsMatrix, column_of, transposed_rows}
 use Rattle.plain_matrix.proofs.Entries.{entry-past_rows, entry-past_columns}
 use Rattle.plain_matrix.proofs.RankLaws.{rank-transposed_rows}
@@ -58,3 +61,28 @@ pub rank-transpose : (p columns : ℕ) (rows : List (List ℕ)) → IsField p �
 rank-transpose p columns rows field is =
     rank-transposed_rows p columns (length rows) rows (transposed_rows columns rows) field is
     (matrix-transposed_rows p columns rows is) (entry-transposed_rows p columns rows is)
+
+-- one column more, in memory
+pub values_of-column : {F : Type 0} (value_of : F → ℕ) (made : List (Vec F)) (column : Vec F) (k : ℕ) (rows : List (List ℕ))
+    → map value_of column.items ≡ column_of rows k → values_of value_of made ≡ transposed_rows k rows
+    → values_of value_of (made ++ column ∷ []) ≡ transposed_rows (k + 1) rows
+values_of-column {F} value_of made column k rows is_column before =
+    map-append (λ (row : Vec F). map value_of row.items) made (column ∷ [])
+    ∙ ap₂ (λ values row. values ++ row ∷ []) before is_column
+    ∙ sym (map-range_with_len_more (column_of rows) 0 k k (omega arith))
+
+-- all columns have the size of a matrix with as many columns as there are rows
+pub size-transposed : {F : Type 0} (value_of : F → ℕ) (p k columns height : ℕ) (made : List (Vec F)) (inside rows : List (List ℕ))
+    → k ≡ columns → columns < 2 ^ 32 → height ≡ length rows → IsMatrix p columns rows → inside ≡ rows
+    → values_of value_of made ≡ transposed_rows k inside → HasSize made height
+size-transposed {F} value_of p k columns height made inside rows all fits is_height is are made_are =
+    let values : Vec F → List ℕ = λ row. map value_of row.items in
+    let turned : values_of value_of made ≡ transposed_rows columns rows = made_are ∙ ap₂ transposed_rows all are in
+    let count : length made ≡ columns =
+    sym (length-map made values) ∙ ap length turned ∙ length-transposed_rows columns rows in
+    size-from_values value_of made height (omega (arith, count, fits))
+    (λ i within.
+    ap (λ rows. length (slice_index_or rows i [])) turned
+    ∙ (matrix-transposed_rows p columns rows is).width i
+    (omega (arith, within, length-map made values, count, length-transposed_rows columns rows))
+    ∙ sym is_height)

@@ -53,16 +53,23 @@ impl<F: PrimeField> Dense<F> {
         Dense { rows, columns }
     }
 
-    /// The rows.
-    pub(crate) fn rows(&self) -> &[Vec<F>]
+    /// The rows, as they are held.
+    pub(crate) fn row_list(&self) -> &[Vec<F>]
         ensures values { values_of F.value_of result.now ≡ self.now.rows }
         ensures size { HasSize result.now self.now.columns }
     {
         &self.rows
     }
 
+    /// How many rows there are.
+    pub fn rows(&self) -> u32
+        ensures { result ≡ length self.now.rows }
+    {
+        self.rows.len() as u32
+    }
+
     /// How many columns there are.
-    pub(crate) fn columns(&self) -> u32
+    pub fn columns(&self) -> u32
         ensures { result ≡ self.now.columns }
     {
         self.columns
@@ -74,7 +81,8 @@ impl<F: PrimeField> Dense<F> {
         requires column { column < self.now.columns }
         ensures { F.value_of result ≡ entry_in self.now.rows row column }
     {
-        self.rows[row as usize][column as usize]
+        let entries = &self.rows[row as usize];
+        entries[column as usize]
     }
 
     /// Puts an entry at a row and a column, which the matrix has; all others stay.

@@ -15,7 +15,7 @@ use std::alloc::Global;
 pub fn rank<F: PrimeField>(alloc: Global, matrix: &Dense<F>) -> Result<u32, NoMemory>
     ensures { IfOk result (λ found. found ≡ rank F.P matrix.now.rows) }
 {
-    let rows = copied_rows(alloc, matrix.rows())?;
+    let rows = copied_rows(alloc, matrix.row_list())?;
     rank_of_rows(alloc, rows)
 }
 

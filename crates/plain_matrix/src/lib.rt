@@ -5,6 +5,10 @@ mod dense;
 mod elimination;
 pub mod laws;
 mod rows;
+#[cfg(test)]
+mod tests;
+mod transpose;
 
 pub use dense::{Dense, matrix_laws};
 pub use elimination::rank;
+pub use transpose::transposed;

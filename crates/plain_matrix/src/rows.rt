@@ -54,7 +54,7 @@ pub fn reduced<F: PrimeField>(alloc: Global, pivot: &[F], row: &[F]) -> Result<V
 }
 
 /// The entry of a row at a place, 0 past its end.
-fn entry<F: PrimeField>(row: &[F], column: usize) -> F
+pub fn entry<F: PrimeField>(row: &[F], column: usize) -> F
     ensures { F.value_of result ≡ slice_index (map F.value_of row.now) column }
 {
     element_laws::<F>();
