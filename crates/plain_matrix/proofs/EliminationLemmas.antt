@@ -42,18 +42,20 @@ rank-turn {F} value_of p rows left next at pivot found is_pivot is_left is_next 
     ∙ ap (λ (made : List (List ℕ)). suc (rank p made)) reduced
 
 -- the elimination ends where no row has an entry
-pub rank-end : {F : Type 0} (value_of : F → ℕ) (p : ℕ) (rows : List (Vec F))
-    → position (λ (row : Vec F). has_entry (map value_of row.items)) rows ≡ None → rank p (values_of value_of rows) ≡ 0
-rank-end {F} value_of p rows none =
+pub rank-end : {F : Type 0} (value_of : F → ℕ) (p : ℕ) (rows seen : List (Vec F)) → seen ≡ rows
+    → None ≡ position (λ (row : Vec F). has_entry (map value_of row.items)) seen → rank p (values_of value_of rows) ≡ 0
+rank-end {F} value_of p rows seen same none =
     let values : Vec F → List ℕ = λ row. map value_of row.items in
-    rank-no_row p (values_of value_of rows) (position-map has_entry values rows ∙ none)
+    let test : Vec F → Bool = λ row. has_entry (values row) in
+    rank-no_row p (values_of value_of rows) (position-map has_entry values rows ∙ ap (position test) (sym same) ∙ sym none)
 
 -- the row that is found has an entry
-pub has_entry-found : {F : Type 0} (value_of : F → ℕ) (rows : List (Vec F)) (at : ℕ) (pivot : Vec F)
-    → position (λ (row : Vec F). has_entry (map value_of row.items)) rows ≡ Some at → pivot ≡ get_or rows at pivot
-    → has_entry (map value_of pivot.items) ≡ true
-has_entry-found {F} value_of rows at pivot found is_pivot =
+pub has_entry-found : {F : Type 0} (value_of : F → ℕ) (rows seen : List (Vec F)) (at : ℕ) (pivot : Vec F) (row : List F)
+    → seen ≡ rows → Some at ≡ position (λ (row : Vec F). has_entry (map value_of row.items)) seen → pivot ≡ get_or rows at pivot
+    → row ≡ pivot.items → has_entry (map value_of row) ≡ true
+has_entry-found {F} value_of rows seen at pivot row same found is_pivot is_row =
     let test : Vec F → Bool = λ row. has_entry (map value_of row.items) in
-    ap test is_pivot ∙ (position-Some test rows at pivot found).1
+    ap (λ row. has_entry (map value_of row)) is_row ∙ ap test is_pivot
+    ∙ (position-Some test rows at pivot (sym (found ∙ ap (position test) same))).1
 
-pub ruleset turns = (rank-turn, rank-end)
+pub ruleset turns = (rank-turn)

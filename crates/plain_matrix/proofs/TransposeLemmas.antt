@@ -63,11 +63,11 @@ rank-transpose p columns rows field is =
     (matrix-transposed_rows p columns rows is) (entry-transposed_rows p columns rows is)
 
 -- one column more, in memory
-pub values_of-column : {F : Type 0} (value_of : F → ℕ) (made : List (Vec F)) (column : Vec F) (k : ℕ) (rows : List (List ℕ))
-    → map value_of column.items ≡ column_of rows k → values_of value_of made ≡ transposed_rows k rows
-    → values_of value_of (made ++ column ∷ []) ≡ transposed_rows (k + 1) rows
-values_of-column {F} value_of made column k rows is_column before =
-    map-append (λ (row : Vec F). map value_of row.items) made (column ∷ [])
+pub values_of-column : {F : Type 0} (value_of : F → ℕ) (made more : List (Vec F)) (column : Vec F) (k : ℕ) (rows : List (List ℕ))
+    → more ≡ made ++ column ∷ [] → map value_of column.items ≡ column_of rows k → values_of value_of made ≡ transposed_rows k rows
+    → values_of value_of more ≡ transposed_rows (k + 1) rows
+values_of-column {F} value_of made more column k rows is_more is_column before =
+    ap (values_of value_of) is_more ∙ map-append (λ (row : Vec F). map value_of row.items) made (column ∷ [])
     ∙ ap₂ (λ values row. values ++ row ∷ []) before is_column
     ∙ sym (map-range_with_len_more (column_of rows) 0 k k (omega arith))
 

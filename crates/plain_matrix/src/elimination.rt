@@ -1,7 +1,7 @@
 //! The plain rank, by elimination.
 
-ghost use Rattle.std.specs.Prelude.{◌≡◌, ◌<◌, ◌^◌, length, map, slice_get, true, vec_len, IfOk, IfSome};
-ghost use Rattle.std.specs.List.{position, remove};
+ghost use Rattle.std.specs.Prelude.{◌≡◌, ◌<◌, ◌^◌, length, map, true, vec_len, IfOk};
+ghost use Rattle.std.specs.List.{position};
 ghost use Rattle.kh_types.specs.Rank.{has_entry, rank, reduced_by};
 ghost use Rattle.plain_matrix.specs.Inside.{values_of};
 
@@ -11,7 +11,8 @@ use kh_types::NoMemory;
 use prime_field::PrimeField;
 use std::alloc::Global;
 
-/// The rank: how many pivots Gauss's elimination takes, which in each turn takes the first row with an entry, and its first entry.
+/// The plain rank: how many pivots Gauss's elimination takes, where each turn takes the first row with
+/// an entry other than 0, and its first such entry.
 pub fn rank<F: PrimeField>(alloc: Global, matrix: &Dense<F>) -> Result<u32, NoMemory>
     ensures { IfOk result (λ found. found ≡ rank F.P matrix.now.rows) }
 {
@@ -41,7 +42,7 @@ fn first_row<F: PrimeField>(rows: &[Vec<F>]) -> Option<usize>
     rows.iter().position(|row| has_entry(row))
 }
 
-/// What is left of the other rows.
+/// What a pivot leaves of the other rows.
 fn reduced_by<F: PrimeField>(
     alloc: Global,
     pivot: &[F],
@@ -60,7 +61,8 @@ fn reduced_by<F: PrimeField>(
 }
 
 fn copied_rows<F: PrimeField>(alloc: Global, rows: &[Vec<F>]) -> Result<Vec<Vec<F>>, NoMemory>
-    ensures values { IfOk result (λ made. values_of F.value_of made.items ≡ values_of F.value_of rows.now) }
+    ensures values { IfOk result (λ made.
+        values_of F.value_of made.items ≡ values_of F.value_of rows.now) }
     ensures size { IfOk result (λ made. vec_len made ≡ length rows.now) }
 {
     let mut made = Vec::with_capacity(alloc, rows.len())?;

@@ -1,15 +1,16 @@
-//! Laws of ranks: the plain rank does not depend on the pivots that are taken, and what keeps it. They hold over every field of prime
-//! size; `prime_field` has the law that the numbers modulo 2, 3, 5 and 7 are such fields.
+//! Laws of ranks: the plain rank does not depend on the pivots that are taken, and what keeps it. They
+//! hold modulo every p that gives a field; `prime_field` has the law that 2, 3, 5 and 7 do.
 
 ghost use Rattle.std.specs.Prelude.{◌≡◌, ◌≢◌, ℕ, suc, List};
-ghost use Rattle.kh_types.specs.Complex.{Pivot, cancelled_matrix, entry_in, without_column, without_row};
+ghost use Rattle.kh_types.specs.Complex.{Pivot, cancelled_matrix, entry_in};
+ghost use Rattle.kh_types.specs.Complex.{without_column, without_row};
 ghost use Rattle.kh_types.specs.Rank.{rank};
 ghost use Rattle.prime_field.specs.Residues.{IsField};
 ghost use Rattle.plain_matrix.specs.Matrices.{IsMatrix, transposed_rows};
 ghost use Rattle.plain_matrix.specs.Ranks.{HasRank, IsAmong, IsDependent};
 ghost use Rattle.plain_matrix.specs.Steps.{IsColumnStep, IsElimination, IsRowStep};
 
-/// A matrix has one rank, the least middle size of a product that is the matrix, and that is the plain rank.
+/// A matrix has one rank, the least middle size of a product that is the matrix: the plain rank.
 pub fn plain_rank_is_the_rank()
     ensures plain { (p columns : ℕ) (rows : List (List ℕ)) → IsField p → IsMatrix p columns rows
         → HasRank p (entry_in rows) (rank p rows) }

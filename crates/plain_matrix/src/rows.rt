@@ -1,9 +1,8 @@
 //! Rows of a matrix, and what one step of the elimination makes of them.
 
-ghost use Rattle.std.specs.Prelude.{◌≡◌, ◌≢◌, ◌*◌, map, not, nat_eq, slice_index, true, IfOk, IsTrue};
+ghost use Rattle.std.specs.Prelude.{◌≡◌, ◌*◌, map, not, nat_eq, slice_index, true, IfOk};
 ghost use Rattle.std.specs.List.{list_any, position, remove};
-ghost use Rattle.kh_types.specs.Rank.{has_entry, lead_of, inverse, minus_mod, less_multiple, cleared};
-ghost use Rattle.plain_matrix.specs.Products.{Same};
+ghost use Rattle.kh_types.specs.Rank.{cleared, has_entry, lead_of, less_multiple, minus_mod};
 
 use kh_types::NoMemory;
 use prime_field::laws::element_laws;
@@ -41,10 +40,10 @@ fn first_other<F: PrimeField>(row: &[F]) -> Option<usize>
 /// What is left of a row when the pivot's column has been cleared from it and dropped.
 pub fn reduced<F: PrimeField>(alloc: Global, pivot: &[F], row: &[F]) -> Result<Vec<F>, NoMemory>
     requires { has_entry (map F.value_of pivot.now) ≡ true }
-    ensures { IfOk result (λ made. map F.value_of made.items
-        ≡ remove
-        (cleared F.P (map F.value_of pivot.now) (lead_of (map F.value_of pivot.now)) (map F.value_of row.now))
-        (lead_of (map F.value_of pivot.now))) }
+    ensures { IfOk result (λ made.
+        let values = map F.value_of pivot.now in
+        map F.value_of made.items
+        ≡ remove (cleared F.P values (lead_of values) (map F.value_of row.now)) (lead_of values)) }
 {
     let column = lead_of(pivot);
     let factor = quotient(entry(row, column), entry(pivot, column));
@@ -68,8 +67,8 @@ fn less_multiple<F: PrimeField>(
     pivot: &[F],
     factor: F,
 ) -> Result<Vec<F>, NoMemory>
-    ensures { IfOk result (λ made. map F.value_of made.items
-        ≡ less_multiple F.P (map F.value_of row.now) (map F.value_of pivot.now) (F.value_of factor)) }
+    ensures { IfOk result (λ made. map F.value_of made.items ≡ less_multiple F.P
+        (map F.value_of row.now) (map F.value_of pivot.now) (F.value_of factor)) }
 {
     let count = row.len().min(pivot.len());
     let mut made = Vec::with_capacity(alloc, count)?;

@@ -1,4 +1,4 @@
-//! What every field has besides: differences and quotients. Both rest on the laws of the trait alone.
+//! What every field has besides: differences and quotients, from the laws of the trait alone.
 
 ghost use Rattle.std.specs.Prelude.{◌≡◌, ◌≢◌};
 ghost use Rattle.prime_field.specs.Residues.{inverse_mod, negative_mod, product_mod, sum_mod};
@@ -16,7 +16,7 @@ pub fn difference<F: PrimeField>(left: F, right: F) -> F
     left.add(right.neg())
 }
 
-/// The quotient of two elements: multiplied by the second it gives the first. The second is not zero.
+/// The quotient of two elements: times the second it gives the first. The second is not zero.
 pub fn quotient<F: PrimeField>(dividend: F, divisor: F) -> F
     requires { F.value_of divisor ≢ 0 }
     ensures value { F.value_of result

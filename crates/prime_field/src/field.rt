@@ -1,9 +1,10 @@
 //! The trait of a field of prime size.
 
 ghost use Rattle.std.specs.Prelude.{◌≡◌, ◌≢◌, ℕ, ◌<◌, nat_eq};
-ghost use Rattle.prime_field.specs.Residues.{IsField, IsSmallPrime, negative_mod, product_mod, sum_mod};
+ghost use Rattle.prime_field.specs.Residues.{IsField, IsSmallPrime};
+ghost use Rattle.prime_field.specs.Residues.{negative_mod, product_mod, sum_mod};
 
-/// A field of `P` elements, each of which is known by its value, a number below `P`. `P` is 2, 3, 5 or 7.
+/// A field of `P` elements, each known by its value, a number below `P`. `P` is 2, 3, 5 or 7.
 pub trait PrimeField: Copy + Eq + Send + Sync {
     /// The number of elements.
     ghost P: { ℕ };

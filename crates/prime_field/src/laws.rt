@@ -10,7 +10,8 @@ pub fn small_primes_give_fields()
     ensures { (p : ℕ) → IsSmallPrime p → IsField p }
 {}
 
-/// The laws that every field has. It does nothing: a generic function calls it, and its proof then has them at hand.
+/// The laws that every field has. It does nothing: a generic function calls it, and its proof then has
+/// them at hand.
 pub fn element_laws<F: PrimeField>()
     ensures prime { IsSmallPrime F.P }
     ensures field { IsField F.P }

@@ -1,4 +1,4 @@
-//! The fields of two, three, five and seven elements, under one trait whose laws are all that generic code rests on.
+//! The fields of two, three, five and seven elements, under one trait with laws for generic code.
 #![tactic(auto)]
 
 mod derived;

@@ -1,14 +1,13 @@
-use Rattle.std.proofs.Common.{◌∙◌, ap, arith}
+use Rattle.std.proofs.Common.{arith}
 use Rattle.plain_matrix.specs.Inside.{values_of}
 use Rattle.plain_matrix.proofs.TransposeLemmas.{values_of-column, size-transposed}
 use Rattle.plain_matrix.proofs.transpose.transposed.Goals as goal
 
 pub loop-column-preserved : goal.loop-column-preserved
 loop-column-preserved g c =
-    let value_of = g.F.PrimeField.value_of in
-    ap (values_of value_of) c.in_ok-push.ensures.items
-    ∙ values_of-column value_of c.loop-column.made.items c.in_ok-column_of.field-0 c.loop-column.column
-    (values_of value_of c.row_list-rows.result.now) c.in_ok-column_of.ensures c.loop-column.invariant
+    values_of-column g.F.PrimeField.value_of c.loop-column.made.items c.push.new.self.items c.in_ok-column_of.field-0
+    c.loop-column.column (values_of g.F.PrimeField.value_of c.row_list-rows.result.now) c.in_ok-push.ensures.items
+    c.in_ok-column_of.ensures c.loop-column.invariant
 
 pub of_rows-requires-after_bounds : goal.of_rows-requires-after_bounds
 of_rows-requires-after_bounds g c κs within =
