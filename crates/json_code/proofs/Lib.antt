@@ -1,4 +1,4 @@
 mod Elements
 mod Counts
 mod Crossings
-mod Readings
+pub mod Readings

@@ -10,6 +10,8 @@ mod limits;
 mod refusals;
 mod reply;
 mod status;
+#[cfg(test)]
+mod tests;
 mod top;
 
 pub use laws::{limits_of_commands, one_answer};

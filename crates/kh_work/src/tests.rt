@@ -1,0 +1,113 @@
+//! What no clause says: that runs answer at all where there is memory, and what the definitions come to on known links.
+
+mod known;
+mod rows;
+
+use crate::{Status, run};
+use kh_io::{MemSink, MemSource};
+use kh_types::Words;
+use known::KNOWN;
+use rows::{ROWS, TREFOIL};
+use std::process::Abort;
+use std::test::Fail;
+
+fn words_of(rt: &impl AllocGlobal, words: &[&str]) -> Result<Words, Fail> {
+    let mut list = Words::new(rt.alloc())?;
+    for word in words {
+        list.push(rt.alloc(), *word)?;
+    }
+    Ok(list)
+}
+
+// Runs some words on an input, and compares the status and what is written.
+fn expect_answer<R: Abort + AllocGlobal>(
+    rt: &R,
+    words: &[&str],
+    input: &[u8],
+    status: Status,
+    output: &str,
+) -> Result<(), Fail> {
+    let words = words_of(rt, words)?;
+    let mut source = MemSource::new(rt.alloc(), input, 7, &[])?;
+    let mut sink = MemSink::new(rt.alloc(), 4_096, 5, &[])?;
+    let ended = run(rt.alloc(), &words, &mut source, &mut sink);
+    assert_eq!(rt; sink.bytes(), output.as_bytes(), "{output}");
+    assert_eq!(rt; ended, status, "{output}");
+    Ok(())
+}
+
+#[test]
+fn known_links_have_their_tables(rt: HostRuntime) -> Result<(), Fail> {
+    for known in &KNOWN {
+        let table = format!(in rt.alloc(); "field 2\n{}", known.lines)?;
+        expect_answer(
+            &rt,
+            &["homology"],
+            known.text.as_bytes(),
+            Status::Done,
+            table.as_str(),
+        )?;
+    }
+    Ok(())
+}
+
+#[test]
+fn words_and_inputs_have_their_answers(rt: HostRuntime) -> Result<(), Fail> {
+    for row in &ROWS {
+        expect_answer(&rt, row.words, row.input.as_bytes(), row.status, row.output)?;
+    }
+    expect_answer(
+        &rt,
+        &["homology"],
+        b"PD[\xff]",
+        Status::CodeRefused,
+        "refused text at 3\n",
+    )
+}
+
+#[test]
+fn a_full_input_is_read_and_a_byte_more_is_not(rt: HostRuntime) -> Result<(), Fail> {
+    let mut input = String::from_str(rt.alloc(), TREFOIL)?;
+    for _ in 0..65_498 {
+        input.push(' ')?;
+    }
+    let printed = "PD[X[1, 4, 2, 5], X[3, 6, 4, 1], X[5, 2, 6, 3]]\n";
+    expect_answer(&rt, &["convert"], input.as_bytes(), Status::Done, printed)?;
+    input.push(' ')?;
+    let limit = "limit bytes 65537 of 65536\n";
+    expect_answer(&rt, &["convert"], input.as_bytes(), Status::Limit, limit)
+}
+
+#[test]
+fn a_fault_ends_a_run_with_what_was_written(rt: HostRuntime) -> Result<(), Fail> {
+    let words = words_of(&rt, &["homology"])?;
+    for (reads, writes, status, output) in [
+        (&[] as &[u64], &[2] as &[u64], Status::WriteFault, "f"),
+        (&[2], &[], Status::ReadFault, ""),
+    ] {
+        let mut source = MemSource::new(rt.alloc(), TREFOIL.as_bytes(), 4, reads)?;
+        let mut sink = MemSink::new(rt.alloc(), 4_096, 1, writes)?;
+        let ended = run(rt.alloc(), &words, &mut source, &mut sink);
+        assert_eq!(rt; ended, status);
+        assert_eq!(rt; sink.bytes(), output.as_bytes());
+    }
+    Ok(())
+}
+
+#[test]
+fn statuses_differ(rt: HostRuntime) {
+    let all = [
+        Status::Done,
+        Status::CodeRefused,
+        Status::Usage,
+        Status::ReadFault,
+        Status::WriteFault,
+        Status::NoMemory,
+        Status::Limit,
+    ];
+    for (place, status) in all.iter().enumerate() {
+        for (other_place, other) in all.iter().enumerate() {
+            assert_eq!(rt; *status == *other, place == other_place);
+        }
+    }
+}
