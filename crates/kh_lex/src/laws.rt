@@ -15,7 +15,8 @@ pub fn number_limit()
     ensures { NUMBER_LIMIT ≡ 65535 }
 {}
 
-/// Each text is cut by tokens or has a first fault, as `tokens_of` computes, and by no other ones and not both.
+/// Each text is cut by tokens or has a first fault, not both, and by no others: `tokens_of`
+/// computes which.
 pub fn tokens_cut_the_text()
     ensures cut { (text : List ℕ) (tokens : List Token) →
         (tokens_of text ≡ Ok tokens) ↔ Cuts 0 text tokens }
@@ -26,7 +27,8 @@ pub fn tokens_cut_the_text()
         Stops 0 text stop → ¬ Cuts 0 text tokens }
 {}
 
-/// The tokens of some texts, and their first faults: a lone minus, a number too large, a form feed, the first of two.
+/// The tokens of a text, and the first faults of some: a lone minus, a number that is too large,
+/// a form feed, the first of two.
 pub fn worked_tokens()
     ensures some { Cuts 0 (codes "Xy,\t-007") (
         record { kind = Word; place = 0; length = 2; value = pos 0 }

@@ -1,4 +1,4 @@
-//! What the readers of code texts have in common: texts are cut into tokens, and tokens mean symbols.
+//! What the readers of code texts share: a text is cut into tokens, and tokens mean symbols.
 #![tactic(auto)]
 
 mod laws;

@@ -5,7 +5,7 @@ ghost use Rattle.kh_lex.specs.declared.stop.LexStop.TheVariants.{NoMemory};
 
 use std::alloc::{AllocError, AllocFailed};
 
-/// Why a text has no tokens: its first fault, with the place of that one's first byte, counted from 0.
+/// Why a text has no tokens: its first fault, at the place of a byte, counted from 0.
 #[derive(Clone, Copy, Debug, PartialEq, Eq)]
 pub enum LexStop {
     /// The byte at `place` begins no token.

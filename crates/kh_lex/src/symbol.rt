@@ -7,7 +7,8 @@ ghost use Rattle.kh_lex.specs.Symbols.{bytes_of, symbol_of, word_symbol};
 use crate::token::{Kind, Token};
 
 /// What a token means: a word of the grammars, any other word, a number, or a mark.
-/// Source: Knot Atlas, "Planar Diagrams" and "Gauss Codes"; `Loop`, `Signs` and the braces are this project's rule.
+/// Source: Knot Atlas, "Planar Diagrams" and "Gauss Codes"; `Loop`, `Signs` and the braces are
+/// this project's rule.
 #[derive(Clone, Copy, Debug, PartialEq, Eq)]
 pub enum Symbol {
     /// The word `PD`.

@@ -1,4 +1,4 @@
-//! That texts are cut where there is memory, and that values that differ are not equal, which no clause says.
+//! What no clause says: texts are cut where there is memory, and values that differ are not equal.
 
 use crate::lexer::tokens;
 use crate::stop::LexStop;

@@ -9,14 +9,16 @@ ghost use Rattle.pd_code.specs.Reading.{IsReading};
 use crate::stop::PdStop;
 use kh_types::{CROSSINGS, LOOPS};
 
-/// Each text has a reading, and two readings of a text are one: every refusal comes exactly where it says.
+/// Each text has a reading, and two readings of a text are one: so every refusal comes exactly
+/// where it says.
 pub fn each_text_has_one_reading()
     ensures some { (text : List ℕ) → (reading : Result Code PdStop) × IsReading text reading }
     ensures one { (text : List ℕ) (a b : Result Code PdStop) →
         IsReading text a → IsReading text b → a ≡ b }
 {}
 
-/// The text of a code within the limits reads as the code. A diagram's crossings are such quadruples by their type.
+/// The text of a code within the limits reads as the code. The crossings of a diagram are such
+/// quadruples by their type.
 pub fn printed_codes_are_read_back()
     ensures { (code : Code) → All IsQuadruple code.crossings →
         length code.crossings ≤ CROSSINGS → code.loops ≤ LOOPS →

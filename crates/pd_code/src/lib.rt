@@ -1,4 +1,4 @@
-//! Reads and prints planar diagram texts: what the tokens of a text mean spells a list of items, and these stand for a code.
+//! Reads and prints planar diagram texts: a text spells a list of items, and these are a code.
 #![tactic(auto)]
 
 mod item;

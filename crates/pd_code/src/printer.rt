@@ -8,7 +8,8 @@ use crate::item::Item;
 use kh_types::{CROSSINGS, Crossing, Diagram, LOOPS, NoMemory};
 use std::alloc::Global;
 
-/// The text of a diagram: its crossings in order and then its loops, by the names that follow those of the arcs.
+/// The text of a diagram: its crossings in order and then its loops, by the names that follow
+/// those of the arcs.
 /// Source: Knot Atlas, "Planar Diagrams"; the spaces and the loops are this project's rule.
 pub fn print_pd(alloc: Global, diagram: &Diagram) -> Result<Vec<u8>, NoMemory>
     ensures text { IfOk result (λ text. text.items ≡ pd_text diagram.now) }

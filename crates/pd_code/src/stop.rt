@@ -7,11 +7,13 @@ ghost use Rattle.pd_code.specs.declared.stop.PdStop.TheVariants.{NoMemory};
 use kh_lex::LexStop;
 use std::alloc::{AllocError, AllocFailed};
 
-/// Why no code was read from a text. Places are those of bytes, counted from 0. Each of the limits is told of a text only
-/// where no variant above it holds. This project's rule.
+/// Why no code was read from a text. The first fault of the bytes counts, else the first of the
+/// grammar, else a limit, crossings before loops. A place is that of a byte, counted from 0, or the
+/// number of bytes where the text ends too early. This project's rule.
 #[derive(Clone, Copy, Debug, PartialEq, Eq)]
 pub enum PdStop {
-    /// The byte at `place` begins no token, or the token there, or the end of the text there, is not in the grammar.
+    /// The byte at `place` begins no token, or no text of the grammar has the token there, or the
+    /// text ends there too early.
     Text { place: u32 },
     /// The number at `place` is above the greatest size of a number.
     Number { place: u32 },

@@ -1,4 +1,5 @@
-//! That texts are answered where there is memory, and that values that differ are not equal, which no clause says.
+//! What no clause says: texts are answered where there is memory, and values that differ are not
+//! equal.
 
 use crate::item::Item;
 use crate::printer::print_pd;
