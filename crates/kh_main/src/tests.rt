@@ -4,8 +4,6 @@ mod system;
 
 use crate::exit_of;
 use crate::words::words_of;
-use kh_work::Status;
-use std::alloc::Global;
 use std::process::{Abort, ExitCode};
 use std::test::Fail;
 use system::System;
@@ -64,14 +62,10 @@ fn all_words_but_the_name_are_taken_as_they_are(rt: HostRuntime) -> Result<(), F
         b"\xc3\xa9",
     ];
     let system = System::new(rt.alloc(), &line, b"", 0)?;
-    match words_of(&system) {
-        Ok(words) => {
-            assert_eq!(rt; words.count(), 6);
-            for (place, word) in line.iter().skip(1).enumerate() {
-                assert_eq!(rt; words.word(place).as_bytes(), *word, "{place}");
-            }
-        }
-        Err(status) => assert_eq!(rt; status, Status::Done),
+    let words = words_of(&system)?;
+    assert_eq!(rt; words.count(), 6);
+    for (place, word) in line.iter().skip(1).enumerate() {
+        assert_eq!(rt; words.word(place).as_bytes(), *word, "{place}");
     }
     Ok(())
 }
@@ -80,10 +74,11 @@ fn all_words_but_the_name_are_taken_as_they_are(rt: HostRuntime) -> Result<(), F
 fn the_input_is_read_to_its_end(rt: HostRuntime) -> Result<(), Fail> {
     let homology = [b"kh".as_slice(), b"homology"];
     for (count, exit, text) in [
-        (65_536, 1, "refused code\n"),
+        (65_536, 0, TREFOIL_TABLE),
         (65_537, 6, "limit bytes 65537 of 65536\n"),
     ] {
-        let bytes = vec![in rt.alloc(); b' '; count]?;
+        let mut bytes = Vec::from_slice(rt.alloc(), TREFOIL)?;
+        bytes.resize(count, b' ')?;
         let system = System::new(rt.alloc(), &homology, &bytes, 1_000)?;
         ends(&rt, &system, exit, text.as_bytes());
     }
