@@ -7,7 +7,7 @@ mod words;
 
 ghost use Rattle.std.specs.Prelude.{◌≡◌};
 ghost use Rattle.std.specs.Process.{exit_status};
-ghost use Rattle.kh_work.specs.Statuses.{number_of};
+ghost use Rattle.kh_work.specs.Statuses.{status_number};
 
 use kh_io::{StdSink, StdSource};
 use kh_work::{Status, run};
@@ -27,7 +27,7 @@ fn exit_of(rt: &(impl Input + Print + Env + AllocGlobal)) -> ExitCode {
 
 /// The exit status that stands for a status.
 fn exit_code(status: Status) -> ExitCode
-    ensures { exit_status result ≡ number_of status }
+    ensures { exit_status result ≡ status_number status }
 {
     ExitCode::from(status.number())
 }

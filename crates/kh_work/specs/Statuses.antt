@@ -4,14 +4,14 @@ use Rattle.kh_work.specs.declared.status.Status.{Status}
 use Rattle.kh_work.specs.declared.status.Status.TheVariants.{Done, CodeRefused, Usage, ReadFault, WriteFault, NoMemory, Limit}
 
 -- the exit status that stands for a status
-abbrev pub exit_status : Status → ℕ
-exit_status Done = 0
-exit_status CodeRefused = 1
-exit_status Usage = 2
-exit_status ReadFault = 3
-exit_status WriteFault = 4
-exit_status NoMemory = 5
-exit_status Limit = 6
+abbrev pub status_number : Status → ℕ
+status_number Done = 0
+status_number CodeRefused = 1
+status_number Usage = 2
+status_number ReadFault = 3
+status_number WriteFault = 4
+status_number NoMemory = 5
+status_number Limit = 6
 
 -- the statuses on which a whole answer is written: all but those of a fault and of being out of memory
 abbrev pub IsWhole : Status → Type 0

@@ -22,11 +22,11 @@ pub enum Status {
 }
 
 impl Status {
-    ghost use Rattle.kh_work.specs.Statuses.{exit_status};
+    ghost use Rattle.kh_work.specs.Statuses.{status_number};
 
     /// The number of the status, 0 to 6.
     pub fn number(self) -> u8
-        ensures { result ≡ exit_status self }
+        ensures { result ≡ status_number self }
     {
         self as u8
     }
