@@ -1,7 +1,8 @@
 -- The checkerboard equations, and the choices that solve the first of them.
-use Rattle.std.proofs.Common.{◌≡◌, ℕ, zero, suc, ◌⊎◌, inl, inr, ◌-◌, ◌+◌, ◌*◌, ◌^◌, ◌<◌, ◌≤◌, ◌∙◌, List, [], ◌∷◌, length, take, refl, sym, ap, arith, Bool, true, false, not}
+use Rattle.std.proofs.Common.{◌≡◌, ℕ, inl, inr, ◌-◌, ◌+◌, ◌*◌, ◌^◌, ◌<◌, ◌≤◌, ◌∙◌, List, [], ◌∷◌, length, take, refl, sym, ap, arith, Bool, true, false, not}
 use Rattle.std.specs.Prelude.{Some, None}
 use Rattle.std.specs.List.{list_all, range_with_len}
+use Rattle.std.proofs.lemmas.Bool.{cases_lt}
 use Rattle.std.proofs.lemmas.List.Folds.{list_all-map, list_all_kept}
 use Rattle.std.proofs.lemmas.List.FromFn.{take-map-range_with_len}
 use Rattle.kh_types.specs.declared.fault.CodeFault.{CodeFault}
@@ -39,19 +40,13 @@ checkerboard-none crossings arc choice choices within is_count below solved =
     (solves_up_to-is crossings arc choice within ∙ solved) in
     ap (λ b. fault_if (not b) (Checkerboard arc)) some
 
--- of two numbers the first is below the second or not
-lt_or_le : (k n : ℕ) → (k < n) ⊎ (n ≤ k)
-lt_or_le k zero = inr (omega arith)
-lt_or_le zero (suc n) = inl (omega arith)
-lt_or_le (suc k) (suc n) = elim (lt_or_le k n) [ inl earlier ↦ inl (omega arith) | inr later ↦ inr (omega arith) ]
-
 -- choices that fail for some arcs fail for one arc more, and those that were tried now fail too
 pub tried_more : (crossings : List (List ℕ)) (place before now : ℕ)
     → ((k : ℕ) → k < before → list_all (is_solved k) (take place (equations_of crossings)) ≡ false)
     → ((k : ℕ) → before ≤ k → k < now → list_all (is_solved k) (take (place + 1) (equations_of crossings)) ≡ false)
     → (k : ℕ) → k < now → list_all (is_solved k) (take (place + 1) (equations_of crossings)) ≡ false
 tried_more crossings place before now tried fails k below =
-    elim (lt_or_le k before) [
+    elim (cases_lt k before) [
       | inl earlier ↦ list_all_kept (is_solved k) (equations_of crossings) place (tried k earlier)
       | inr later ↦ fails k later below
     ]
