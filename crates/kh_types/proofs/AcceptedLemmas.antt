@@ -4,7 +4,7 @@ use Rattle.std.proofs.Common.{◌≡◌, ◌≢◌, ◌↔◌, ℕ, ◌⊎◌, i
 use Rattle.std.specs.Prelude.{Option, Some, None, IsTrue, nat_eq, nat_lt, ◌||◌}
 use Rattle.std.specs.List.{list_any, range_with_len}
 use Rattle.std.specs.Option.{option_or}
-use Rattle.std.proofs.lemmas.Bool.{cases_Bool, and_parts, and_left, and_right, both_ways, not-false}
+use Rattle.std.proofs.lemmas.Bool.{cases_Bool, and_parts, and_left, and_right, both_ways, eq-eqb, eqb-true, not-false}
 use Rattle.std.proofs.lemmas.Bool.Decides.{nat_tests}
 use Rattle.kh_types.specs.declared.dart.Dart.{Dart}
 use Rattle.kh_types.specs.declared.fault.CodeFault.{CodeFault}
@@ -74,26 +74,10 @@ each_arc fault_at Fact crossings iff = (
       (λ arc from below. (iff arc).1 (facts arc (record { positive = from; within = omega (arith, below) }))),
 )
 
--- a test of two numbers holds exactly where they are the same
-same-by_test : (x y : ℕ) → (nat_eq x y ≡ true) ↔ (x ≡ y)
-same-by_test x y = (λ holds. tells x y holds, λ same. holds x y same)
-  where
-    tells : (x y : ℕ) → nat_eq x y ≡ true → x ≡ y
-    tells x y holds = grind (arith, nat_tests)
-
-    holds : (x y : ℕ) → x ≡ y → nat_eq x y ≡ true
-    holds x y same = grind (arith, nat_tests)
-
 -- the slots hold arcs
 
 none-within : (x most : ℕ) (fault : CodeFault) → (fault_if (nat_lt x 1 || nat_lt most x) fault ≡ None) ↔ ((1 ≤ x) × (x ≤ most))
-none-within x most fault = (λ none. tells x most fault none, λ within. none x most fault within.0 within.1)
-  where
-    tells : (x most : ℕ) (fault : CodeFault) → fault_if (nat_lt x 1 || nat_lt most x) fault ≡ None → (1 ≤ x) × (x ≤ most)
-    tells x most fault none = grind (arith, nat_tests)
-
-    none : (x most : ℕ) (fault : CodeFault) → 1 ≤ x → x ≤ most → fault_if (nat_lt x 1 || nat_lt most x) fault ≡ None
-    none x most fault positive within = grind (arith, nat_tests)
+none-within x most fault = (λ none. grind (arith, nat_tests), λ within. grind (arith, nat_tests))
 
 arc_range_at-none : (crossings : List (List ℕ)) (place : ℕ)
     → (arc_range_at crossings place ≡ None) ↔ IsArc crossings (arc_of crossings (dart_at place))
@@ -121,13 +105,7 @@ arc_range_fault-none crossings = (
 -- each arc stands twice
 
 none-same : (x y : ℕ) (fault : CodeFault) → (fault_if (not (nat_eq x y)) fault ≡ None) ↔ (x ≡ y)
-none-same x y fault = (λ none. tells x y fault none, λ same. none x y fault same)
-  where
-    tells : (x y : ℕ) (fault : CodeFault) → fault_if (not (nat_eq x y)) fault ≡ None → x ≡ y
-    tells x y fault none = grind (arith, nat_tests)
-
-    none : (x y : ℕ) (fault : CodeFault) → x ≡ y → fault_if (not (nat_eq x y)) fault ≡ None
-    none x y fault same = grind (arith, nat_tests)
+none-same x y fault = (λ none. grind (arith, nat_tests), λ same. grind (arith, nat_tests))
 
 pub arc_times_fault-none : (crossings : List (List ℕ))
     → (arc_times_fault crossings ≡ None) ↔ ((arc : ℕ) → IsArc crossings arc → times crossings arc ≡ 2)
@@ -139,10 +117,10 @@ arc_times_fault-none crossings =
 
 IsInterval-is : (components : List ℕ) (first : ℕ) → (is_interval components first ≡ true) ↔ IsInterval components first
 IsInterval-is components first = (
-  λ holds arc from below. (same-by_test (component_of components arc) first).0
+  λ holds arc from below. eqb-true (component_of components arc) first
       (list_all-at (λ x. nat_eq (component_of components x) first) first (arcs_in components first) arc holds from below),
   λ is. list_all-each (λ x. nat_eq (component_of components x) first) first (arcs_in components first)
-      (λ arc from below. (same-by_test (component_of components arc) first).1 (is arc from below)),
+      (λ arc from below. eq-eqb (component_of components arc) first (is arc from below)),
 )
 
 interval_at-none : (components : List ℕ) (arc : ℕ)
@@ -152,10 +130,10 @@ interval_at-none components arc =
       λ none least. (IsInterval-is components arc).0
           (not-false (is_interval components arc)
           (second_fails (is_least components arc) (not (is_interval components arc)) (iff.0 none)
-          ((same-by_test (component_of components arc) arc).1 least))),
+          (eq-eqb (component_of components arc) arc least))),
       λ is. iff.1 (elim (cases_Bool (is_least components arc)) [
         | inl least ↦ and_right (is_least components arc) (not (is_interval components arc))
-            (ap not ((IsInterval-is components arc).1 (is ((same-by_test (component_of components arc) arc).0 least))))
+            (ap not ((IsInterval-is components arc).1 (is (eqb-true (component_of components arc) arc least))))
         | inr other ↦ and_left (is_least components arc) (not (is_interval components arc)) other
       ]),
     )
@@ -182,13 +160,7 @@ under_fault-none crossings =
 
 none-either : (x after_y y after_x : ℕ) (fault : CodeFault)
     → (fault_if (not (nat_eq x after_y) && not (nat_eq y after_x)) fault ≡ None) ↔ ((x ≡ after_y) ⊎ (y ≡ after_x))
-none-either x after_y y after_x fault = (λ none. tells x after_y y after_x fault none, λ either. none x after_y y after_x fault either)
-  where
-    tells : (x z y w : ℕ) (fault : CodeFault) → fault_if (not (nat_eq x z) && not (nat_eq y w)) fault ≡ None → (x ≡ z) ⊎ (y ≡ w)
-    tells x z y w fault none = grind (arith, nat_tests)
-
-    none : (x z y w : ℕ) (fault : CodeFault) → (x ≡ z) ⊎ (y ≡ w) → fault_if (not (nat_eq x z) && not (nat_eq y w)) fault ≡ None
-    none x z y w fault either = grind (arith, nat_tests)
+none-either x after_y y after_x fault = (λ none. grind (arith, nat_tests), λ either. grind (arith, nat_tests))
 
 pub over_fault-none : (crossings : List (List ℕ)) → (over_fault crossings ≡ None)
     ↔ ((crossing : ℕ) → IsCrossing crossings crossing
@@ -223,10 +195,10 @@ two_arc_at-none crossings later is =
     let iff = fault_if-none (nat_eq size 2 && some) (TwoArc later) in (
       λ none earlier is_earlier before same two.
           both_ways some
-          (second_fails (nat_eq size 2) some (iff.0 none) ((same-by_test size 2).1 two))
+          (second_fails (nat_eq size 2) some (iff.0 none) (eq-eqb size 2 two))
           (list_any-at (comes_in_on crossings incoming) 1 (place_of later) earlier is_earlier.positive
           (omega (arith, before, is_earlier.positive))
-          ((same-by_test (arc_in (slots_of crossings earlier) 0) incoming).1 same)),
+          (eq-eqb (arc_in (slots_of crossings earlier) 0) incoming same)),
       λ first. iff.1 (elim (cases_Bool (nat_eq size 2 && some)) [
         | inr fails ↦ fails
         | inl holds ↦
@@ -234,8 +206,8 @@ two_arc_at-none crossings later is =
             let found = list_any-one (comes_in_on crossings incoming) 1 (place_of later) both.1 in
             absurd
             (first found.0 (record { positive = found.1; within = omega (arith, is.within, found.2) }) (omega (arith, found.1, found.2))
-            ((same-by_test (arc_in (slots_of crossings found.0) 0) incoming).0 found.3)
-            ((same-by_test size 2).0 both.0))
+            (eqb-true (arc_in (slots_of crossings found.0) 0) incoming found.3)
+            (eqb-true size 2 both.0))
       ]),
     )
 
@@ -255,19 +227,13 @@ genus_fault-none crossings =
     let faces = face_count crossings in
     let planar = planar_face_count crossings in none-same faces planar (Genus faces planar)
 
+none-most : (most count : ℕ) (fault : CodeFault) → (fault_if (nat_lt most count) fault ≡ None) ↔ (count ≤ most)
+none-most most count fault = (λ none. grind (arith, nat_tests), λ few. grind (arith, nat_tests))
+
 pub components_fault-none : (code : Code)
     → (components_fault code ≡ None) ↔ (component_count code.crossings + code.loops ≤ COMPONENTS)
 components_fault-none code =
     let count = component_count code.crossings + code.loops in none-most COMPONENTS count (Components count)
-  where
-    none-most : (most count : ℕ) (fault : CodeFault) → (fault_if (nat_lt most count) fault ≡ None) ↔ (count ≤ most)
-    none-most most count fault = (λ none. tells most count fault none, λ few. none most count fault few)
-      where
-        tells : (most count : ℕ) (fault : CodeFault) → fault_if (nat_lt most count) fault ≡ None → count ≤ most
-        tells most count fault none = grind (arith, nat_tests)
-
-        none : (most count : ℕ) (fault : CodeFault) → count ≤ most → fault_if (nat_lt most count) fault ≡ None
-        none most count fault few = grind (arith, nat_tests)
 
 -- a code is directed exactly where it breaks none of the first six rules
 

@@ -1,13 +1,13 @@
 -- A checkerboard choice gives each arc one dart of either colour.
 use Rattle.std.proofs.Common.{◌≡◌, ◌≢◌, ℕ, ◌⊎◌, inl, inr, ◌+◌, ◌-◌, ◌*◌, ◌%◌, ◌<◌, ◌∙◌, List, [], length, refl, sym, ap, subst, arith, IsTrue, true}
-use Rattle.std.specs.Prelude.{nat_eq, slice_index_or}
-use Rattle.std.proofs.lemmas.Bool.Decides.{nat_tests}
+use Rattle.std.specs.Prelude.{slice_index_or}
+use Rattle.std.proofs.lemmas.Bool.{eqb-true}
 use Rattle.kh_types.specs.declared.dart.Dart.{Dart}
 use Rattle.kh_types.specs.Code.{Code, IsArc, arc_in, place_of}
 use Rattle.kh_types.specs.Bits.{bit}
 use Rattle.kh_types.specs.Darts.{arc_of, first_dart, partner, IsDart, HasArcsTwice}
 use Rattle.kh_types.specs.Checkerboard.{solves_at, IsCheckerboard}
-use Rattle.kh_types.specs.Colours.{colour, IsOriented}
+use Rattle.kh_types.specs.Colours.{colour, IsColoured}
 use Rattle.kh_types.specs.Acceptance.{accepted}
 use Rattle.kh_types.proofs.RangeCounts.{list_all-at}
 use Rattle.kh_types.proofs.DartPairs.{IsOtherDart-partner, IsDartOf-first_dart, first_dart_or_partner}
@@ -20,13 +20,10 @@ differ-solved crossings choice arc solves same =
     let dart = first_dart crossings arc in
     let other = partner crossings dart in
     odd_sum (bit choice (place_of dart.crossing)) dart.slot (bit choice (place_of other.crossing)) other.slot
-    (same_number ((bit choice (place_of dart.crossing) + (bit choice (place_of other.crossing) + (dart.slot + other.slot))) % 2) 1
+    (eqb-true ((bit choice (place_of dart.crossing) + (bit choice (place_of other.crossing) + (dart.slot + other.slot))) % 2) 1
     solves)
     same
   where
-    same_number : (x y : ℕ) → nat_eq x y ≡ true → x ≡ y
-    same_number x y holds = grind (arith, nat_tests)
-
     odd_sum : (x s y t : ℕ) → (x + (y + (s + t))) % 2 ≡ 1 → (x + s) % 2 ≢ (y + t) % 2
     odd_sum x s y t odd alike = absurd (omega (arith, odd, alike))
 
@@ -51,9 +48,9 @@ one_dart choice first second dart other differ is other_is alike = elim is [
   ]
 ]
 
-pub IsOriented-checkerboard : (crossings : List (List ℕ)) (board : IsCheckerboard crossings) → HasArcsTwice crossings
-    → IsOriented crossings board.choice
-IsOriented-checkerboard crossings board twice =
+pub IsColoured-checkerboard : (crossings : List (List ℕ)) (board : IsCheckerboard crossings) → HasArcsTwice crossings
+    → IsColoured crossings board.choice
+IsColoured-checkerboard crossings board twice =
     let choice = board.choice in
     let differ = λ (arc : ℕ) (is : IsArc crossings arc).
     differ-solved crossings choice arc
@@ -82,10 +79,10 @@ IsOriented-checkerboard crossings board twice =
           ];
     }
 
-pub IsOriented-accepted : (code : Code) → IsTrue (accepted code) → (choice : ℕ) × IsOriented code.crossings choice
-IsOriented-accepted code holds =
+pub IsColoured-accepted : (code : Code) → IsTrue (accepted code) → (choice : ℕ) × IsColoured code.crossings choice
+IsColoured-accepted code holds =
     let is = (IsAccepted-is code).0 holds in
-    (is.checkerboard.choice, IsOriented-checkerboard code.crossings is.checkerboard (HasArcsTwice-directed code.crossings is.directed))
+    (is.checkerboard.choice, IsColoured-checkerboard code.crossings is.checkerboard (HasArcsTwice-directed code.crossings is.directed))
 
 -- the same by places and slots
 
@@ -116,13 +113,13 @@ IsDart-dart_of crossings place slot below slot_below = record {
   slot = slot_below;
 }
 
-pub arcs-places : (crossings : List (List ℕ)) (choice place slot : ℕ) → IsOriented crossings choice → place < length crossings
+pub arcs-places : (crossings : List (List ℕ)) (choice place slot : ℕ) → IsColoured crossings choice → place < length crossings
     → slot < 4 → IsArc crossings (arc_at crossings place slot)
 arcs-places crossings choice place slot oriented below slot_below =
     subst (λ (arc : ℕ). IsArc crossings arc) (arc_of-dart_of crossings place slot)
     (oriented.arcs (dart_of place slot) (IsDart-dart_of crossings place slot below slot_below))
 
-pub once-places : (crossings : List (List ℕ)) (choice place slot other other_slot : ℕ) → IsOriented crossings choice
+pub once-places : (crossings : List (List ℕ)) (choice place slot other other_slot : ℕ) → IsColoured crossings choice
     → place < length crossings → slot < 4 → other < length crossings → other_slot < 4
     → arc_at crossings place slot ≡ arc_at crossings other other_slot
     → colour_at choice place slot ≡ colour_at choice other other_slot → (place ≡ other) × (slot ≡ other_slot)
@@ -134,7 +131,7 @@ once-places crossings choice place slot other other_slot oriented below slot_bel
     let same_crossing : place + 1 ≡ other + 1 = ap (λ (dart : Dart). dart.crossing) same_dart in
     (omega (arith, same_crossing), ap (λ (dart : Dart). dart.slot) same_dart)
 
-pub both-places : (crossings : List (List ℕ)) (choice arc side : ℕ) → IsOriented crossings choice → IsArc crossings arc → side < 2
+pub both-places : (crossings : List (List ℕ)) (choice arc side : ℕ) → IsColoured crossings choice → IsArc crossings arc → side < 2
     → (place : ℕ) × (slot : ℕ) × (place < length crossings) × (slot < 4) × (arc_at crossings place slot ≡ arc)
     × (colour_at choice place slot ≡ side)
 both-places crossings choice arc side oriented is below =

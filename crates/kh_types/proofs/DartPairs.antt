@@ -3,15 +3,13 @@ use Rattle.std.proofs.Common.{◌≡◌, ◌≢◌, ℕ, ◌⊎◌, inl, inr, �
 use Rattle.std.specs.Prelude.{nat_eq, Option, Some, None, unwrap_or}
 use Rattle.std.specs.List.{count_by, find, range_with_len}
 use Rattle.std.specs.Option.{option_map}
-use Rattle.std.proofs.lemmas.Bool.{and_parts, and_from, and_right, both_ways, cases_Bool, cases_eq, false_from_ne_true, not-true}
-use Rattle.std.proofs.lemmas.Bool.Decides.{nat_tests}
-use Rattle.std.proofs.lemmas.List.Sums.{length-filter}
+use Rattle.std.proofs.lemmas.Bool.{and_parts, and_from, and_right, both_ways, cases_Bool, cases_eq, eq-eqb, eqb-true, false_from_ne_true, not-true}
 use Rattle.kh_types.specs.declared.dart.Dart.{Dart}
 use Rattle.kh_types.specs.Code.{IsArc}
 use Rattle.kh_types.specs.Darts.{dart_at, dart_place, arc_of, times, first_dart, is_same_dart, is_partner, partner, partner_at, IsDart, IsDartOf, HasArcsTwice, IsOtherDart, HasPairedDarts, IsPartner}
+use Rattle.kh_types.proofs.Lists.{count_by-map}
 use Rattle.kh_types.proofs.Ranges.{find-map}
 use Rattle.kh_types.proofs.RangeCounts.{count_by-one_more, found-counted, only-counted}
-use Rattle.kh_types.proofs.DartLemmas.{is_dart_of, is_partner_at, times_by_places}
 
 -- darts by their places
 
@@ -46,22 +44,27 @@ dart_at-place crossings dart is =
 
 -- two darts are one exactly where their places are
 is_same_dart-at : (place : ℕ) → is_same_dart (dart_at place) (dart_at place) ≡ true
-is_same_dart-at place = both_hold (place / 4 + 1) (place % 4)
-  where
-    both_hold : (x y : ℕ) → (nat_eq x x && nat_eq y y) ≡ true
-    both_hold x y = grind (arith, nat_tests)
+is_same_dart-at place =
+    and_from (nat_eq (place / 4 + 1) (place / 4 + 1)) (nat_eq (place % 4) (place % 4)) (eq-eqb (place / 4 + 1) (place / 4 + 1) refl)
+    (eq-eqb (place % 4) (place % 4) refl)
 
 same_place : (place other : ℕ) → is_same_dart (dart_at place) (dart_at other) ≡ true → place ≡ other
-same_place place other holds = omega (arith, both_tell (place / 4 + 1) (other / 4 + 1) (place % 4) (other % 4) holds)
-  where
-    both_tell : (x y z w : ℕ) → (nat_eq x y && nat_eq z w) ≡ true → (x ≡ y) × (z ≡ w)
-    both_tell x y z w holds = grind (arith, nat_tests)
+same_place place other holds =
+    let both = and_parts (nat_eq (place / 4 + 1) (other / 4 + 1)) (nat_eq (place % 4) (other % 4)) holds in
+    omega (arith, eqb-true (place / 4 + 1) (other / 4 + 1) both.0, eqb-true (place % 4) (other % 4) both.1)
 
-same_number : (x y : ℕ) → nat_eq x y ≡ true → x ≡ y
-same_number x y holds = grind (arith, nat_tests)
+-- whether the dart at a place is of an arc, or is the partner of a dart
+abbrev is_dart_of : List (List ℕ) → ℕ → ℕ → Bool
+is_dart_of crossings arc place = nat_eq (arc_of crossings (dart_at place)) arc
 
-is_same_number : (x y : ℕ) → x ≡ y → nat_eq x y ≡ true
-is_same_number x y same = grind (arith, nat_tests)
+abbrev is_partner_at : List (List ℕ) → Dart → ℕ → Bool
+is_partner_at crossings dart place = is_partner crossings dart (dart_at place)
+
+-- the places of the darts of an arc are as many as its darts
+count-is_dart_of : (crossings : List (List ℕ)) (arc : ℕ)
+    → count_by (is_dart_of crossings arc) (range_with_len 0 (4 * length crossings)) ≡ times crossings arc
+count-is_dart_of crossings arc =
+    sym (count_by-map (λ dart. nat_eq (arc_of crossings dart) arc) dart_at (range_with_len 0 (4 * length crossings)))
 
 -- another place with a dart of the same arc
 pub record IsOtherPlace (crossings : List (List ℕ)) (place other : ℕ) : Type 0 where
@@ -75,7 +78,7 @@ is_partner_at-other : (crossings : List (List ℕ)) (place other : ℕ) → IsOt
 is_partner_at-other crossings place other is =
     and_from (nat_eq (arc_of crossings (dart_at other)) (arc_of crossings (dart_at place)))
     (not (is_same_dart (dart_at other) (dart_at place)))
-    (is_same_number (arc_of crossings (dart_at other)) (arc_of crossings (dart_at place)) is.same_arc)
+    (eq-eqb (arc_of crossings (dart_at other)) (arc_of crossings (dart_at place)) is.same_arc)
     (elim (cases_Bool (is_same_dart (dart_at other) (dart_at place))) [
       | inl same ↦ absurd (is.differs (same_place other place same))
       | inr apart ↦ ap not apart
@@ -90,7 +93,7 @@ other-is_partner_at crossings place other below passes =
       below = below;
       differs = λ is. both_ways same (not-true same tells.1)
           (ap (λ k. is_same_dart (dart_at k) (dart_at place)) is ∙ is_same_dart-at place);
-      same_arc = same_number (arc_of crossings (dart_at other)) (arc_of crossings (dart_at place)) tells.0;
+      same_arc = eqb-true (arc_of crossings (dart_at other)) (arc_of crossings (dart_at place)) tells.0;
     }
 
 -- where the arc of a dart stands twice, the search accepts one place
@@ -99,10 +102,9 @@ count-is_partner_at : (crossings : List (List ℕ)) (place : ℕ) → place < 4 
     → count_by (is_partner_at crossings (dart_at place)) (range_with_len 0 (4 * length crossings)) ≡ 1
 count-is_partner_at crossings place below twice =
     let arc = arc_of crossings (dart_at place) in
-    let darts = range_with_len 0 (4 * length crossings) in
-    let two = sym (length-filter (is_dart_of crossings arc) darts) ∙ times_by_places crossings arc ∙ twice in
+    let two = count-is_dart_of crossings arc ∙ twice in
     let one_more = count_by-one_more (is_dart_of crossings arc) (is_partner_at crossings (dart_at place)) 0 (4 * length crossings) place
-    (omega arith) (omega (arith, below)) (is_same_number arc arc refl)
+    (omega arith) (omega (arith, below)) (eq-eqb arc arc refl)
     (and_right (nat_eq arc arc) (not (is_same_dart (dart_at place) (dart_at place))) (ap not (is_same_dart-at place)))
     (λ k other. sym (and_true (is_dart_of crossings arc k) (is_same_dart (dart_at k) (dart_at place))
     (false_from_ne_true (is_same_dart (dart_at k) (dart_at place)) (λ same. other (same_place k place same))))) in
@@ -242,7 +244,7 @@ pub IsDartOf-first_dart : (crossings : List (List ℕ)) (arc : ℕ) → HasArcsT
     → IsDartOf crossings arc (first_dart crossings arc)
 IsDartOf-first_dart crossings arc twice is_arc =
     let places = range_with_len 0 (4 * length crossings) in
-    let two = sym (length-filter (is_dart_of crossings arc) places) ∙ times_by_places crossings arc ∙ twice.twice arc is_arc in
+    let two = count-is_dart_of crossings arc ∙ twice.twice arc is_arc in
     let found = found-counted (is_dart_of crossings arc) 0 (4 * length crossings) (omega (arith, two)) in
     let is : first_dart crossings arc ≡ dart_at found.0 =
     ap (λ o. unwrap_or o (dart_at 0))
@@ -250,7 +252,7 @@ IsDartOf-first_dart crossings arc twice is_arc =
     subst (λ (dart : Dart). IsDartOf crossings arc dart) (sym is)
     (record {
       within = IsDart-at crossings found.0 (omega (arith, found.1.below));
-      on_arc = same_number (arc_of crossings (dart_at found.0)) arc found.1.passes;
+      on_arc = eqb-true (arc_of crossings (dart_at found.0)) arc found.1.passes;
     })
 
 -- so each dart of an arc is the first one or the first one's partner

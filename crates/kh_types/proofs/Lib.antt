@@ -6,6 +6,11 @@ pub mod MatrixTests
 pub mod ComplexLemmas
 pub mod CancelLemmas
 pub mod ClassLemmas
+pub mod JoinedClasses
+pub mod ClassCounts
+pub mod CircleBound
+pub mod QuantumDegrees
+pub mod TableRows
 pub mod FaultLemmas
 pub mod RangeCounts
 pub mod DartLemmas
@@ -15,3 +20,9 @@ pub mod CheckerboardLemmas
 pub mod AcceptedLemmas
 pub mod DartColours
 pub mod DirectionLemmas
+pub mod PassPairs
+pub mod NextArcs
+pub mod DirectedPasses
+pub mod TwoHeads
+pub mod OneHead
+pub mod Heads

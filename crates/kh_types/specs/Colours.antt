@@ -1,4 +1,4 @@
--- The two colours of darts that a checkerboard choice gives, and the direction of arcs from one colour to the other.
+-- The two colours of darts that a checkerboard choice gives.
 use Rattle.std.specs.Prelude.{◌≡◌, ℕ, ◌+◌, ◌%◌, ◌<◌, List}
 use Rattle.kh_types.specs.Code.{place_of, IsArc}
 use Rattle.kh_types.specs.Bits.{bit}
@@ -10,9 +10,9 @@ use Rattle.kh_types.specs.declared.dart.Dart.{Dart}
 abbrev pub colour : ℕ → Dart → ℕ
 colour choice dart = (bit choice (place_of dart.crossing) + dart.slot) % 2
 
--- a choice gives each arc a direction, from its dart of colour 0 to its dart of colour 1: each slot holds an arc, no two darts of
--- an arc have one colour, and each arc has a dart of either colour
-pub record IsOriented (crossings : List (List ℕ)) (choice : ℕ) : Type 0 where
+-- a choice colours the darts: each slot holds an arc, no two darts of an arc have one colour, and each arc has a dart of either
+-- colour
+pub record IsColoured (crossings : List (List ℕ)) (choice : ℕ) : Type 0 where
   pub arcs : (dart : Dart) → IsDart crossings dart → IsArc crossings (arc_of crossings dart)
   pub once : (dart other : Dart) → IsDart crossings dart → IsDart crossings other
       → arc_of crossings dart ≡ arc_of crossings other → colour choice dart ≡ colour choice other → dart ≡ other

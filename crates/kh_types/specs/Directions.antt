@@ -1,10 +1,10 @@
 -- The direction of over passes, and the signs of crossings.
-use Rattle.std.specs.Prelude.{ℕ, ◌-◌, ℤ, pos, neg_ℤ, List, length, nat_eq, nat_lt, nat_le, Bool, not, ◌&&◌, ◌||◌, is_some, Option, unwrap_or, if◌then◌else◌}
+use Rattle.std.specs.Prelude.{◌≡◌, ◌≢◌, ℕ, ◌-◌, ℤ, pos, neg_ℤ, List, length, nat_eq, nat_lt, nat_le, Bool, IsTrue, not, ◌&&◌, ◌||◌, is_some, Option, unwrap_or, if◌then◌else◌}
 use Rattle.std.specs.List.{find, count_by}
-use Rattle.kh_types.specs.Code.{arc_in, slots_of, crossing_numbers}
-use Rattle.kh_types.specs.Darts.{dart_at, darts, arc_of}
+use Rattle.kh_types.specs.Code.{arc_in, slots_of, crossing_numbers, IsArc}
+use Rattle.kh_types.specs.Darts.{dart_at, darts, arc_of, partner, IsDartOf}
 use Rattle.kh_types.specs.declared.dart.Dart.{Dart}
-use Rattle.kh_types.specs.Components.{components_of, component_of, arcs_in, next_in}
+use Rattle.kh_types.specs.Components.{components_of, component_of, arcs_in, next_in, next}
 
 -- whether the under pass of a crossing is in a component
 abbrev pub passes_under : List (List ℕ) → List ℕ → ℕ → ℕ → Bool
@@ -86,3 +86,26 @@ head_of crossings arc =
 abbrev pub tail_of : List (List ℕ) → ℕ → Dart
 tail_of crossings arc =
     unwrap_or (find (λ dart. nat_eq (arc_of crossings dart) arc && not (is_head crossings dart)) (darts crossings)) (dart_at 0)
+
+-- no component has a single arc: no arc is its own next
+abbrev pub HasNoSingleArcs : List (List ℕ) → Type 0
+HasNoSingleArcs crossings = (arc : ℕ) → IsArc crossings arc → next crossings arc ≢ arc
+
+-- the ends of an arc are its two darts: its head is one by which it enters a crossing, its tail one by which it leaves one, there
+-- is no other head and no other tail, and each is the partner of the other
+pub record HasEnds (crossings : List (List ℕ)) (arc : ℕ) : Type 0 where
+  pub head : IsDartOf crossings arc (head_of crossings arc)
+  pub tail : IsDartOf crossings arc (tail_of crossings arc)
+  pub enters : IsTrue (is_head crossings (head_of crossings arc))
+  pub leaves : ¬ IsTrue (is_head crossings (tail_of crossings arc))
+  pub one_head : (dart : Dart) → IsDartOf crossings arc dart → IsTrue (is_head crossings dart) → dart ≡ head_of crossings arc
+  pub one_tail : (dart : Dart) → IsDartOf crossings arc dart → ¬ IsTrue (is_head crossings dart) → dart ≡ tail_of crossings arc
+  pub head_to_tail : partner crossings (head_of crossings arc) ≡ tail_of crossings arc
+  pub tail_to_head : partner crossings (tail_of crossings arc) ≡ head_of crossings arc
+
+-- a pass goes from one slot of a crossing to another: from the arc that has its head at the one to the next arc, which has its
+-- tail at the other
+pub record IsPass (crossings : List (List ℕ)) (crossing from to : ℕ) : Type 0 where
+  pub head : head_of crossings (arc_in (slots_of crossings crossing) from) ≡ record { crossing = crossing; slot = from }
+  pub tail : tail_of crossings (arc_in (slots_of crossings crossing) to) ≡ record { crossing = crossing; slot = to }
+  pub follows : arc_in (slots_of crossings crossing) to ≡ next crossings (arc_in (slots_of crossings crossing) from)

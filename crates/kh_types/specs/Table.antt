@@ -1,6 +1,6 @@
 -- Homology dimensions, the table of them and its text.
 use Rattle.std.specs.Prelude.{ℕ, ◌+◌, ◌-◌, ◌*◌, ℤ, pos, ◌-ℤ◌, List, ◌++◌, length, map, nat_lt, Bool, codes}
-use Rattle.std.specs.List.{filter, flat_map, range_with_len}
+use Rattle.std.specs.List.{Contains, filter, flat_map, range_with_len}
 use Rattle.std.specs.Fmt.{decimal, signed_decimal}
 use Rattle.kh_types.specs.Code.{Code}
 use Rattle.kh_types.specs.Generators.{generators_at}
@@ -17,6 +17,10 @@ dimension p code i j =
 -- the numbers from -n to n, ascending
 abbrev pub from_minus : ℕ → List ℤ
 from_minus n = map (λ k. pos k -ℤ pos n) (range_with_len 0 (2 * n + 1))
+
+-- an integer from -n to n: it is one of the numbers `from_minus n`
+abbrev pub IsWithin : ℕ → ℤ → Type 0
+IsWithin n i = Contains (from_minus n) i
 
 -- a row of a table: the quantum degree, the homological degree and the dimension
 pub record Row : Type 0 where

@@ -6,6 +6,8 @@ pub mod checkerboard;
 pub mod classes;
 pub mod complexes;
 pub mod darts;
+pub mod heads;
 pub mod polynomials;
 pub mod ranks;
+pub mod sizes;
 pub mod tables;

@@ -1,13 +1,5 @@
-mod CutReads
-mod Cuttings
-mod FirstBytes
-mod FirstFaults
-mod LexerSteps
-mod MachineSteps
-mod Numbers
-mod PieceReads
-mod Pieces
-mod Readings
-mod Runs
-mod SoFar
 mod Spellings
+mod SoFar
+mod MachineReads
+mod PrintingLemmas
+pub mod ReadingLemmas

@@ -1,19 +1,19 @@
 -- What is read is spelled: the state and the items tell which symbols led to them.
-use Rattle.std.proofs.Common.{◌≡◌, ◌<◌, List, [], ◌∷◌, ◌++◌, length, Option, None, Some, IfSome, sym, ◌∙◌, ap, refl, arith, append_assoc, length-append, subst}
+use Rattle.std.proofs.Common.{◌≡◌, ◌<◌, true, List, [], ◌∷◌, ◌++◌, length, Option, None, Some, IfSome, sym, ◌∙◌, ap, refl, arith, append_assoc, length-append, subst}
 use Rattle.std.specs.List.{flat_map}
 use Rattle.std.specs.Option.{option_and_then, option_map}
 use Rattle.std.proofs.lemmas.Grind.{flat_map-append}
 use Rattle.std.proofs.lemmas.List.{append-nil}
-use Rattle.pd_code.proofs.Spellings.{at}
-use Rattle.pd_code.specs.declared.symbol.Symbol.{Symbol}
-use Rattle.pd_code.specs.declared.symbol.Symbol.TheVariants as symbols
-use Rattle.pd_code.specs.declared.symbol.Symbol.TheVariants.{Pd, X, Number, LeftBracket, RightBracket, Comma}
+use Rattle.kh_lex.specs.declared.symbol.Symbol.{Symbol}
+use Rattle.kh_lex.specs.declared.symbol.Symbol.TheVariants as symbols
+use Rattle.kh_lex.specs.declared.symbol.Symbol.TheVariants.{Pd, X, Number, LeftBracket, RightBracket, Comma}
 use Rattle.pd_code.specs.declared.machine.State.{State}
 use Rattle.pd_code.specs.declared.machine.State.TheVariants.{Start, Named, Open, Listed, Separated, Done, Crossing, CrossingOpen, First, FirstComma, Second, SecondComma, Third, ThirdComma, Fourth, Loop, LoopOpen, LoopNumber}
 use Rattle.pd_code.specs.declared.item.Item.{Item}
 use Rattle.pd_code.specs.declared.item.Item.TheVariants as kinds
 use Rattle.pd_code.specs.Grammar.{item_symbols, listed, next_symbols, spelled}
-use Rattle.pd_code.specs.Machine.{Progress, added, ended, items_at, items_of, run, start, step}
+use Rattle.kh_lex.specs.Machine.{run}
+use Rattle.pd_code.specs.Machine.{Progress, added, advanced, is_done, is_end, progress_at, step}
 
 -- the symbols behind `PD[` and before one more item
 abbrev pub leading : List Item → List Symbol
@@ -107,18 +107,18 @@ kept (LoopNumber n) RightBracket items proper = closed items (kinds.Loop n) (pre
 kept _ _ items proper = tt
 
 -- a run keeps this
-run-kept : (state : State) (items : List Item) (symbols : List Symbol) (end : Progress) → IsProper state items → run (at state items) symbols ≡ Some end
+run-kept : (state : State) (items : List Item) (symbols : List Symbol) (end : Progress) → IsProper state items → run advanced (progress_at state items) symbols ≡ Some end
     → IsProper end.state end.items × (so_far end.state end.items ≡ so_far state items ++ symbols)
 run-kept state items [] end proper ran =
-    let e : at state items ≡ end = cc in
+    let e : progress_at state items ≡ end = cc in
     (subst (λ (p : Progress). IsProper p.state p.items) e proper, ap (λ (p : Progress). so_far p.state p.items) (sym e) ∙ sym (append-nil (so_far state items)))
 run-kept state items (symbol ∷ symbols) end proper ran =
     go (step state symbol) (kept state symbol items proper) (λ next. run-kept next (added state items) symbols end) ran
   where
     go : (next : Option State) → IfSome next (λ next. IsProper next (added state items) × (so_far next (added state items) ≡ so_far state items ++ symbol ∷ []))
-        → ((next : State) → IsProper next (added state items) → run (at next (added state items)) symbols ≡ Some end
+        → ((next : State) → IsProper next (added state items) → run advanced (progress_at next (added state items)) symbols ≡ Some end
         → IsProper end.state end.items × (so_far end.state end.items ≡ so_far next (added state items) ++ symbols))
-        → option_and_then (λ next. run next symbols) (option_map (λ next. at next (added state items)) next) ≡ Some end
+        → option_and_then (λ next. run advanced next symbols) (option_map (λ next. progress_at next (added state items)) next) ≡ Some end
         → IsProper end.state end.items × (so_far end.state end.items ≡ so_far state items ++ symbol ∷ symbols)
     go None after goes ran = absurd (cc)
     go (Some next) after goes ran =
@@ -126,18 +126,14 @@ run-kept state items (symbol ∷ symbols) end proper ran =
         (rest.0, rest.1 ∙ ap (λ front. front ++ symbols) after.1 ∙ append_assoc (so_far state items) (symbol ∷ []) symbols)
 
 -- what a run from the start has read
-pub run-so_far : (symbols : List Symbol) (end : Progress) → run start symbols ≡ Some end → symbols ≡ so_far end.state end.items
+pub run-so_far : (symbols : List Symbol) (end : Progress) → run advanced (progress_at Start []) symbols ≡ Some end → symbols ≡ so_far end.state end.items
 run-so_far symbols end ran = sym (run-kept Start [] symbols end refl ran).1
 
 -- at the end this is a spelling
-so_far-ended : (state : State) (read items : List Item) → items_at state read ≡ Some items → so_far state read ≡ spelled items
-so_far-ended Done read items e = ap spelled (cc)
-so_far-ended _ read items e = absurd (cc)
+so_far-done : (state : State) (items : List Item) → is_done state ≡ true → so_far state items ≡ spelled items
+so_far-done Done items done = refl
+so_far-done _ items done = absurd (cc)
 
--- what is read is spelled
-pub spelled-items_of : (symbols : List Symbol) (items : List Item) → items_of symbols ≡ Some items → symbols ≡ spelled items
-spelled-items_of symbols items read = go (run start symbols) (run-so_far symbols) read
-  where
-    go : (end : Option Progress) → ((e : Progress) → end ≡ Some e → symbols ≡ so_far e.state e.items) → option_and_then ended end ≡ Some items → symbols ≡ spelled items
-    go None whole read = absurd (cc)
-    go (Some end) whole read = whole end refl ∙ so_far-ended end.state end.items items read
+-- what is read to the end is spelled
+pub run-done : (symbols : List Symbol) (end : Progress) → run advanced (progress_at Start []) symbols ≡ Some end → is_end end ≡ true → symbols ≡ spelled end.items
+run-done symbols end ran done = run-so_far symbols end ran ∙ so_far-done end.state end.items done

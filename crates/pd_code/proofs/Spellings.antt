@@ -1,34 +1,26 @@
 -- What is spelled is read: a spelling leads the machine to its end, with the items that it spells.
 use Rattle.std.proofs.Common.{◌≡◌, List, [], ◌∷◌, ◌++◌, Some, sym, ◌∙◌, ap, refl, append_assoc}
 use Rattle.std.specs.List.{flat_map}
-use Rattle.std.specs.Option.{option_and_then}
 use Rattle.std.proofs.lemmas.List.{append-nil}
-use Rattle.pd_code.specs.declared.symbol.Symbol.{Symbol}
-use Rattle.pd_code.specs.declared.symbol.Symbol.TheVariants.{RightBracket}
-use Rattle.pd_code.specs.declared.machine.State.{State}
-use Rattle.pd_code.specs.declared.machine.State.TheVariants.{Listed, Done}
+use Rattle.kh_lex.specs.declared.symbol.Symbol.{Symbol}
+use Rattle.kh_lex.specs.declared.symbol.Symbol.TheVariants.{RightBracket}
+use Rattle.pd_code.specs.declared.machine.State.TheVariants.{Start, Listed, Done}
 use Rattle.pd_code.specs.declared.item.Item.{Item}
 use Rattle.pd_code.specs.declared.item.Item.TheVariants as kinds
 use Rattle.pd_code.specs.Grammar.{next_symbols, spelled}
-use Rattle.pd_code.specs.Machine.{Progress, ended, items_of, run, start}
-
--- the machine at a state and items
-abbrev pub at : State → List Item → Progress
-at state items = record { state = state; items = items }
+use Rattle.kh_lex.specs.Machine.{run}
+use Rattle.pd_code.specs.Machine.{advanced, progress_at}
 
 -- items behind commas are read
-run-next : (items more : List Item) (rest : List Symbol) → run (at Listed items) (flat_map next_symbols more ++ rest) ≡ run (at Listed (items ++ more)) rest
-run-next items [] rest = ap (λ i. run (at Listed i) rest) (sym (append-nil items))
+run-next : (items more : List Item) (rest : List Symbol) → run advanced (progress_at Listed items) (flat_map next_symbols more ++ rest) ≡ run advanced (progress_at Listed (items ++ more)) rest
+run-next items [] rest = ap (λ i. run advanced (progress_at Listed i) rest) (sym (append-nil items))
 run-next items ((kinds.Crossing i j k l) ∷ more) rest =
-    run-next (items ++ kinds.Crossing i j k l ∷ []) more rest ∙ ap (λ i. run (at Listed i) rest) (append_assoc items (kinds.Crossing i j k l ∷ []) more)
+    run-next (items ++ kinds.Crossing i j k l ∷ []) more rest ∙ ap (λ i. run advanced (progress_at Listed i) rest) (append_assoc items (kinds.Crossing i j k l ∷ []) more)
 run-next items ((kinds.Loop n) ∷ more) rest =
-    run-next (items ++ kinds.Loop n ∷ []) more rest ∙ ap (λ i. run (at Listed i) rest) (append_assoc items (kinds.Loop n ∷ []) more)
+    run-next (items ++ kinds.Loop n ∷ []) more rest ∙ ap (λ i. run advanced (progress_at Listed i) rest) (append_assoc items (kinds.Loop n ∷ []) more)
 
 -- a spelling leads to the end, with its items
-pub run-spelled : (items : List Item) → run start (spelled items) ≡ Some (at Done items)
+pub run-spelled : (items : List Item) → run advanced (progress_at Start []) (spelled items) ≡ Some (progress_at Done items)
 run-spelled [] = refl
 run-spelled ((kinds.Crossing i j k l) ∷ items) = run-next (kinds.Crossing i j k l ∷ []) items (RightBracket ∷ [])
 run-spelled ((kinds.Loop n) ∷ items) = run-next (kinds.Loop n ∷ []) items (RightBracket ∷ [])
-
-pub items_of-spelled : (items : List Item) → items_of (spelled items) ≡ Some items
-items_of-spelled items = ap (option_and_then ended) (run-spelled items)

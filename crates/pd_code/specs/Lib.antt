@@ -1,6 +1,7 @@
-pub mod Tokens
-pub mod Cuts
-pub mod Symbols
+pub mod Stops
+pub mod Items
+pub mod Limits
 pub mod Grammar
 pub mod Machine
 pub mod Reading
+pub mod Printing

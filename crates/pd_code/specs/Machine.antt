@@ -1,13 +1,18 @@
--- The machine that reads symbols in one pass, between the code and the grammar.
-use Rattle.std.specs.Prelude.{ℕ, suc, List, [], ◌∷◌, ◌++◌, Option, None, Some}
-use Rattle.std.specs.Option.{option_map, option_map_or, option_and_then}
-use Rattle.pd_code.specs.declared.symbol.Symbol.{Symbol}
-use Rattle.pd_code.specs.declared.symbol.Symbol.TheVariants as symbols
-use Rattle.pd_code.specs.declared.symbol.Symbol.TheVariants.{Pd, X, Number, LeftBracket, RightBracket, Comma}
+-- The machine that reads the grammar in one pass, as the way of the code.
+use Rattle.std.specs.Prelude.{ℕ, Bool, true, false, List, [], ◌∷◌, ◌++◌, Option, None, Some}
+use Rattle.std.specs.Option.{option_map}
+use Rattle.kh_lex.specs.declared.symbol.Symbol.{Symbol}
+use Rattle.kh_lex.specs.declared.symbol.Symbol.TheVariants as symbols
+use Rattle.kh_lex.specs.declared.symbol.Symbol.TheVariants.{Pd, X, Number, LeftBracket, RightBracket, Comma}
+use Rattle.kh_lex.specs.declared.token.Token.{Token}
+use Rattle.kh_lex.specs.Grammar.{LeavesAt}
 use Rattle.pd_code.specs.declared.machine.State.{State}
 use Rattle.pd_code.specs.declared.machine.State.TheVariants.{Start, Named, Open, Listed, Separated, Done, Crossing, CrossingOpen, First, FirstComma, Second, SecondComma, Third, ThirdComma, Fourth, Loop, LoopOpen, LoopNumber}
 use Rattle.pd_code.specs.declared.item.Item.{Item}
 use Rattle.pd_code.specs.declared.item.Item.TheVariants as kinds
+use Rattle.pd_code.specs.declared.stop.PdStop.{PdStop}
+use Rattle.pd_code.specs.declared.stop.PdStop.TheVariants.{Text}
+use Rattle.pd_code.specs.Grammar.{IsText}
 
 -- where a symbol leads from a state, if the grammar has it there
 abbrev pub step : State → Symbol → Option State
@@ -45,41 +50,25 @@ pub record Progress : Type 0 where
   pub state : State
   pub items : List Item
 
+-- the machine at a state, with items
+abbrev pub progress_at : State → List Item → Progress
+progress_at state items = record { state = state; items = items }
+
 -- the machine after one more symbol
 abbrev pub advanced : Progress → Symbol → Option Progress
 advanced progress symbol =
-    option_map (λ next. record { state = next; items = added progress.state progress.items }) (step progress.state symbol)
+    option_map (λ next. progress_at next (added progress.state progress.items)) (step progress.state symbol)
 
--- the machine after some more symbols
-abbrev pub run : Progress → List Symbol → Option Progress
-run progress [] = Some progress
-run progress (symbol ∷ symbols) = option_and_then (λ next. run next symbols) (advanced progress symbol)
+-- a state is the end
+abbrev pub is_done : State → Bool
+is_done Done = true
+is_done _ = false
 
--- the machine before any symbol
-abbrev pub start : Progress
-start = record { state = Start; items = [] }
+-- the machine has come to the end
+abbrev pub is_end : Progress → Bool
+is_end progress = is_done progress.state
 
--- the items, if the state is the end
-abbrev pub items_at : State → List Item → Option (List Item)
-items_at Done items = Some items
-items_at _ items = None
-
--- the items that were read, if the machine has come to the end
-abbrev pub ended : Progress → Option (List Item)
-ended progress = items_at progress.state progress.items
-
--- the items that symbols spell, if they spell any
-abbrev pub items_of : List Symbol → Option (List Item)
-items_of symbols = option_and_then ended (run start symbols)
-
--- where symbols that end in a state are at fault: at their end, unless the state is the end
-abbrev pub end_fault : State → Option ℕ
-end_fault Done = None
-end_fault _ = Some 0
-
--- the place of the first symbol that the machine refuses from a state, or of the end of the symbols where they end
--- too early, if there is one
-abbrev pub fault_from : State → List Symbol → Option ℕ
-fault_from state [] = end_fault state
-fault_from state (symbol ∷ symbols) =
-    option_map_or (λ next. option_map suc (fault_from next symbols)) (step state symbol) (Some 0)
+-- a stop is the fault of the grammar at which tokens of a text leave it
+abbrev pub IsGrammarFault : List ℕ → List Token → PdStop → Type 0
+IsGrammarFault text tokens (Text place) = LeavesAt IsText text tokens place
+IsGrammarFault text tokens _ = ⊥

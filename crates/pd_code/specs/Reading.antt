@@ -1,62 +1,45 @@
--- What a text reads as.
-use Rattle.std.specs.Prelude.{ℕ, nat_le, nat_lt, if◌then◌else◌, Bool, true, false, List, [], ◌∷◌, length, Option, None, Some, Result, Ok, Err, ℤ, pos, negsuc}
-use Rattle.std.specs.List.{list_any, filter_map}
+-- What the reading of a text comes to: a code, or why there is none. The order and the limits are this project's rule.
+use Rattle.std.specs.Prelude.{◌≡◌, ℕ, ◌<◌, ◌≤◌, ◌⊎◌, List, length, Result, Ok, Err}
 use Rattle.kh_types.specs.Code.{Code}
-use Rattle.pd_code.specs.declared.limits.TheConstants.{CROSSING_LIMIT}
-use Rattle.pd_code.specs.declared.token.LexStop.{LexStop}
-use Rattle.pd_code.specs.declared.token.LexStop.TheVariants as faults
-use Rattle.pd_code.specs.declared.token.Token.{Token}
+use Rattle.kh_types.specs.declared.limits.TheConstants.{CROSSINGS, LOOPS}
+use Rattle.kh_lex.specs.declared.stop.LexStop.TheVariants as lexical
+use Rattle.kh_lex.specs.Cuts.{Stops}
+use Rattle.kh_lex.specs.Grammar.{LeavesGrammar}
 use Rattle.pd_code.specs.declared.item.Item.{Item}
-use Rattle.pd_code.specs.declared.item.Item.TheVariants.{Crossing, Loop}
 use Rattle.pd_code.specs.declared.stop.PdStop.{PdStop}
-use Rattle.pd_code.specs.declared.stop.PdStop.TheVariants.{Text, NotBuilt, CrossingLimit, NoMemory}
-use Rattle.pd_code.specs.Tokens.{tokens_of}
-use Rattle.pd_code.specs.Symbols.{symbols_of}
-use Rattle.pd_code.specs.Machine.{items_of}
+use Rattle.pd_code.specs.declared.stop.PdStop.TheVariants.{Text, Number, CrossingLimit, LoopLimit, NoMemory}
+use Rattle.pd_code.specs.Items.{code_of_items, crossings_of, loop_count}
+use Rattle.pd_code.specs.Grammar.{IsText, Spells}
 
--- the arc that a number names; 0, which is no arc, for a number below 0 or above 255
-abbrev pub arc_of : ℤ → ℕ
-arc_of (pos n) = if nat_le n 255 then n else 0
-arc_of (negsuc n) = 0
+-- a text reads as a code: it spells items whose crossings and loops are within the limits, and the code is theirs
+pub record ReadsAs (text : List ℕ) (code : Code) : Type 0 where
+  pub items : List Item
+  pub spelled : Spells text items
+  pub crossings : length (crossings_of items) ≤ CROSSINGS
+  pub loops : loop_count items ≤ LOOPS
+  pub same : code ≡ code_of_items items
 
--- the crossing that an item is, if it is one
-abbrev pub crossing_of : Item → Option (List ℕ)
-crossing_of (Crossing i j k l) = Some (arc_of i ∷ arc_of j ∷ arc_of k ∷ arc_of l ∷ [])
-crossing_of (Loop n) = None
+-- a text has too many crossings: it spells items with so many, and these are above the limit
+pub record HasManyCrossings (text : List ℕ) (count : ℕ) : Type 0 where
+  pub items : List Item
+  pub spelled : Spells text items
+  pub counted : count ≡ length (crossings_of items)
+  pub above : CROSSINGS < count
 
--- the crossings among items, in order
-abbrev pub crossings_of : List Item → List (List ℕ)
-crossings_of items = filter_map crossing_of items
+-- a text has too many loops: it spells items with so many, and these are above the limit, and the crossings within theirs
+pub record HasManyLoops (text : List ℕ) (count : ℕ) : Type 0 where
+  pub items : List Item
+  pub spelled : Spells text items
+  pub crossings : length (crossings_of items) ≤ CROSSINGS
+  pub counted : count ≡ loop_count items
+  pub above : LOOPS < count
 
--- an item is a loop
-abbrev pub is_loop : Item → Bool
-is_loop (Crossing i j k l) = false
-is_loop (Loop n) = true
-
--- the code that items stand for: loops are not built, and then more crossings than `CROSSING_LIMIT` are too many
-abbrev pub code_of : List Item → Result Code PdStop
-code_of items =
-    if list_any is_loop items then Err NotBuilt
-    else if nat_lt CROSSING_LIMIT (length (crossings_of items)) then Err (CrossingLimit (length (crossings_of items)))
-    else Ok (record { crossings = crossings_of items; loops = 0 })
-
--- what a fault of the tokens is for the text
-abbrev pub stop_of : LexStop → PdStop
-stop_of (faults.Bad place) = Text
-stop_of (faults.Number place) = Text
-stop_of faults.NoMemory = NoMemory
-
--- the code of the items that the machine gives, and Text where it gives none
-abbrev pub code_of_symbols : Option (List Item) → Result Code PdStop
-code_of_symbols (Some items) = code_of items
-code_of_symbols None = Err Text
-
--- what the tokens of a text read as, and Text where a fault stands in their place
-abbrev pub code_of_tokens : List ℕ → Result (List Token) LexStop → Result Code PdStop
-code_of_tokens text (Ok tokens) = code_of_symbols (items_of (symbols_of text tokens))
-code_of_tokens text (Err stop) = Err Text
-
--- what a text reads as, by way of the machine: the law `readings_are_of_the_grammar` says that this is the code of the
--- one list of items that the text spells, and Text where it spells none
-unfoldable pub reading : List ℕ → Result Code PdStop
-reading text = code_of_tokens text (tokens_of text)
+-- what the reading of a text comes to. A byte that begins no token, or a number that is too large, is the first such fault
+-- of the text, and then the grammar is not asked; running out of memory is no reading
+abbrev pub IsReading : List ℕ → Result Code PdStop → Type 0
+IsReading text (Ok code) = ReadsAs text code
+IsReading text (Err (Text place)) = Stops 0 text (lexical.Bad place) ⊎ LeavesGrammar IsText text place
+IsReading text (Err (Number place)) = Stops 0 text (lexical.Number place)
+IsReading text (Err (CrossingLimit count)) = HasManyCrossings text count
+IsReading text (Err (LoopLimit count)) = HasManyLoops text count
+IsReading text (Err NoMemory) = ⊥

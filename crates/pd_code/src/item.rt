@@ -1,7 +1,7 @@
 //! What a planar diagram text lists.
 
 ghost use Rattle.std.specs.Prelude.{◌≡◌};
-ghost use Rattle.pd_code.specs.Reading.{arc_of, crossing_of, is_loop};
+ghost use Rattle.pd_code.specs.Items.{arc_named, is_loop, quadruple_of};
 
 use kh_types::Crossing;
 
@@ -26,18 +26,23 @@ pub fn is_loop(item: &Item) -> bool
 }
 
 /// The crossing that an item is, if it is one.
-pub fn crossing_of(item: &Item) -> Option<Crossing>
-    ensures { result ≡ crossing_of item.now }
+pub fn quadruple_of(item: &Item) -> Option<Crossing>
+    ensures { result ≡ quadruple_of item.now }
 {
     match *item {
-        Item::Crossing(i, j, k, l) => Some(Crossing([arc_of(i), arc_of(j), arc_of(k), arc_of(l)])),
+        Item::Crossing(i, j, k, l) => Some(Crossing([
+            arc_named(i),
+            arc_named(j),
+            arc_named(k),
+            arc_named(l),
+        ])),
         Item::Loop(_) => None,
     }
 }
 
 // The arc that a number names.
-fn arc_of(number: i32) -> u8
-    ensures { result ≡ arc_of number }
+fn arc_named(number: i32) -> u8
+    ensures { result ≡ arc_named number }
 {
     match number {
         0..=255 => number as u8,

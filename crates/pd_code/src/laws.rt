@@ -1,85 +1,49 @@
 //! What holds of the definitions that the contracts cite, beyond any one call.
 
-ghost use Rattle.std.specs.Prelude.{◌≡◌, ◌≢◌, ◌↔◌, ℕ, List, [], ◌∷◌, codes, pos, negsuc, Ok, Err, Some, None};
-ghost use Rattle.pd_code.specs.declared.item.Item.{Item};
-ghost use Rattle.pd_code.specs.declared.machine.State.TheVariants.{Start};
-ghost use Rattle.pd_code.specs.declared.symbol.Symbol.{Symbol};
-ghost use Rattle.pd_code.specs.declared.token.Kind.TheVariants.{Word, Number, Comma};
-ghost use Rattle.pd_code.specs.declared.token.LexStop.{LexStop};
-ghost use Rattle.pd_code.specs.declared.token.Token.{Token};
-ghost use Rattle.pd_code.specs.Cuts.{Cuts, Stops};
-ghost use Rattle.pd_code.specs.Tokens.{tokens_of};
-ghost use Rattle.pd_code.specs.Grammar.{IsFirstFault, Spells, spelled};
-ghost use Rattle.pd_code.specs.Machine.{fault_from, items_of};
-ghost use Rattle.pd_code.specs.Reading.{code_of, reading};
+ghost use Rattle.std.specs.Prelude.{◌≡◌, ◌≤◌, ℕ, All, List, [], ◌∷◌, codes, length, Result, Ok, Err};
+ghost use Rattle.kh_types.specs.Code.{Code};
+ghost use Rattle.pd_code.specs.declared.stop.PdStop.{PdStop};
+ghost use Rattle.pd_code.specs.Printing.{IsQuadruple, pd_text};
+ghost use Rattle.pd_code.specs.Reading.{IsReading};
 
 use crate::stop::PdStop;
-use crate::token::LexStop;
+use kh_types::{CROSSINGS, LOOPS};
 
-/// The tokens of a text are those that cut it, and a fault in their place is the first of the text.
-/// No text is cut in two ways, and none that has a fault is cut.
-pub fn tokens_cut_the_text()
-    ensures cut { (text : List ℕ) (tokens : List Token) →
-        (tokens_of text ≡ Ok tokens) ↔ Cuts 0 text tokens }
-    ensures fault { (text : List ℕ) (stop : LexStop) →
-        (tokens_of text ≡ Err stop) ↔ Stops 0 text stop }
-    ensures one { (text : List ℕ) (a b : List Token) → Cuts 0 text a → Cuts 0 text b → a ≡ b }
-    ensures uncut { (text : List ℕ) (stop : LexStop) (tokens : List Token) →
-        Stops 0 text stop → ¬ Cuts 0 text tokens }
+/// Each text has a reading, and two readings of a text are one: so every refusal comes exactly
+/// where it says.
+pub fn each_text_has_one_reading()
+    ensures some { (text : List ℕ) → (reading : Result Code PdStop) × IsReading text reading }
+    ensures one { (text : List ℕ) (a b : Result Code PdStop) →
+        IsReading text a → IsReading text b → a ≡ b }
 {}
 
-/// The machine gives the items that symbols spell, and gives none where they spell none.
-/// So no symbols spell two lists of items.
-pub fn the_machine_reads_the_grammar()
-    ensures given { (symbols : List Symbol) (items : List Item) →
-        items_of symbols ≡ Some items → symbols ≡ spelled items }
-    ensures spelled { (items : List Item) → items_of (spelled items) ≡ Some items }
+/// The text of a code within the limits reads as the code. The crossings of a diagram are such
+/// quadruples by their type.
+pub fn printed_codes_are_read_back()
+    ensures { (code : Code) → All IsQuadruple code.crossings →
+        length code.crossings ≤ CROSSINGS → code.loops ≤ LOOPS →
+        IsReading (pd_text code) (Ok code) }
 {}
 
-/// Where the machine stops is the first place at which symbols leave the grammar, and where it does not stop they are in it.
-pub fn the_machine_stops_at_the_first_fault()
-    ensures fault { (symbols : List Symbol) (place : ℕ) →
-        fault_from Start symbols ≡ Some place → IsFirstFault symbols place }
-    ensures none { (symbols : List Symbol) →
-        fault_from Start symbols ≡ None → (items : List Item) × (symbols ≡ spelled items) }
-{}
-
-/// A text reads as the code of the one list of items that it spells, and as no text where it spells none.
-pub fn readings_are_of_the_grammar()
-    ensures spelled { (text : List ℕ) (items : List Item) →
-        Spells text items → reading text ≡ code_of items }
-    ensures unspelled { (text : List ℕ) →
-        ((items : List Item) → ¬ Spells text items) → reading text ≡ Err PdStop.Text }
-    ensures one { (text : List ℕ) (a b : List Item) → Spells text a → Spells text b → a ≡ b }
-    ensures memory { (text : List ℕ) → reading text ≢ Err PdStop.NoMemory }
-{}
-
-/// The tokens of some texts, and their first faults: a lone minus, a number too great, a form feed, the first of two.
-pub fn worked_tokens()
-    ensures some { tokens_of (codes "Xy,\t-007") ≡ Ok (
-        record { kind = Word; place = 0; length = 2; value = pos 0 }
-        ∷ record { kind = Comma; place = 2; length = 1; value = pos 0 }
-        ∷ record { kind = Number; place = 4; length = 4; value = negsuc 6 } ∷ []) }
-    ensures minus { tokens_of (codes " - 2") ≡ Err (LexStop.Bad 1) }
-    ensures two_minus { tokens_of (codes "--2") ≡ Err (LexStop.Bad 0) }
-    ensures number { tokens_of (codes "PD]65536") ≡ Err (LexStop.Number 3) }
-    ensures form_feed { tokens_of (32 ∷ 12 ∷ []) ≡ Err (LexStop.Bad 1) }
-    ensures first { tokens_of (codes "70000 ?") ≡ Err (LexStop.Number 0) }
-{}
-
-/// What some texts read as: the trefoil, a loop, nothing, a text that is cut off, numbers that are too great, five crossings.
+/// What some texts read as, and how some codes are printed.
 pub fn worked_texts()
-    ensures trefoil { reading (codes "PD[X[1,4,2,5], X[3,6,4,1], X[5,2,6,3]]") ≡ Ok (record {
+    ensures trefoil { IsReading (codes "PD[X[1,4,2,5],X[3,6,4,1],\r\n\tX[5,2,6,3]]") (Ok (record {
       crossings = (1 ∷ 4 ∷ 2 ∷ 5 ∷ []) ∷ (3 ∷ 6 ∷ 4 ∷ 1 ∷ []) ∷ (5 ∷ 2 ∷ 6 ∷ 3 ∷ []) ∷ [];
       loops = 0;
-    }) }
-    ensures a_loop { reading (codes "PD[Loop[1]]") ≡ Err PdStop.NotBuilt }
-    ensures nothing { reading [] ≡ Err PdStop.Text }
-    ensures cut_off { reading (codes "PD[X[1,4,2,5], X[3,6") ≡ Err PdStop.Text }
-    ensures no_number { reading (codes "PD[X[1,1,2,65536]]") ≡ Err PdStop.Text }
-    ensures no_arc { reading (codes "PD[X[1,1,2,257]]")
-        ≡ Ok (record { crossings = (1 ∷ 1 ∷ 2 ∷ 0 ∷ []) ∷ []; loops = 0 }) }
-    ensures too_many { reading (codes
-        "PD[X[1,1,2,2],X[3,3,4,4],X[5,5,6,6],X[7,7,8,8],X[9,9,10,10]]")
-        ≡ Err (PdStop.CrossingLimit 5) }
+    })) }
+    ensures loops { IsReading (codes "PD[Loop[1], Loop[-1]]")
+        (Ok (record { crossings = []; loops = 2 })) }
+    ensures no_arc { IsReading (codes "PD[X[1,-1,2,257]]")
+        (Ok (record { crossings = (1 ∷ 0 ∷ 2 ∷ 0 ∷ []) ∷ []; loops = 0 })) }
+    ensures nothing { IsReading [] (Err (PdStop.Text 0)) }
+    ensures cut_off { IsReading (codes "PD[X[1,4,2,5], X[3,6") (Err (PdStop.Text 20)) }
+    ensures early { IsReading (codes "PD[Loop[1] Loop[2]]") (Err (PdStop.Text 11)) }
+    ensures number { IsReading (codes "PD]70000") (Err (PdStop.Number 3)) }
+    ensures byte_first { IsReading (codes "? 70000") (Err (PdStop.Text 0)) }
+    ensures number_first { IsReading (codes "70000 ?") (Err (PdStop.Number 0)) }
+    ensures printed { pd_text (record {
+      crossings = (2 ∷ 1 ∷ 3 ∷ 4 ∷ []) ∷ (4 ∷ 3 ∷ 1 ∷ 2 ∷ []) ∷ [];
+      loops = 2;
+    }) ≡ codes "PD[X[2, 1, 3, 4], X[4, 3, 1, 2], Loop[5], Loop[6]]" }
+    ensures printed_empty { pd_text (record { crossings = []; loops = 0 }) ≡ codes "PD[]" }
 {}

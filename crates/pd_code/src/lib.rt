@@ -1,26 +1,17 @@
-//! Reads planar diagram texts: bytes are cut into tokens, tokens mean symbols, and symbols spell a list of items.
+//! Reads and prints planar diagram texts: a text spells a list of items, and these are a code.
 #![tactic(auto)]
 
 mod item;
 mod laws;
-mod lexer;
-mod limits;
 mod machine;
+mod printer;
 mod reader;
 mod stop;
-mod symbol;
 #[cfg(test)]
 mod tests;
-mod token;
 
 pub use item::Item;
-pub use laws::{
-    readings_are_of_the_grammar, the_machine_reads_the_grammar,
-    the_machine_stops_at_the_first_fault, tokens_cut_the_text, worked_texts, worked_tokens,
-};
-pub use lexer::tokens;
-pub use limits::{CROSSING_LIMIT, NUMBER_LIMIT};
+pub use laws::{each_text_has_one_reading, printed_codes_are_read_back, worked_texts};
+pub use printer::print_pd;
 pub use reader::read_pd;
 pub use stop::PdStop;
-pub use symbol::Symbol;
-pub use token::{Kind, LexStop, Token};

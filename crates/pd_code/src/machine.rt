@@ -1,14 +1,15 @@
 //! The machine that reads symbols one after another, in one pass.
 
-ghost use Rattle.std.specs.Prelude.{◌≡◌, ◌≢◌, ◌<◌, ◌≤◌, ◌++◌, All, IfErr, IfOk, OnOk, OnErr, Ok, Err, Some, None, length, vec_len, Option, IsSome};
-ghost use Rattle.pd_code.specs.Tokens.{EndsWithin};
-ghost use Rattle.pd_code.specs.Symbols.{symbols_of};
-ghost use Rattle.pd_code.specs.Machine.{added, items_of, step};
+ghost use Rattle.std.specs.Prelude.{◌≡◌, ◌≢◌, ◌+◌, ◌≤◌, All, IfErr, IfOk, OnOk, length, vec_len};
+ghost use Rattle.kh_lex.specs.Lexer.{EndsWithin};
+ghost use Rattle.kh_lex.specs.Symbols.{symbols_of};
+ghost use Rattle.pd_code.specs.Grammar.{spelled};
+ghost use Rattle.pd_code.specs.Machine.{IsGrammarFault, added, step};
 
 use crate::item::Item;
 use crate::stop::PdStop;
-use crate::symbol::{Symbol, symbol_of};
-use crate::token::Token;
+use kh_lex::{Symbol, Token, symbol_of};
+use kh_types::INPUT_BYTES;
 use std::alloc::{AllocFailed, Global};
 
 /// Where the machine stands, and what it has read of the present item.
@@ -34,9 +35,13 @@ pub enum State {
     First(i32),
     /// After the comma behind it.
     FirstComma(i32),
+    /// After two numbers of a crossing.
     Second(i32, i32),
+    /// After the comma behind them.
     SecondComma(i32, i32),
+    /// After three numbers of a crossing.
     Third(i32, i32, i32),
+    /// After the comma behind them.
     ThirdComma(i32, i32, i32),
     /// After the last number of a crossing.
     Fourth(i32, i32, i32, i32),
@@ -48,28 +53,30 @@ pub enum State {
     LoopNumber(i32),
 }
 
-/// The items that the tokens of a text spell, and Text where they spell none.
+/// The items that the tokens of a text spell, or the place where they leave the grammar.
 pub fn items_of(alloc: Global, text: &[u8], tokens: &[Token]) -> Result<Vec<Item>, PdStop>
-    requires { All (EndsWithin (length text.now)) tokens.now }
-    ensures ok { IfOk result (λ items.
-        items_of (symbols_of text.now tokens.now) ≡ Some items.items) }
-    ensures fault { IfErr result (λ stop. stop ≢ PdStop.NoMemory →
-        (stop ≡ PdStop.Text) × (items_of (symbols_of text.now tokens.now) ≡ None)) }
+    requires short { length text.now ≤ INPUT_BYTES }
+    requires within { All (EndsWithin (length text.now)) tokens.now }
+    ensures spelled { IfOk result (λ items.
+        symbols_of text.now tokens.now ≡ spelled items.items) }
+    ensures fault { IfErr result (λ stop.
+        stop ≢ PdStop.NoMemory → IsGrammarFault text.now tokens.now stop) }
     ensures few { IfOk result (λ items. vec_len items ≤ length tokens.now) }
 {
     let mut items = Vec::new(alloc);
     let mut state = State::Start;
     for token in tokens {
-        let symbol = symbol_of(text, token);
-        let Some(next) = next_state(state, symbol) else {
-            return Err(PdStop::Text);
+        let Some(next) = next_state(state, symbol_of(text, token)) else {
+            return Err(PdStop::Text { place: token.place });
         };
         push_ended(&mut items, state)?;
         state = next;
     }
     match state {
         State::Done => Ok(items),
-        _ => Err(PdStop::Text),
+        _ => Err(PdStop::Text {
+            place: text.len() as u32,
+        }),
     }
 }
 
@@ -102,6 +109,7 @@ fn next_state(state: State, symbol: Symbol) -> Option<State>
 // Adds the item that ends as a state is left, if one does.
 fn push_ended(items: &mut Vec<Item>, state: State) -> Result<(), AllocFailed<Item>>
     ensures ok { OnOk result (items.new.items ≡ added state items.old.items) }
+    ensures more { OnOk result (vec_len items.new ≤ vec_len items.old + 1) }
 {
     match state {
         State::Fourth(i, j, k, l) => items.push(Item::Crossing(i, j, k, l)),

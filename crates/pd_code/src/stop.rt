@@ -1,22 +1,27 @@
 //! Why no code was read.
 
 ghost use Rattle.std.specs.Prelude.{◌≡◌};
-ghost use Rattle.pd_code.specs.Reading.{stop_of};
+ghost use Rattle.pd_code.specs.Stops.{stop_of};
 ghost use Rattle.pd_code.specs.declared.stop.PdStop.TheVariants.{NoMemory};
 
-use crate::token::LexStop;
+use kh_lex::LexStop;
 use std::alloc::{AllocError, AllocFailed};
 
-/// Why no code was read from a text. Each stands for a text that none of those before it stands for.
+/// Why no code was read from a text. The first fault of the bytes counts, else the first of the
+/// grammar, else a limit, crossings before loops. A place is that of a byte, counted from 0, or the
+/// number of bytes where the text ends too early. This project's rule.
 #[derive(Clone, Copy, Debug, PartialEq, Eq)]
 pub enum PdStop {
-    /// The text is none of the grammar.
-    Text,
-    /// The text has a crossingless loop, which is not built.
-    NotBuilt,
-    /// The text has `count` crossings, and these are above the limit.
+    /// The byte at `place` begins no token, or no text of the grammar has the token there, or the
+    /// text ends there too early.
+    Text { place: u32 },
+    /// The number at `place` is above the greatest size of a number.
+    Number { place: u32 },
+    /// The text has `count` crossings, which are more than `CROSSINGS`.
     CrossingLimit { count: u32 },
-    /// There was no memory, whatever the text is.
+    /// The text has `count` loops, which are more than `LOOPS`.
+    LoopLimit { count: u32 },
+    /// Out of memory, whatever the text is.
     NoMemory,
 }
 
@@ -41,7 +46,8 @@ impl From<LexStop> for PdStop {
 
     fn from(stop: LexStop) -> Self {
         match stop {
-            LexStop::Bad { .. } | LexStop::Number { .. } => PdStop::Text,
+            LexStop::Bad { place } => PdStop::Text { place },
+            LexStop::Number { place } => PdStop::Number { place },
             LexStop::NoMemory => PdStop::NoMemory,
         }
     }

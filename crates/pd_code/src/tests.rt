@@ -1,10 +1,12 @@
-//! That texts are answered where there is memory, which no clause says; and how long texts end.
+//! What no clause says: texts are answered where there is memory, and values that differ are not
+//! equal.
 
-use crate::lexer::tokens;
+use crate::item::Item;
+use crate::printer::print_pd;
 use crate::reader::read_pd;
 use crate::stop::PdStop;
-use crate::token::{Kind, Token};
-use kh_types::{Crossing, INPUT_BYTES};
+use kh_types::{Crossing, Diagram, INPUT_BYTES};
+use std::alloc::Global;
 use std::test::Fail;
 
 const TREFOIL: &[u8; 38] = b"PD[X[1,4,2,5], X[3,6,4,1], X[5,2,6,3]]";
@@ -15,114 +17,119 @@ const TREFOIL_CROSSINGS: [Crossing; 3] = [
     Crossing([5, 2, 6, 3]),
 ];
 
-// A letter, a digit, white space, a sign, marks, and bytes that begin no token.
-const OTHER_BYTES: &[u8; 12] = b"z7 \t-,[]{;\0\xff";
-
+// The trefoil as on the Knot Atlas page "3_1", in spellings that people paste.
 #[test]
-fn cuts_a_text_into_tokens(rt: HostRuntime) -> Result<(), Fail> {
-    let found = tokens(rt.alloc(), b"Xy,\t-007")?;
-    let wanted = [
-        token(Kind::Word, 0, 2, 0),
-        token(Kind::Comma, 2, 1, 0),
-        token(Kind::Number, 4, 4, -7),
+fn reads_the_trefoil_in_many_spellings(rt: HostRuntime) -> Result<(), Fail> {
+    let texts = [
+        "PD[X[1, 4, 2, 5], X[3, 6, 4, 1], X[5, 2, 6, 3]]",
+        "PD[X[1,4,2,5],X[3,6,4,1],X[5,2,6,3]]\n",
+        "PD[\n  X[1, 4, 2, 5],\n  X[3, 6, 4, 1],\n  X[5, 2, 6, 3]\n]\n",
+        "PD[X[1, 4, 2, 5], X[3, 6, \r\n    4, 1], X[5, 2, 6, 3]]\r\n",
+        "\tPD [ X [ 1 , 4 , 2 , 5 ] , X [ 3 , 6 , 4 , 1 ] , X [ 5 , 2 , 6 , 3 ] ] ",
+        "PD[X[01,04,02,05],X[03,06,04,01],X[05,02,06,03]]",
     ];
-    assert_eq!(rt; found.as_slice(), wanted.as_slice());
-    Ok(())
-}
-
-fn token(kind: Kind, place: u32, length: u32, value: i32) -> Token {
-    Token {
-        kind,
-        place,
-        length,
-        value,
+    for text in texts {
+        let code = read_pd(rt.alloc(), text.as_bytes())?;
+        assert_eq!(rt;
+            code.crossings.as_slice(),
+            TREFOIL_CROSSINGS.as_slice(),
+            "at {text}"
+        );
+        assert_eq!(rt; code.loops, 0);
     }
-}
-
-#[test]
-fn reads_the_trefoil(rt: HostRuntime) -> Result<(), Fail> {
-    let code = read_pd(rt.alloc(), TREFOIL.as_slice())?;
-    assert_eq!(rt; code.crossings.as_slice(), TREFOIL_CROSSINGS.as_slice());
-    assert_eq!(rt; code.loops, 0);
     Ok(())
 }
 
 #[test]
-fn answers_the_trefoil_with_any_byte_replaced(rt: HostRuntime) -> Result<(), Fail> {
-    for (place, old) in TREFOIL.iter().enumerate() {
-        for new in OTHER_BYTES {
-            let stop = read_pd(rt.alloc(), &trefoil_with(place, *new)).err();
-            let wanted = if is_alike(*old, *new) {
-                None
-            } else {
-                Some(PdStop::Text)
-            };
-            assert_eq!(rt; stop, wanted, "byte {new} at {place}");
-        }
-        let code = read_pd(rt.alloc(), &trefoil_with(place, *old))?;
-        assert_eq!(rt; code.crossings.as_slice(), TREFOIL_CROSSINGS.as_slice());
+fn refuses_other_texts_at_their_places(rt: HostRuntime) {
+    let rows = [
+        ("", 0),
+        ("  ", 2),
+        ("X[1,4,2,5], X[3,6,4,1], X[5,2,6,3]", 0),
+        ("PD(X[1,4,2,5])", 2),
+        ("PD[X1425, X3641, X5263]", 4),
+        ("PD[X[1 4 2 5]]", 7),
+        ("PD[X[1,4,2,5]; X[3,6,4,1]]", 13),
+        ("PD[X[1,4,2,5]].", 14),
+        ("PD[X[1.0,4,2,5]]", 6),
+        ("PD[\"X[1,4,2,5]\"]", 3),
+        ("PD[Xp[1,4,2,5]]", 3),
+        ("PD[P[1,2]]", 3),
+        ("[[1,4,2,5]]", 0),
+        (" [[1,1,2,2]]", 1),
+        ("GaussCode[]", 0),
+        ("pd[]", 0),
+        ("PDX[]", 0),
+        ("PD{}", 2),
+        ("PD[]]", 4),
+        ("PD[]PD[]", 4),
+        ("PD[,]", 3),
+        ("PD[X[1,1,2,2],]", 14),
+        ("PD[X[1,1,2]]", 10),
+        ("PD[X[1,1,2,2,3]]", 12),
+        ("PD[x[1,1,2,2]]", 3),
+        ("PD[XX[1,1,2,2]]", 3),
+        ("PD[Loop[]]", 8),
+        ("PD[Loop[1,2]]", 9),
+        ("PD[X[1,1,2,+2]]", 11),
+        ("PD[X[1,1,2,- 2]]", 11),
+        ("PD[X[1,1,2,--2]]", 11),
+        ("\u{feff}PD[]", 0),
+        ("PD\u{a0}[]", 2),
+        ("PD\u{c}[]", 2),
+        ("PD[]\0", 4),
+        ("? 70000", 0),
+    ];
+    for (text, place) in rows {
+        let stop = stop_of(rt.alloc(), text.as_bytes());
+        assert_eq!(rt; stop, Some(PdStop::Text { place }), "at {text}");
     }
-    let code = read_pd(rt.alloc(), &trefoil_with(5, b'7'))?;
-    let first = code.crossings.as_slice().first().copied();
-    assert_eq!(rt; first, Some(Crossing([7, 4, 2, 5])));
-    Ok(())
 }
 
-// The trefoil's text with one byte replaced.
-fn trefoil_with(place: usize, byte: u8) -> [u8; 38] {
-    let mut text = *TREFOIL;
-    if place < text.len() {
-        text[place] = byte;
+// Why no code is read from a text, if it is short enough to be read and has none.
+fn stop_of(alloc: Global, text: &[u8]) -> Option<PdStop> {
+    if text.len() <= INPUT_BYTES {
+        read_pd(alloc, text).err()
+    } else {
+        None
     }
-    text
 }
 
-// Whether the trefoil stays a text where the one byte stands for the other.
-fn is_alike(old: u8, new: u8) -> bool {
-    old == new || (old.is_ascii_digit() && new == b'7') || (old == b' ' && new == b'\t')
+#[test]
+fn refuses_large_numbers_at_their_places(rt: HostRuntime) {
+    let rows = [
+        ("PD[X[1,1,2,65536]]", 11),
+        ("PD[Loop[65536]]", 8),
+        ("PD]70000", 3),
+        ("70000 ?", 0),
+    ];
+    for (text, place) in rows {
+        let stop = stop_of(rt.alloc(), text.as_bytes());
+        assert_eq!(rt; stop, Some(PdStop::Number { place }), "at {text}");
+    }
 }
 
+// Where the text is cut off it ends too early; `P` alone is another word.
 #[test]
 fn refuses_each_beginning_of_the_trefoil(rt: HostRuntime) {
     for end in 0..TREFOIL.len() {
-        let stop = read_pd(rt.alloc(), &TREFOIL[..end]).err();
-        assert_eq!(rt; stop, Some(PdStop::Text), "at {end}");
+        let place = if end == 1 { 0 } else { end as u32 };
+        let stop = stop_of(rt.alloc(), &TREFOIL[..end]);
+        assert_eq!(rt; stop, Some(PdStop::Text { place }), "at {end}");
     }
 }
 
 #[test]
-fn refuses_other_spellings(rt: HostRuntime) {
-    let texts = [
-        "pd[]",
-        "PD[x[1,1,2,2]]",
-        "PD[XX[1,1,2,2]]",
-        "PD{}",
-        "PDX[]",
-        "PD[]PD[]",
-        "PD[,]",
-        "PD[X[1,1,2,2],]",
-        "PD[X[1,1,2]]",
-        "PD[X[1,1,2,2,3]]",
-        "PD[X[1,1,2,+2]]",
-        "PD[Loop[]]",
-        "PD[Loop[1,2]]",
-        "PD\u{c}[]",
-        "PD[X[1,1,2,- 2]]",
-        "PD[Loop[65536]]",
-    ];
-    for text in texts {
-        let stop = read_pd(rt.alloc(), text.as_bytes()).err();
-        assert_eq!(rt; stop, Some(PdStop::Text), "at {text}");
-    }
-}
-
-#[test]
-fn reads_long_texts(rt: HostRuntime) -> Result<(), Fail> {
+fn answers_the_longest_texts(rt: HostRuntime) -> Result<(), Fail> {
     let blanks = vec![in rt.alloc(); b' '; INPUT_BYTES]?;
-    assert_eq!(rt; read_pd(rt.alloc(), &blanks).err(), Some(PdStop::Text));
+    let stop = stop_of(rt.alloc(), &blanks);
+    assert_eq!(rt; stop, Some(PdStop::Text { place: 65_536 }));
+    let commas = vec![in rt.alloc(); b','; INPUT_BYTES]?;
+    let stop = stop_of(rt.alloc(), &commas);
+    assert_eq!(rt; stop, Some(PdStop::Text { place: 0 }));
 
     let mut digits = Vec::from_slice(rt.alloc(), b"PD[X[1,1,2,")?;
-    for _ in 0..60_000 {
+    for _ in 0..65_000 {
         digits.push(b'0')?;
     }
     digits.extend_from_slice(b"2]]")?;
@@ -132,14 +139,73 @@ fn reads_long_texts(rt: HostRuntime) -> Result<(), Fail> {
         code.crossings.as_slice(),
         [Crossing([1, 1, 2, 2])].as_slice()
     );
-
-    let mut items = Vec::from_slice(rt.alloc(), b"PD[X[1,1,2,2]")?;
-    for _ in 1..5_000 {
-        items.extend_from_slice(b",X[1,1,2,2]")?;
-    }
-    items.push(b']')?;
-    assert!(rt; items.len() <= INPUT_BYTES);
-    let stop = read_pd(rt.alloc(), &items).err();
-    assert_eq!(rt; stop, Some(PdStop::CrossingLimit { count: 5_000 }));
     Ok(())
+}
+
+#[test]
+fn counts_the_items_that_are_too_many(rt: HostRuntime) -> Result<(), Fail> {
+    let rows = [
+        (17, 0, PdStop::CrossingLimit { count: 17 }),
+        (300, 300, PdStop::CrossingLimit { count: 300 }),
+        (5_900, 0, PdStop::CrossingLimit { count: 5_900 }),
+        (0, 9, PdStop::LoopLimit { count: 9 }),
+        (16, 300, PdStop::LoopLimit { count: 300 }),
+    ];
+    for (crossings, loops, wanted) in rows {
+        let text = text_with(rt.alloc(), crossings, loops)?;
+        assert_eq!(rt; stop_of(rt.alloc(), &text), Some(wanted));
+    }
+    let text = text_with(rt.alloc(), 16, 8)?;
+    assert!(rt; text.len() <= INPUT_BYTES);
+    let code = read_pd(rt.alloc(), &text)?;
+    assert_eq!(rt; code.crossings.len(), 16);
+    assert_eq!(rt; code.loops, 8);
+    Ok(())
+}
+
+// A text of so many crossings and loops.
+fn text_with(alloc: Global, crossings: u32, loops: u32) -> Result<Vec<u8>, Fail> {
+    let mut text = Vec::from_slice(alloc, b"PD[")?;
+    for _ in 0..crossings {
+        text.extend_from_slice(b"X[1,1,2,2],")?;
+    }
+    for _ in 0..loops {
+        text.extend_from_slice(b"Loop[1],")?;
+    }
+    text.pop();
+    text.push(b']')?;
+    Ok(text)
+}
+
+#[test]
+fn prints_diagrams(rt: HostRuntime) -> Result<(), Fail> {
+    let rows = [
+        ("PD[]", "PD[]"),
+        ("PD[Loop[7],Loop[7]]", "PD[Loop[1], Loop[2]]"),
+        ("PD[Loop[1],X[1,1,2,2]]", "PD[X[1, 1, 2, 2], Loop[3]]"),
+        (
+            "PD[X[1,4,2,5],X[3,6,4,1],X[5,2,6,3]]",
+            "PD[X[1, 4, 2, 5], X[3, 6, 4, 1], X[5, 2, 6, 3]]",
+        ),
+    ];
+    for (text, wanted) in rows {
+        let code = read_pd(rt.alloc(), text.as_bytes())?;
+        if let Ok(diagram) = Diagram::try_new(&code) {
+            let printed = print_pd(rt.alloc(), &diagram)?;
+            assert_eq!(rt; printed.as_slice(), wanted.as_bytes());
+        } else {
+            assert!(rt; false, "at {text}");
+        }
+    }
+    Ok(())
+}
+
+#[test]
+fn values_that_differ_are_not_equal(rt: HostRuntime) {
+    assert!(rt; PdStop::Text { place: 1 } != PdStop::Text { place: 2 });
+    assert!(rt; PdStop::Text { place: 1 } != PdStop::Number { place: 1 });
+    assert!(rt; PdStop::CrossingLimit { count: 17 } != PdStop::LoopLimit { count: 17 });
+    assert!(rt; PdStop::NoMemory != PdStop::Text { place: 0 });
+    assert!(rt; Item::Loop(1) != Item::Loop(2));
+    assert!(rt; Item::Crossing(1, 1, 2, 2) != Item::Crossing(1, 1, 2, 3));
 }

@@ -1,5 +1,5 @@
 use Rattle.std.proofs.Common.{◌≡◌, ◌++◌, drop}
-use Rattle.pd_code.specs.Reading.{crossings_of}
+use Rattle.pd_code.specs.Items.{crossings_of}
 use Rattle.pd_code.proofs.reader.crossings_of.Given as goal
 
 -- the crossings so far, and then those of the items that are left

@@ -1,0 +1,11 @@
+mod Runs
+mod FirstBytes
+mod Numbers
+mod Pieces
+mod PieceReads
+mod Cuttings
+pub mod CutReads
+mod LexerSteps
+pub mod GrammarLemmas
+pub mod MachineLemmas
+pub mod WrittenTexts

@@ -1,0 +1,174 @@
+-- What begins a text: the token or the fault that is read there is the one of the definition.
+use Rattle.std.proofs.Common.{◌≡◌, ℕ, ◌+◌, ◌<◌, ◌≤◌, nat_lt, ◌==◌, nat_abs, ℤ, pos, Bool, true, false, cond, List, [], ◌∷◌, ◌++◌, length, IfSome, Option, None, Some, Result, Ok, Err, refl, sym, ◌∙◌, ap, subst, arith, slice_index, take-append-drop, length-append, drop}
+use Rattle.std.proofs.lemmas.Bool.{eqb-true, ltb-false, ltb-true}
+use Rattle.std.proofs.lemmas.List.Folds.{length-prefix_len}
+use Rattle.std.specs.Char.{is_ascii_alphabetic}
+use Rattle.std.specs.List.{prefix_len, take_while}
+use Rattle.std.specs.Option.{option_map_or}
+use Rattle.std.specs.Result.{result_map_both}
+use Rattle.std.specs.Str.Parse.{digits_value}
+use Rattle.kh_lex.specs.declared.limits.TheConstants.{NUMBER_LIMIT}
+use Rattle.kh_lex.specs.declared.token.Kind.{Kind}
+use Rattle.kh_lex.specs.declared.token.Kind.TheVariants.{Word, Number, LeftBracket, RightBracket, LeftBrace, RightBrace, Comma}
+use Rattle.kh_lex.specs.declared.stop.LexStop.{LexStop}
+use Rattle.kh_lex.specs.declared.stop.LexStop.TheVariants as stops
+use Rattle.kh_lex.specs.declared.token.Token.{Token}
+use Rattle.kh_lex.specs.Cuts.{BeginsNoToken, IsFault, IsToken, begins_with, is_blank, sign, signed}
+use Rattle.kh_lex.specs.Lexer.{begins_number, digits_at, has_minus, mark_at, mark_of, number_at, piece_at, plain_token, sign_length, token_at, word_at}
+use Rattle.kh_lex.proofs.FirstBytes.{begins_with-first}
+use Rattle.kh_lex.proofs.Numbers.{IsSplit, length-sign, nat_abs-signed, number_is, number_read, split}
+use Rattle.kh_lex.proofs.Runs.{first_of_run, run_at}
+
+-- a token begins a text
+pub record IsTokenAt (place : ℕ) (text : List ℕ) (token : Token) : Type 0 where
+  pub bytes : List ℕ
+  pub rest : List ℕ
+  pub parts : text ≡ bytes ++ rest
+  pub begin : token.place ≡ place
+  pub size : token.length ≡ length bytes
+  pub kind : IsToken token.kind token.value bytes rest
+  pub limit : nat_abs token.value ≤ NUMBER_LIMIT
+
+-- a token or a fault begins a text
+abbrev pub IsPieceAt : ℕ → List ℕ → Result Token LexStop → Type 0
+IsPieceAt place text (Ok token) = IsTokenAt place text token
+IsPieceAt place text (Err stop) = IsFault stop place text
+
+ok_is : {A E : Type 0} {x y : A} → ◌≡◌ {A = Result A E} (Ok x) (Ok y) → x ≡ y
+ok_is e = cc
+
+-- a word
+word_stands : (place : ℕ) (text : List ℕ) → 0 < length text → is_ascii_alphabetic (slice_index text 0) ≡ true → IsTokenAt place text (word_at place text)
+word_stands place text some letter = record {
+  bytes = take_while is_ascii_alphabetic text;
+  rest = drop (prefix_len is_ascii_alphabetic text) text;
+  parts = sym (take-append-drop (prefix_len is_ascii_alphabetic text) text);
+  begin = refl;
+  size = sym (length-prefix_len is_ascii_alphabetic text);
+  kind = (run_at is_ascii_alphabetic text some letter, refl);
+  limit = omega arith;
+}
+
+-- a number
+number_stands : (place : ℕ) (text : List ℕ) → begins_number text ≡ true → IsPieceAt place text (number_at place text)
+number_stands place text begins = go (nat_lt NUMBER_LIMIT (digits_value 10 (digits_at text))) refl
+  where
+    s : IsSplit (has_minus text) text (digits_at text)
+    s = split text begins
+
+    go : (large : Bool) → nat_lt NUMBER_LIMIT (digits_value 10 (digits_at text)) ≡ large
+        → IsPieceAt place text (cond large (Err (stops.Number place)) (Ok (record {
+          kind = Number;
+          place = place;
+          length = sign_length text + length (digits_at text);
+          value = signed (has_minus text) (digits_value 10 (digits_at text));
+        })))
+    go true e = (
+      refl,
+      record {
+        value = signed (has_minus text) (digits_value 10 (digits_at text));
+        bytes = sign (has_minus text) ++ digits_at text;
+        rest = s.rest;
+        parts = s.parts;
+        number = number_is (has_minus text) text (digits_at text) s;
+        above = rw (nat_abs-signed (has_minus text) (digits_value 10 (digits_at text))) (ltb-true NUMBER_LIMIT (digits_value 10 (digits_at text)) e);
+      },
+    )
+    go false e = record {
+      bytes = sign (has_minus text) ++ digits_at text;
+      rest = s.rest;
+      parts = s.parts;
+      begin = refl;
+      size = rw (length-append (sign (has_minus text)) (digits_at text), length-sign (has_minus text)) refl;
+      kind = number_is (has_minus text) text (digits_at text) s;
+      limit = rw (nat_abs-signed (has_minus text) (digits_value 10 (digits_at text))) (ltb-false NUMBER_LIMIT (digits_value 10 (digits_at text)) e);
+    }
+
+-- no token of a kind stands where its first byte does not
+begins_none : (text : List ℕ) → 0 < length text → begins_with is_blank text ≡ false → is_ascii_alphabetic (slice_index text 0) ≡ false
+    → begins_number text ≡ false → mark_of (slice_index text 0) ≡ None → BeginsNoToken text
+begins_none text some no_blank no_letter no_number no_mark = record {
+  some = some;
+  no_blank = no_blank;
+  none = λ kind value bytes rest parts. none kind bytes rest value parts;
+}
+  where
+    marked : (byte : ℕ) (bytes rest : List ℕ) → text ≡ bytes ++ rest → bytes ≡ byte ∷ [] → mark_of byte ≡ None
+    marked byte bytes rest parts is = rw (← ap (λ t. slice_index t 0) (parts ∙ ap (λ b. b ++ rest) is)) no_mark
+
+    none : (kind : Kind) (bytes rest : List ℕ) (value : ℤ) → text ≡ bytes ++ rest → ¬ IsToken kind value bytes rest
+    none Word bytes rest value parts is =
+        let first = ap (λ t. is_ascii_alphabetic (slice_index t 0)) parts ∙ first_of_run is_ascii_alphabetic bytes rest is.0 in
+        absurd (cc)
+    none Number bytes rest value parts is =
+        let first = ap begins_number parts ∙ (number_read value bytes rest is).begins in
+        absurd (cc)
+    none LeftBracket bytes rest value parts is = let e = marked 91 bytes rest parts is.0 in absurd (cc)
+    none RightBracket bytes rest value parts is = let e = marked 93 bytes rest parts is.0 in absurd (cc)
+    none LeftBrace bytes rest value parts is = let e = marked 123 bytes rest parts is.0 in absurd (cc)
+    none RightBrace bytes rest value parts is = let e = marked 125 bytes rest parts is.0 in absurd (cc)
+    none Comma bytes rest value parts is = let e = marked 44 bytes rest parts is.0 in absurd (cc)
+
+-- a byte that is equal to a number begins a text
+byte_begins : (text : List ℕ) (byte : ℕ) → 0 < length text → slice_index text 0 ≡ byte → (rest : List ℕ) × (text ≡ byte ∷ rest)
+byte_begins [] byte some first = absurd (omega arith)
+byte_begins (b ∷ bs) byte some first = (bs, ap (λ b. b ∷ bs) first)
+
+-- a mark
+mark_stands : (place : ℕ) (text : List ℕ) (byte : ℕ) (kind : Kind) → 0 < length text → slice_index text 0 ≡ byte
+    → ((rest : List ℕ) → IsToken kind (pos 0) (byte ∷ []) rest) → IsTokenAt place text (plain_token kind place 1)
+mark_stands place text byte kind some first is =
+    let begins = byte_begins text byte some first in
+    record {
+      bytes = byte ∷ [];
+      rest = begins.0;
+      parts = begins.1;
+      begin = refl;
+      size = refl;
+      kind = is begins.0;
+      limit = omega arith;
+    }
+
+-- a mark, or a byte that begins none
+marks : (place : ℕ) (text : List ℕ) → 0 < length text → begins_with is_blank text ≡ false → is_ascii_alphabetic (slice_index text 0) ≡ false
+    → begins_number text ≡ false → IsPieceAt place text (mark_at place text)
+marks place text some no_blank no_letter no_number = go
+    (slice_index text 0 == 91) refl (slice_index text 0 == 93) refl (slice_index text 0 == 123) refl (slice_index text 0 == 125) refl (slice_index text 0 == 44) refl
+  where
+    is : (byte : ℕ) → (slice_index text 0 == byte) ≡ true → slice_index text 0 ≡ byte
+    is byte e = eqb-true (slice_index text 0) byte e
+
+    go : (a : Bool) → (slice_index text 0 == 91) ≡ a → (b : Bool) → (slice_index text 0 == 93) ≡ b → (c : Bool) → (slice_index text 0 == 123) ≡ c
+        → (d : Bool) → (slice_index text 0 == 125) ≡ d → (e : Bool) → (slice_index text 0 == 44) ≡ e
+        → IsPieceAt place text (option_map_or (λ kind. Ok (plain_token kind place 1))
+        (cond a (Some LeftBracket) (cond b (Some RightBracket) (cond c (Some LeftBrace) (cond d (Some RightBrace) (cond e (Some Comma) None)))))
+        (Err (stops.Bad place)))
+    go true a b _ c _ d _ e _ = mark_stands place text 91 LeftBracket some (is 91 a) (λ rest. (refl, refl))
+    go false _ true b c _ d _ e _ = mark_stands place text 93 RightBracket some (is 93 b) (λ rest. (refl, refl))
+    go false _ false _ true c d _ e _ = mark_stands place text 123 LeftBrace some (is 123 c) (λ rest. (refl, refl))
+    go false _ false _ false _ true d e _ = mark_stands place text 125 RightBrace some (is 125 d) (λ rest. (refl, refl))
+    go false _ false _ false _ false _ true e = mark_stands place text 44 Comma some (is 44 e) (λ rest. (refl, refl))
+    go false a false b false c false d false e = (refl, begins_none text some no_blank no_letter no_number (rw (a, b, c, d, e) refl))
+
+-- the token or the fault that is read begins the text
+pub stands : (place : ℕ) (text : List ℕ) → 0 < length text → begins_with is_blank text ≡ false → IsPieceAt place text (token_at place text)
+stands place text some no_blank = go (is_ascii_alphabetic (slice_index text 0)) refl (begins_number text) refl
+  where
+    go : (letter : Bool) → is_ascii_alphabetic (slice_index text 0) ≡ letter → (number : Bool) → begins_number text ≡ number
+        → IsPieceAt place text (cond letter (Ok (word_at place text)) (cond number (number_at place text) (mark_at place text)))
+    go true letter number _ = word_stands place text some letter
+    go false no_letter true begins = number_stands place text begins
+    go false no_letter false no_number = marks place text some no_blank no_letter no_number
+
+-- what is read is a blank, or a token that begins the text
+pub piece_stands : (place : ℕ) (text : List ℕ) (piece : Option Token) → piece_at place text ≡ Ok piece → 0 < length text → IfSome piece (IsTokenAt place text)
+piece_stands place text piece read some = go (is_blank (slice_index text 0)) refl read
+  where
+    taken : (r : Result Token LexStop) → IsPieceAt place text r → result_map_both Some (λ stop. stop) r ≡ Ok piece → IfSome piece (IsTokenAt place text)
+    taken (Ok token) at e = subst (λ p. IfSome p (IsTokenAt place text)) (ok_is e) at
+    taken (Err stop) fault e = absurd (cc)
+
+    go : (blank : Bool) → is_blank (slice_index text 0) ≡ blank → cond blank (Ok None) (result_map_both Some (λ stop. stop) (token_at place text)) ≡ Ok piece
+        → IfSome piece (IsTokenAt place text)
+    go true blank e = subst (λ p. IfSome p (IsTokenAt place text)) (ok_is e) tt
+    go false no_blank e = taken (token_at place text) (stands place text some (begins_with-first is_blank text refl ∙ no_blank)) e

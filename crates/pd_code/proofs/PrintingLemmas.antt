@@ -1,0 +1,145 @@
+-- A code in print: its text spells its items, and these stand for it.
+use Rattle.std.proofs.Common.{◌≡◌, ℕ, zero, suc, ◌+◌, ◌-◌, ◌≤◌, nat_abs, All, Some, List, [], ◌∷◌, ◌++◌, map, length, codes, Ok, refl, ap, sym, subst, ◌∙◌, arith, append_assoc}
+use Rattle.std.specs.Fmt.{signed_decimal}
+use Rattle.std.specs.List.{AllByRecursion, cons_option, filter, flat_map, range_with_len}
+use Rattle.std.proofs.lemmas.Bool.{le-leb}
+use Rattle.std.proofs.lemmas.List.FromFn.{length-range_with_len, map-range_with_len_more}
+use Rattle.std.proofs.lemmas.List.Sums.{length-filter}
+use Rattle.std.proofs.lemmas.List.Elements.{recursion_from_All}
+use Rattle.kh_types.specs.Code.{Code, arc_count}
+use Rattle.kh_types.specs.declared.limits.TheConstants.{CROSSINGS, LOOPS}
+use Rattle.kh_lex.specs.declared.limits.TheConstants.{NUMBER_LIMIT}
+use Rattle.kh_lex.specs.declared.symbol.Symbol.{Symbol}
+use Rattle.kh_lex.proofs.WrittenTexts.{IsWritten, Means-written, comma-written, left_bracket-written, nothing-written, number-written, right_bracket-written, space-written, word-written}
+use Rattle.pd_code.specs.declared.item.Item.{Item}
+use Rattle.pd_code.specs.declared.item.Item.TheVariants.{Crossing, Loop}
+use Rattle.pd_code.specs.Grammar.{Spells, item_symbols, listed, next_symbols, spelled}
+use Rattle.pd_code.specs.Items.{crossings_of, is_loop, loop_count, quadruple_of}
+use Rattle.pd_code.specs.Printing.{IsQuadruple, crossing_item, item_text, items_of_code, listed_text, loop_item, loop_names, next_text, pd_text, text_of_items}
+use Rattle.pd_code.specs.Reading.{IsReading}
+
+-- items and then the loops up to one name, and that one
+pub loops_more : (items others : List Item) (first name : ℕ) → first ≤ name → others ≡ items ++ map loop_item (range_with_len first (name - first))
+    → others ++ loop_item name ∷ [] ≡ items ++ map loop_item (range_with_len first (name + 1 - first))
+loops_more items others first name after is =
+    let count : name - first + 1 ≡ name + 1 - first = omega arith in
+    ap (λ xs. xs ++ loop_item name ∷ []) is
+    ∙ append_assoc items (map loop_item (range_with_len first (name - first))) (loop_item name ∷ [])
+    ∙ ap (λ xs. items ++ xs) (sym (map-range_with_len_more loop_item first (name - first) name (omega arith)) ∙ ap (λ n. map loop_item (range_with_len first n)) count)
+
+-- the numbers of an item are small enough to be read
+abbrev pub HasSmallNumbers : Item → Type 0
+HasSmallNumbers (Crossing i j k l) = (nat_abs i ≤ NUMBER_LIMIT) × (nat_abs j ≤ NUMBER_LIMIT) × (nat_abs k ≤ NUMBER_LIMIT) × (nat_abs l ≤ NUMBER_LIMIT)
+HasSmallNumbers (Loop n) = nat_abs n ≤ NUMBER_LIMIT
+
+-- an item before a text
+item-written : {rest : List ℕ} {more : List Symbol} (item : Item) → HasSmallNumbers item → IsWritten rest more → IsWritten (item_text item ++ rest) (item_symbols item ++ more)
+item-written {rest = rest} {more = more} (Crossing i j k l) small written =
+    subst (λ t. IsWritten t (item_symbols (Crossing i j k l) ++ more)) (sym regrouped)
+    (word-written (codes "X") (omega arith) refl refl (left_bracket-written
+    (number-written i small.0 refl (comma-written (space-written
+    (number-written j small.1 refl (comma-written (space-written
+    (number-written k small.2 refl (comma-written (space-written
+    (number-written l small.3 refl (right_bracket-written written)))))))))))))
+  where
+    regrouped : item_text (Crossing i j k l) ++ rest ≡ codes "X[" ++ (signed_decimal i ++ (codes ", " ++ (signed_decimal j ++ (codes ", "
+        ++ (signed_decimal k ++ (codes ", " ++ (signed_decimal l ++ (codes "]" ++ rest))))))))
+    regrouped = simp append_assoc
+item-written {rest = rest} {more = more} (Loop n) small written =
+    subst (λ t. IsWritten t (item_symbols (Loop n) ++ more)) (sym regrouped)
+    (word-written (codes "Loop") (omega arith) refl refl (left_bracket-written (number-written n small refl (right_bracket-written written))))
+  where
+    regrouped : item_text (Loop n) ++ rest ≡ codes "Loop[" ++ (signed_decimal n ++ (codes "]" ++ rest))
+    regrouped = simp append_assoc
+
+-- items behind commas before a text
+next-written : {rest : List ℕ} {more : List Symbol} (items : List Item) → AllByRecursion HasSmallNumbers items → IsWritten rest more
+    → IsWritten (flat_map next_text items ++ rest) (flat_map next_symbols items ++ more)
+next-written [] small written = written
+next-written {rest = rest} {more = more} (item ∷ items) small written =
+    subst (λ t. IsWritten t (flat_map next_symbols (item ∷ items) ++ more)) (sym (append_assoc (next_text item) (flat_map next_text items) rest))
+    (subst (IsWritten (next_text item ++ (flat_map next_text items ++ rest))) (sym (append_assoc (next_symbols item) (flat_map next_symbols items) more))
+    (comma-written (space-written (item-written item small.0 (next-written items small.1 written)))))
+
+-- items before a text
+listed-written : {rest : List ℕ} {more : List Symbol} (items : List Item) → AllByRecursion HasSmallNumbers items → IsWritten rest more
+    → IsWritten (listed_text items ++ rest) (listed items ++ more)
+listed-written [] small written = written
+listed-written {rest = rest} {more = more} (item ∷ items) small written =
+    subst (λ t. IsWritten t (listed (item ∷ items) ++ more)) (sym (append_assoc (item_text item) (flat_map next_text items) rest))
+    (subst (IsWritten (item_text item ++ (flat_map next_text items ++ rest))) (sym (append_assoc (item_symbols item) (flat_map next_symbols items) more))
+    (item-written item small.0 (next-written items small.1 written)))
+
+-- the text that lists items spells them
+Spells-text_of_items : (items : List Item) → AllByRecursion HasSmallNumbers items → Spells (text_of_items items) items
+Spells-text_of_items items small = Means-written (text_of_items items) (spelled items)
+    (word-written (codes "PD") (omega arith) refl refl (left_bracket-written (listed-written items small (right_bracket-written nothing-written))))
+
+-- the items of a code have small numbers
+small_crossings : (crossings : List (List ℕ)) (others : List Item) → AllByRecursion IsQuadruple crossings → AllByRecursion HasSmallNumbers others
+    → AllByRecursion HasSmallNumbers (map crossing_item crossings ++ others)
+small_crossings [] others quadruples small = small
+small_crossings (arcs ∷ crossings) others quadruples small =
+    let bytes = quadruples.0.bytes in (
+      (omega (arith, bytes 0), omega (arith, bytes 1), omega (arith, bytes 2), omega (arith, bytes 3)),
+      small_crossings crossings others quadruples.1 small,
+    )
+
+small_loops : (first count : ℕ) → first + count ≤ NUMBER_LIMIT → AllByRecursion HasSmallNumbers (map loop_item (range_with_len first count))
+small_loops first zero few = tt
+small_loops first (suc count) few = (omega arith, small_loops (first + 1) count (omega arith))
+
+-- a quadruple is that of its item
+quadruple-item : (arcs : List ℕ) → IsQuadruple arcs → quadruple_of (crossing_item arcs) ≡ Some arcs
+quadruple-item [] is = let four = is.four in absurd (cc)
+quadruple-item (i ∷ []) is = let four = is.four in absurd (omega arith)
+quadruple-item (i ∷ j ∷ []) is = let four = is.four in absurd (omega arith)
+quadruple-item (i ∷ j ∷ k ∷ []) is = let four = is.four in absurd (omega arith)
+quadruple-item (i ∷ j ∷ k ∷ l ∷ []) is =
+    rw (le-leb i 255 (is.bytes 0), le-leb j 255 (is.bytes 1), le-leb k 255 (is.bytes 2), le-leb l 255 (is.bytes 3)) refl
+quadruple-item (i ∷ j ∷ k ∷ l ∷ m ∷ arcs) is = let four = is.four in absurd (omega arith)
+
+-- no crossing is among loops, and each of them is one
+crossings_of-loops : (names : List ℕ) → crossings_of (map loop_item names) ≡ []
+crossings_of-loops [] = refl
+crossings_of-loops (name ∷ names) = crossings_of-loops names
+
+loops-loops : (names : List ℕ) → length (filter is_loop (map loop_item names)) ≡ length names
+loops-loops [] = refl
+loops-loops (name ∷ names) = ap suc (loops-loops names)
+
+-- the crossings among the items of a code are the code's, and so many are the loops
+crossings_of-items : (crossings : List (List ℕ)) (names : List ℕ) → AllByRecursion IsQuadruple crossings → crossings_of (map crossing_item crossings ++ map loop_item names) ≡ crossings
+crossings_of-items [] names quadruples = crossings_of-loops names
+crossings_of-items (arcs ∷ crossings) names quadruples =
+    ap (λ first. cons_option first (crossings_of (map crossing_item crossings ++ map loop_item names))) (quadruple-item arcs quadruples.0)
+    ∙ ap (λ others. arcs ∷ others) (crossings_of-items crossings names quadruples.1)
+
+loops-items : (crossings : List (List ℕ)) (names : List ℕ) → length (filter is_loop (map crossing_item crossings ++ map loop_item names)) ≡ length names
+loops-items [] names = loops-loops names
+loops-items (arcs ∷ crossings) names = loops-items crossings names
+
+-- a code by its parts
+abbrev made : ℕ → List (List ℕ) → Code
+made loops crossings = record { crossings = crossings; loops = loops }
+
+-- the text of a code reads as the code
+pub IsReading-pd_text : (code : Code) → All IsQuadruple code.crossings → length code.crossings ≤ CROSSINGS → code.loops ≤ LOOPS → IsReading (pd_text code) (Ok code)
+IsReading-pd_text code all few few_loops = record {
+  items = items_of_code code;
+  spelled = Spells-text_of_items (items_of_code code)
+      (small_crossings code.crossings (map loop_item (loop_names code)) quadruples (small_loops (arc_count code.crossings + 1) code.loops (omega arith)));
+  crossings = rw same_crossings few;
+  loops = rw same_loops few_loops;
+  same = ap (made code.loops) (sym same_crossings) ∙ ap (λ n. made n (crossings_of (items_of_code code))) (sym same_loops);
+}
+  where
+    quadruples : AllByRecursion IsQuadruple code.crossings
+    quadruples = recursion_from_All IsQuadruple code.crossings all
+
+    same_crossings : crossings_of (items_of_code code) ≡ code.crossings
+    same_crossings = crossings_of-items code.crossings (loop_names code) quadruples
+
+    same_loops : loop_count (items_of_code code) ≡ code.loops
+    same_loops = sym (length-filter is_loop (items_of_code code)) ∙ loops-items code.crossings (loop_names code)
+        ∙ length-range_with_len (arc_count code.crossings + 1) code.loops
