@@ -9,7 +9,7 @@ use Rattle.kh_types.specs.declared.fault.CodeFault.{CodeFault}
 use Rattle.kh_types.specs.declared.fault.CodeFault.TheVariants.{Checkerboard}
 use Rattle.kh_types.specs.Checkerboard.{equation_of, equations_of, is_solved, solves_at, solves_up_to, has_choice, IsCheckerboard}
 use Rattle.kh_types.specs.Acceptance.{checkerboard_at, checkerboard_fault, fault_if}
-use Rattle.kh_types.proofs.Ranges.{list_any-below, list_any-below_none, list_any-found, list_all-front}
+use Rattle.kh_types.proofs.Ranges.{list_any-below, list_any-below_none, list_any-found, list_all-range_prefix}
 use Rattle.kh_types.proofs.FaultLemmas.{none_at, none_of_all}
 
 -- to solve the arcs up to a is to solve the first a equations
@@ -76,7 +76,7 @@ pub none-from_choice : (crossings : List (List ℕ)) → IsCheckerboard crossing
 none-from_choice crossings solution =
     none_of_all (checkerboard_at crossings) 1 (2 * length crossings)
     (λ k below.
-    let solves = list_all-front (solves_at crossings solution.choice) 1 (1 + k) (2 * length crossings) (omega arith)
+    let solves = list_all-range_prefix (solves_at crossings solution.choice) 1 (1 + k) (2 * length crossings) (omega arith)
     solution.solves in
     let some = list_any-below (solves_up_to crossings (1 + k)) (2 ^ length crossings) solution.choice solution.below solves in
     ap (λ b. fault_if (not b) (Checkerboard (1 + k))) some)

@@ -117,9 +117,9 @@ list_any-found p n passes =
     (found.0, below, ap p (sym is_k) ∙ found.4)
 
 -- what all numbers of a range pass, the first of them pass
-pub list_all-front : (p : ℕ → Bool) (a k n : ℕ) → k ≤ n → list_all p (range_with_len a n) ≡ true
+pub list_all-range_prefix : (p : ℕ → Bool) (a k n : ℕ) → k ≤ n → list_all p (range_with_len a n) ≡ true
     → list_all p (range_with_len a k) ≡ true
-list_all-front p a k n within passes =
+list_all-range_prefix p a k n within passes =
     let e : n ≡ k + (n - k) = omega arith in
     let cut : list_all p (range_with_len a n) ≡ (list_all p (range_with_len a k) && list_all p (range_with_len (a + k) (n - k))) =
     ap (λ m. list_all p (range_with_len a m)) e ∙ ap (λ xs. list_all p xs) (range-append a k (n - k))
