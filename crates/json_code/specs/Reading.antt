@@ -8,8 +8,8 @@ use Rattle.json_code.specs.declared.stop.JsonStop.TheVariants.{JsonText, Shape, 
 use Rattle.json_code.specs.Values.{IsJson, array_of, whole_number, array_of_numbers}
 
 -- the arc that a number names; 0, which is no arc, for a number above 255
-abbrev pub arc_of : ℕ → ℕ
-arc_of n = if nat_le n 255 then n else 0
+abbrev pub arc_named : ℕ → ℕ
+arc_named n = if nat_le n 255 then n else 0
 
 -- there are four numbers
 abbrev pub HasFour : List ℕ → Type 0
@@ -22,7 +22,7 @@ pub record ReadsAs (text : List ℕ) (code : Code) : Type 0 where
   pub json : IsJson text (array_of (map array_of_numbers quadruples))
   pub fours : All HasFour quadruples
   pub within : length quadruples ≤ CROSSINGS
-  pub arcs : code.crossings ≡ map (map arc_of) quadruples
+  pub arcs : code.crossings ≡ map (map arc_named) quadruples
   pub no_loops : code.loops ≡ 0
 
 -- a text is no JSON

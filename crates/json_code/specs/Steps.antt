@@ -1,4 +1,4 @@
--- What the functions of this crate compute, step by step. That it is the reading of a text is told by `read_json`, and by the
+-- What the functions of this crate compute, step by step. That it is the reading of a text is said by `read_json`, and by the
 -- law `each_text_has_one_reading`.
 use Rattle.std.specs.Prelude.{ℕ, ◌+◌, nat_lt, if◌then◌else◌, List, [], ◌∷◌, ◌++◌, length, Option, option_and_then, option_map, ok_or, Result, Ok, Err, slice_get}
 use Rattle.std.specs.Option.{option_map_or}
@@ -10,7 +10,7 @@ use Rattle.serde_json.specs.Find.{as_array, as_number, as_u64}
 use Rattle.serde_json.specs.Read.{read}
 use Rattle.json_code.specs.declared.stop.JsonStop.{JsonStop}
 use Rattle.json_code.specs.declared.stop.JsonStop.TheVariants.{JsonText, Shape, CrossingLimit}
-use Rattle.json_code.specs.Reading.{arc_of}
+use Rattle.json_code.specs.Reading.{arc_named}
 
 -- the elements of an array, in order
 abbrev pub elements_of : Items → List Data
@@ -33,7 +33,7 @@ number_in value = option_and_then as_u64 (as_number value)
 -- the arc at a slot of the members of a crossing
 abbrev pub arc_at : ℕ → ℕ → List Data → Result ℕ JsonStop
 arc_at crossing slot members =
-    ok_or (option_map arc_of (option_and_then number_in (slice_get members slot))) (Shape crossing slot)
+    ok_or (option_map arc_named (option_and_then number_in (slice_get members slot))) (Shape crossing slot)
 
 -- the arcs, unless there is a fifth member
 abbrev pub if_four : ℕ → List Data → List ℕ → Result (List ℕ) JsonStop
@@ -50,10 +50,10 @@ abbrev pub crossing_of : ℕ → Data → Result (List ℕ) JsonStop
 crossing_of crossing element =
     option_map_or (λ items. arcs_at crossing (elements_of items)) (as_array element) (Err (Shape crossing 0))
 
--- a crossing in front of others
+-- crossings before others
 abbrev pub preceded_by : List (List ℕ) → Result (List (List ℕ)) JsonStop → Result (List (List ℕ)) JsonStop
-preceded_by front (Ok crossings) = Ok (front ++ crossings)
-preceded_by front (Err stop) = Err stop
+preceded_by earlier (Ok crossings) = Ok (earlier ++ crossings)
+preceded_by earlier (Err stop) = Err stop
 
 -- the crossings that elements are, numbered from a number on
 abbrev pub crossings_from : ℕ → List Data → Result (List (List ℕ)) JsonStop

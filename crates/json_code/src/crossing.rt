@@ -2,7 +2,7 @@
 
 ghost use Rattle.std.specs.Prelude.{◌≡◌, map};
 ghost use Rattle.serde_json.specs.View.{view};
-ghost use Rattle.json_code.specs.Reading.{arc_of};
+ghost use Rattle.json_code.specs.Reading.{arc_named};
 ghost use Rattle.json_code.specs.Steps.{arc_at, arcs_at, crossing_of};
 
 use crate::stop::JsonStop;
@@ -38,12 +38,12 @@ fn arc_at(members: &[Value], crossing: u32, slot: u8) -> Result<u8, JsonStop>
     ensures { result ≡ arc_at crossing slot (map view members.now) }
 {
     let number = members.get(slot as usize).and_then(Value::as_u64);
-    number.map(arc_of).ok_or(JsonStop::Shape { crossing, slot })
+    number.map(arc_named).ok_or(JsonStop::Shape { crossing, slot })
 }
 
 // The arc that a number names; 0, which is no arc, for a number above 255.
-fn arc_of(number: u64) -> u8
-    ensures { result ≡ arc_of number }
+fn arc_named(number: u64) -> u8
+    ensures { result ≡ arc_named number }
 {
     u8::try_from(number).unwrap_or(0)
 }

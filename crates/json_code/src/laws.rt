@@ -22,7 +22,7 @@ pub fn as_u64_gives_whole_numbers()
     ensures { (value : Data) (n : ℕ) → (number_in value ≡ Some n) ↔ (value ≡ whole_number n) }
 {}
 
-/// What some texts read as: the trefoil, no crossing, great numbers, wrong slots, too many elements, no array, no JSON.
+/// What some texts read as: the trefoil, no crossing, large numbers, wrong slots, too many elements, no array, no JSON.
 pub fn worked_texts()
     ensures trefoil { reading_of (codes "[[1,4,2,5], [3,6,4,1], [5,2,6,3]]") ≡ Ok (record {
       crossings = (1 ∷ 4 ∷ 2 ∷ 5 ∷ []) ∷ (3 ∷ 6 ∷ 4 ∷ 1 ∷ []) ∷ (5 ∷ 2 ∷ 6 ∷ 3 ∷ []) ∷ [];

@@ -15,7 +15,7 @@ store_of sink = record {
 }
 
 -- what is written has room, the memory for all the room is there, and a write may take some
-pub record IsKept (sink : Inside) : Type 0 where
+pub record KeepsStore (sink : Inside) : Type 0 where
   pub inside : length sink.written.items ≤ sink.room
   pub memory : sink.room ≤ vec_capacity sink.written
   pub some : 0 < sink.piece

@@ -14,6 +14,6 @@ supply_of source = record {
 }
 
 -- that place is inside the bytes, and a read may give some
-pub record IsKept (source : Inside) : Type 0 where
+pub record KeepsSupply (source : Inside) : Type 0 where
   pub inside : source.at ≤ length source.bytes.items
   pub some : 0 < source.piece

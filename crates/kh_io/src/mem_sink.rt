@@ -31,11 +31,11 @@ impl Model for MemSink {
 
     ghost Value = { Store };
 
-    ghost use Rattle.kh_io.specs.MemSinks.{store_of, IsKept};
+    ghost use Rattle.kh_io.specs.MemSinks.{store_of, KeepsStore};
 
     ghost view = { store_of };
 
-    ghost invariant = { IsKept };
+    ghost invariant = { KeepsStore };
 }
 
 impl MemSink {

@@ -29,11 +29,11 @@ impl Model for MemSource {
 
     ghost Value = { Supply };
 
-    ghost use Rattle.kh_io.specs.MemSources.{supply_of, IsKept};
+    ghost use Rattle.kh_io.specs.MemSources.{supply_of, KeepsSupply};
 
     ghost view = { supply_of };
 
-    ghost invariant = { IsKept };
+    ghost invariant = { KeepsSupply };
 }
 
 impl MemSource {

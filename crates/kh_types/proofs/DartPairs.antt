@@ -6,7 +6,7 @@ use Rattle.std.specs.Option.{option_map}
 use Rattle.std.proofs.lemmas.Bool.{and_parts, and_from, and_right, both_ways, cases_Bool, cases_eq, eq-eqb, eqb-true, false_from_ne_true, not-true}
 use Rattle.kh_types.specs.declared.dart.Dart.{Dart}
 use Rattle.kh_types.specs.Code.{IsArc}
-use Rattle.kh_types.specs.Darts.{dart_at, dart_place, arc_of, times, first_dart, is_same_dart, is_partner, partner, partner_at, IsDart, IsDartOf, HasArcsTwice, IsOtherDart, HasPairedDarts, IsPartner}
+use Rattle.kh_types.specs.Darts.{dart_at, dart_place, arc_of, times, first_dart, is_same_dart, is_partner, partner, partner_at, IsDart, IsDartOf, HasArcsTwice, IsOtherDart, HasPairedDarts, IsPairing}
 use Rattle.kh_types.proofs.Lists.{count_by-map}
 use Rattle.kh_types.proofs.Ranges.{find-map}
 use Rattle.kh_types.proofs.RangeCounts.{count_by-one_more, found-counted, only-counted}
@@ -170,9 +170,9 @@ partner_at-partner_at crossings place twice below =
     (partner_at-only crossings (partner_at crossings place) place twice partner.below
     (record { below = below; differs = λ same. partner.differs (sym same); same_arc = sym partner.same_arc }))
 
-pub IsPartner-partner_at : (crossings : List (List ℕ)) → HasArcsTwice crossings
-    → IsPartner (4 * length crossings) (partner_at crossings)
-IsPartner-partner_at crossings twice = record {
+pub IsPairing-partner_at : (crossings : List (List ℕ)) → HasArcsTwice crossings
+    → IsPairing (4 * length crossings) (partner_at crossings)
+IsPairing-partner_at crossings twice = record {
   below = λ place below. (IsOtherPlace-partner_at crossings place twice below).below;
   back = λ place below. partner_at-partner_at crossings place twice below;
 }

@@ -89,6 +89,6 @@ pub record HasPairedDarts (crossings : List (List ℕ)) : Type 0 where
   pub back : (dart : Dart) → IsDart crossings dart → partner crossings (partner crossings dart) ≡ dart
 
 -- the places below m are partners in pairs, or alone
-pub record IsPartner (m : ℕ) (partner : ℕ → ℕ) : Type 0 where
+pub record IsPairing (m : ℕ) (partner : ℕ → ℕ) : Type 0 where
   pub below : (place : ℕ) → place < m → partner place < m
   pub back : (place : ℕ) → place < m → partner (partner place) ≡ place

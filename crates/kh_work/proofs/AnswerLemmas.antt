@@ -5,13 +5,24 @@ use Rattle.std.specs.Io.KnownBytes.{Consumes, IsAtEnd}
 use Rattle.kh_io.proofs.KnownBytes.{Consumes-length}
 use Rattle.kh_types.specs.declared.limits.TheConstants.{INPUT_BYTES}
 use Rattle.kh_types.specs.Code.{Code}
+use Rattle.std.specs.Prelude.{Bool, false, is_none, nat_lt, IsTrue}
+use Rattle.std.proofs.lemmas.Grind.{common_steps}
+use Rattle.kh_types.specs.Acceptance.{accepted, first_fault}
+use Rattle.kh_types.specs.Table.{table, table_text}
+use Rattle.kh_types.specs.declared.fault.CodeFault.{CodeFault}
+use Rattle.kh_work.specs.declared.limits.TheConstants.{HOMOLOGY_CROSSINGS}
+use Rattle.kh_work.specs.declared.status.Status.TheVariants.{Done}
+use Rattle.kh_work.specs.declared.command.Task.{Task}
+use Rattle.kh_work.specs.declared.command.Task.TheVariants.{Homology}
+use Rattle.kh_work.specs.declared.command.Field.{Field}
 use Rattle.kh_work.specs.declared.command.Command.{Command}
-use Rattle.kh_work.specs.Replies.{Reply}
-use Rattle.kh_work.specs.Commands.{command_of}
+use Rattle.kh_work.specs.Replies.{Reply, reply_of}
+use Rattle.kh_work.specs.Commands.{command_of, size_of}
 use Rattle.kh_work.specs.Refusals.{usage, too_many_bytes}
-use Rattle.kh_work.specs.Inputs.{IsDiagramRead}
+use Rattle.kh_work.specs.Inputs.{IsCodeRead, IsDiagramRead}
+use Rattle.kh_work.specs.Homology.{homology_reply}
 use Rattle.kh_work.specs.Answer.{IsTaskReply, IsCommandReply, IsAnswerOf, IsAnswer}
-use Rattle.kh_work.specs.Told.{Answers, Replies, IsReadOut}
+use Rattle.kh_work.specs.Told.{IsKnownAnswer, IsKnownReply, IsReadOut}
 
 -- a diagram is answered by its task, and a refusal by itself
 pub IsCommandReply-diagram : {E : Type 0} (result : Result Reply E) (command : Command) (bytes : List ℕ) (code : Code)
@@ -27,18 +38,18 @@ IsCommandReply-refused command bytes reply few read =
     inr (record { few = few; outcome = Err reply; read = read; answered = refl })
 
 -- the bytes that were read are all that the source had left
-pub Replies-read : (left : Option (List ℕ)) (command : Command) (bytes : List ℕ) (reply : Reply) → IfSome left (λ all. bytes ≡ all)
-    → IsCommandReply command bytes reply → Replies left command reply
-Replies-read None command bytes reply all replied = record { known = tt }
-Replies-read (Some left) command bytes reply all replied =
+pub IsKnownReply-read : (left : Option (List ℕ)) (command : Command) (bytes : List ℕ) (reply : Reply) → IfSome left (λ all. bytes ≡ all)
+    → IsCommandReply command bytes reply → IsKnownReply left command reply
+IsKnownReply-read None command bytes reply all replied = record { known = tt }
+IsKnownReply-read (Some left) command bytes reply all replied =
     let P : List ℕ → Type 0 = λ b. IsCommandReply command b reply in
     record { known = subst P all replied }
 
 -- more bytes than an input may have were taken, so as many were left
-pub Replies-long : (left rest : Option (List ℕ)) (command : Command) (taken : List ℕ) (reply : Reply) → Consumes left rest taken
-    → INPUT_BYTES < length taken → reply ≡ too_many_bytes → Replies left command reply
-Replies-long None rest command taken reply consumed many is = record { known = tt }
-Replies-long (Some bytes) rest command taken reply consumed many is =
+pub IsKnownReply-long : (left rest : Option (List ℕ)) (command : Command) (taken : List ℕ) (reply : Reply) → Consumes left rest taken
+    → INPUT_BYTES < length taken → reply ≡ too_many_bytes → IsKnownReply left command reply
+IsKnownReply-long None rest command taken reply consumed many is = record { known = tt }
+IsKnownReply-long (Some bytes) rest command taken reply consumed many is =
     let within : length taken ≤ length bytes = Consumes-length (Some bytes) rest taken consumed in
     record { known = inl (omega arith, is) }
 
@@ -62,15 +73,46 @@ answer-usage words bytes reply none is =
     let P : Option Command → Type 0 = λ c. IsAnswerOf c bytes reply in
     subst P (sym none) is
 
-pub Answers-command : {E : Type 0} (result : Result Reply E) (left : Option (List ℕ)) (words : List (List ℕ)) (command : Command)
-    → command_of words ≡ Some command → IfOk result (λ reply. Replies left command reply)
-    → IfOk result (λ reply. Answers left words reply)
-Answers-command (Ok reply) None words command is_command replied = record { known = tt }
-Answers-command (Ok reply) (Some bytes) words command is_command replied =
+pub IsKnownAnswer-command : {E : Type 0} (result : Result Reply E) (left : Option (List ℕ)) (words : List (List ℕ)) (command : Command)
+    → command_of words ≡ Some command → IfOk result (λ reply. IsKnownReply left command reply)
+    → IfOk result (λ reply. IsKnownAnswer left words reply)
+IsKnownAnswer-command (Ok reply) None words command is_command replied = record { known = tt }
+IsKnownAnswer-command (Ok reply) (Some bytes) words command is_command replied =
     record { known = answer-command words bytes command reply is_command replied.known }
-Answers-command (Err stop) left words command is_command replied = tt
+IsKnownAnswer-command (Err stop) left words command is_command replied = tt
 
-pub Answers-usage : (left : Option (List ℕ)) (words : List (List ℕ)) (reply : Reply) → command_of words ≡ None → reply ≡ usage
-    → Answers left words reply
-Answers-usage None words reply none is = record { known = tt }
-Answers-usage (Some bytes) words reply none is = record { known = answer-usage words bytes reply none is }
+pub IsKnownAnswer-usage : (left : Option (List ℕ)) (words : List (List ℕ)) (reply : Reply) → command_of words ≡ None → reply ≡ usage
+    → IsKnownAnswer left words reply
+IsKnownAnswer-usage None words reply none is = record { known = tt }
+IsKnownAnswer-usage (Some bytes) words reply none is = record { known = answer-usage words bytes reply none is }
+
+-- no fault, by its test
+none-from_test : (fault : Option CodeFault) → IsTrue (is_none fault) → fault ≡ None
+none-from_test None none = refl
+none-from_test (Some fault) none = absurd (cc)
+
+first_fault-accepted : (code : Code) → IsTrue (accepted code) → first_fault code ≡ None
+unfolding accepted
+first_fault-accepted code is_accepted = none-from_test (first_fault code) is_accepted
+
+homology_reply-table : (field : Field) (code : Code) → length code.crossings ≤ HOMOLOGY_CROSSINGS
+    → reply_of Done (table_text (table (size_of field) code)) ≡ homology_reply field code
+homology_reply-table field code few =
+    let short : nat_lt HOMOLOGY_CROSSINGS (length code.crossings) ≡ false = grind (arith, common_steps) in
+    rw short refl
+
+-- the code of an accepted diagram is answered by its table
+pub IsAnswer-table : (words : List (List ℕ)) (bytes : List ℕ) (command : Command) (code : Code) → command_of words ≡ Some command
+    → command.task ≡ Homology → length bytes ≤ INPUT_BYTES → IsCodeRead bytes (Ok code) → IsTrue (accepted code)
+    → length code.crossings ≤ HOMOLOGY_CROSSINGS
+    → IsAnswer words bytes (reply_of Done (table_text (table (size_of command.field) code)))
+IsAnswer-table words bytes command code is_command is_homology few_bytes read is_accepted few =
+    let reply : Reply = reply_of Done (table_text (table (size_of command.field) code)) in
+    let P : Task → Type 0 = λ task. IsTaskReply task command code reply in
+    answer-command words bytes command reply is_command
+    (inr (record {
+      few = few_bytes;
+      outcome = Ok code;
+      read = (read, first_fault-accepted code is_accepted);
+      answered = subst P (sym is_homology) (homology_reply-table command.field code few);
+    }))

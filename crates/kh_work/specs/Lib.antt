@@ -3,7 +3,7 @@ pub mod Replies
 pub mod Commands
 pub mod Refusals
 pub mod Inputs
-pub mod Stops
+pub mod InputStops
 pub mod Homology
 pub mod Convert
 pub mod Answer

@@ -9,11 +9,11 @@ use Rattle.kh_work.specs.Replies.{Reply}
 use Rattle.kh_work.specs.Answer.{IsAnswer, IsCommandReply}
 
 -- a reply is the answer to the words and the bytes that a source had left, where these are known
-pub record Answers (left : Option (List ℕ)) (words : List (List ℕ)) (reply : Reply) : Type 0 where
+pub record IsKnownAnswer (left : Option (List ℕ)) (words : List (List ℕ)) (reply : Reply) : Type 0 where
   pub known : IfSome left (λ bytes. IsAnswer words bytes reply)
 
 -- a reply is that of a command to the bytes that a source had left, where these are known
-pub record Replies (left : Option (List ℕ)) (command : Command) (reply : Reply) : Type 0 where
+pub record IsKnownReply (left : Option (List ℕ)) (command : Command) (reply : Reply) : Type 0 where
   pub known : IfSome left (λ bytes. IsCommandReply command bytes reply)
 
 -- a status is that of a reply, and a sink has gained its bytes, where what is written is known
@@ -26,7 +26,7 @@ pub record GivesPrefix (reply : Reply) (before after : Option (List ℕ)) : Type
   pub count : ℕ
   pub written : Appends before after (take count reply.text)
 
--- a source has lost bytes from its front, and nothing else, where its bytes are known
+-- a source has lost a prefix of its bytes, and nothing else, where its bytes are known
 pub record IsTaken (before after : Option (List ℕ)) : Type 0 where
   pub bytes : List ℕ
   pub taken : Consumes before after bytes

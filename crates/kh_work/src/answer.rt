@@ -6,7 +6,7 @@ ghost use Rattle.kh_work.specs.Commands.{command_of};
 ghost use Rattle.kh_work.specs.Refusals.{usage};
 ghost use Rattle.kh_work.specs.Answer.{IsTaskReply, IsCommandReply};
 ghost use Rattle.kh_work.specs.Statuses.{IsWhole};
-ghost use Rattle.kh_work.specs.Told.{Answers, Replies, IsTaken, IsReadOut};
+ghost use Rattle.kh_work.specs.Told.{IsKnownAnswer, IsKnownReply, IsTaken, IsReadOut};
 
 use crate::command::{Command, Task, command_of};
 use crate::commands::{reply_to_convert, reply_to_homology};
@@ -39,7 +39,7 @@ impl From<NoMemory> for ReplyStop {
 
 /// The reply to words and a source, which is read where the words give a command.
 pub fn reply_to<S: Source>(alloc: Global, words: &Words, source: &mut S) -> Result<Reply, ReplyStop>
-    ensures known { IfOk result (λ reply. Answers (S.left source.old) words.now reply) }
+    ensures known { IfOk result (λ reply. IsKnownAnswer (S.left source.old) words.now reply) }
     ensures whole { IfOk result (λ reply. IsWhole reply.status) }
     ensures usage { command_of words.now ≡ None → IfOk result (λ reply. reply ≡ usage) }
     ensures unread { command_of words.now ≡ None → source.new ≡ source.old }
@@ -63,7 +63,7 @@ fn reply_to_source<S: Source>(
     command: Command,
     source: &mut S,
 ) -> Result<Reply, ReplyStop>
-    ensures known { IfOk result (λ reply. Replies (S.left source.old) command reply) }
+    ensures known { IfOk result (λ reply. IsKnownReply (S.left source.old) command reply) }
     ensures whole { IfOk result (λ reply. IsWhole reply.status) }
     ensures no_usage { IfOk result (λ reply. reply.status ≢ Status.Usage) }
     ensures taken { IsTaken (S.left source.old) (S.left source.new) }

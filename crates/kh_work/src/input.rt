@@ -3,7 +3,7 @@
 ghost use Rattle.std.specs.Prelude.{◌≡◌, ◌≤◌, length, IfOk, IfErr, Ok, Err};
 ghost use Rattle.kh_work.specs.Replies.{Reply};
 ghost use Rattle.kh_work.specs.Inputs.{is_json, IsPdRead, IsJsonRead, IsCodeRead, IsDiagramRead};
-ghost use Rattle.kh_work.specs.Stops.{StopsWith};
+ghost use Rattle.kh_work.specs.InputStops.{StopsWith};
 
 use crate::refusals::{fault_refusal, json_refusal, pd_refusal};
 use crate::reply::Reply;

@@ -1,9 +1,18 @@
 //! Laws of the definitions: each is the contract of a function that does nothing.
 
-ghost use Rattle.std.specs.Prelude.{◌≡◌, ℕ, List};
-ghost use Rattle.kh_work.specs.Replies.{Reply};
-ghost use Rattle.kh_work.specs.Answer.{IsAnswer};
+ghost use Rattle.std.specs.Prelude.{◌≡◌, ◌≤◌, ℕ, List, length, IsTrue, Ok, Some};
+ghost use Rattle.kh_types.specs.Code.{Code};
+ghost use Rattle.kh_types.specs.Acceptance.{accepted};
+ghost use Rattle.kh_types.specs.Table.{table, table_text};
+ghost use Rattle.kh_types.specs.declared.limits.TheConstants.{INPUT_BYTES};
+ghost use Rattle.kh_work.specs.declared.command.Command.{Command};
+ghost use Rattle.kh_work.specs.declared.command.Task.{Task};
+ghost use Rattle.kh_work.specs.declared.status.Status.{Status};
 ghost use Rattle.kh_work.specs.declared.limits.TheConstants.{HOMOLOGY_CROSSINGS};
+ghost use Rattle.kh_work.specs.Replies.{Reply, reply_of};
+ghost use Rattle.kh_work.specs.Commands.{command_of, size_of};
+ghost use Rattle.kh_work.specs.Inputs.{IsCodeRead};
+ghost use Rattle.kh_work.specs.Answer.{IsAnswer};
 
 /// To all words and all bytes there is exactly one answer.
 pub fn one_answer()
@@ -11,6 +20,17 @@ pub fn one_answer()
         → (reply : Reply) × IsAnswer words bytes reply }
     ensures one { (words : List (List ℕ)) (bytes : List ℕ) (reply other : Reply)
         → IsAnswer words bytes reply → IsAnswer words bytes other → reply ≡ other }
+{}
+
+/// Words that give the command `homology`, and bytes that are the text of the code of an accepted diagram within the limits, are
+/// answered by its homology table over the field that the words name.
+pub fn accepted_diagrams_are_answered_by_their_table()
+    ensures { (words : List (List ℕ)) (bytes : List ℕ) (command : Command) (code : Code)
+        → command_of words ≡ Some command → command.task ≡ Task.Homology
+        → length bytes ≤ INPUT_BYTES → IsCodeRead bytes (Ok code) → IsTrue (accepted code)
+        → length code.crossings ≤ HOMOLOGY_CROSSINGS
+        → IsAnswer words bytes (reply_of Status.Done
+        (table_text (table (size_of command.field) code))) }
 {}
 
 /// The numbers of the limits of commands.

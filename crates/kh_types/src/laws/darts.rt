@@ -2,7 +2,7 @@
 
 ghost use Rattle.std.specs.Prelude.{◌≡◌, ◌≢◌, ◌<◌, ℕ, List, IsTrue};
 ghost use Rattle.kh_types.specs.Code.{Code};
-ghost use Rattle.kh_types.specs.Darts.{dart_count, partner_at, HasArcsTwice, HasPairedDarts, IsPartner};
+ghost use Rattle.kh_types.specs.Darts.{dart_count, partner_at, HasArcsTwice, HasPairedDarts, IsPairing};
 ghost use Rattle.kh_types.specs.Acceptance.{accepted};
 ghost use Rattle.kh_types.specs.Colours.{IsColoured};
 
@@ -14,7 +14,7 @@ pub fn darts_of_accepted_codes()
     ensures pairs { (crossings : List (List ℕ)) → HasArcsTwice crossings
         → HasPairedDarts crossings }
     ensures places { (crossings : List (List ℕ)) → HasArcsTwice crossings
-        → IsPartner (dart_count crossings) (partner_at crossings) }
+        → IsPairing (dart_count crossings) (partner_at crossings) }
     ensures none_alone { (crossings : List (List ℕ)) → HasArcsTwice crossings
         → (place : ℕ) → place < dart_count crossings → partner_at crossings place ≢ place }
 {}

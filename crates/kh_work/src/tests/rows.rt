@@ -1,4 +1,4 @@
-//! Words and inputs, each with its status and what is written. Tables and refusals come from the worked examples of the rules.
+//! Words and inputs, each with its status and what is written. The tables were counted by the program that `known` names.
 
 use crate::Status;
 

@@ -14,7 +14,7 @@ pub returns-clause-reads : goal.returns-clause-reads
 returns-clause-reads c = λ _.
     rw c.code_of.ensures.code (code_of-sound c.args.text.now (view c.in_ok-value.value) (record { utf8 = c.in_ok-value.ensures.ok.0; meaning = c.in_ok-value.ensures.ok.1 }))
 
--- no reading is want of memory
+-- no reading is out of memory
 pub returns-clause-memory : goal.returns-clause-memory
 returns-clause-memory c = λ none.
     let reading = code_of-sound c.args.text.now (view c.in_ok-value.value) (record { utf8 = c.in_ok-value.ensures.ok.0; meaning = c.in_ok-value.ensures.ok.1 }) in
