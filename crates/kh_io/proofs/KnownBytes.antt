@@ -1,4 +1,4 @@
--- What calls that follow each other do to the bytes that are left to read, or written, where these are told.
+-- What calls that follow each other do to the bytes that are left to read, or written, where these are known.
 use Rattle.std.proofs.Common.{◌≡◌, ℕ, ◌+◌, ◌-◌, ◌≤◌, IfSome, List, [], ◌++◌, length, take, drop, refl, sym, ap, ◌∙◌, append_assoc, append-nil, None, Some, arith}
 use Rattle.std.proofs.Math.Seq.{take-add}
 use Rattle.std.proofs.lemmas.Grind.{common_steps}

@@ -12,7 +12,7 @@ use kh_types::NoMemory;
 use std::alloc::Global;
 use std::marker::Model;
 
-/// A source that gives the bytes it was made of, at most so many in a read, and fails where told.
+/// A source that gives the bytes it was made of, at most so many in a read, and fails in chosen reads.
 /// Contracts see it as a `Supply`. Reads are numbered from 1.
 #[derive(Debug, Drop)]
 pub struct MemSource {
@@ -82,16 +82,16 @@ impl Source for MemSource {
             self.faults = counted(self.faults);
             return Err(Failed);
         }
-        let count = copy_front(&self.bytes[self.at..], self.piece, buffer);
+        let count = copy_prefix(&self.bytes[self.at..], self.piece, buffer);
         self.at += count;
         Ok(count)
     }
 }
 
-// Copies the front of the bytes into the buffer, at most a piece of them, and answers how many.
-fn copy_front(bytes: &[u8], piece: usize, buffer: &mut [u8]) -> usize
+// Copies a prefix of the bytes into the buffer, at most a piece of them, and answers how many.
+fn copy_prefix(bytes: &[u8], piece: usize, buffer: &mut [u8]) -> usize
     ensures count { result ≡ min piece (min (length bytes.now) (length buffer.old)) }
-    ensures front { take result buffer.new ≡ take result bytes.now }
+    ensures prefix { take result buffer.new ≡ take result bytes.now }
 {
     let count = piece.min(bytes.len().min(buffer.len()));
     buffer[..count].copy_from_slice(&bytes[..count]);

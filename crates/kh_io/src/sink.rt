@@ -10,14 +10,14 @@ use crate::source::Failed;
 
 /// Something that takes bytes, piece by piece.
 pub trait Sink {
-    /// The bytes written so far, where they are told.
+    /// The bytes written so far, where they are known.
     ghost written: { Self → Option (List ℕ) };
 
     /// How often writing has failed. It never falls, and stays at the last value of u64.
     ghost faults: { Self → ℕ };
 
-    /// Takes bytes from the front of the piece and answers how many, at least one.
-    /// A write that failed has taken nothing, where what is written is told.
+    /// Takes a prefix of the piece and answers how many bytes it has, at least one.
+    /// A write that failed has taken nothing, where what is written is known.
     fn write(&mut self, piece: &[u8]) -> Result<usize, Failed>
         requires { 0 < length piece.now }
         ensures some { IfOk result (λ count. 0 < count) }

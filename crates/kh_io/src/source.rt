@@ -12,7 +12,7 @@ pub struct Failed;
 
 /// Something that gives bytes, piece by piece, until its end.
 pub trait Source {
-    /// The bytes still to come, where they are told.
+    /// The bytes still to come, where they are known.
     ghost left: { Self → Option (List ℕ) };
 
     /// How often reading has failed. It never falls, and stays at the last value of u64.
@@ -21,7 +21,7 @@ pub trait Source {
     /// A count that a read raises by one at most. What bounds it bounds the number of reads.
     ghost reads: { Self → ℕ };
 
-    /// Puts bytes at the front of the buffer and answers how many, 0 only at the end.
+    /// Puts bytes at the start of the buffer and answers how many, 0 only at the end.
     /// A read that failed has taken nothing.
     fn read(&mut self, buffer: &mut [u8]) -> Result<usize, Failed>
         requires { 0 < length buffer.old }

@@ -1,7 +1,7 @@
 //! Readers and writers of std as sources and sinks: the edge of the program.
-//! What a terminal or a file gives and takes is trusted; what std promises of a reader or a writer is kept.
+//! What a terminal or a file gives and takes is trusted; what std promises of a reader or a writer is passed on.
 
-ghost use Rattle.std.specs.Prelude.{◌≡◌, ◌<◌, ◌≤◌, ◌+◌, length, take, IfOk, None};
+ghost use Rattle.std.specs.Prelude.{◌≡◌, ℕ, ◌<◌, ◌≤◌, ◌+◌, length, take, IfOk, None};
 ghost use Rattle.std.specs.Io.{ReadsAtMost, WritesAtMost};
 ghost use Rattle.std.specs.Io.KnownBytes.{ReadConsumes, Appends};
 ghost use Rattle.kh_io.specs.Faults.{HasCause, IsCounted};
@@ -12,7 +12,8 @@ use crate::source::{Failed, Source};
 use std::io::{Read, Write};
 use std::marker::Model;
 
-/// A reader of std as a source. It tells no bytes, and counts each error of std as a fault.
+/// A reader of std as a source, which does not know its bytes. A read is one read of the reader, and an error of std is a fault
+/// that is counted. Where the bytes that the reader has left are known, a read takes a prefix of them, and none if it failed.
 #[derive(Drop)]
 pub struct StdSource<R: Read + Drop> {
     reader: R,
@@ -60,8 +61,9 @@ impl<R: Read + Drop> Source for StdSource<R> {
     }
 }
 
-/// A writer of std as a sink. It tells no bytes and flushes each write.
-/// It counts as a fault each error of std, and each write that takes nothing.
+/// A writer of std as a sink, which does not know what is written. A write is one write of the writer and, if that took bytes, one
+/// flush; it fails, and counts a fault, where either does or nothing was taken. Where the writer's contents are known, the bytes
+/// taken are appended to them, and in a write that failed at most a prefix of the piece: all that was taken, if the flush failed.
 #[derive(Drop)]
 pub struct StdSink<W: Write + Drop> {
     writer: W,
@@ -95,6 +97,9 @@ impl<W: Write + Drop> Sink for StdSink<W> {
         ensures bound { WritesAtMost result piece.now }
         ensures inner { IfOk result (λ count. Appends
             (W.contents self.old.inner) (W.contents self.new.inner) (take count piece.now)) }
+        // Nothing else is written, in a write that failed either.
+        ensures prefix { (n : ℕ) × Appends
+            (W.contents self.old.inner) (W.contents self.new.inner) (take n piece.now) }
         ensures cause { HasCause self.old.faults self.new.faults result }
         ensures counted { IsCounted self.old.faults self.new.faults result }
     {
@@ -114,6 +119,8 @@ fn write_through<W: Write>(writer: &mut W, piece: &[u8]) -> Result<usize, Failed
     ensures bound { WritesAtMost result piece.now }
     ensures bytes { IfOk result (λ count. Appends
         (W.contents writer.old) (W.contents writer.new) (take count piece.now)) }
+    ensures prefix { (n : ℕ) × Appends
+        (W.contents writer.old) (W.contents writer.new) (take n piece.now) }
 {
     match writer.write(piece) {
         Ok(0) | Err(_) => Err(Failed),

@@ -9,6 +9,9 @@ use crate::source::{Failed, Source};
 use kh_types::INPUT_BYTES;
 use std::alloc::{AllocError, Global};
 
+/// The most bytes of one read.
+const READ_BYTES: usize = 4_096;
+
 /// Why a source was not read to its end.
 #[derive(Clone, Copy, Debug, PartialEq, Eq)]
 pub enum ReadStop {
@@ -16,7 +19,7 @@ pub enum ReadStop {
     Fault,
     /// The source has more bytes than an input may have.
     ByteLimit,
-    /// There was no memory for the bytes.
+    /// Out of memory.
     NoMemory,
 }
 
@@ -46,8 +49,8 @@ pub fn read_all<S: Source>(alloc: Global, source: &mut S) -> Result<Vec<u8>, Rea
     ensures end { OnOk result (IsAtEnd (S.left source.new)) }
     ensures size { IfOk result (λ bytes. length bytes.items ≤ INPUT_BYTES) }
     // More bytes than an input may have are taken exactly where the answer says so.
-    ensures taken { (front : List ℕ) × Consumes (S.left source.old) (S.left source.new) front
-        × (result ≡ Err ReadStop.ByteLimit ↔ (INPUT_BYTES < length front)) }
+    ensures taken { (prefix : List ℕ) × Consumes (S.left source.old) (S.left source.new) prefix
+        × (result ≡ Err ReadStop.ByteLimit ↔ (INPUT_BYTES < length prefix)) }
     ensures fault { result ≡ Err ReadStop.Fault → Rose (S.faults source.old) (S.faults source.new) }
     ensures later { S.faults source.old ≤ S.faults source.new }
     ensures reads { S.reads source.new ≤ S.reads source.old + (INPUT_BYTES + 1) }
@@ -55,7 +58,7 @@ pub fn read_all<S: Source>(alloc: Global, source: &mut S) -> Result<Vec<u8>, Rea
         S.reads source.new ≤ S.reads source.old + (length bytes.items + 1)) }
 {
     let mut bytes = Vec::new(alloc);
-    let mut buffer = [0; 4096];
+    let mut buffer = [0; READ_BYTES];
     'reading: loop {
         let count = source.read(&mut buffer)?;
         if count == 0 {
@@ -68,10 +71,10 @@ pub fn read_all<S: Source>(alloc: Global, source: &mut S) -> Result<Vec<u8>, Rea
     }
 }
 
-/// Writes all the bytes. It stops at the first fault, with a front of them written. No bytes are no write.
+/// Writes all the bytes. It stops at the first fault, with a prefix of them written. No bytes are no write.
 pub fn write_all<K: Sink>(sink: &mut K, bytes: &[u8]) -> Result<(), Failed>
     ensures whole { OnOk result (Appends (K.written sink.old) (K.written sink.new) bytes.now) }
-    ensures front { (n : ℕ) × Appends (K.written sink.old) (K.written sink.new) (take n bytes.now) }
+    ensures prefix { (n : ℕ) × Appends (K.written sink.old) (K.written sink.new) (take n bytes.now) }
     ensures cause { HasCause (K.faults sink.old) (K.faults sink.new) result }
     ensures empty { bytes.now ≡ [] → IsOk result × (sink.new ≡ sink.old) }
 {

@@ -1,7 +1,13 @@
 //! The program `kh`: it gives the real words, input and output to the top call, and ends with the number of its status.
 #![tactic(auto)]
 
+#[cfg(test)]
+mod tests;
 mod words;
+
+ghost use Rattle.std.specs.Prelude.{◌≡◌};
+ghost use Rattle.std.specs.Process.{exit_status};
+ghost use Rattle.kh_work.specs.Statuses.{status_number};
 
 use kh_io::{StdSink, StdSource};
 use kh_work::{Status, run};
@@ -11,7 +17,19 @@ use std::rt::Env;
 use words::words_of;
 
 fn main(rt: HostRuntime) -> ExitCode {
-    ExitCode::from(status_of(&rt).number())
+    exit_of(&rt)
+}
+
+/// Does all that the program does, over a system's words, input and output, and answers what the program ends with.
+fn exit_of(rt: &(impl Input + Print + Env + AllocGlobal)) -> ExitCode {
+    exit_code(status_of(rt))
+}
+
+/// The exit status that stands for a status.
+fn exit_code(status: Status) -> ExitCode
+    ensures { exit_status result ≡ status_number status }
+{
+    ExitCode::from(status.number())
 }
 
 fn status_of(rt: &(impl Input + Print + Env + AllocGlobal)) -> Status {

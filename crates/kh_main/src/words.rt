@@ -1,29 +1,35 @@
 //! The words after the program's name.
 
-ghost use Rattle.std.specs.Prelude.{◌≡◌, ◌⊎◌, IfErr};
+ghost use Rattle.std.specs.Prelude.{◌≡◌, ◌⊎◌, IfOk, IfErr, map, drop, string_bytes};
+ghost use Rattle.std.specs.Vec.Iter.{into_iter_items};
 
-use kh_types::Words;
+use kh_types::{NoMemory, Words};
 use kh_work::Status;
+use std::alloc::Global;
 use std::env;
+use std::env::Args;
 use std::io::ErrorKind;
 use std::rt::Env;
 
-/// The words after the program's name. Where one of them is no text the answer is the status `Usage`, and for want of memory
-/// `NoMemory`.
+/// The words after the program's name, in their order. Where one of the arguments is no text the answer is the status `Usage`,
+/// and out of memory it is `NoMemory`. Which arguments a system has is known to no proof.
 pub fn words_of<R: Env + AllocGlobal>(rt: &R) -> Result<Words, Status>
     ensures stop { IfErr result (λ status. (status ≡ Status.Usage) ⊎ (status ≡ Status.NoMemory)) }
 {
     match env::args(rt) {
-        Ok(args) => {
-            let mut words = Words::new(rt.alloc()).map_err(|_| Status::NoMemory)?;
-            for word in args.skip(1) {
-                words
-                    .push(rt.alloc(), word.as_str())
-                    .map_err(|_| Status::NoMemory)?;
-            }
-            Ok(words)
-        }
+        Ok(args) => words_after_name(rt.alloc(), args).map_err(|_| Status::NoMemory),
         Err(error) if error.kind() == ErrorKind::OutOfMemory => Err(Status::NoMemory),
         Err(_) => Err(Status::Usage),
     }
+}
+
+/// All arguments but the first, which is the program's name.
+fn words_after_name(alloc: Global, args: Args) -> Result<Words, NoMemory>
+    ensures { IfOk result (λ words. words ≡ map string_bytes (drop 1 (into_iter_items args))) }
+{
+    let mut words = Words::new(alloc)?;
+    'words: for word in args.skip(1) {
+        words.push(alloc, word.as_str())?;
+    }
+    Ok(words)
 }

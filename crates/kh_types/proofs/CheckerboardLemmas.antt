@@ -1,42 +1,22 @@
 -- The checkerboard equations, and the choices that solve the first of them.
-use Rattle.std.proofs.Common.{◌≡◌, ℕ, zero, suc, ◌⊎◌, inl, inr, ◌-◌, ◌+◌, ◌*◌, ◌%◌, ◌^◌, ◌<◌, ◌≤◌, ◌∙◌, List, [], ◌∷◌, length, take, refl, sym, ap, arith, Bool, true, false, not, ◌&&◌}
-use Rattle.std.specs.Prelude.{Some, None, nat_eq}
+use Rattle.std.proofs.Common.{◌≡◌, ℕ, inl, inr, ◌-◌, ◌+◌, ◌*◌, ◌^◌, ◌<◌, ◌≤◌, ◌∙◌, List, [], ◌∷◌, length, take, refl, sym, ap, arith, Bool, true, false, not}
+use Rattle.std.specs.Prelude.{Some, None}
 use Rattle.std.specs.List.{list_all, range_with_len}
+use Rattle.std.proofs.lemmas.Bool.{cases_lt}
 use Rattle.std.proofs.lemmas.List.Folds.{list_all-map, list_all_kept}
 use Rattle.std.proofs.lemmas.List.FromFn.{take-map-range_with_len}
 use Rattle.kh_types.specs.declared.fault.CodeFault.{CodeFault}
 use Rattle.kh_types.specs.declared.fault.CodeFault.TheVariants.{Checkerboard}
-use Rattle.kh_types.specs.Bits.{bit_for}
-use Rattle.kh_types.specs.Darts.{first_dart, partner}
-use Rattle.kh_types.specs.Checkerboard.{solves_at, solves_up_to, has_choice, IsCheckerboard}
-use Rattle.kh_types.specs.Equations.{equation_of, equations_of, is_solved}
+use Rattle.kh_types.specs.Checkerboard.{equation_of, equations_of, is_solved, solves_at, solves_up_to, has_choice, IsCheckerboard}
 use Rattle.kh_types.specs.Acceptance.{checkerboard_at, checkerboard_fault, fault_if}
 use Rattle.kh_types.proofs.Ranges.{list_any-below, list_any-below_none, list_any-found, list_all-front}
 use Rattle.kh_types.proofs.FaultLemmas.{none_at, none_of_all}
-
--- tests that agree everywhere pass the same lists
-list_all-same : (p q : ℕ → Bool) → ((x : ℕ) → p x ≡ q x) → (xs : List ℕ) → list_all p xs ≡ list_all q xs
-list_all-same p q same [] = refl
-list_all-same p q same (x ∷ xs) = ap (λ b. b && list_all p xs) (same x) ∙ ap (λ b. q x && b) (list_all-same p q same xs)
-
--- to solve an arc is to solve its equation
-solves_at-is : (crossings : List (List ℕ)) (choice arc : ℕ)
-    → solves_at crossings choice arc ≡ is_solved choice (equation_of crossings arc)
-solves_at-is crossings choice arc =
-    let dart = first_dart crossings arc in
-    let other = partner crossings dart in
-    let x = bit_for choice dart.crossing in
-    let y = bit_for choice other.crossing in
-    let turned : x + (dart.slot + (y + other.slot)) ≡ x + (y + (dart.slot + other.slot)) = omega arith in
-    ap (λ sum. nat_eq (sum % 2) 1) turned
 
 -- to solve the arcs up to a is to solve the first a equations
 solves_up_to-is : (crossings : List (List ℕ)) (arc choice : ℕ) → arc ≤ 2 * length crossings
     → solves_up_to crossings arc choice ≡ list_all (is_solved choice) (take arc (equations_of crossings))
 solves_up_to-is crossings arc choice within =
-    list_all-same (solves_at crossings choice) (λ x. is_solved choice (equation_of crossings x)) (solves_at-is crossings choice)
-    (range_with_len 1 arc)
-    ∙ sym (list_all-map (is_solved choice) (equation_of crossings) (range_with_len 1 arc))
+    sym (list_all-map (is_solved choice) (equation_of crossings) (range_with_len 1 arc))
     ∙ ap (λ es. list_all (is_solved choice) es)
     (sym (take-map-range_with_len (equation_of crossings) 1 (2 * length crossings) arc within))
 
@@ -60,19 +40,13 @@ checkerboard-none crossings arc choice choices within is_count below solved =
     (solves_up_to-is crossings arc choice within ∙ solved) in
     ap (λ b. fault_if (not b) (Checkerboard arc)) some
 
--- of two numbers the first is below the second or not
-lt_or_le : (k n : ℕ) → (k < n) ⊎ (n ≤ k)
-lt_or_le k zero = inr (omega arith)
-lt_or_le zero (suc n) = inl (omega arith)
-lt_or_le (suc k) (suc n) = elim (lt_or_le k n) [ inl earlier ↦ inl (omega arith) | inr later ↦ inr (omega arith) ]
-
 -- choices that fail for some arcs fail for one arc more, and those that were tried now fail too
 pub tried_more : (crossings : List (List ℕ)) (place before now : ℕ)
     → ((k : ℕ) → k < before → list_all (is_solved k) (take place (equations_of crossings)) ≡ false)
     → ((k : ℕ) → before ≤ k → k < now → list_all (is_solved k) (take (place + 1) (equations_of crossings)) ≡ false)
     → (k : ℕ) → k < now → list_all (is_solved k) (take (place + 1) (equations_of crossings)) ≡ false
 tried_more crossings place before now tried fails k below =
-    elim (lt_or_le k before) [
+    elim (cases_lt k before) [
       | inl earlier ↦ list_all_kept (is_solved k) (equations_of crossings) place (tried k earlier)
       | inr later ↦ fails k later below
     ]

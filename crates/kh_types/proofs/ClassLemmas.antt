@@ -27,16 +27,16 @@ one_value : (x y u v of_x of_y of_u of_v : ℕ) → merged x y u ≡ merged x y 
 one_value x y u v of_x of_y of_u of_v same joins alike u_x u_y v_x v_y = grind (arith, nat_tests)
 
 -- the two classes that are joined become one
-merged-both : (x y : ℕ) → merged x y x ≡ merged x y y
+pub merged-both : (x y : ℕ) → merged x y x ≡ merged x y y
 merged-both x y = grind (arith, nat_tests)
 
-slice_index-joined : (classes : List ℕ) (pair : ℕ × ℕ) (x : ℕ) → x < length classes
+pub slice_index-joined : (classes : List ℕ) (pair : ℕ × ℕ) (x : ℕ) → x < length classes
     → slice_index (joined classes pair) x
     ≡ merged (slice_index classes pair.0) (slice_index classes pair.1) (slice_index classes x)
 slice_index-joined classes pair x below =
     get_or-map (merged (slice_index classes pair.0) (slice_index classes pair.1)) classes x 0 0 below
 
-length-joined : (classes : List ℕ) (pair : ℕ × ℕ) → length (joined classes pair) ≡ length classes
+pub length-joined : (classes : List ℕ) (pair : ℕ × ℕ) → length (joined classes pair) ≡ length classes
 length-joined classes pair = length-map classes (merged (slice_index classes pair.0) (slice_index classes pair.1))
 
 -- numbers of one class stay in one class

@@ -8,15 +8,9 @@ use Rattle.std.proofs.lemmas.Int.{ints}
 use Rattle.std.proofs.lemmas.List.{get_or_past}
 use Rattle.std.proofs.lemmas.List.Sums.{sum_by-cons}
 use Rattle.std.proofs.Math.Nat.{zero-mod}
-use Rattle.kh_types.specs.Complex.{Complex, Degree, IsComplex, empty_degree, degree_number, degree_from, degree_of, entry_in, product_entry, squares_to_zero}
+use Rattle.kh_types.specs.Complex.{Complex, Degree, IsComplex, empty_degree, degree_number, degree_from, degree_of, entry_in, product_of, product_entry, squares_to_zero}
 use Rattle.kh_types.specs.ComplexTests.{all_below, has_size, entries_fit, matrix_fits, is_complex}
 use Rattle.kh_types.proofs.MatrixTests.{HasSize, EntriesFit, all_below-at, all_below-from, size-from_test, test-from_size, entry-past_rows, entry-past_columns, fits-zero, entries-from_test, test-from_entries}
-
--- an entry of the product of the matrix out of the next degree with the matrix into it
-abbrev product_of : ℕ → Degree → Degree → ℕ → ℕ → ℕ
-product_of p degree next row column =
-    sum_by (λ middle. entry_in next.matrix row middle * entry_in degree.matrix middle column)
-    (range_with_len 0 (length next.alive)) % p
 
 sum_by-zeros : (f : ℕ → ℕ) (xs : List ℕ) → ((x : ℕ) → f x ≡ 0) → sum_by f xs ≡ 0
 sum_by-zeros f [] zeros = refl

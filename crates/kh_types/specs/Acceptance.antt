@@ -1,11 +1,11 @@
 -- The nine rules of acceptance, each as the first fault against it. All of them are this project's rules.
 use Rattle.std.specs.Prelude.{ℕ, ◌+◌, List, [], ◌∷◌, nat_eq, nat_lt, Bool, not, ◌&&◌, ◌||◌, Option, Some, None, is_none, if◌then◌else◌}
-use Rattle.std.specs.List.{list_any, concat, count_by, range_with_len}
+use Rattle.std.specs.List.{list_any, range_with_len}
 use Rattle.std.specs.Option.{option_or}
-use Rattle.kh_types.specs.Code.{Code, arc_in, place_of, crossing_at, crossing_numbers, arc_count, arcs}
+use Rattle.kh_types.specs.Code.{Code, arc_in, place_of, slots_of, crossing_numbers, arc_count, arcs}
 use Rattle.kh_types.specs.Classes.{is_least}
 use Rattle.kh_types.specs.Components.{components_of, component_of, component_count, arcs_in, is_interval, next_in}
-use Rattle.kh_types.specs.Darts.{dart_at, dart_count, arc_of}
+use Rattle.kh_types.specs.Darts.{dart_at, dart_count, arc_of, times}
 use Rattle.kh_types.specs.Checkerboard.{has_choice}
 use Rattle.kh_types.specs.Faces.{face_count, planar_face_count}
 use Rattle.kh_types.specs.declared.limits.TheConstants.{COMPONENTS}
@@ -31,10 +31,6 @@ arc_range_at crossings place =
 abbrev pub arc_range_fault : List (List ℕ) → Option CodeFault
 arc_range_fault crossings = first_of (arc_range_at crossings) (range_with_len 0 (dart_count crossings))
 
--- how often a number stands
-abbrev pub times : List (List ℕ) → ℕ → ℕ
-times crossings arc = count_by (nat_eq arc) (concat crossings)
-
 -- an arc does not stand exactly twice
 abbrev pub arc_times_at : List (List ℕ) → ℕ → Option CodeFault
 arc_times_at crossings arc = fault_if (not (nat_eq (times crossings arc) 2)) (ArcTimes arc (times crossings arc))
@@ -54,8 +50,8 @@ interval_fault crossings = first_of (interval_at (components_of crossings)) (arc
 -- the under pass of a crossing goes to another arc than the next
 abbrev pub under_at : List (List ℕ) → List ℕ → ℕ → Option CodeFault
 under_at crossings components crossing =
-    let quadruple = crossing_at crossings crossing in
-    fault_if (not (nat_eq (arc_in quadruple 2) (next_in components (arc_in quadruple 0)))) (Under crossing)
+    let slots = slots_of crossings crossing in
+    fault_if (not (nat_eq (arc_in slots 2) (next_in components (arc_in slots 0)))) (Under crossing)
 
 -- the first crossing, in list order, whose under pass goes to another arc than the next
 abbrev pub under_fault : List (List ℕ) → Option CodeFault
@@ -64,10 +60,10 @@ under_fault crossings = first_of (under_at crossings (components_of crossings)) 
 -- neither of the two arcs of the over pass of a crossing is the next of the other
 abbrev pub over_at : List (List ℕ) → List ℕ → ℕ → Option CodeFault
 over_at crossings components crossing =
-    let quadruple = crossing_at crossings crossing in
+    let slots = slots_of crossings crossing in
     fault_if
-    (not (nat_eq (arc_in quadruple 3) (next_in components (arc_in quadruple 1)))
-    && not (nat_eq (arc_in quadruple 1) (next_in components (arc_in quadruple 3))))
+    (not (nat_eq (arc_in slots 3) (next_in components (arc_in slots 1)))
+    && not (nat_eq (arc_in slots 1) (next_in components (arc_in slots 3))))
     (Over crossing)
 
 -- the first crossing, in list order, at which neither arc of the over pass is the next of the other
@@ -78,10 +74,10 @@ over_fault crossings = first_of (over_at crossings (components_of crossings)) (c
 -- which is one that comes in on the same arc
 abbrev pub two_arc_at : List (List ℕ) → List ℕ → ℕ → Option CodeFault
 two_arc_at crossings components crossing =
-    let incoming = arc_in (crossing_at crossings crossing) 0 in
+    let incoming = arc_in (slots_of crossings crossing) 0 in
     fault_if
     (nat_eq (arcs_in components (component_of components incoming)) 2
-    && list_any (λ earlier. nat_eq (arc_in (crossing_at crossings earlier) 0) incoming) (range_with_len 1 (place_of crossing)))
+    && list_any (λ earlier. nat_eq (arc_in (slots_of crossings earlier) 0) incoming) (range_with_len 1 (place_of crossing)))
     (TwoArc crossing)
 
 -- the first crossing, in list order, whose under pass is the second in one direction on a component of two arcs

@@ -10,9 +10,9 @@ use Rattle.kh_types.specs.Bits.{bit}
 -- what a smoothing of a crossing joins: the 0-smoothing joins slot 0 with 1 and 2 with 3, the 1-smoothing 0 with 3 and 1 with 2
 -- (Bar-Natan 2002, section 2; Knot Atlas, "Planar Diagrams")
 abbrev pub smoothing_of : ℕ → List ℕ → List (ℕ × ℕ)
-smoothing_of smoothing quadruple =
-    if nat_eq smoothing 0 then (arc_in quadruple 0, arc_in quadruple 1) ∷ (arc_in quadruple 2, arc_in quadruple 3) ∷ []
-    else (arc_in quadruple 0, arc_in quadruple 3) ∷ (arc_in quadruple 1, arc_in quadruple 2) ∷ []
+smoothing_of smoothing slots =
+    if nat_eq smoothing 0 then (arc_in slots 0, arc_in slots 1) ∷ (arc_in slots 2, arc_in slots 3) ∷ []
+    else (arc_in slots 0, arc_in slots 3) ∷ (arc_in slots 1, arc_in slots 2) ∷ []
 
 -- what all smoothings of a state join
 abbrev pub smoothings_of : List (List ℕ) → ℕ → List (ℕ × ℕ)

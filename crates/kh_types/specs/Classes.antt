@@ -1,6 +1,6 @@
 -- The finest classes of the numbers below n that join the two numbers of each of some pairs. Components, faces, pieces and
 -- circles are such classes; that these are the finest is the law `classes_are_finest`.
-use Rattle.std.specs.Prelude.{◌≡◌, ℕ, ◌<◌, List, length, map, min, max, nat_eq, Bool, slice_index, if◌then◌else◌}
+use Rattle.std.specs.Prelude.{◌≡◌, ℕ, ◌<◌, ◌≤◌, List, length, map, min, max, nat_eq, Bool, slice_index, if◌then◌else◌}
 use Rattle.std.specs.List.{fold, filter, range_with_len, AllByRecursion}
 
 -- one class number, after the classes of the numbers x and y have become one: the greater has become the smaller
@@ -34,3 +34,10 @@ Respects f pairs = AllByRecursion (λ pair. f pair.0 ≡ f pair.1) pairs
 -- the numbers of the pairs are below n
 abbrev pub AreBelow : ℕ → List (ℕ × ℕ) → Type 0
 AreBelow n pairs = AllByRecursion (λ pair. (pair.0 < n) × (pair.1 < n)) pairs
+
+-- each class of the numbers below n is named by its least number: the class of a number is at most the number, and is itself one
+-- of that class
+pub record IsNamed (n : ℕ) (classes : List ℕ) : Type 0 where
+  pub size : length classes ≡ n
+  pub least : (x : ℕ) → x < n → slice_index classes x ≤ x
+  pub own : (x : ℕ) → x < n → slice_index classes (slice_index classes x) ≡ slice_index classes x

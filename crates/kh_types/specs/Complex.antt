@@ -39,11 +39,15 @@ entry_in matrix row column = slice_index (slice_index_or matrix row []) column
 abbrev pub entry_of : Complex → ℤ → ℕ → ℕ → ℕ
 entry_of complex i row column = entry_in (degree_of complex i).matrix row column
 
+-- an entry of the product of the matrices out of two neighbouring degrees, modulo p
+abbrev pub product_of : ℕ → Degree → Degree → ℕ → ℕ → ℕ
+product_of p degree next row column =
+    sum_by (λ middle. entry_in next.matrix row middle * entry_in degree.matrix middle column)
+    (range_with_len 0 (length next.alive)) % p
+
 -- an entry of the product of the matrix out of degree i + 1 with the matrix into it, modulo p
 abbrev pub product_entry : ℕ → Complex → ℤ → ℕ → ℕ → ℕ
-product_entry p complex i row column =
-    sum_by (λ middle. entry_of complex (i +ℤ pos 1) row middle * entry_of complex i middle column)
-    (range_with_len 0 (length (degree_of complex (i +ℤ pos 1)).alive)) % p
+product_entry p complex i row column = product_of p (degree_of complex i) (degree_of complex (i +ℤ pos 1)) row column
 
 -- what makes plain data a complex: the matrices have the sizes of their degrees and entries below p, dead places have only
 -- entries 0, and neighbouring matrices have the product 0

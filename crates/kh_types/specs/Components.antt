@@ -6,7 +6,7 @@ use Rattle.kh_types.specs.Classes.{classes_of, is_least}
 
 -- the passes of a crossing: the under pass joins the arcs at its slots 0 and 2, the over pass those at 1 and 3
 abbrev pub passes_of : List ℕ → List (ℕ × ℕ)
-passes_of quadruple = (arc_in quadruple 0, arc_in quadruple 2) ∷ (arc_in quadruple 1, arc_in quadruple 3) ∷ []
+passes_of slots = (arc_in slots 0, arc_in slots 2) ∷ (arc_in slots 1, arc_in slots 3) ∷ []
 
 -- the component of each number up to 2n, by its least arc: a component is a class of arcs joined by passes
 -- (Knot Atlas, "Planar Diagrams"); the number 0 is no arc and stands alone

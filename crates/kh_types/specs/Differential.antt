@@ -1,9 +1,9 @@
 -- The differential of the cube, coefficient by coefficient.
 use Rattle.std.specs.Prelude.{ℕ, ◌+◌, ◌-◌, ◌%◌, ◌^◌, ℤ, pos, ◌+ℤ◌, List, [], ◌∷◌, map, nat_eq, Bool, ◌&&◌, ◌||◌, if◌then◌else◌}
-use Rattle.std.specs.List.{filter, list_all, list_any, sum_by, position_or_len}
+use Rattle.std.specs.List.{filter, list_all, list_any, sum_by, range_with_len, position_or_len}
 use Rattle.std.specs.Str.{bytes_eq}
-use Rattle.kh_types.specs.Code.{Code, place_of, crossing_at, crossing_numbers}
-use Rattle.kh_types.specs.Bits.{bit, bit_for, ones}
+use Rattle.kh_types.specs.Code.{Code, arc_in, place_of, slots_of, crossing_numbers}
+use Rattle.kh_types.specs.Bits.{bit, ones}
 use Rattle.kh_types.specs.Circles.{circles_of, circle_of, circle_names}
 use Rattle.kh_types.specs.Generators.{Generator, generators_at}
 
@@ -13,10 +13,11 @@ label_of code generator arc =
     let circle = circle_of (circles_of code generator.state) arc in
     bit generator.label (position_or_len (nat_eq circle) (circle_names code generator.state))
 
--- a circle is touched by a crossing where it has an arc of the crossing
+-- a circle is touched by a crossing where the arc at one of the slots 0 to 3 is on it
 abbrev pub is_touched : Code → ℕ → ℕ → ℕ → Bool
 is_touched code state crossing circle =
-    list_any (λ arc. nat_eq (circle_of (circles_of code state) arc) circle) (crossing_at code.crossings crossing)
+    list_any (λ slot. nat_eq (circle_of (circles_of code state) (arc_in (slots_of code.crossings crossing) slot)) circle)
+    (range_with_len 0 4)
 
 -- the touched circles, by their least arcs, ascending
 abbrev pub touched : Code → ℕ → ℕ → List ℕ
@@ -38,7 +39,8 @@ is_split before after =
 
 -- the state changes at this crossing alone, from its 0-smoothing to its 1-smoothing
 abbrev pub is_edge : Generator → Generator → ℕ → Bool
-is_edge tail head crossing = nat_eq (bit_for tail.state crossing) 0 && nat_eq head.state (tail.state + 2 ^ place_of crossing)
+is_edge tail head crossing =
+    nat_eq (bit tail.state (place_of crossing)) 0 && nat_eq head.state (tail.state + 2 ^ place_of crossing)
 
 -- every circle that is not touched has the same label in both
 abbrev pub keeps_labels : Code → Generator → Generator → ℕ → Bool

@@ -27,9 +27,9 @@ abbrev pub first_to_last : {X : Type 0} → (X → Bool) → List X → List X
 first_to_last test xs =
     drop (position_or_len test xs) (take (length xs - suffix_len (λ x. not (test x)) xs) xs)
 
--- the homological degrees from the first that has a generator at j to the last
-abbrev pub block_degrees : Code → ℤ → List ℤ
-block_degrees code j = first_to_last (λ i. not (is_empty (generators_at code i j))) (from_minus (length code.crossings))
+-- the homological degrees of the block at j: those from the first that has a generator at j to the last
+abbrev pub homological_degrees : Code → ℤ → List ℤ
+homological_degrees code j = first_to_last (λ i. not (is_empty (generators_at code i j))) (from_minus (length code.crossings))
 
 -- the first of some integers, and 0 where there are none
 abbrev pub first_or_zero : List ℤ → ℤ
@@ -41,7 +41,7 @@ first_or_zero (i ∷ is) = i
 abbrev pub block : ℕ → Code → ℤ → Complex
 block p code j =
     record {
-      low = first_or_zero (block_degrees code j);
+      low = first_or_zero (homological_degrees code j);
       degrees = map (λ i. record { alive = map (λ generator. true) (generators_at code i j); matrix = differential p code i j })
-          (block_degrees code j);
+          (homological_degrees code j);
     }

@@ -12,7 +12,7 @@ abbrev pub code_of_diagram : Inside → Code
 code_of_diagram diagram = record { crossings = take diagram.count diagram.table; loops = diagram.loops }
 
 -- the array is blank behind the crossings, and their code is accepted
-pub record IsKept (diagram : Inside) : Type 0 where
+pub record IsDiagram (diagram : Inside) : Type 0 where
   pub table : IsFilled diagram.table diagram.count
   pub code : IsTrue (accepted (code_of_diagram diagram))
 
@@ -25,7 +25,7 @@ abbrev pub inside_of : Code → Inside
 inside_of code = made (filled code.crossings) (length code.crossings) code.loops
 
 -- the code gives back what the diagram keeps
-pub inside_of-code_of_diagram : (diagram : Inside) → IsKept diagram → inside_of (code_of_diagram diagram) ≡ diagram
+pub inside_of-code_of_diagram : (diagram : Inside) → IsDiagram diagram → inside_of (code_of_diagram diagram) ≡ diagram
 inside_of-code_of_diagram diagram h =
     ap (λ (table : List (List ℕ)). made table (length (take diagram.count diagram.table)) diagram.loops)
     (filled-take diagram.table diagram.count h.table)

@@ -6,8 +6,9 @@ pub mod Components
 pub mod Darts
 pub mod Faces
 pub mod Checkerboard
-pub mod Equations
 pub mod Acceptance
+pub mod Accepted
+pub mod Colours
 pub mod Directions
 pub mod Circles
 pub mod Generators

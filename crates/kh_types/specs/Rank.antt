@@ -19,11 +19,13 @@ inverse p x = x ^ (p - 2) % p
 abbrev pub minus_mod : ℕ → ℕ → ℕ → ℕ
 minus_mod p x y = (x + (p - y % p)) % p
 
+-- a row less a multiple of another, modulo p
+abbrev pub less_multiple : ℕ → List ℕ → List ℕ → ℕ → List ℕ
+less_multiple p row pivot factor = map (λ pair. minus_mod p pair.0 (factor * pair.1)) (zip row pivot)
+
 -- a row less the multiple of the pivot's row that clears the column
 abbrev pub cleared : ℕ → List ℕ → ℕ → List ℕ → List ℕ
-cleared p pivot column row =
-    let factor = slice_index row column * inverse p (slice_index pivot column) in
-    map (λ pair. minus_mod p pair.0 (factor * pair.1)) (zip row pivot)
+cleared p pivot column row = less_multiple p row pivot (slice_index row column * inverse p (slice_index pivot column))
 
 -- what is left: the column cleared from each other row, and the row and the column dropped
 abbrev pub reduced_by : ℕ → List ℕ → List (List ℕ) → List (List ℕ)

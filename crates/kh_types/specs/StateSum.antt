@@ -16,37 +16,41 @@ abbrev pub int_sum : List ℤ → ℤ
 int_sum [] = pos 0
 int_sum (x ∷ xs) = x +ℤ int_sum xs
 
--- -1 to a power, times a number
-abbrev pub signed_by : ℕ → ℕ → ℤ
-signed_by power x = if nat_eq (power % 2) 0 then pos x else neg_ℤ (pos x)
+-- a number, with a minus sign where a degree is odd
+abbrev pub signed_by_parity : ℕ → ℕ → ℤ
+signed_by_parity size x = if nat_eq (size % 2) 0 then pos x else neg_ℤ (pos x)
+
+-- -1 to a degree, times a number
+abbrev pub signed_by : ℤ → ℕ → ℤ
+signed_by (pos i) x = signed_by_parity i x
+signed_by (negsuc i) x = signed_by_parity (suc i) x
 
 -- the coefficient of q ^ e in (q + q^-1) ^ k: each factor gives q or q^-1
 abbrev pub circle_coefficient : ℕ → ℤ → ℕ
 circle_coefficient zero exponent = if int_eq exponent (pos 0) then 1 else 0
 circle_coefficient (suc k) exponent = circle_coefficient k (exponent -ℤ pos 1) + circle_coefficient k (exponent +ℤ pos 1)
 
--- what a state adds to the coefficient of q ^ e: its term is (-1)^(r - n-) q^(r + n+ - 2n-) (q + q^-1)^circles
+-- what a state with r ones adds to the coefficient of q ^ e, where n+ crossings are positive and n- negative: its term is
+-- (-1)^(r - n-) q^(r + n+ - 2n-) (q + q^-1)^circles
+abbrev pub term_of : ℕ → ℕ → ℤ → ℕ → ℕ → ℤ
+term_of plus minus exponent r circles =
+    signed_by (pos r -ℤ pos minus)
+    (circle_coefficient circles ((exponent -ℤ pos (r + plus)) +ℤ pos (2 * minus)))
+
+-- the same of a state of a code
 abbrev pub state_term : Code → ℤ → ℕ → ℤ
 state_term code exponent state =
-    let r = one_count code state in
-    let plus = plus_count code.crossings in
-    let minus = minus_count code.crossings in
-    signed_by (r + minus) (circle_coefficient (circle_count code state) ((exponent -ℤ pos (r + plus)) +ℤ pos (2 * minus)))
+    term_of (plus_count code.crossings) (minus_count code.crossings) exponent (one_count code state) (circle_count code state)
 
 -- the coefficient of q ^ e of the state sum: the sum over all states (Bar-Natan 2002, section 2, unnormalised)
 abbrev pub state_sum : Code → ℤ → ℤ
 state_sum code exponent = int_sum (map (state_term code exponent) (states code))
 
--- a row's dimension, with the sign -1 to its homological degree
-abbrev pub signed_dimension : ℤ → ℕ → ℤ
-signed_dimension (pos i) dim = signed_by i dim
-signed_dimension (negsuc i) dim = signed_by (suc i) dim
-
 -- the coefficient of q ^ e of the graded Euler characteristic of a table: the signed sum of the dimensions with j = e
 -- (Bar-Natan 2002, section 3)
 abbrev pub euler : Table → ℤ → ℤ
 euler homology exponent =
-    int_sum (map (λ row. signed_dimension row.i row.dim) (filter (λ row. int_eq row.j exponent) homology.rows))
+    int_sum (map (λ row. signed_by row.i row.dim) (filter (λ row. int_eq row.j exponent) homology.rows))
 
 -- a term of a polynomial
 pub record Term : Type 0 where

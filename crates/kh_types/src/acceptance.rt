@@ -6,16 +6,20 @@ ghost use Rattle.kh_types.specs.Acceptance.{first_fault};
 mod arcs;
 mod checkerboard;
 mod components;
-mod darts;
+pub(crate) mod darts;
 mod directed;
 mod faces;
+mod faults;
+pub(crate) mod heads;
 mod signs;
 
 use crate::code::RawCode;
 use crate::fault::CodeFault;
 use checkerboard::checkerboard_fault;
+use components::components_of;
 use directed::{components_fault, direction_fault};
 use faces::genus_fault;
+pub(crate) use faces::{face_count, planar_face_count};
 pub(crate) use signs::{is_positive, plus_count};
 
 /// The first rule that a code breaks.
@@ -23,8 +27,9 @@ pub(crate) use signs::{is_positive, plus_count};
 pub(crate) fn first_fault(raw: &RawCode) -> Option<CodeFault>
     ensures { result ≡ first_fault raw.now }
 {
-    direction_fault(&raw.crossings)
+    let components = components_of(&raw.crossings);
+    direction_fault(&raw.crossings, &components)
         .or_else(|| checkerboard_fault(&raw.crossings))
         .or_else(|| genus_fault(&raw.crossings))
-        .or_else(|| components_fault(raw))
+        .or_else(|| components_fault(raw, &components))
 }

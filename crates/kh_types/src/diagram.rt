@@ -1,19 +1,20 @@
 //! Accepted diagrams.
 
 ghost use Rattle.std.specs.Prelude.{◌≡◌, ◌≤◌, ◌↔◌, length, IsTrue, IfOk, IsOk, if◌then◌else◌, pos, neg_ℤ};
-ghost use Rattle.kh_types.specs.Acceptance.{accepted};
+ghost use Rattle.std.specs.Result.{result_err};
+ghost use Rattle.kh_types.specs.Code.{IsCrossing, IsArc};
+ghost use Rattle.kh_types.specs.Darts.{IsDart, arc_of, partner};
+ghost use Rattle.kh_types.specs.Acceptance.{accepted, first_fault};
 ghost use Rattle.kh_types.specs.Filling.{filled};
-ghost use Rattle.kh_types.specs.Directions.{sign_of, plus_count, minus_count};
+ghost use Rattle.kh_types.specs.Directions.{sign_of, plus_count, minus_count, head_of, tail_of};
 
-use crate::acceptance;
+use crate::acceptance::{self, darts, heads};
 use crate::code::{Crossing, RawCode};
+use crate::dart::Dart;
+use crate::fault::CodeFault;
 use crate::limits::{COMPONENTS, CROSSINGS};
 use arrayvec::ArrayVec;
 use std::marker::Model;
-
-/// A code breaks one of the rules of acceptance.
-#[derive(Clone, Copy, Debug, PartialEq, Eq)]
-pub struct BadCode;
 
 /// A diagram of an oriented link: a code that is accepted, which is part of its type. Contracts see it as this `Code`.
 /// Crossings are numbered from 1, slots are 0 to 3, and arcs 1 to twice the number of crossings.
@@ -29,11 +30,11 @@ impl Model for Diagram {
 
     ghost Value = { Code };
 
-    ghost use Rattle.kh_types.specs.Inside.{code_of_diagram, IsKept, inside_of, inside_of-code_of_diagram};
+    ghost use Rattle.kh_types.specs.Inside.{code_of_diagram, IsDiagram, inside_of, inside_of-code_of_diagram};
 
     ghost view = { code_of_diagram };
 
-    ghost invariant = { IsKept };
+    ghost invariant = { IsDiagram };
 
     ghost inverse = { inside_of };
 
@@ -41,15 +42,17 @@ impl Model for Diagram {
 }
 
 impl Diagram {
-    /// The diagram with exactly these crossings and loops. `BadCode` comes exactly where the code breaks a rule of acceptance.
+    /// The diagram with exactly these crossings and loops, or the first rule of acceptance that the code breaks; a code is
+    /// accepted where it breaks none.
     #[tactic(auto, unfolding(crate::specs::Acceptance::accepted))]
-    pub fn try_new(raw: &RawCode) -> Result<Diagram, BadCode>
+    pub fn try_new(raw: &RawCode) -> Result<Diagram, CodeFault>
+        ensures fault { result_err result ≡ first_fault raw.now }
         ensures accepted { IsOk result ↔ IsTrue (accepted raw.now) }
         ensures same { IfOk result (λ diagram. diagram ≡ raw.now) }
     {
         match acceptance::first_fault(raw) {
             None => Ok(Diagram::of_accepted(raw)),
-            Some(_) => Err(BadCode),
+            Some(fault) => Err(fault),
         }
     }
 
@@ -123,6 +126,45 @@ impl Diagram {
         ensures { result ≡ minus_count self.now.crossings }
     {
         self.count - self.plus()
+    }
+}
+
+impl Diagram {
+    /// The arc of a dart, 1 to twice the number of crossings.
+    #[tactic(auto, using(crate::proofs::AcceptedCodes::accepted_arcs))]
+    pub fn arc_at(&self, dart: Dart) -> u8
+        requires { IsDart self.now.crossings dart }
+        ensures arc { result ≡ arc_of self.now.crossings dart }
+        ensures within { IsArc self.now.crossings result }
+    {
+        darts::arc_of(self.crossings(), dart)
+    }
+
+    /// The other dart of a dart's arc.
+    pub fn partner(&self, dart: Dart) -> Dart
+        requires { IsDart self.now.crossings dart }
+        ensures partner { result ≡ partner self.now.crossings dart }
+        ensures within { IsDart self.now.crossings result }
+    {
+        darts::partner(self.crossings(), dart)
+    }
+
+    /// The head of an arc: the dart at which it enters a crossing.
+    pub fn head(&self, arc: u8) -> Dart
+        requires { IsArc self.now.crossings arc }
+        ensures head { result ≡ head_of self.now.crossings arc }
+        ensures within { IsDart self.now.crossings result }
+    {
+        heads::head_of(self.crossings(), arc)
+    }
+
+    /// The tail of an arc: the dart at which it leaves a crossing.
+    pub fn tail(&self, arc: u8) -> Dart
+        requires { IsArc self.now.crossings arc }
+        ensures tail { result ≡ tail_of self.now.crossings arc }
+        ensures within { IsDart self.now.crossings result }
+    {
+        heads::tail_of(self.crossings(), arc)
     }
 }
 

@@ -2,10 +2,12 @@
 #![tactic(auto)]
 
 mod acceptance;
+mod bits;
 mod classes;
 mod code;
 mod dart;
 mod diagram;
+mod face_count;
 mod fault;
 pub mod laws;
 mod limits;
@@ -14,10 +16,12 @@ mod memory;
 mod tests;
 mod words;
 
+pub use bits::{bit, ones};
 pub use classes::{CLASS_MEMBERS, class_count, class_of, classes_of, is_least};
 pub use code::{Crossing, RawCode};
 pub use dart::Dart;
-pub use diagram::{BadCode, Diagram};
+pub use diagram::Diagram;
+pub use face_count::{FaceCount, count_faces};
 pub use fault::CodeFault;
 pub use limits::{ARCS, CIRCLES, COMPONENTS, CROSSINGS, EXPONENT, INPUT_BYTES, LOOPS};
 pub use memory::NoMemory;

@@ -9,16 +9,15 @@ pub const ARCS: usize = 2 * CROSSINGS;
 /// The most components and crossingless loops of a diagram, counted together.
 pub const COMPONENTS: usize = 24;
 
-/// The most crossingless loops of a text.
-pub const LOOPS: usize = 8;
-
-/// The most circles of a state: one for each component or loop, and one more at most for each crossing. This follows by
-/// counting, and no law carries it yet.
-pub const CIRCLES: usize = 40;
+/// The most circles of a state: one for each component or loop, and one more at most for each crossing, which is a law.
+pub const CIRCLES: usize = CROSSINGS + COMPONENTS;
 
 /// The greatest quantum degree of a generator in size, and the greatest exponent of a polynomial: the most circles, and two for
-/// each crossing. This follows by counting, and no law carries it yet.
-pub const EXPONENT: usize = 72;
+/// each crossing, which is a law.
+pub const EXPONENT: usize = CIRCLES + 2 * CROSSINGS;
+
+/// The most crossingless loops of a text.
+pub const LOOPS: usize = 8;
 
 /// The most bytes of an input.
 pub const INPUT_BYTES: usize = 65_536;

@@ -2,8 +2,11 @@
 
 mod plain_acceptance;
 
-use crate::{Crossing, Diagram, RawCode, Words};
+use crate::{
+    CodeFault, Crossing, Dart, Diagram, FaceCount, RawCode, Words, bit, count_faces, ones,
+};
 use arrayvec::ArrayVec;
+use std::process::Abort;
 use std::test::Fail;
 
 /// All codes of one crossing and of two over the arcs 1 to 4. How many have each of their arcs twice, and how many of these
@@ -28,14 +31,14 @@ fn accepts_what_the_plain_acceptance_accepts(rt: HostRuntime) {
     }
 }
 
+/// No text reaches this fault: the loops of a text are fewer.
 #[test]
-fn accepts_twenty_four_loops(rt: HostRuntime) {
+fn loops_alone_are_accepted_up_to_twenty_four(rt: HostRuntime) {
     for loops in 0..=255 {
-        assert_eq!(rt;
-            Diagram::try_new(&code(&[], loops)).is_ok(),
-            loops <= 24,
-            "{loops}"
-        );
+        let fault = Diagram::try_new(&code(&[], loops)).err();
+        let count = u16::from(loops);
+        let wanted = (loops > 24).then_some(CodeFault::Components { count });
+        assert_eq!(rt; fault, wanted, "{loops}");
     }
 }
 
@@ -75,6 +78,13 @@ fn known_diagrams_have_their_codes_and_signs(rt: HostRuntime) -> Result<(), Fail
             diagram.minus() as usize,
             signs.iter().filter(|sign| **sign == -1).count()
         );
+        let faces = count_faces(&raw);
+        assert_eq!(rt; faces.faces, faces.wanted, "{raw:?}");
+        for arc in 1..=2 * diagram.count() {
+            let (head, tail) = (diagram.head(arc), diagram.tail(arc));
+            assert_eq!(rt; (diagram.arc_at(head), diagram.arc_at(tail)), (arc, arc));
+            assert_eq!(rt; diagram.partner(head), tail, "{arc} of {raw:?}");
+        }
     }
     Ok(())
 }
@@ -85,17 +95,29 @@ fn known_diagrams_have_their_codes_and_signs(rt: HostRuntime) -> Result<(), Fail
 fn sixteen_crossings_are_not_slow(rt: HostRuntime) {
     let link = Diagram::try_new(&two_strands((1, 17)));
     assert_eq!(rt; link.map(|diagram| diagram.plus()), Ok(16));
-    assert!(rt; Diagram::try_new(&two_strands((17, 1))).is_err());
+    let fault = Diagram::try_new(&two_strands((17, 1))).err();
+    assert!(rt; matches!(fault, Some(CodeFault::Checkerboard { .. })));
 }
 
 #[test]
 fn words_are_kept_in_order(rt: HostRuntime) -> Result<(), Fail> {
-    let wanted = ["homology", "", "--field"];
+    let wanted = [
+        "homology",
+        "",
+        "--field",
+        "a word of more than eight bytes, and of more than sixteen",
+        "3",
+        "--field",
+        "x",
+        "--threads",
+        "16",
+        "homology",
+    ];
     let mut words = Words::new(rt.alloc())?;
     for word in wanted {
         words.push(rt.alloc(), word)?;
     }
-    assert_eq!(rt; words.count(), 3);
+    assert_eq!(rt; words.count(), wanted.len());
     for place in 0..words.count() {
         assert_eq!(rt;
             wanted.get(place).copied(),
@@ -104,6 +126,126 @@ fn words_are_kept_in_order(rt: HostRuntime) -> Result<(), Fail> {
         );
     }
     Ok(())
+}
+
+#[test]
+fn bits_are_counted_from_the_lowest(rt: HostRuntime) {
+    for (number, place, wanted) in [
+        (6, 0, 0),
+        (6, 1, 1),
+        (6, 2, 1),
+        (6, 3, 0),
+        (1 << 63, 63, 1),
+        (u64::MAX, 64, 0),
+    ] {
+        assert_eq!(rt; bit(number, place), wanted, "{place} of {number}");
+    }
+    for (count, number, wanted) in [(0, 7, 0), (2, 7, 2), (64, 7, 3), (64, u64::MAX, 64)] {
+        assert_eq!(rt; ones(count, number), wanted, "{count} of {number}");
+    }
+}
+
+/// What is derived has no clause: an equality that always holds would leave the tests above without meaning.
+#[test]
+fn other_values_are_not_equal(rt: HostRuntime) -> Result<(), Fail> {
+    expect_apart(&rt, &faults());
+    expect_apart(
+        &rt,
+        &[
+            Crossing::default(),
+            Crossing([1, 1, 2, 2]),
+            Crossing([2, 1, 1, 2]),
+        ],
+    );
+    expect_apart(
+        &rt,
+        &[(5, 5), (3, 5), (5, 3)].map(|(faces, wanted)| FaceCount { faces, wanted }),
+    );
+    let mut diagrams: ArrayVec<Option<Diagram>, 8> = ArrayVec::new();
+    for (crossings, loops) in [
+        ([].as_slice(), 0),
+        (&[], 1),
+        (&[[1, 1, 2, 2]], 0),
+        (&[[1, 1, 2, 2]], 1),
+        (&[[1, 2, 2, 1]], 0),
+        (&[[1, 1, 2, 2], [3, 3, 4, 4]], 0),
+    ] {
+        let _ = diagrams.try_push(Some(Diagram::try_new(&code(crossings, loops))?));
+    }
+    expect_apart(&rt, &diagrams);
+    Ok(())
+}
+
+#[test]
+fn darts_are_ordered_by_crossing_then_slot(rt: HostRuntime) {
+    let darts = [(1, 0), (1, 1), (1, 3), (2, 0), (2, 2), (3, 1)].map(|(crossing, slot)| Dart {
+        crossing,
+        slot,
+    });
+    expect_apart(&rt, &darts);
+    for (place, dart) in darts.iter().enumerate() {
+        for (other_place, other) in darts.iter().enumerate() {
+            assert_eq!(rt;
+                dart.cmp(other),
+                place.cmp(&other_place),
+                "{dart:?} and {other:?}"
+            );
+            assert_eq!(rt; dart < other, place < other_place, "{dart:?} and {other:?}");
+        }
+    }
+}
+
+#[test]
+fn the_default_crossing_is_blank(rt: HostRuntime) {
+    assert_eq!(rt; Crossing::default().0, [0, 0, 0, 0]);
+}
+
+// Each value is equal to itself and to none of the others.
+fn expect_apart<T: PartialEq>(rt: &impl Abort, values: &[T]) {
+    for (place, value) in values.iter().enumerate() {
+        for (other_place, other) in values.iter().enumerate() {
+            assert_eq!(rt;
+                value == other,
+                place == other_place,
+                "{place} and {other_place}"
+            );
+        }
+    }
+}
+
+// Each fault, and some again with another number.
+fn faults() -> [CodeFault; 14] {
+    [
+        CodeFault::ArcRange {
+            crossing: 1,
+            slot: 0,
+        },
+        CodeFault::ArcRange {
+            crossing: 1,
+            slot: 1,
+        },
+        CodeFault::ArcRange {
+            crossing: 2,
+            slot: 0,
+        },
+        CodeFault::ArcTimes { arc: 1, times: 1 },
+        CodeFault::ArcTimes { arc: 1, times: 3 },
+        CodeFault::Interval { arc: 1 },
+        CodeFault::Under { crossing: 1 },
+        CodeFault::Under { crossing: 2 },
+        CodeFault::Over { crossing: 1 },
+        CodeFault::TwoArc { crossing: 1 },
+        CodeFault::Checkerboard { arc: 1 },
+        CodeFault::Genus {
+            faces: 3,
+            wanted: 5,
+        },
+        CodeFault::Genus {
+            faces: 1,
+            wanted: 5,
+        },
+        CodeFault::Components { count: 25 },
+    ]
 }
 
 fn code(arcs: &[[u8; 4]], loops: u8) -> RawCode {

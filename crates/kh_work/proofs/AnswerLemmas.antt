@@ -1,76 +1,76 @@
--- The answer to the bytes of an input, case by case.
-use Rattle.std.proofs.Common.{◌≡◌, ◌≢◌, ℕ, ◌<◌, ◌≤◌, List, length, Bool, true, false, nat_lt, if◌then◌else◌, IfOk, refl, sym, ap, subst, ◌∙◌, Result, Ok, Err, None, Some, arith}
-use Rattle.std.proofs.lemmas.Grind.{common_steps}
+-- From what an input was read as to the answer, step by step.
+use Rattle.std.proofs.Common.{◌≡◌, ◌≤◌, ◌<◌, ℕ, List, length, IfOk, IfSome, inl, inr, refl, sym, subst, Result, Ok, Err, None, Some, arith}
 use Rattle.std.specs.declared.option.Option.{Option}
-use Rattle.std.specs.Io.KnownBytes.{Consumes}
+use Rattle.std.specs.Io.KnownBytes.{Consumes, IsAtEnd}
 use Rattle.kh_io.proofs.KnownBytes.{Consumes-length}
 use Rattle.kh_types.specs.declared.limits.TheConstants.{INPUT_BYTES}
 use Rattle.kh_types.specs.Code.{Code}
-use Rattle.kh_types.specs.Acceptance.{accepted}
-use Rattle.pd_code.specs.declared.stop.PdStop.{PdStop}
-use Rattle.pd_code.specs.declared.stop.PdStop.TheVariants as stops
-use Rattle.pd_code.specs.Reading.{reading}
-use Rattle.kh_work.specs.declared.status.Status.{Status}
-use Rattle.kh_work.specs.declared.status.Status.TheVariants.{Usage, MoveRefused}
-use Rattle.kh_work.specs.Statuses.{IsWhole}
-use Rattle.kh_work.specs.Answer.{Reply, answer_to_bytes, answer_to_reading, homology_of, refused_code, too_many_bytes}
-use Rattle.kh_work.specs.Told.{AnswersBytes}
+use Rattle.kh_work.specs.declared.command.Command.{Command}
+use Rattle.kh_work.specs.Replies.{Reply}
+use Rattle.kh_work.specs.Commands.{command_of}
+use Rattle.kh_work.specs.Refusals.{usage, too_many_bytes}
+use Rattle.kh_work.specs.Inputs.{IsDiagramRead}
+use Rattle.kh_work.specs.Answer.{IsTaskReply, IsCommandReply, IsAnswerOf, IsAnswer}
+use Rattle.kh_work.specs.Told.{Answers, Replies, IsReadOut}
 
--- bytes that are not too many are answered by what they read as
-pub answer_when_read : (bytes : List ℕ) (result : Result Code PdStop) → length bytes ≤ INPUT_BYTES → result ≡ reading bytes
-    → answer_to_reading result ≡ answer_to_bytes bytes
-unfolding answer_to_bytes
-answer_when_read bytes result few is =
-    let short : nat_lt INPUT_BYTES (length bytes) ≡ false = grind (arith, common_steps) in
-    rw short (ap answer_to_reading is)
+-- a diagram is answered by its task, and a refusal by itself
+pub IsCommandReply-diagram : {E : Type 0} (result : Result Reply E) (command : Command) (bytes : List ℕ) (code : Code)
+    → length bytes ≤ INPUT_BYTES → IsDiagramRead bytes (Ok code) → IfOk result (IsTaskReply command.task command code)
+    → IfOk result (λ reply. IsCommandReply command bytes reply)
+IsCommandReply-diagram (Ok reply) command bytes code few read replied =
+    inr (record { few = few; outcome = Ok code; read = read; answered = replied })
+IsCommandReply-diagram (Err stop) command bytes code few read replied = tt
 
--- too many bytes are answered so
-pub answer_when_long : (bytes : List ℕ) → INPUT_BYTES < length bytes → too_many_bytes ≡ answer_to_bytes bytes
-unfolding answer_to_bytes
-answer_when_long bytes many =
-    let long : nat_lt INPUT_BYTES (length bytes) ≡ true = grind (arith, common_steps) in
-    rw long refl
+pub IsCommandReply-refused : (command : Command) (bytes : List ℕ) (reply : Reply) → length bytes ≤ INPUT_BYTES
+    → IsDiagramRead bytes (Err reply) → IsCommandReply command bytes reply
+IsCommandReply-refused command bytes reply few read =
+    inr (record { few = few; outcome = Err reply; read = read; answered = refl })
 
--- a status that is whole, and neither that of words without a command nor that of a refused move
-pub record IsOfBytes (status : Status) : Type 0 where
-  pub whole : IsWhole status
-  pub command : status ≢ Usage
-  pub no_moves : status ≢ MoveRefused
-
-of_choice : (code : Code) (accepts : Bool) → IsOfBytes (if accepts then homology_of code else refused_code).status
-of_choice code true = record { whole = tt; command = λ e. cc; no_moves = λ e. cc }
-of_choice code false = record { whole = tt; command = λ e. cc; no_moves = λ e. cc }
-
-of_reading : (result : Result Code PdStop) → IsOfBytes (answer_to_reading result).status
-of_reading (Ok code) = of_choice code (accepted code)
-of_reading (Err stops.Text) = record { whole = tt; command = λ e. cc; no_moves = λ e. cc }
-of_reading (Err stops.NotBuilt) = record { whole = tt; command = λ e. cc; no_moves = λ e. cc }
-of_reading (Err (stops.CrossingLimit count)) = record { whole = tt; command = λ e. cc; no_moves = λ e. cc }
-of_reading (Err stops.NoMemory) = record { whole = tt; command = λ e. cc; no_moves = λ e. cc }
-
-of_length : (bytes : List ℕ) (is_long : Bool) → IsOfBytes (if is_long then too_many_bytes else answer_to_reading (reading bytes)).status
-of_length bytes true = record { whole = tt; command = λ e. cc; no_moves = λ e. cc }
-of_length bytes false = of_reading (reading bytes)
-
--- the answer to bytes has such a status
-pub status_of_bytes : (bytes : List ℕ) → IsOfBytes (answer_to_bytes bytes).status
-unfolding answer_to_bytes
-status_of_bytes bytes = of_length bytes (nat_lt INPUT_BYTES (length bytes))
-
--- a reply that is one thing is another that is equal
-pub same_reply : {E : Type 0} (result : Result Reply E) (first second : Reply) → IfOk result (λ reply. reply ≡ first) → first ≡ second
-    → IfOk result (λ reply. reply ≡ second)
-same_reply (Ok reply) first second is same = is ∙ same
-same_reply (Err stop) first second is same = tt
-
--- so has a reply that is this answer
-pub status_when : (reply : Reply) (bytes : List ℕ) → reply ≡ answer_to_bytes bytes → IsOfBytes reply.status
-status_when reply bytes is = subst (λ (r : Reply). IsOfBytes r.status) (sym is) (status_of_bytes bytes)
+-- the bytes that were read are all that the source had left
+pub Replies-read : (left : Option (List ℕ)) (command : Command) (bytes : List ℕ) (reply : Reply) → IfSome left (λ all. bytes ≡ all)
+    → IsCommandReply command bytes reply → Replies left command reply
+Replies-read None command bytes reply all replied = record { known = tt }
+Replies-read (Some left) command bytes reply all replied =
+    let P : List ℕ → Type 0 = λ b. IsCommandReply command b reply in
+    record { known = subst P all replied }
 
 -- more bytes than an input may have were taken, so as many were left
-pub told_when_long : (left rest : Option (List ℕ)) (front : List ℕ) (reply : Reply) → Consumes left rest front
-    → INPUT_BYTES < length front → reply ≡ too_many_bytes → AnswersBytes left reply
-told_when_long None rest front reply taken many is = record { told = tt }
-told_when_long (Some bytes) rest front reply taken many is =
-    let within : length front ≤ length bytes = Consumes-length (Some bytes) rest front taken in
-    record { told = is ∙ answer_when_long bytes (omega arith) }
+pub Replies-long : (left rest : Option (List ℕ)) (command : Command) (taken : List ℕ) (reply : Reply) → Consumes left rest taken
+    → INPUT_BYTES < length taken → reply ≡ too_many_bytes → Replies left command reply
+Replies-long None rest command taken reply consumed many is = record { known = tt }
+Replies-long (Some bytes) rest command taken reply consumed many is =
+    let within : length taken ≤ length bytes = Consumes-length (Some bytes) rest taken consumed in
+    record { known = inl (omega arith, is) }
+
+-- a source at its end is read out
+pub IsReadOut-end : (before after : Option (List ℕ)) → IsAtEnd after → IsReadOut before after
+IsReadOut-end None after end = record { read = tt }
+IsReadOut-end (Some bytes) after end = record { read = λ few. end }
+
+-- words are answered by their command, or by the usage line
+answer-command : (words : List (List ℕ)) (bytes : List ℕ) (command : Command) (reply : Reply) → command_of words ≡ Some command
+    → IsCommandReply command bytes reply → IsAnswer words bytes reply
+unfolding IsAnswer
+answer-command words bytes command reply is_command replied =
+    let P : Option Command → Type 0 = λ c. IsAnswerOf c bytes reply in
+    subst P (sym is_command) replied
+
+answer-usage : (words : List (List ℕ)) (bytes : List ℕ) (reply : Reply) → command_of words ≡ None → reply ≡ usage
+    → IsAnswer words bytes reply
+unfolding IsAnswer
+answer-usage words bytes reply none is =
+    let P : Option Command → Type 0 = λ c. IsAnswerOf c bytes reply in
+    subst P (sym none) is
+
+pub Answers-command : {E : Type 0} (result : Result Reply E) (left : Option (List ℕ)) (words : List (List ℕ)) (command : Command)
+    → command_of words ≡ Some command → IfOk result (λ reply. Replies left command reply)
+    → IfOk result (λ reply. Answers left words reply)
+Answers-command (Ok reply) None words command is_command replied = record { known = tt }
+Answers-command (Ok reply) (Some bytes) words command is_command replied =
+    record { known = answer-command words bytes command reply is_command replied.known }
+Answers-command (Err stop) left words command is_command replied = tt
+
+pub Answers-usage : (left : Option (List ℕ)) (words : List (List ℕ)) (reply : Reply) → command_of words ≡ None → reply ≡ usage
+    → Answers left words reply
+Answers-usage None words reply none is = record { known = tt }
+Answers-usage (Some bytes) words reply none is = record { known = answer-usage words bytes reply none is }

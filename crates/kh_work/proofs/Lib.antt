@@ -1,8 +1,3 @@
+pub mod CommandLemmas
 pub mod AnswerLemmas
-pub mod CircleLemmas
-pub mod GeneratorLemmas
-pub mod LabelLemmas
-pub mod ListLemmas
-pub mod PowerLemmas
-pub mod RankLemmas
-pub mod TableLemmas
+pub mod OneAnswer

@@ -1,75 +1,45 @@
--- The answer to a command line and its input: a status and the bytes to write. All of it is this project's rule.
-use Rattle.std.specs.Prelude.{ℕ, ◌+◌, List, [], ◌∷◌, ◌++◌, Bool, false, if◌then◌else◌, nat_lt, length, codes, Result, Ok, Err}
-use Rattle.std.specs.Str.{bytes_eq}
-use Rattle.std.specs.Fmt.{decimal}
+-- The answer to a command line and its input: a relation between words, bytes and a reply. A law says that there is exactly one
+-- reply to all words and bytes. All of it is this project's rule.
+use Rattle.std.specs.Prelude.{◌≡◌, ◌⊎◌, ℕ, ◌<◌, ◌≤◌, List, length, Option, Some, None, Result, Ok, Err}
 use Rattle.kh_types.specs.declared.limits.TheConstants.{INPUT_BYTES}
 use Rattle.kh_types.specs.Code.{Code}
-use Rattle.kh_types.specs.Acceptance.{accepted}
-use Rattle.kh_types.specs.Table.{table, table_text}
-use Rattle.pd_code.specs.declared.limits.TheConstants.{CROSSING_LIMIT}
-use Rattle.pd_code.specs.declared.stop.PdStop.{PdStop}
-use Rattle.pd_code.specs.declared.stop.PdStop.TheVariants as stops
-use Rattle.pd_code.specs.Reading.{reading}
-use Rattle.kh_work.specs.declared.status.Status.{Status}
-use Rattle.kh_work.specs.declared.status.Status.TheVariants.{Done, CodeRefused, Usage, Limit}
+use Rattle.kh_work.specs.declared.command.Task.{Task}
+use Rattle.kh_work.specs.declared.command.Task.TheVariants.{Homology, Convert}
+use Rattle.kh_work.specs.declared.command.Command.{Command}
+use Rattle.kh_work.specs.Replies.{Reply}
+use Rattle.kh_work.specs.Commands.{command_of}
+use Rattle.kh_work.specs.Refusals.{usage, too_many_bytes}
+use Rattle.kh_work.specs.Inputs.{IsDiagramRead}
+use Rattle.kh_work.specs.Homology.{homology_reply}
+use Rattle.kh_work.specs.Convert.{convert_reply}
 
--- a status and the bytes to write
-pub record Reply : Type 0 where
-  pub status : Status
-  pub text : List ℕ
+-- the reply of a task to the code of a diagram
+abbrev pub IsTaskReply : Task → Command → Code → Reply → Type 0
+IsTaskReply Homology command code reply = reply ≡ homology_reply command.field code
+IsTaskReply Convert command code reply = reply ≡ convert_reply code
 
--- the reply of a status and the bytes to write
-abbrev pub reply_of : Status → List ℕ → Reply
-reply_of status text = record { status = status; text = text }
+-- the reply of a command to what its input was read as
+abbrev pub IsReplyTo : Command → Result Code Reply → Reply → Type 0
+IsReplyTo command (Ok code) reply = IsTaskReply command.task command code reply
+IsReplyTo command (Err refusal) reply = reply ≡ refusal
 
--- the words are the one word `homology`
-abbrev pub is_homology : List (List ℕ) → Bool
-is_homology [] = false
-is_homology (word ∷ []) = bytes_eq word (codes "homology")
-is_homology (word ∷ other ∷ more) = false
+-- bytes, not more than an input may have, are read as a diagram or refused, and answered
+pub record IsReadReply (command : Command) (bytes : List ℕ) (reply : Reply) : Type 0 where
+  pub few : length bytes ≤ INPUT_BYTES
+  pub outcome : Result Code Reply
+  pub read : IsDiagramRead bytes outcome
+  pub answered : IsReplyTo command outcome reply
 
--- the words give no command
-abbrev pub usage : Reply
-usage = reply_of Usage (codes "usage: kh COMMAND [OPTIONS]\n")
+-- the reply of a command to the bytes of an input
+abbrev pub IsCommandReply : Command → List ℕ → Reply → Type 0
+IsCommandReply command bytes reply =
+    ((INPUT_BYTES < length bytes) × (reply ≡ too_many_bytes)) ⊎ IsReadReply command bytes reply
 
--- a byte more than an input may have was read
-abbrev pub too_many_bytes : Reply
-too_many_bytes =
-    reply_of Limit (codes "limit bytes " ++ (decimal (INPUT_BYTES + 1) ++ (codes " of " ++ (decimal INPUT_BYTES ++ codes "\n"))))
+-- the reply to a command, if words give one, and the usage line if they do not
+abbrev pub IsAnswerOf : Option Command → List ℕ → Reply → Type 0
+IsAnswerOf None bytes reply = reply ≡ usage
+IsAnswerOf (Some command) bytes reply = IsCommandReply command bytes reply
 
--- the bytes are no planar diagram text, or its code is not accepted
-abbrev pub refused_code : Reply
-refused_code = reply_of CodeRefused (codes "refused code\n")
-
--- the text has a loop
-abbrev pub not_built : Reply
-not_built = reply_of CodeRefused (codes "refused not built\n")
-
--- the text has more crossings than this program takes
-abbrev pub too_many_crossings : ℕ → Reply
-too_many_crossings count =
-    reply_of Limit (codes "limit crossings " ++ (decimal count ++ (codes " of " ++ (decimal CROSSING_LIMIT ++ codes "\n"))))
-
--- the homology table over two elements
-abbrev pub homology_of : Code → Reply
-homology_of code = reply_of Done (table_text (table 2 code))
-
--- the answer to a code
-abbrev pub answer_to_code : Code → Reply
-answer_to_code code = if accepted code then homology_of code else refused_code
-
--- the answer to what the bytes read as; a reading is never in want of memory
-abbrev pub answer_to_reading : Result Code PdStop → Reply
-answer_to_reading (Ok code) = answer_to_code code
-answer_to_reading (Err stops.Text) = refused_code
-answer_to_reading (Err stops.NotBuilt) = not_built
-answer_to_reading (Err (stops.CrossingLimit count)) = too_many_crossings count
-answer_to_reading (Err stops.NoMemory) = refused_code
-
--- the answer to the bytes of an input
-unfoldable pub answer_to_bytes : List ℕ → Reply
-answer_to_bytes bytes = if nat_lt INPUT_BYTES (length bytes) then too_many_bytes else answer_to_reading (reading bytes)
-
--- the answer to words and bytes
-abbrev pub answer : List (List ℕ) → List ℕ → Reply
-answer words bytes = if is_homology words then answer_to_bytes bytes else usage
+-- the answer to words and to the bytes of an input
+unfoldable pub IsAnswer : List (List ℕ) → List ℕ → Reply → Type 0
+IsAnswer words bytes reply = IsAnswerOf (command_of words) bytes reply

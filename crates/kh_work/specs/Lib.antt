@@ -1,7 +1,11 @@
 pub mod Statuses
-pub mod Answer
 pub mod Replies
+pub mod Commands
+pub mod Refusals
+pub mod Inputs
+pub mod Stops
+pub mod Homology
+pub mod Convert
+pub mod Answer
 pub mod Told
-pub mod Matrices
-pub mod Placed
-pub mod Rows
+pub mod Runs

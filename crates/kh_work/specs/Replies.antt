@@ -1,8 +1,17 @@
--- What contracts see of a reply.
-use Rattle.std.specs.Prelude.{string_bytes}
-use Rattle.kh_work.specs.Answer.{Reply}
+-- Replies: what a run answers, as plain data.
+use Rattle.std.specs.Prelude.{ℕ, List}
+use Rattle.kh_work.specs.declared.status.Status.{Status}
 use Rattle.kh_work.specs.declared.reply.Reply.TheInside.{Inside}
 
--- the reply that contracts see: the status, and the bytes of the text
+-- a status and the bytes to write
+pub record Reply : Type 0 where
+  pub status : Status
+  pub text : List ℕ
+
+-- the reply of a status and the bytes to write
+abbrev pub reply_of : Status → List ℕ → Reply
+reply_of status text = record { status = status; text = text }
+
+-- the reply that contracts see
 abbrev pub reply_inside : Inside → Reply
-reply_inside reply = record { status = reply.status; text = string_bytes reply.text }
+reply_inside reply = reply_of reply.status reply.text.items

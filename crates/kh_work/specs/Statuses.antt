@@ -1,20 +1,19 @@
--- The numbers of statuses, and which of them answer. All of it is this project's rule.
+-- The exit statuses of a run, and which of them answer. All of it is this project's rule.
 use Rattle.std.specs.Prelude.{ℕ}
 use Rattle.kh_work.specs.declared.status.Status.{Status}
-use Rattle.kh_work.specs.declared.status.Status.TheVariants.{Done, CodeRefused, Usage, ReadFault, WriteFault, NoMemory, Limit, MoveRefused}
+use Rattle.kh_work.specs.declared.status.Status.TheVariants.{Done, CodeRefused, Usage, ReadFault, WriteFault, NoMemory, Limit}
 
 -- the exit status that stands for a status
-abbrev pub number_of : Status → ℕ
-number_of Done = 0
-number_of CodeRefused = 1
-number_of Usage = 2
-number_of ReadFault = 3
-number_of WriteFault = 4
-number_of NoMemory = 5
-number_of Limit = 6
-number_of MoveRefused = 7
+abbrev pub status_number : Status → ℕ
+status_number Done = 0
+status_number CodeRefused = 1
+status_number Usage = 2
+status_number ReadFault = 3
+status_number WriteFault = 4
+status_number NoMemory = 5
+status_number Limit = 6
 
--- the statuses on which a whole answer is written: all but those of a fault and of want of memory
+-- the statuses on which a whole answer is written: all but those of a fault and of being out of memory
 abbrev pub IsWhole : Status → Type 0
 IsWhole Done = Unit {0}
 IsWhole CodeRefused = Unit {0}
@@ -23,4 +22,3 @@ IsWhole ReadFault = ⊥
 IsWhole WriteFault = ⊥
 IsWhole NoMemory = ⊥
 IsWhole Limit = Unit {0}
-IsWhole MoveRefused = Unit {0}

@@ -1,14 +1,20 @@
 //! The one call that does all that the program does: from words and bytes to a status and the bytes to write.
 #![tactic(auto)]
 
-mod homology;
-mod plain;
-mod reading;
+mod answer;
+mod command;
+mod commands;
+mod input;
+mod laws;
+mod limits;
+mod refusals;
 mod reply;
 mod status;
 #[cfg(test)]
 mod tests;
 mod top;
 
+pub use laws::{limits_of_commands, one_answer};
+pub use limits::HOMOLOGY_CROSSINGS;
 pub use status::Status;
 pub use top::run;

@@ -7,7 +7,7 @@ ghost use Rattle.std.specs.Prelude.{◌≡◌};
 pub enum Status {
     /// 0: the answer was written.
     Done,
-    /// 1: the input is no code of an accepted diagram, or is not built.
+    /// 1: the input is no code of an accepted diagram.
     CodeRefused,
     /// 2: the words give no command.
     Usage,
@@ -15,20 +15,18 @@ pub enum Status {
     ReadFault,
     /// 4: the answer could not be written whole.
     WriteFault,
-    /// 5: there was no memory. Nothing was written.
+    /// 5: the run was out of memory. Nothing was written.
     NoMemory,
     /// 6: the input is larger than the program takes.
     Limit,
-    /// 7: a move of an edit script was refused.
-    MoveRefused,
 }
 
 impl Status {
-    ghost use Rattle.kh_work.specs.Statuses.{number_of};
+    ghost use Rattle.kh_work.specs.Statuses.{status_number};
 
-    /// The number of the status, 0 to 7.
+    /// The number of the status, 0 to 6.
     pub fn number(self) -> u8
-        ensures { result ≡ number_of self }
+        ensures { result ≡ status_number self }
     {
         self as u8
     }

@@ -1,18 +1,15 @@
 //! What no clause says: that runs answer at all where there is memory, and what the definitions come to on known links.
 
 mod known;
+mod rows;
 
 use crate::{Status, run};
 use kh_io::{MemSink, MemSource};
 use kh_types::Words;
 use known::KNOWN;
+use rows::{ROWS, TREFOIL};
 use std::process::Abort;
 use std::test::Fail;
-
-const TREFOIL: &str = "PD[X[1,4,2,5], X[3,6,4,1], X[5,2,6,3]]";
-
-const TREFOIL_TABLE: &str =
-    "field 2\nj -9 i -3 dim 1\nj -7 i -3 dim 1\nj -7 i -2 dim 1\nj -5 i -2 dim 1\nj -3 i 0 dim 1\nj -1 i 0 dim 1\n";
 
 fn words_of(rt: &impl AllocGlobal, words: &[&str]) -> Result<Words, Fail> {
     let mut list = Words::new(rt.alloc())?;
@@ -26,19 +23,16 @@ fn words_of(rt: &impl AllocGlobal, words: &[&str]) -> Result<Words, Fail> {
 fn expect_answer<R: Abort + AllocGlobal>(
     rt: &R,
     words: &[&str],
-    input: &str,
+    input: &[u8],
     status: Status,
     output: &str,
 ) -> Result<(), Fail> {
     let words = words_of(rt, words)?;
-    let mut source = MemSource::new(rt.alloc(), input.as_bytes(), 7, &[])?;
+    let mut source = MemSource::new(rt.alloc(), input, 7, &[])?;
     let mut sink = MemSink::new(rt.alloc(), 4_096, 5, &[])?;
-    assert_eq!(rt;
-        run(rt.alloc(), &words, &mut source, &mut sink),
-        status,
-        "{input}"
-    );
-    assert_eq!(rt; sink.bytes(), output.as_bytes(), "{input}");
+    let ended = run(rt.alloc(), &words, &mut source, &mut sink);
+    assert_eq!(rt; sink.bytes(), output.as_bytes(), "{output}");
+    assert_eq!(rt; ended, status, "{output}");
     Ok(())
 }
 
@@ -46,46 +40,29 @@ fn expect_answer<R: Abort + AllocGlobal>(
 fn known_links_have_their_tables(rt: HostRuntime) -> Result<(), Fail> {
     for known in &KNOWN {
         let table = format!(in rt.alloc(); "field 2\n{}", known.lines)?;
-        expect_answer(&rt, &["homology"], known.text, Status::Done, table.as_str())?;
+        expect_answer(
+            &rt,
+            &["homology"],
+            known.text.as_bytes(),
+            Status::Done,
+            table.as_str(),
+        )?;
     }
     Ok(())
 }
 
 #[test]
-fn refusals_have_their_lines(rt: HostRuntime) -> Result<(), Fail> {
-    for (input, status, output) in [
-        ("", Status::CodeRefused, "refused code\n"),
-        (
-            "PD[X[1,4,2,5], X[3,6",
-            Status::CodeRefused,
-            "refused code\n",
-        ),
-        ("PD[X[1,1,2,65536]]", Status::CodeRefused, "refused code\n"),
-        ("PD[Loop[1]]", Status::CodeRefused, "refused not built\n"),
-        (
-            "PD[X[1,1,2,2],X[1,1,2,2],X[1,1,2,2],X[1,1,2,2],X[0,0,0,0]]",
-            Status::Limit,
-            "limit crossings 5 of 4\n",
-        ),
-        ("PD[X[1,2,1,2]]", Status::CodeRefused, "refused code\n"),
-        (
-            "PD[X[1,5,2,4], X[3,6,4,1], X[5,2,6,3]]",
-            Status::CodeRefused,
-            "refused code\n",
-        ),
-    ] {
-        expect_answer(&rt, &["homology"], input, status, output)?;
+fn words_and_inputs_have_their_answers(rt: HostRuntime) -> Result<(), Fail> {
+    for row in &ROWS {
+        expect_answer(&rt, row.words, row.input.as_bytes(), row.status, row.output)?;
     }
-    Ok(())
-}
-
-#[test]
-fn other_words_are_usage(rt: HostRuntime) -> Result<(), Fail> {
-    let usage = "usage: kh COMMAND [OPTIONS]\n";
-    expect_answer(&rt, &[], TREFOIL, Status::Usage, usage)?;
-    expect_answer(&rt, &["homologies"], TREFOIL, Status::Usage, usage)?;
-    expect_answer(&rt, &["homology", "check"], TREFOIL, Status::Usage, usage)?;
-    expect_answer(&rt, &["--help"], TREFOIL, Status::Usage, usage)
+    expect_answer(
+        &rt,
+        &["homology"],
+        b"PD[\xff]",
+        Status::CodeRefused,
+        "refused text at 3\n",
+    )
 }
 
 #[test]
@@ -94,45 +71,43 @@ fn a_full_input_is_read_and_a_byte_more_is_not(rt: HostRuntime) -> Result<(), Fa
     for _ in 0..65_498 {
         input.push(' ')?;
     }
-    expect_answer(
-        &rt,
-        &["homology"],
-        input.as_str(),
-        Status::Done,
-        TREFOIL_TABLE,
-    )?;
+    let printed = "PD[X[1, 4, 2, 5], X[3, 6, 4, 1], X[5, 2, 6, 3]]\n";
+    expect_answer(&rt, &["convert"], input.as_bytes(), Status::Done, printed)?;
     input.push(' ')?;
-    expect_answer(
-        &rt,
-        &["homology"],
-        input.as_str(),
+    let limit = "limit bytes 65537 of 65536\n";
+    expect_answer(&rt, &["convert"], input.as_bytes(), Status::Limit, limit)
+}
+
+#[test]
+fn a_fault_ends_a_run_with_what_was_written(rt: HostRuntime) -> Result<(), Fail> {
+    let words = words_of(&rt, &["homology"])?;
+    for (reads, writes, status, output) in [
+        (&[] as &[u64], &[2] as &[u64], Status::WriteFault, "f"),
+        (&[2], &[], Status::ReadFault, ""),
+    ] {
+        let mut source = MemSource::new(rt.alloc(), TREFOIL.as_bytes(), 4, reads)?;
+        let mut sink = MemSink::new(rt.alloc(), 4_096, 1, writes)?;
+        let ended = run(rt.alloc(), &words, &mut source, &mut sink);
+        assert_eq!(rt; ended, status);
+        assert_eq!(rt; sink.bytes(), output.as_bytes());
+    }
+    Ok(())
+}
+
+#[test]
+fn statuses_differ(rt: HostRuntime) {
+    let all = [
+        Status::Done,
+        Status::CodeRefused,
+        Status::Usage,
+        Status::ReadFault,
+        Status::WriteFault,
+        Status::NoMemory,
         Status::Limit,
-        "limit bytes 65537 of 65536\n",
-    )
-}
-
-#[test]
-fn a_failed_write_leaves_a_front_of_the_answer(rt: HostRuntime) -> Result<(), Fail> {
-    let words = words_of(&rt, &["homology"])?;
-    let mut source = MemSource::new(rt.alloc(), TREFOIL.as_bytes(), 64, &[])?;
-    let mut sink = MemSink::new(rt.alloc(), 4_096, 1, &[2])?;
-    assert_eq!(rt;
-        run(rt.alloc(), &words, &mut source, &mut sink),
-        Status::WriteFault
-    );
-    assert_eq!(rt; sink.bytes(), b"f".as_slice());
-    Ok(())
-}
-
-#[test]
-fn a_failed_read_leaves_nothing_written(rt: HostRuntime) -> Result<(), Fail> {
-    let words = words_of(&rt, &["homology"])?;
-    let mut source = MemSource::new(rt.alloc(), TREFOIL.as_bytes(), 4, &[2])?;
-    let mut sink = MemSink::new(rt.alloc(), 4_096, 64, &[])?;
-    assert_eq!(rt;
-        run(rt.alloc(), &words, &mut source, &mut sink),
-        Status::ReadFault
-    );
-    assert!(rt; sink.bytes().is_empty());
-    Ok(())
+    ];
+    for (place, status) in all.iter().enumerate() {
+        for (other_place, other) in all.iter().enumerate() {
+            assert_eq!(rt; *status == *other, place == other_place);
+        }
+    }
 }

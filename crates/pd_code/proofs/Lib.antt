@@ -2,4 +2,4 @@ mod Spellings
 mod SoFar
 mod MachineReads
 mod PrintingLemmas
-mod ReadingLemmas
+pub mod ReadingLemmas

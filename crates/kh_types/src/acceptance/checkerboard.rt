@@ -3,11 +3,13 @@
 ghost use Rattle.std.specs.Prelude.{◌≡◌, ◌*◌, ◌^◌, ◌≤◌, ◌<◌, ℕ, List, length, map, false, true};
 ghost use Rattle.std.specs.List.{list_all};
 ghost use Rattle.kh_types.specs.declared.limits.TheConstants.{CROSSINGS, ARCS};
-ghost use Rattle.kh_types.specs.Bits.{bit_for};
-ghost use Rattle.kh_types.specs.Equations.{equation_of, equations_of, is_solved};
+ghost use Rattle.kh_types.specs.Bits.{bit};
+ghost use Rattle.kh_types.specs.Code.{place_of, IsArc};
+ghost use Rattle.kh_types.specs.Checkerboard.{equation_of, equations_of, is_solved};
 ghost use Rattle.kh_types.specs.Acceptance.{checkerboard_fault};
 
 use crate::acceptance::darts::{first_dart, partner};
+use crate::bits::bit;
 use crate::code::Crossing;
 use crate::fault::CodeFault;
 use crate::limits::{ARCS, CROSSINGS};
@@ -42,7 +44,7 @@ pub fn checkerboard_fault(crossings: &[Crossing]) -> Option<CodeFault>
 }
 
 /// How many choices of one bit for each crossing there are.
-fn choice_count(crossings: &[Crossing]) -> u32
+fn choice_count(crossings: &[Crossing]) -> u64
     requires { length crossings.now ≤ CROSSINGS }
     ensures { result ≡ 2 ^ length crossings.now }
 {
@@ -50,7 +52,7 @@ fn choice_count(crossings: &[Crossing]) -> u32
 }
 
 /// The first choice, from one on and below `choices`, that solves all of the equations; `choices` where none does.
-fn first_choice(equations: &[Equation], from: u32, choices: u32) -> u32
+fn first_choice(equations: &[Equation], from: u64, choices: u64) -> u64
     requires { from ≤ choices }
     ensures within { result ≤ choices }
     ensures later { from ≤ result }
@@ -67,7 +69,7 @@ fn first_choice(equations: &[Equation], from: u32, choices: u32) -> u32
 }
 
 /// Whether a choice solves all of the equations.
-fn solves(equations: &[Equation], choice: u32) -> bool
+fn solves(equations: &[Equation], choice: u64) -> bool
     ensures { result ≡ list_all (is_solved choice) equations.now }
 {
     equations
@@ -76,24 +78,19 @@ fn solves(equations: &[Equation], choice: u32) -> bool
 }
 
 /// Whether a choice solves an equation.
-fn is_solved(choice: u32, equation: Equation) -> bool
+fn is_solved(choice: u64, equation: Equation) -> bool
     ensures { result ≡ is_solved choice equation }
 {
-    (bit_for(choice, equation.crossing)
-        + (bit_for(choice, equation.other) + u32::from(equation.slots)))
-        % 2
-        == 1
+    let slots = u16::from(equation.slots);
+    (bit_for(choice, equation.crossing) + (bit_for(choice, equation.other) + slots)) % 2 == 1
 }
 
 /// The bit of a choice for a crossing.
-fn bit_for(choice: u32, number: u8) -> u32
-    ensures bit { result ≡ bit_for choice number }
+fn bit_for(choice: u64, crossing: u8) -> u16
+    ensures bit { result ≡ bit choice (place_of crossing) }
     ensures within { result < 2 }
 {
-    choice
-        .checked_shr(u32::from(number.saturating_sub(1)))
-        .unwrap_or(0)
-        % 2
+    u16::from(bit(choice, usize::from(crossing.saturating_sub(1))))
 }
 
 /// The equations of all arcs, in order.
@@ -112,7 +109,8 @@ fn equations_of(crossings: &[Crossing]) -> ArrayVec<Equation, ARCS>
 
 /// The equation of an arc.
 fn equation_of(crossings: &[Crossing], arc: u8) -> Equation
-    requires { length crossings.now ≤ CROSSINGS }
+    requires crossings { length crossings.now ≤ CROSSINGS }
+    requires arc { IsArc crossings.now arc }
     ensures { result ≡ equation_of crossings.now arc }
 {
     let dart = first_dart(crossings, arc);

@@ -40,15 +40,15 @@ fn push_passes(passes: &mut ArrayVec<(u8, u8), ARCS>, crossing: Crossing)
     passes.push((crossing.0[1], crossing.0[3]));
 }
 
-/// The number of components.
-pub fn component_count(crossings: &[Crossing]) -> usize
-    requires { length crossings.now ≤ CROSSINGS }
+/// The number of components, given the component of each arc.
+pub fn component_count(crossings: &[Crossing], components: &[u8]) -> usize
+    requires crossings { length crossings.now ≤ CROSSINGS }
+    requires components { components.now ≡ components_of crossings.now }
     ensures count { result ≡ component_count crossings.now }
     ensures within { result ≤ ARCS }
 {
-    let components = components_of(crossings);
     (1..2 * crossings.len() + 1)
-        .filter(|arc| is_least(&components, *arc as u8))
+        .filter(|arc| is_least(components, *arc as u8))
         .count()
 }
 

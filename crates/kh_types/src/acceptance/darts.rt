@@ -1,8 +1,11 @@
 //! Darts, the ends of arcs.
 
-ghost use Rattle.std.specs.Prelude.{◌≡◌, ◌≤◌, ◌<◌, length};
+ghost use Rattle.std.specs.Prelude.{◌≡◌, ◌≤◌, ◌<◌, ◌*◌, length, Bool, unwrap_or};
+ghost use Rattle.std.specs.List.{find};
+ghost use Rattle.kh_types.specs.declared.dart.Dart.{Dart};
 ghost use Rattle.kh_types.specs.declared.limits.TheConstants.{CROSSINGS};
-ghost use Rattle.kh_types.specs.Darts.{dart_at, dart_place, arc_of, first_dart, is_same_dart, is_partner, partner, face_step};
+ghost use Rattle.kh_types.specs.Code.{IsArc};
+ghost use Rattle.kh_types.specs.Darts.{dart_at, dart_place, darts, arc_of, times, first_dart, is_same_dart, is_partner, partner, partner_at, turned, IsDart};
 
 use crate::acceptance::arcs::arc_at;
 use crate::code::Crossing;
@@ -35,20 +38,61 @@ pub fn arc_of(crossings: &[Crossing], dart: Dart) -> u8
     arc_at(crossings, dart.crossing, dart.slot)
 }
 
-/// The first dart of an arc.
-pub fn first_dart(crossings: &[Crossing], arc: u8) -> Dart
+/// How often a number stands: how many darts are of this arc.
+pub fn times(crossings: &[Crossing], arc: u8) -> u8
     requires { length crossings.now ≤ CROSSINGS }
-    ensures dart { result ≡ first_dart crossings.now arc }
-    ensures crossing { result.crossing ≤ CROSSINGS }
-    ensures slot { result.slot < 4 }
+    ensures { result ≡ times crossings.now arc }
 {
-    for place in 0..4 * crossings.len() {
-        let dart = dart_at(place as u8);
-        if arc_of(crossings, dart) == arc {
+    dart_count_of(crossings, arc) as u8
+}
+
+fn dart_count_of(crossings: &[Crossing], arc: u8) -> usize
+    requires { length crossings.now ≤ CROSSINGS }
+    ensures times { result ≡ times crossings.now arc }
+    ensures within { result ≤ 4 * CROSSINGS }
+{
+    (0..4 * crossings.len() as u8)
+        .map(dart_at)
+        .filter(|dart| arc_of(crossings, *dart) == arc)
+        .count()
+}
+
+/// The first dart that passes a test; the given one where none does.
+pub fn find_dart<F: Fn(Dart) -> bool>(crossings: &[Crossing], otherwise: Dart, test: F) -> Dart
+    requires crossings { length crossings.now ≤ CROSSINGS }
+    requires callable { F.IsAlwaysCallable test }
+    ensures first { (passes : Dart → Bool)
+        → ((dart : Dart) (r : Bool) → IsDart crossings.now dart → F.post test dart r → r ≡ passes dart)
+        → result ≡ unwrap_or (find passes (darts crossings.now)) otherwise }
+    ensures within { IsDart crossings.now otherwise → IsDart crossings.now result }
+{
+    for place in 0..4 * crossings.len() as u8 {
+        let dart = dart_at(place);
+        if test(dart) {
             return dart;
         }
     }
-    dart_at(0)
+    otherwise
+}
+
+/// The first dart of an arc.
+pub fn first_dart(crossings: &[Crossing], arc: u8) -> Dart
+    requires crossings { length crossings.now ≤ CROSSINGS }
+    requires arc { IsArc crossings.now arc }
+    ensures dart { result ≡ first_dart crossings.now arc }
+    ensures within { IsDart crossings.now result }
+{
+    find_dart(crossings, dart_at(0), |dart| arc_of(crossings, dart) == arc)
+}
+
+/// The other dart of a dart's arc; the dart itself where it has none.
+pub fn partner(crossings: &[Crossing], dart: Dart) -> Dart
+    requires crossings { length crossings.now ≤ CROSSINGS }
+    requires dart { IsDart crossings.now dart }
+    ensures partner { result ≡ partner crossings.now dart }
+    ensures within { IsDart crossings.now result }
+{
+    find_dart(crossings, dart, |other| is_partner(crossings, dart, other))
 }
 
 /// Whether another dart is of the same arc.
@@ -58,36 +102,20 @@ fn is_partner(crossings: &[Crossing], dart: Dart, other: Dart) -> bool
     arc_of(crossings, other) == arc_of(crossings, dart) && other != dart
 }
 
-/// The other dart of a dart's arc; the dart itself where it has none.
-pub fn partner(crossings: &[Crossing], dart: Dart) -> Dart
+/// The place of the other dart of the arc of the dart at a place.
+pub fn partner_at(crossings: &[Crossing], place: u8) -> u8
     requires crossings { length crossings.now ≤ CROSSINGS }
-    requires crossing { dart.crossing ≤ CROSSINGS }
-    requires slot { dart.slot < 4 }
-    ensures dart { result ≡ partner crossings.now dart }
-    ensures crossing { result.crossing ≤ CROSSINGS }
-    ensures slot { result.slot < 4 }
+    requires place { place < 4 * length crossings.now }
+    ensures place { result ≡ partner_at crossings.now place }
+    ensures below { result < 4 * CROSSINGS }
 {
-    for place in 0..4 * crossings.len() {
-        let other = dart_at(place as u8);
-        if is_partner(crossings, dart, other) {
-            return other;
-        }
-    }
-    dart
+    dart_place(partner(crossings, dart_at(place)))
 }
 
-/// The dart that follows in a face.
-pub fn face_step(crossings: &[Crossing], dart: Dart) -> Dart
-    requires crossings { length crossings.now ≤ CROSSINGS }
-    requires crossing { dart.crossing ≤ CROSSINGS }
-    requires slot { dart.slot < 4 }
-    ensures dart { result ≡ face_step crossings.now dart }
-    ensures crossing { result.crossing ≤ CROSSINGS }
-    ensures slot { result.slot < 4 }
+/// The place of the dart at the slot before, round the same crossing.
+pub fn turned(place: u8) -> u8
+    requires { place < 4 * CROSSINGS }
+    ensures { result ≡ turned place }
 {
-    let other = partner(crossings, dart);
-    Dart {
-        crossing: other.crossing,
-        slot: (other.slot + 3) % 4,
-    }
+    4 * (place / 4) + (place % 4 + 3) % 4
 }

@@ -2,12 +2,11 @@
 
 ghost use Rattle.std.specs.Prelude.{◌≡◌, ◌≤◌, ◌<◌, ◌*◌, length};
 ghost use Rattle.kh_types.specs.declared.limits.TheConstants.{CROSSINGS};
-ghost use Rattle.kh_types.specs.Code.{place_of};
-ghost use Rattle.kh_types.specs.Darts.{dart_at, dart_place, partner, face_step};
-ghost use Rattle.kh_types.specs.Faces.{faces_of, face_count, pieces_of, piece_count, planar_face_count};
+ghost use Rattle.kh_types.specs.Darts.{partner_at};
+ghost use Rattle.kh_types.specs.Faces.{face_pair, piece_pair, faces_of, face_count, pieces_of, piece_count, planar_face_count};
 ghost use Rattle.kh_types.specs.Acceptance.{genus_fault};
 
-use crate::acceptance::darts::{dart_at, dart_place, face_step, partner};
+use crate::acceptance::darts::{partner_at, turned};
 use crate::classes::{CLASS_MEMBERS, class_count, classes_of};
 use crate::code::Crossing;
 use crate::fault::CodeFault;
@@ -29,7 +28,7 @@ pub fn genus_fault(crossings: &[Crossing]) -> Option<CodeFault>
 }
 
 /// The number of faces; loops count for none.
-fn face_count(crossings: &[Crossing]) -> u8
+pub fn face_count(crossings: &[Crossing]) -> u8
     requires { length crossings.now ≤ CROSSINGS }
     ensures { result ≡ face_count crossings.now }
 {
@@ -37,7 +36,7 @@ fn face_count(crossings: &[Crossing]) -> u8
 }
 
 /// The number of faces of a drawing on the sphere.
-fn planar_face_count(crossings: &[Crossing]) -> u8
+pub fn planar_face_count(crossings: &[Crossing]) -> u8
     requires { length crossings.now ≤ CROSSINGS }
     ensures { result ≡ planar_face_count crossings.now }
 {
@@ -61,11 +60,9 @@ fn faces_of(crossings: &[Crossing]) -> ArrayVec<u8, CLASS_MEMBERS>
 fn face_pair(crossings: &[Crossing], place: u8) -> (u8, u8)
     requires crossings { length crossings.now ≤ CROSSINGS }
     requires place { place < 4 * length crossings.now }
-    ensures { let dart = dart_at place in
-        result ≡ (dart_place dart, dart_place (face_step crossings.now dart)) }
+    ensures { result ≡ face_pair (partner_at crossings.now) place }
 {
-    let dart = dart_at(place);
-    (dart_place(dart), dart_place(face_step(crossings, dart)))
+    (place, turned(partner_at(crossings, place)))
 }
 
 /// The connected piece of each crossing, by the place of its least crossing.
@@ -85,12 +82,7 @@ fn pieces_of(crossings: &[Crossing]) -> ArrayVec<u8, CLASS_MEMBERS>
 fn piece_pair(crossings: &[Crossing], place: u8) -> (u8, u8)
     requires crossings { length crossings.now ≤ CROSSINGS }
     requires place { place < 4 * length crossings.now }
-    ensures { let dart = dart_at place in
-        result ≡ (place_of dart.crossing, place_of (partner crossings.now dart).crossing) }
+    ensures { result ≡ piece_pair (partner_at crossings.now) place }
 {
-    let dart = dart_at(place);
-    (
-        dart.crossing.saturating_sub(1),
-        partner(crossings, dart).crossing.saturating_sub(1),
-    )
+    (place / 4, partner_at(crossings, place) / 4)
 }

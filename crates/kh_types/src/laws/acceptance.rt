@@ -3,14 +3,14 @@
 ghost use Rattle.std.specs.Prelude.{◌≡◌, Some, None, [], ◌∷◌, true, reverse, pos, neg_ℤ};
 ghost use Rattle.kh_types.specs.declared.fault.CodeFault.{CodeFault};
 ghost use Rattle.kh_types.specs.declared.fault.CodeFault.TheVariants.{ArcRange, ArcTimes, Interval, Under, Over, TwoArc, Checkerboard, Genus, Components};
-ghost use Rattle.kh_types.specs.WorkedCodes.{code_of, crossing_of, empty_link, one_loop, curl, two_curls, over_circle, hopf_link, trefoil, figure_eight, turned_trefoil, virtual_trefoil};
+ghost use Rattle.kh_types.specs.WorkedCodes.{without_loops, slots_with, empty_link, one_loop, curl, two_curls, over_circle, hopf_link, trefoil, figure_eight, turned_trefoil, virtual_trefoil};
 ghost use Rattle.kh_types.specs.Components.{component_count};
-ghost use Rattle.kh_types.specs.Faces.{face_count, piece_count, planar_face_count};
+ghost use Rattle.kh_types.specs.Faces.{face_count, piece_count};
 ghost use Rattle.kh_types.specs.Directions.{sign_of, plus_count, minus_count, head_of, tail_of};
 ghost use Rattle.kh_types.specs.Acceptance.{first_fault, accepted, checkerboard_fault};
 
 /// These codes are accepted.
-pub fn accepted_codes()
+pub fn known_codes_are_accepted()
     ensures empty { accepted empty_link ≡ true }
     ensures loop_alone { accepted one_loop ≡ true }
     ensures curled { accepted curl ≡ true }
@@ -22,8 +22,10 @@ pub fn accepted_codes()
     ensures many_loops { accepted (record empty_link { loops = 24 }) ≡ true }
 {}
 
-/// The counts of the trefoil and of the Hopf link.
-pub fn counts()
+/// Counts, signs, heads and tails of known codes. A circle of two arcs that is over at both its crossings goes from the smaller
+/// to the greater at the first listed of them, and back at the other: in either order of the crossings. The over pass of a curl
+/// goes against its under pass.
+pub fn known_codes_have_these_parts()
     ensures trefoil_components { component_count trefoil.crossings ≡ 1 }
     ensures trefoil_faces { face_count trefoil.crossings ≡ 5 }
     ensures trefoil_pieces { piece_count trefoil.crossings ≡ 1 }
@@ -34,19 +36,10 @@ pub fn counts()
     ensures curl_plus { plus_count curl.crossings ≡ 1 }
     ensures curls_apart_pieces { piece_count two_curls.crossings ≡ 2 }
     ensures curls_apart_faces { face_count two_curls.crossings ≡ 6 }
-{}
-
-/// A circle of two arcs that is over at both its crossings goes from the smaller to the greater at the first listed of them, and
-/// back at the other: in either order of the crossings.
-pub fn over_circle_signs()
-    ensures first { sign_of over_circle.crossings 1 ≡ pos 1 }
-    ensures second { sign_of over_circle.crossings 2 ≡ neg_ℤ (pos 1) }
+    ensures over_first { sign_of over_circle.crossings 1 ≡ pos 1 }
+    ensures over_second { sign_of over_circle.crossings 2 ≡ neg_ℤ (pos 1) }
     ensures listed_other_first { sign_of (reverse over_circle.crossings) 1 ≡ pos 1 }
     ensures listed_other_second { sign_of (reverse over_circle.crossings) 2 ≡ neg_ℤ (pos 1) }
-{}
-
-/// The ends of two arcs of the trefoil, and of the two arcs of a curl, whose over pass goes against its under pass.
-pub fn heads_and_tails()
     ensures first_head { head_of trefoil.crossings 1 ≡ record { crossing = 1; slot = 0 } }
     ensures first_tail { tail_of trefoil.crossings 1 ≡ record { crossing = 2; slot = 3 } }
     ensures fourth_head { head_of trefoil.crossings 4 ≡ record { crossing = 1; slot = 1 } }
@@ -56,43 +49,35 @@ pub fn heads_and_tails()
 {}
 
 /// The first rule that each of these codes breaks, with what shows it.
-pub fn first_faults()
-    ensures arc_range { first_fault (code_of (crossing_of 0 1 2 2 ∷ [])) ≡ Some (ArcRange 1 0) }
+pub fn codes_break_these_rules_first()
+    ensures arc_range { first_fault (without_loops (slots_with 0 1 2 2 ∷ [])) ≡ Some (ArcRange 1 0) }
     ensures arc_times { first_fault
-        (code_of (crossing_of 1 4 2 5 ∷ crossing_of 3 6 4 1 ∷ crossing_of 5 2 6 6 ∷ []))
+        (without_loops (slots_with 1 4 2 5 ∷ slots_with 3 6 4 1 ∷ slots_with 5 2 6 6 ∷ []))
         ≡ Some (ArcTimes 3 1) }
-    ensures interval { first_fault (code_of (crossing_of 4 1 2 3 ∷ crossing_of 3 2 1 4 ∷ []))
+    ensures interval { first_fault (without_loops (slots_with 4 1 2 3 ∷ slots_with 3 2 1 4 ∷ []))
         ≡ Some (Interval 1) }
     ensures under { first_fault
-        (code_of (crossing_of 2 5 1 4 ∷ crossing_of 3 6 4 1 ∷ crossing_of 5 2 6 3 ∷ []))
+        (without_loops (slots_with 2 5 1 4 ∷ slots_with 3 6 4 1 ∷ slots_with 5 2 6 3 ∷ []))
         ≡ Some (Under 1) }
-    ensures over { first_fault (code_of (crossing_of 1 1 2 3 ∷ crossing_of 3 2 4 4 ∷ []))
+    ensures over { first_fault (without_loops (slots_with 1 1 2 3 ∷ slots_with 3 2 4 4 ∷ []))
         ≡ Some (Over 1) }
-    ensures two_arc { first_fault (code_of (crossing_of 1 4 2 3 ∷ crossing_of 1 4 2 3 ∷ []))
+    ensures two_arc { first_fault (without_loops (slots_with 1 4 2 3 ∷ slots_with 1 4 2 3 ∷ []))
         ≡ Some (TwoArc 2) }
     ensures components { first_fault (record empty_link { loops = 25 }) ≡ Some (Components 25) }
     ensures component_counts { first_fault (record curl { loops = 24 }) ≡ Some (Components 25) }
     // Of the pairs of under passes at the crossings 1 and 4, and 2 and 3, the one whose second comes first.
     ensures least_second { first_fault
-        (code_of (crossing_of 1 5 2 6 ∷ crossing_of 3 7 4 8 ∷ crossing_of 3 8 4 7
-        ∷ crossing_of 1 5 2 6 ∷ []))
+        (without_loops (slots_with 1 5 2 6 ∷ slots_with 3 7 4 8 ∷ slots_with 3 8 4 7
+        ∷ slots_with 1 5 2 6 ∷ []))
         ≡ Some (TwoArc 3) }
     // A component of one arc has itself as its next, so an under pass from it to it breaks no rule of passes.
-    ensures one_arc { first_fault (code_of (crossing_of 1 2 1 2 ∷ [])) ≡ Some (Checkerboard 1) }
+    ensures one_arc { first_fault (without_loops (slots_with 1 2 1 2 ∷ [])) ≡ Some (Checkerboard 1) }
     // Two components are no intervals: the least arc of both.
-    ensures least_interval { first_fault (code_of (crossing_of 1 2 3 4 ∷ crossing_of 3 4 1 2 ∷ []))
+    ensures least_interval { first_fault (without_loops (slots_with 1 2 3 4 ∷ slots_with 3 4 1 2 ∷ []))
         ≡ Some (Interval 1) }
-{}
-
-/// One crossing of the trefoil turned: the code has a checkerboard, but 3 faces where the sphere wants 5.
-pub fn turned_trefoil_is_on_a_torus()
-    ensures faces { face_count turned_trefoil.crossings ≡ 3 }
-    ensures wanted { planar_face_count turned_trefoil.crossings ≡ 5 }
+    // The virtual trefoil has no checkerboard: its first two equations contradict each other.
+    ensures no_checkerboard { first_fault virtual_trefoil ≡ Some (Checkerboard 2) }
+    // One crossing of the trefoil turned: the code has a checkerboard, but it is drawn on a torus.
     ensures checkerboard { checkerboard_fault turned_trefoil.crossings ≡ None }
-    ensures first { first_fault turned_trefoil ≡ Some (Genus 3 5) }
-{}
-
-/// The virtual trefoil has no checkerboard: its first two equations contradict each other.
-pub fn virtual_trefoil_has_no_checkerboard()
-    ensures { first_fault virtual_trefoil ≡ Some (Checkerboard 2) }
+    ensures torus { first_fault turned_trefoil ≡ Some (Genus 3 5) }
 {}

@@ -1,20 +1,15 @@
 //! What an accepted code is.
 
-ghost use Rattle.std.specs.Prelude.{◌≡◌, ◌↔◌, IsTrue, None};
+ghost use Rattle.std.specs.Prelude.{◌≡◌, ◌↔◌, ℕ, List, IsTrue, None};
 ghost use Rattle.kh_types.specs.Code.{Code};
-ghost use Rattle.kh_types.specs.Faces.{face_count, planar_face_count};
-ghost use Rattle.kh_types.specs.Acceptance.{accepted, direction_fault, checkerboard_fault, genus_fault, components_fault};
+ghost use Rattle.kh_types.specs.Acceptance.{accepted, direction_fault};
+ghost use Rattle.kh_types.specs.Accepted.{IsDirected, IsAccepted};
 
-/// A code is accepted exactly where it is directed, has a checkerboard and the faces of a drawing on the sphere, and has not
-/// too many components.
-pub fn accepted_breaks_no_rule()
-    ensures { (code : Code) → IsTrue (accepted code) ↔ ((direction_fault code.crossings ≡ None)
-        × (checkerboard_fault code.crossings ≡ None) × (genus_fault code.crossings ≡ None)
-        × (components_fault code ≡ None)) }
-{}
-
-/// An accepted code with n crossings in k pieces has n + 2k faces.
-pub fn accepted_is_planar()
-    ensures { (code : Code) → IsTrue (accepted code)
-        → face_count code.crossings ≡ planar_face_count code.crossings }
+/// The rules say what the subject says. A code breaks none of the first six rules exactly where it
+/// is a directed code, and none of the nine exactly where it also has a checkerboard choice, n + 2k
+/// faces for n crossings in k pieces, and not too many components and loops.
+pub fn rules_say_what_is_accepted()
+    ensures directed { (crossings : List (List ℕ))
+        → (direction_fault crossings ≡ None) ↔ IsDirected crossings }
+    ensures accepted { (code : Code) → IsTrue (accepted code) ↔ IsAccepted code }
 {}

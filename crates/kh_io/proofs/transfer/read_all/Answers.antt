@@ -7,7 +7,7 @@ use Rattle.kh_io.specs.declared.transfer.ReadStop.TheVariants.{ByteLimit, NoMemo
 use Rattle.kh_io.proofs.KnownBytes.{Consumes-trans}
 use Rattle.kh_io.proofs.transfer.read_all.Goals as goal
 
--- want of memory is another answer than too many bytes, and comes where there are not
+-- out of memory is another answer than too many bytes, and comes where there are not
 within_limit : {T : Type 0} (result : Result T ReadStop) (stop : ReadStop) (bytes : List ℕ) → result ≡ Err stop
     → stop ≡ NoMemory → length bytes ≤ INPUT_BYTES → (result ≡ Err ByteLimit) ↔ (INPUT_BYTES < length bytes)
 within_limit result stop bytes is_stop memory few = ((λ limit. cc), (λ many. grind arith))

@@ -4,7 +4,7 @@ use Rattle.kh_io.proofs.transfer.write_all.Goals as goal
 
 pub writing-preserved : goal.writing-preserved
 writing-preserved g c = record {
-  front = Appends-more _ _ _ _ _ _ c.writing.invariant.front c.in_ok-at.ensures.bytes;
+  prefix = Appends-more _ _ _ _ _ _ c.writing.invariant.prefix c.in_ok-at.ensures.bytes;
   inside = search rules;
   later = search rules;
   same = search rules;

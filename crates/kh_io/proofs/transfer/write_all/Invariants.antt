@@ -5,7 +5,7 @@ use Rattle.kh_io.proofs.transfer.write_all.Given as goal
 -- the bytes so far are written, and no write has come before the first of them
 abbrev pub invariant-writing : goal.invariant-writing
 invariant-writing g l = record {
-  front : Appends (g.K.Sink.written l.fn.sink) (g.K.Sink.written l.sink) (take l.at l.bytes);
+  prefix : Appends (g.K.Sink.written l.fn.sink) (g.K.Sink.written l.sink) (take l.at l.bytes);
   inside : l.at ≤ length l.bytes;
   later : g.K.Sink.faults l.fn.sink ≤ g.K.Sink.faults l.sink;
   same : l.at ≡ 0 → l.sink ≡ l.fn.sink;

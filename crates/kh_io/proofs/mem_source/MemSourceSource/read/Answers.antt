@@ -1,17 +1,14 @@
 use Rattle.std.proofs.Common.{◌≡◌, ◌<◌, ◌+◌, ◌∙◌, ap, min, length, take, drop, ℕ, ◌-◌, List, [], ◌++◌, arith, take-append-drop}
 use Rattle.std.proofs.lemmas.Grind.{common_steps}
+use Rattle.std.proofs.lemmas.List.{take_rest}
 use Rattle.std.proofs.Math.Seq.{drop-drop}
 use Rattle.kh_io.proofs.mem_source.MemSourceSource.read.Goals as goal
 
--- the bytes behind a place, as a slice has them
-slice_behind : (bytes : List ℕ) (at : ℕ) → take (length bytes - at) (drop at bytes) ≡ drop at bytes
-slice_behind bytes at = grind (arith, common_steps)
-
 -- from a place on, the bytes are those that a read gives and those that are left then
-front_given : (bytes front : List ℕ) (at n : ℕ) → front ≡ take n (take (length bytes - at) (drop at bytes))
-    → drop at bytes ≡ front ++ drop (at + n) bytes
-front_given bytes front at n given =
-    let taken : front ≡ take n (drop at bytes) = given ∙ ap (take n) (slice_behind bytes at) in
+prefix_given : (bytes given : List ℕ) (at n : ℕ) → given ≡ take n (take (length bytes - at) (drop at bytes))
+    → drop at bytes ≡ given ++ drop (at + n) bytes
+prefix_given bytes given at n is =
+    let taken : given ≡ take n (drop at bytes) = is ∙ ap (take n) (take_rest bytes at) in
     rw (taken, ← drop-drop n at bytes, take-append-drop)
 
 -- a read that gives none where it might give some is at the end
@@ -23,6 +20,6 @@ pub returns-clause-bytes : goal.returns-clause-bytes
 returns-clause-bytes c =
     let bytes = c.deref-2.result.now in
     let at = c.self.inside.at in
-    let given = c.copy_front-count.ensures in
+    let given = c.copy_prefix-count.ensures in
     rw (← c.self.view_is, ← c.deref-2.ensures.value)
-    (front_given bytes _ at _ given.front, λ none space. end_given bytes at _ _ _ c.self.invariant.some c.requires given.count none)
+    (prefix_given bytes _ at _ given.prefix, λ none space. end_given bytes at _ _ _ c.self.invariant.some c.requires given.count none)

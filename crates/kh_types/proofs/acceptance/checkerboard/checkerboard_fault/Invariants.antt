@@ -1,7 +1,7 @@
 use Rattle.std.proofs.Common.{◌≡◌, ℕ, ◌<◌, ◌≤◌, false, take}
 use Rattle.std.specs.List.{list_all, range_with_len}
 use Rattle.std.specs.Prelude.{None}
-use Rattle.kh_types.specs.Equations.{equations_of, is_solved}
+use Rattle.kh_types.specs.Checkerboard.{equations_of, is_solved}
 use Rattle.kh_types.specs.Acceptance.{first_of, checkerboard_at}
 use Rattle.kh_types.proofs.acceptance.checkerboard.checkerboard_fault.Given as goal
 

@@ -1,6 +1,6 @@
 use Rattle.std.proofs.Common.{◌≡◌, ℕ, ◌<◌, ◌≤◌, false}
 use Rattle.std.specs.List.{list_all}
-use Rattle.kh_types.specs.Equations.{is_solved}
+use Rattle.kh_types.specs.Checkerboard.{is_solved}
 use Rattle.kh_types.proofs.acceptance.checkerboard.first_choice.Given as goal
 
 abbrev pub invariant-loop-choice : goal.invariant-loop-choice

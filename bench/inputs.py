@@ -1,0 +1,74 @@
+#!/usr/bin/env python3
+"""Measures whole runs of the program on small and on hostile inputs against runs of `true`, and the memory that they take.
+
+    bench/inputs.py [RUNS] [WORD]
+
+For each input the runs of the two are alternated, so that whatever else the machine does falls on both. It prints the medians, their
+ratio and the greatest memory that a run has had resident; with a word only the inputs whose names have it. Build the program first, by
+`./kh`. The gate does not run it.
+"""
+import os
+import statistics
+import subprocess
+import sys
+import time
+
+TOP = os.path.dirname(os.path.dirname(os.path.abspath(__file__)))
+PROGRAM = os.path.join(TOP, "crates", "kh_main", "out", "kh_main")
+TREFOIL = b"PD[X[1,4,2,5], X[3,6,4,1], X[5,2,6,3]]"
+LIMIT = 65_536
+
+# Name, words and input.
+INPUTS = [
+    ("the trefoil", ["homology"], TREFOIL),
+    ("the figure eight", ["homology"], b"PD[X[4,2,5,1], X[8,6,1,5], X[6,3,7,4], X[2,7,3,8]]"),
+    ("a full input", ["convert"], TREFOIL.ljust(LIMIT)),
+    ("a byte too many", ["convert"], b" " * (LIMIT + 1)),
+    ("5,900 crossings", ["convert"], b"PD[" + b",".join([b"X[1,1,2,2]"] * 5_900) + b"]"),
+    ("65,000 digits", ["convert"], b"PD[Loop[" + b"0" * 65_000 + b"]]"),
+    ("65,536 commas", ["convert"], b"," * LIMIT),
+    ("65,536 brackets", ["convert"], b"PD" + b"[" * (LIMIT - 2)),
+    ("a JSON array of 32,767 zeros", ["convert"], b"[" + b",".join([b"0"] * 32_767) + b"]"),
+    ("JSON nested 127 deep", ["convert"], b"[" * 127 + b"]" * 127),
+    ("JSON nested 30,000 deep", ["convert"], b"[" * 30_000 + b"]" * 30_000),
+    ("a JSON text of 60,000 letters", ["convert"], b'["' + b"a" * 60_000 + b'"]'),
+    ("a JSON number of 60,000 digits", ["convert"], b"[[" + b"1" * 60_000 + b"]]"),
+    ("no command", [], TREFOIL),
+]
+
+
+def run(words, given):
+    """The seconds that a run takes, and the most memory that it has resident, in KB."""
+    read, write = os.pipe()
+    start = time.perf_counter()
+    program = subprocess.Popen(words, stdin=read, stdout=subprocess.DEVNULL)
+    os.close(read)
+    try:
+        with os.fdopen(write, "wb") as pipe:
+            pipe.write(given)
+    except BrokenPipeError:
+        pass
+    _, _, usage = os.wait4(program.pid, 0)
+    program.returncode = 0
+    return time.perf_counter() - start, usage.ru_maxrss
+
+
+def measure(words, given, runs):
+    mine, others = [], []
+    for _ in range(runs):
+        mine.append(run([PROGRAM, *words], given))
+        others.append(run(["/bin/true"], b""))
+    seconds = statistics.median(time for time, _ in mine)
+    other = statistics.median(time for time, _ in others)
+    return seconds, other, max(memory for _, memory in mine)
+
+
+def main(runs, word):
+    for name, words, given in INPUTS:
+        if word in name:
+            seconds, other, memory = measure(words, given, runs)
+            print(f"{name}: {seconds * 1000:.2f} ms, true {other * 1000:.2f} ms, ratio {seconds / other:.1f}, {memory:,} KB")
+
+
+if __name__ == "__main__":
+    main(int(sys.argv[1]) if len(sys.argv) > 1 else 50, sys.argv[2] if len(sys.argv) > 2 else "")

@@ -1,0 +1,4 @@
+mod Elements
+mod Counts
+mod Crossings
+pub mod Readings

@@ -1,0 +1,18 @@
+-- Bits of numbers.
+use Rattle.std.proofs.Common.{◌≡◌, ℕ, ◌+◌, ◌%◌, ◌^◌, ◌<◌, ◌≤◌, ap, arith}
+use Rattle.std.proofs.Math.Nat.{div-eq_of_lt}
+use Rattle.std.proofs.Math.Pow.{pow_mono}
+use Rattle.kh_types.specs.Bits.{bit, ones}
+use Rattle.kh_types.proofs.Ranges.{sum_by-range_more}
+
+-- a number has no bit from the place on of which it has fewer
+pub bit-past : (number place size : ℕ) → number < 2 ^ size → size ≤ place → bit number place ≡ 0
+bit-past number place size below past =
+    let power : 2 ^ size ≤ 2 ^ place = pow_mono past in
+    let less : number < 2 ^ place = omega arith in
+    ap (λ n. n % 2) (div-eq_of_lt less)
+
+pub ones-more : (count number : ℕ) → ones (count + 1) number ≡ ones count number + bit number count
+ones-more count number = sum_by-range_more (bit number) 0 count count (omega arith)
+
+pub ruleset bits = (bit-past, ones-more)

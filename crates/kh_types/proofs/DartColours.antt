@@ -1,0 +1,141 @@
+-- A checkerboard choice gives each arc one dart of either colour.
+use Rattle.std.proofs.Common.{◌≡◌, ◌≢◌, ℕ, ◌⊎◌, inl, inr, ◌+◌, ◌-◌, ◌*◌, ◌%◌, ◌<◌, ◌∙◌, List, [], length, refl, sym, ap, subst, arith, IsTrue, true}
+use Rattle.std.specs.Prelude.{slice_index_or}
+use Rattle.std.proofs.lemmas.Bool.{eqb-true}
+use Rattle.kh_types.specs.declared.dart.Dart.{Dart}
+use Rattle.kh_types.specs.Code.{Code, IsArc, arc_in, place_of}
+use Rattle.kh_types.specs.Bits.{bit}
+use Rattle.kh_types.specs.Darts.{arc_of, first_dart, partner, IsDart, HasArcsTwice}
+use Rattle.kh_types.specs.Checkerboard.{solves_at, IsCheckerboard}
+use Rattle.kh_types.specs.Colours.{colour, IsColoured}
+use Rattle.kh_types.specs.Acceptance.{accepted}
+use Rattle.kh_types.proofs.RangeCounts.{list_all-at}
+use Rattle.kh_types.proofs.DartPairs.{IsOtherDart-partner, IsDartOf-first_dart, first_dart_or_partner}
+use Rattle.kh_types.proofs.AcceptedLemmas.{IsAccepted-is, HasArcsTwice-directed}
+
+-- the two darts of an arc differ in colour where a choice solves its equation
+differ-solved : (crossings : List (List ℕ)) (choice arc : ℕ) → solves_at crossings choice arc ≡ true
+    → colour choice (first_dart crossings arc) ≢ colour choice (partner crossings (first_dart crossings arc))
+differ-solved crossings choice arc solves same =
+    let dart = first_dart crossings arc in
+    let other = partner crossings dart in
+    odd_sum (bit choice (place_of dart.crossing)) dart.slot (bit choice (place_of other.crossing)) other.slot
+    (eqb-true ((bit choice (place_of dart.crossing) + (bit choice (place_of other.crossing) + (dart.slot + other.slot))) % 2) 1
+    solves)
+    same
+  where
+    odd_sum : (x s y t : ℕ) → (x + (y + (s + t))) % 2 ≡ 1 → (x + s) % 2 ≢ (y + t) % 2
+    odd_sum x s y t odd alike = absurd (omega (arith, odd, alike))
+
+-- of two things of different colours one has a given colour
+one_of_two : (x y side : ℕ) → x % 2 ≢ y % 2 → side < 2 → (x % 2 ≡ side) ⊎ (y % 2 ≡ side)
+one_of_two x y side differ below =
+    let x_below : x % 2 < 2 = omega arith in
+    let y_below : y % 2 < 2 = omega arith in
+    grind arith
+
+-- two of two darts that differ in colour are one where they have one colour
+one_dart : (choice : ℕ) (first second dart other : Dart) → colour choice first ≢ colour choice second
+    → (dart ≡ first) ⊎ (dart ≡ second) → (other ≡ first) ⊎ (other ≡ second) → colour choice dart ≡ colour choice other → dart ≡ other
+one_dart choice first second dart other differ is other_is alike = elim is [
+  | inl is_first ↦ elim other_is [
+    | inl other_first ↦ is_first ∙ sym other_first
+    | inr other_second ↦ absurd (differ (ap (colour choice) (sym is_first) ∙ alike ∙ ap (colour choice) other_second))
+  ]
+  | inr is_second ↦ elim other_is [
+    | inl other_first ↦ absurd (differ (ap (colour choice) (sym other_first) ∙ sym alike ∙ ap (colour choice) is_second))
+    | inr other_second ↦ is_second ∙ sym other_second
+  ]
+]
+
+pub IsColoured-checkerboard : (crossings : List (List ℕ)) (board : IsCheckerboard crossings) → HasArcsTwice crossings
+    → IsColoured crossings board.choice
+IsColoured-checkerboard crossings board twice =
+    let choice = board.choice in
+    let differ = λ (arc : ℕ) (is : IsArc crossings arc).
+    differ-solved crossings choice arc
+    (list_all-at (solves_at crossings choice) 1 (2 * length crossings) arc board.solves is.positive (omega (arith, is.within))) in
+    record {
+      arcs = twice.slots;
+      once = λ dart other is other_is same alike.
+          let arc = arc_of crossings other in
+          let is_arc = twice.slots other other_is in
+          one_dart choice (first_dart crossings arc) (partner crossings (first_dart crossings arc)) dart other (differ arc is_arc)
+          (first_dart_or_partner crossings arc dart twice is_arc (record { within = is; on_arc = same }))
+          (first_dart_or_partner crossings arc other twice is_arc (record { within = other_is; on_arc = refl })) alike;
+      both = λ arc side is below.
+          let first = first_dart crossings arc in
+          let second = partner crossings first in
+          let first_is = IsDartOf-first_dart crossings arc twice is in
+          let second_is = IsOtherDart-partner crossings first twice first_is.within in
+          elim (one_of_two (bit choice (place_of first.crossing) + first.slot) (bit choice (place_of second.crossing) + second.slot)
+          side (differ arc is) below) [
+            | inl is_side ↦ (first, first_is, is_side)
+            | inr is_side ↦ (
+              second,
+              record { within = second_is.within; on_arc = second_is.same_arc ∙ first_is.on_arc },
+              is_side,
+            )
+          ];
+    }
+
+pub IsColoured-accepted : (code : Code) → IsTrue (accepted code) → (choice : ℕ) × IsColoured code.crossings choice
+IsColoured-accepted code holds =
+    let is = (IsAccepted-is code).0 holds in
+    (is.checkerboard.choice, IsColoured-checkerboard code.crossings is.checkerboard (HasArcsTwice-directed code.crossings is.directed))
+
+-- the same by places and slots
+
+-- the arc and the colour at a slot of the crossing at a place of the list
+abbrev pub arc_at : List (List ℕ) → ℕ → ℕ → ℕ
+arc_at crossings place slot = arc_in (slice_index_or crossings place []) slot
+
+abbrev pub colour_at : ℕ → ℕ → ℕ → ℕ
+colour_at choice place slot = (bit choice place + slot) % 2
+
+-- the dart there
+abbrev pub dart_of : ℕ → ℕ → Dart
+dart_of place slot = record { crossing = place + 1; slot = slot }
+
+place_back : (place : ℕ) → place + 1 - 1 ≡ place
+place_back place = omega arith
+
+pub arc_of-dart_of : (crossings : List (List ℕ)) (place slot : ℕ) → arc_of crossings (dart_of place slot) ≡ arc_at crossings place slot
+arc_of-dart_of crossings place slot = ap (λ p. arc_at crossings p slot) (place_back place)
+
+pub colour-dart_of : (choice place slot : ℕ) → colour choice (dart_of place slot) ≡ colour_at choice place slot
+colour-dart_of choice place slot = ap (λ p. colour_at choice p slot) (place_back place)
+
+pub IsDart-dart_of : (crossings : List (List ℕ)) (place slot : ℕ) → place < length crossings → slot < 4
+    → IsDart crossings (dart_of place slot)
+IsDart-dart_of crossings place slot below slot_below = record {
+  crossing = record { positive = omega arith; within = omega (arith, below) };
+  slot = slot_below;
+}
+
+pub arcs-places : (crossings : List (List ℕ)) (choice place slot : ℕ) → IsColoured crossings choice → place < length crossings
+    → slot < 4 → IsArc crossings (arc_at crossings place slot)
+arcs-places crossings choice place slot oriented below slot_below =
+    subst (λ (arc : ℕ). IsArc crossings arc) (arc_of-dart_of crossings place slot)
+    (oriented.arcs (dart_of place slot) (IsDart-dart_of crossings place slot below slot_below))
+
+pub once-places : (crossings : List (List ℕ)) (choice place slot other other_slot : ℕ) → IsColoured crossings choice
+    → place < length crossings → slot < 4 → other < length crossings → other_slot < 4
+    → arc_at crossings place slot ≡ arc_at crossings other other_slot
+    → colour_at choice place slot ≡ colour_at choice other other_slot → (place ≡ other) × (slot ≡ other_slot)
+once-places crossings choice place slot other other_slot oriented below slot_below other_below other_slot_below same alike =
+    let same_dart = oriented.once (dart_of place slot) (dart_of other other_slot)
+    (IsDart-dart_of crossings place slot below slot_below) (IsDart-dart_of crossings other other_slot other_below other_slot_below)
+    (arc_of-dart_of crossings place slot ∙ same ∙ sym (arc_of-dart_of crossings other other_slot))
+    (colour-dart_of choice place slot ∙ alike ∙ sym (colour-dart_of choice other other_slot)) in
+    let same_crossing : place + 1 ≡ other + 1 = ap (λ (dart : Dart). dart.crossing) same_dart in
+    (omega (arith, same_crossing), ap (λ (dart : Dart). dart.slot) same_dart)
+
+pub both-places : (crossings : List (List ℕ)) (choice arc side : ℕ) → IsColoured crossings choice → IsArc crossings arc → side < 2
+    → (place : ℕ) × (slot : ℕ) × (place < length crossings) × (slot < 4) × (arc_at crossings place slot ≡ arc)
+    × (colour_at choice place slot ≡ side)
+both-places crossings choice arc side oriented is below =
+    let found = oriented.both arc side is below in
+    let dart = found.0 in
+    let within = found.1.within in
+    (dart.crossing - 1, dart.slot, omega (arith, within.crossing.positive, within.crossing.within), within.slot, found.1.on_arc, found.2)

@@ -1,0 +1,126 @@
+-- The sizes of the degrees of generators, and which degrees have generators.
+use Rattle.std.proofs.Common.{◌≡◌, ℕ, ◌+◌, ◌-◌, ◌*◌, ◌/◌, ◌^◌, ◌<◌, ◌≤◌, ◌∙◌, List, [], ℤ, pos, ◌+ℤ◌, ◌-ℤ◌, inl, inr, refl, sym, length, get_or, true, subst, arith}
+use Rattle.std.specs.List.{All, range_with_len}
+use Rattle.std.specs.Ordering.{int_eq}
+use Rattle.std.proofs.lemmas.Bool.{and_parts, cases_lt}
+use Rattle.std.proofs.lemmas.Bool.Decides.{Decides-int_eq}
+use Rattle.std.proofs.lemmas.Int.{ints}
+use Rattle.std.proofs.lemmas.List.{nil_from_length}
+use Rattle.std.proofs.lemmas.List.Elements.{All-weaker, filter_passes}
+use Rattle.std.proofs.lemmas.List.FromFn.{length-range_with_len, length-map-range_with_len, get_or-map-range_with_len}
+use Rattle.std.proofs.lemmas.List.Sums.{sum_by-le, count_by-le-length}
+use Rattle.std.proofs.Math.Nat.{mod-lt}
+use Rattle.kh_types.specs.declared.limits.TheConstants.{CROSSINGS, EXPONENT}
+use Rattle.kh_types.specs.Code.{Code, crossing_numbers}
+use Rattle.kh_types.specs.Bits.{bit, ones}
+use Rattle.kh_types.specs.Components.{components_of, component_count}
+use Rattle.kh_types.specs.Directions.{is_positive_in, plus_count, minus_count}
+use Rattle.kh_types.specs.Circles.{circle_count}
+use Rattle.kh_types.specs.Generators.{Generator, one_count, homological_degree, quantum_degree, generators, has_degrees, generators_at}
+use Rattle.kh_types.specs.Accepted.{IsAccepted}
+use Rattle.kh_types.specs.Table.{IsWithin}
+use Rattle.kh_types.proofs.Lists.{All-some}
+use Rattle.kh_types.proofs.CircleBound.{circle_count-le, circle_count-within}
+
+-- the numbers from -n to n by their places
+
+pub IsWithin-place : (n k : ℕ) (i : ℤ) → k < 2 * n + 1 → i ≡ pos k -ℤ pos n → IsWithin n i
+IsWithin-place n k i below is = (
+  k,
+  omega (arith, length-map-range_with_len (λ m. pos m -ℤ pos n) 0 (2 * n + 1)),
+  get_or-map-range_with_len (λ m. pos m -ℤ pos n) 0 (2 * n + 1) k k i below (omega arith) ∙ sym is,
+)
+
+pub place-IsWithin : (n : ℕ) (i : ℤ) → IsWithin n i → (k : ℕ) × (k < 2 * n + 1) × (i ≡ pos k -ℤ pos n)
+place-IsWithin n i (k, below, is) =
+    let within : k < 2 * n + 1 = omega (arith, length-map-range_with_len (λ m. pos m -ℤ pos n) 0 (2 * n + 1)) in
+    (k, within, sym is ∙ get_or-map-range_with_len (λ m. pos m -ℤ pos n) 0 (2 * n + 1) k k i within (omega arith))
+
+-- counts are at most what is counted
+
+pub bit-le : (number place : ℕ) → bit number place ≤ 1
+bit-le number place = let small : bit number place < 2 = mod-lt (number / 2 ^ place) (omega arith) in omega arith
+
+pub ones-le : (count number : ℕ) → ones count number ≤ count
+ones-le count number =
+    let places = range_with_len 0 count in
+    omega (arith, length-range_with_len 0 count, sum_by-le (bit number) 1 places (λ k d below. bit-le number (get_or places k d)))
+
+pub one_count-le : (code : Code) (state : ℕ) → one_count code state ≤ length code.crossings
+one_count-le code state = ones-le (length code.crossings) state
+
+pub plus_count-le : (crossings : List (List ℕ)) → plus_count crossings ≤ length crossings
+plus_count-le crossings =
+    omega (
+      arith,
+      count_by-le-length (is_positive_in crossings (components_of crossings)) (crossing_numbers crossings),
+      length-range_with_len 1 (length crossings),
+    )
+
+-- the degrees of a generator
+
+pub homological_degree-within : (code : Code) (generator : Generator)
+    → IsWithin (length code.crossings) (homological_degree code generator)
+homological_degree-within code generator =
+    let n = length code.crossings in
+    let minus = minus_count code.crossings in
+    let few = one_count-le code generator.state in
+    IsWithin-place n (one_count code generator.state + (n - minus)) (homological_degree code generator) (omega arith)
+    (omega (arith, ints))
+
+-- a sum of at most c circles, at most n crossings that have their 1-smoothing, and the signs of n crossings
+sum-within : (n c o r plus minus most : ℕ) → o ≤ c → r ≤ n → plus ≤ n → minus ≡ n - plus → c + 2 * n ≤ most
+    → IsWithin most ((pos c -ℤ pos (2 * o)) +ℤ (pos (r + plus) -ℤ pos (2 * minus)))
+sum-within n c o r plus minus most few low some rest fits =
+    IsWithin-place most (c + (r + plus) + most - (2 * o + 2 * minus))
+    ((pos c -ℤ pos (2 * o)) +ℤ (pos (r + plus) -ℤ pos (2 * minus))) (omega arith) (omega (arith, ints))
+
+pub quantum_degree-within : (code : Code) (generator : Generator) (most : ℕ)
+    → circle_count code generator.state + 2 * length code.crossings ≤ most → IsWithin most (quantum_degree code generator)
+quantum_degree-within code generator most fits =
+    let count = circle_count code generator.state in
+    sum-within (length code.crossings) count (ones count generator.label) (one_count code generator.state)
+    (plus_count code.crossings) (minus_count code.crossings) most (ones-le count generator.label)
+    (one_count-le code generator.state) (plus_count-le code.crossings) refl fits
+
+-- in an accepted code
+pub quantum_degree-accepted : (code : Code) (generator : Generator) → IsAccepted code
+    → IsWithin (3 * length code.crossings + component_count code.crossings + code.loops) (quantum_degree code generator)
+quantum_degree-accepted code generator is =
+    quantum_degree-within code generator (3 * length code.crossings + component_count code.crossings + code.loops)
+    (omega (arith, circle_count-le code generator.state is.directed.slots))
+
+pub quantum_degree-exponent : (code : Code) (generator : Generator) → IsAccepted code → length code.crossings ≤ CROSSINGS
+    → IsWithin EXPONENT (quantum_degree code generator)
+quantum_degree-exponent code generator is few =
+    quantum_degree-within code generator EXPONENT (omega (arith, circle_count-within code generator.state is few))
+
+-- the generators of two degrees have them
+pub generators_at-degrees : (code : Code) (i j : ℤ)
+    → All (λ generator. (homological_degree code generator ≡ i) × (quantum_degree code generator ≡ j)) (generators_at code i j)
+generators_at-degrees code i j =
+    All-weaker (λ generator. has_degrees code i j generator ≡ true)
+    (λ generator. (homological_degree code generator ≡ i) × (quantum_degree code generator ≡ j))
+    (λ generator passes.
+    let h = homological_degree code generator in
+    let q = quantum_degree code generator in
+    let both = and_parts (int_eq h i) (int_eq q j) passes in
+    ((Decides-int_eq h i).0 both.0, (Decides-int_eq q j).0 both.1))
+    (generators_at code i j) (filter_passes (has_degrees code i j) (generators code))
+
+-- so degrees with a generator are within the bounds
+pub generators_at-within : (code : Code) (i j : ℤ) → IsAccepted code → length code.crossings ≤ CROSSINGS
+    → 0 < length (generators_at code i j) → IsWithin (length code.crossings) i × IsWithin EXPONENT j
+generators_at-within code i j is few some =
+    let found = All-some (λ generator. (homological_degree code generator ≡ i) × (quantum_degree code generator ≡ j))
+    (generators_at code i j) (generators_at-degrees code i j) some in (
+      subst (λ (x : ℤ). IsWithin (length code.crossings) x) found.1.0 (homological_degree-within code found.0),
+      subst (λ (x : ℤ). IsWithin EXPONENT x) found.1.1 (quantum_degree-exponent code found.0 is few),
+    )
+
+pub generators_at-outside : (code : Code) (i j : ℤ) → IsAccepted code → length code.crossings ≤ CROSSINGS
+    → (IsWithin EXPONENT j → ⊥) → generators_at code i j ≡ []
+generators_at-outside code i j is few outside = elim (cases_lt 0 (length (generators_at code i j))) [
+  | inl some ↦ absurd (outside (generators_at-within code i j is few some).1)
+  | inr none ↦ nil_from_length (generators_at code i j) (omega arith)
+]

@@ -1,9 +1,0 @@
-use Rattle.std.proofs.Common.{◌≡◌}
-use Rattle.std.specs.Prelude.{None}
-use Rattle.std.specs.List.{range_with_len}
-use Rattle.kh_types.specs.Components.{components_of}
-use Rattle.kh_types.specs.Acceptance.{first_of, interval_at}
-use Rattle.kh_types.proofs.acceptance.directed.interval_fault.Given as goal
-
-abbrev pub invariant-loop-place : goal.invariant-loop-place
-invariant-loop-place l = first_of (interval_at (components_of l.crossings)) (range_with_len 1 l.place) ≡ None

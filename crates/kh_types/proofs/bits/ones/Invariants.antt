@@ -1,0 +1,6 @@
+use Rattle.std.proofs.Common.{◌≡◌, ◌≤◌}
+use Rattle.kh_types.specs.Bits.{ones}
+use Rattle.kh_types.proofs.bits.ones.Given as goal
+
+abbrev pub invariant-places : goal.invariant-places
+invariant-places l = record { ones : l.total ≡ ones l.place l.number; within : l.total ≤ l.place }

@@ -1,8 +1,0 @@
-use Rattle.std.proofs.Common.{◌≡◌}
-use Rattle.std.specs.List.{flat_map}
-use Rattle.kh_types.specs.Table.{rows_at}
-use Rattle.kh_work.proofs.TableLemmas.{from_minus_to}
-use Rattle.kh_work.proofs.plain.table.rows.Given as goal
-
-abbrev pub invariant-degrees : goal.invariant-degrees
-invariant-degrees l = l.made.items ≡ flat_map (rows_at l.cube.p l.cube.diagram) (from_minus_to l.most l.k)

@@ -1,0 +1,16 @@
+-- The reply of the command `homology` to a diagram.
+use Rattle.std.specs.Prelude.{length, nat_lt, if◌then◌else◌}
+use Rattle.kh_types.specs.Code.{Code}
+use Rattle.kh_types.specs.Table.{table, table_text}
+use Rattle.kh_work.specs.declared.limits.TheConstants.{HOMOLOGY_CROSSINGS}
+use Rattle.kh_work.specs.declared.status.Status.TheVariants.{Done}
+use Rattle.kh_work.specs.declared.command.Field.{Field}
+use Rattle.kh_work.specs.Commands.{size_of}
+use Rattle.kh_work.specs.Replies.{Reply, reply_of}
+use Rattle.kh_work.specs.Refusals.{too_many_for_homology}
+
+-- the text of the homology table over a field, where there are few enough crossings
+abbrev pub homology_reply : Field → Code → Reply
+homology_reply field code =
+    if nat_lt HOMOLOGY_CROSSINGS (length code.crossings) then too_many_for_homology (length code.crossings)
+    else reply_of Done (table_text (table (size_of field) code))

@@ -1,0 +1,47 @@
+-- The promises of a run.
+use Rattle.std.specs.Prelude.{◌≡◌, ◌≢◌, ◌⊎◌, ℕ, List, IfSome, IsSome, None}
+use Rattle.std.specs.declared.option.Option.{Option}
+use Rattle.kh_io.specs.Faults.{Rose}
+use Rattle.kh_work.specs.declared.status.Status.{Status}
+use Rattle.kh_work.specs.declared.status.Status.TheVariants.{Usage, ReadFault, WriteFault, NoMemory}
+use Rattle.kh_work.specs.Statuses.{IsWhole}
+use Rattle.kh_work.specs.Replies.{Reply}
+use Rattle.kh_work.specs.Commands.{command_of}
+use Rattle.kh_work.specs.Refusals.{usage}
+use Rattle.kh_work.specs.Answer.{IsAnswer}
+use Rattle.kh_work.specs.Told.{Gives, GivesPrefix, IsTaken, IsReadOut}
+
+-- what is known of a source or a sink at one moment: its bytes, those still to come or those written, and its count of faults
+pub record Seen : Type 0 where
+  pub bytes : Option (List ℕ)
+  pub faults : ℕ
+
+-- these bytes and this count
+abbrev pub seen : Option (List ℕ) → ℕ → Seen
+seen bytes faults = record { bytes = bytes; faults = faults }
+
+-- a run with these words ended with this status; the source and the sink were as seen before and after it, and each may be the same
+pub record IsRun (words : List (List ℕ)) (source_before source_after sink_before sink_after : Seen) (same_source same_sink : Type 0)
+    (status : Status) : Type 0 where
+  -- what is written is an answer, whole, and the status is its status
+  pub answered : IsWhole status → IfSome source_before.bytes (λ bytes.
+      (reply : Reply) × IsAnswer words bytes reply × Gives reply status sink_before.bytes sink_after.bytes)
+  -- words that give no command are answered so whether or not the source's bytes are known, and it is not read
+  pub usage_answered : command_of words ≡ None → IsWhole status → Gives usage status sink_before.bytes sink_after.bytes
+  pub usage_only : status ≡ Usage → command_of words ≡ None
+  pub unread : command_of words ≡ None → same_source
+  -- the source loses a prefix of its bytes, and a command that reads takes all, those beyond the byte limit excepted
+  pub taken : IsTaken source_before.bytes source_after.bytes
+  pub read_out : IsSome (command_of words) → status ≢ ReadFault → status ≢ NoMemory
+      → IsReadOut source_before.bytes source_after.bytes
+  -- a fault comes only where its count rose
+  pub read_fault : status ≡ ReadFault → Rose source_before.faults source_after.faults
+  pub write_fault : status ≡ WriteFault → Rose sink_before.faults sink_after.faults
+  -- on a fault of reading and out of memory nothing is written, and on a fault of writing a prefix of an answer
+  pub unwritten : (status ≡ ReadFault) ⊎ (status ≡ NoMemory) → same_sink
+  pub prefix_written : status ≡ WriteFault → IfSome source_before.bytes (λ bytes.
+      (reply : Reply) × IsAnswer words bytes reply × GivesPrefix reply sink_before.bytes sink_after.bytes)
+  pub usage_prefix : status ≡ WriteFault → command_of words ≡ None → GivesPrefix usage sink_before.bytes sink_after.bytes
+  -- where no count rose, the answer is written, unless there was no memory
+  pub complete : ¬ Rose source_before.faults source_after.faults → ¬ Rose sink_before.faults sink_after.faults
+      → IsWhole status ⊎ (status ≡ NoMemory)

@@ -1,0 +1,127 @@
+//! Every line of a refusal or a limit.
+
+ghost use Rattle.std.specs.Prelude.{◌≡◌, IfOk, string_bytes};
+ghost use Rattle.kh_work.specs.Refusals.{usage, too_many_bytes, too_many_crossings, too_many_loops, too_many_for_homology, IsPdRefusal, IsJsonRefusal, fault_refusal};
+
+use crate::limits::HOMOLOGY_CROSSINGS;
+use crate::reply::{Reply, fixed_reply, reply_with};
+use crate::status::Status;
+use json_code::JsonStop;
+use kh_types::{COMPONENTS, CROSSINGS, CodeFault, INPUT_BYTES, LOOPS, NoMemory};
+use pd_code::PdStop;
+use std::alloc::Global;
+
+/// The reply to words that give no command.
+pub fn usage(alloc: Global) -> Result<Reply, NoMemory>
+    ensures { IfOk result (λ reply. reply ≡ usage) }
+{
+    fixed_reply(alloc, Status::Usage, "usage: kh COMMAND [OPTIONS]\n")
+}
+
+/// The reply to more bytes than an input may have.
+pub fn too_many_bytes(alloc: Global) -> Result<Reply, NoMemory>
+    ensures { IfOk result (λ reply. reply ≡ too_many_bytes) }
+{
+    let count = INPUT_BYTES + 1;
+    let line = format!(in alloc; "limit bytes {count} of {INPUT_BYTES}\n")?;
+    Ok(reply_with(Status::Limit, line))
+}
+
+/// The reply to a text with more crossings than a diagram may have.
+fn too_many_crossings(alloc: Global, count: u32) -> Result<Reply, NoMemory>
+    ensures { IfOk result (λ reply. reply ≡ too_many_crossings count) }
+{
+    let line = format!(in alloc; "limit crossings {count} of {CROSSINGS}\n")?;
+    Ok(reply_with(Status::Limit, line))
+}
+
+/// The reply to a text with more loops than a text may have.
+fn too_many_loops(alloc: Global, count: u32) -> Result<Reply, NoMemory>
+    ensures { IfOk result (λ reply. reply ≡ too_many_loops count) }
+{
+    let line = format!(in alloc; "limit loops {count} of {LOOPS}\n")?;
+    Ok(reply_with(Status::Limit, line))
+}
+
+/// The reply to a diagram with more crossings than the plain computation of homology takes.
+pub fn too_many_for_homology(alloc: Global, count: u8) -> Result<Reply, NoMemory>
+    ensures { IfOk result (λ reply. reply ≡ too_many_for_homology count) }
+{
+    let line = format!(in alloc; "limit crossings {count} of {HOMOLOGY_CROSSINGS}\n")?;
+    Ok(reply_with(Status::Limit, line))
+}
+
+/// The reply to a PD text that is read as no code.
+pub fn pd_refusal(alloc: Global, stop: PdStop) -> Result<Reply, NoMemory>
+    ensures { IfOk result (λ reply. IsPdRefusal stop reply) }
+{
+    match stop {
+        PdStop::Text { place } => {
+            let line = format!(in alloc; "refused text at {place}\n")?;
+            Ok(reply_with(Status::CodeRefused, line))
+        }
+        PdStop::Number { place } => {
+            let line = format!(in alloc; "refused number at {place}\n")?;
+            Ok(reply_with(Status::CodeRefused, line))
+        }
+        PdStop::CrossingLimit { count } => too_many_crossings(alloc, count),
+        PdStop::LoopLimit { count } => too_many_loops(alloc, count),
+        PdStop::NoMemory => Err(NoMemory),
+    }
+}
+
+/// The reply to a JSON text that is read as no code.
+pub fn json_refusal(alloc: Global, stop: JsonStop) -> Result<Reply, NoMemory>
+    ensures { IfOk result (λ reply. IsJsonRefusal stop reply) }
+{
+    match stop {
+        JsonStop::JsonText => fixed_reply(alloc, Status::CodeRefused, "refused json\n"),
+        JsonStop::Shape { crossing, slot } => {
+            let line = format!(in alloc; "refused shape at crossing {crossing} slot {slot}\n")?;
+            Ok(reply_with(Status::CodeRefused, line))
+        }
+        JsonStop::CrossingLimit { count } => too_many_crossings(alloc, count),
+        JsonStop::NoMemory => Err(NoMemory),
+    }
+}
+
+/// The reply to a code that breaks a rule of acceptance.
+pub fn fault_refusal(alloc: Global, fault: CodeFault) -> Result<Reply, NoMemory>
+    ensures { IfOk result (λ reply. reply ≡ fault_refusal fault) }
+{
+    let line = fault_line(alloc, fault)?;
+    Ok(reply_with(Status::CodeRefused, line))
+}
+
+// The line of a rule that a code breaks.
+fn fault_line(alloc: Global, fault: CodeFault) -> Result<String, NoMemory>
+    ensures { IfOk result (λ line. string_bytes line ≡ (fault_refusal fault).text) }
+{
+    Ok(match fault {
+        CodeFault::ArcRange { crossing, slot } => {
+            format!(in alloc; "refused arc range at crossing {crossing} slot {slot}\n")?
+        }
+        CodeFault::ArcTimes { arc, times } => format!(in alloc;
+            "refused arc {arc} times {times}\n"
+        )?,
+        CodeFault::Interval { arc } => format!(in alloc; "refused interval of arc {arc}\n")?,
+        CodeFault::Under { crossing } => {
+            format!(in alloc; "refused under pass at crossing {crossing}\n")?
+        }
+        CodeFault::Over { crossing } => {
+            format!(in alloc; "refused over pass at crossing {crossing}\n")?
+        }
+        CodeFault::TwoArc { crossing } => {
+            format!(in alloc; "refused two-arc component at crossing {crossing}\n")?
+        }
+        CodeFault::Checkerboard { arc } => {
+            format!(in alloc; "refused checkerboard at arc {arc}\n")?
+        }
+        CodeFault::Genus { faces, wanted } => {
+            format!(in alloc; "refused genus faces {faces} wanted {wanted}\n")?
+        }
+        CodeFault::Components { count } => {
+            format!(in alloc; "refused components {count} of {COMPONENTS}\n")?
+        }
+    })
+}

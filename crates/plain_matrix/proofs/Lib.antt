@@ -1,0 +1,16 @@
+pub mod Residues
+pub mod Sums
+pub mod FactorLemmas
+pub mod PivotLemmas
+pub mod DependentRows
+pub mod Removed
+pub mod Reduced
+pub mod PlainRank
+pub mod Entries
+pub mod RankLaws
+pub mod StepLemmas
+pub mod TransposeLemmas
+pub mod InsideLemmas
+pub mod ListLemmas
+pub mod RowLemmas
+pub mod EliminationLemmas
