@@ -8,8 +8,8 @@ use Rattle.kh_lex.specs.declared.stop.LexStop.{LexStop}
 use Rattle.kh_lex.specs.declared.token.Token.{Token}
 use Rattle.kh_lex.specs.Cuts.{Cuts, CutsTo, SkipsBlanks, Stops, begins_with, is_blank}
 use Rattle.kh_lex.specs.Lexer.{followed_by, preceded_by, token_at, tokens_within}
-use Rattle.kh_lex.proofs.PieceReads.{token_no_blank}
-use Rattle.kh_lex.proofs.Pieces.{IsPieceAt, IsTokenAt, stands}
+use Rattle.kh_lex.proofs.PieceReads.{HasNoBlank-token}
+use Rattle.kh_lex.proofs.Pieces.{IsPieceAt, IsTokenAt, IsPieceAt-token_at}
 
 -- tokens cut a text, or a fault is its first
 abbrev pub IsLexed : ℕ → List ℕ → Result (List Token) LexStop → Type 0
@@ -24,9 +24,9 @@ skip-cons byte text end blank skip = record {
   blank = and_from (is_blank byte) (list_all is_blank skip.blanks) blank skip.blank;
 }
 
-cuts_more : (byte place : ℕ) (text end : List ℕ) (tokens : List Token) → is_blank byte ≡ true → CutsTo end (place + 1) text tokens → CutsTo end place (byte ∷ text) tokens
-cuts_more byte place text end [] blank cut = skip-cons byte text end blank cut
-cuts_more byte place text end (token ∷ tokens) blank cut =
+CutsTo-blank : (byte place : ℕ) (text end : List ℕ) (tokens : List Token) → is_blank byte ≡ true → CutsTo end (place + 1) text tokens → CutsTo end place (byte ∷ text) tokens
+CutsTo-blank byte place text end [] blank cut = skip-cons byte text end blank cut
+CutsTo-blank byte place text end (token ∷ tokens) blank cut =
     let first = cut.1 in (
       cut.0,
       record {
@@ -40,12 +40,12 @@ cuts_more byte place text end (token ∷ tokens) blank cut =
       cut.2,
     )
 
-blank_lexed : (byte place : ℕ) (text : List ℕ) (r : Result (List Token) LexStop) → is_blank byte ≡ true → IsLexed (place + 1) text r → IsLexed place (byte ∷ text) (preceded_by [] r)
-blank_lexed byte place text (Ok tokens) blank cut = cuts_more byte place text [] tokens blank cut
-blank_lexed byte place text (Err stop) blank stopped = record {
+IsLexed-blank : (byte place : ℕ) (text : List ℕ) (r : Result (List Token) LexStop) → is_blank byte ≡ true → IsLexed (place + 1) text r → IsLexed place (byte ∷ text) (preceded_by [] r)
+IsLexed-blank byte place text (Ok tokens) blank cut = CutsTo-blank byte place text [] tokens blank cut
+IsLexed-blank byte place text (Err stop) blank stopped = record {
   tokens = stopped.tokens;
   end = stopped.end;
-  cut = cuts_more byte place text stopped.end stopped.tokens blank stopped.cut;
+  cut = CutsTo-blank byte place text stopped.end stopped.tokens blank stopped.cut;
   at = stopped.at;
   begin = omega (arith, stopped.begin);
   fault = stopped.fault;
@@ -56,9 +56,9 @@ pub drop-token : (place : ℕ) (text : List ℕ) (token : Token) (s : IsTokenAt 
 drop-token place text token s = ap (drop token.length) s.parts ∙ ap (λ n. drop n (s.bytes ++ s.rest)) s.size ∙ drop-append_seam s.bytes s.rest
 
 -- one more token
-cuts_token : (place : ℕ) (text end : List ℕ) (token : Token) (tokens : List Token) → IsTokenAt place text token
+CutsTo-token : (place : ℕ) (text end : List ℕ) (token : Token) (tokens : List Token) → IsTokenAt place text token
     → CutsTo end (place + token.length) (drop token.length text) tokens → CutsTo end place text (token ∷ tokens)
-cuts_token place text end token tokens s cut = (
+CutsTo-token place text end token tokens s cut = (
   s.rest,
   record {
     bytes = s.bytes;
@@ -72,27 +72,27 @@ cuts_token place text end token tokens s cut = (
       (subst (λ p. CutsTo end (p + token.length) (drop token.length text) tokens) (sym s.begin) cut),
 )
 
-token_lexed : (place : ℕ) (text : List ℕ) (token : Token) (r : Result (List Token) LexStop) → IsTokenAt place text token
+IsLexed-token : (place : ℕ) (text : List ℕ) (token : Token) (r : Result (List Token) LexStop) → IsTokenAt place text token
     → IsLexed (place + token.length) (drop token.length text) r → IsLexed place text (preceded_by (token ∷ []) r)
-token_lexed place text token (Ok tokens) s cut = cuts_token place text [] token tokens s cut
-token_lexed place text token (Err stop) s stopped = record {
+IsLexed-token place text token (Ok tokens) s cut = CutsTo-token place text [] token tokens s cut
+IsLexed-token place text token (Err stop) s stopped = record {
   tokens = token ∷ stopped.tokens;
   end = stopped.end;
-  cut = cuts_token place text stopped.end token stopped.tokens s stopped.cut;
+  cut = CutsTo-token place text stopped.end token stopped.tokens s stopped.cut;
   at = stopped.at;
-  begin = let first = token_no_blank place text token s in omega (arith, stopped.begin, length-drop token.length text, first.within);
+  begin = let first = HasNoBlank-token place text token s in omega (arith, stopped.begin, length-drop token.length text, first.within);
   fault = stopped.fault;
 }
 
 -- the first piece, and what is read behind it
-piece_lexed : (steps place : ℕ) (text : List ℕ) → 0 < length text → begins_with is_blank text ≡ false → (r : Result Token LexStop) → IsPieceAt place text r
+IsLexed-piece : (steps place : ℕ) (text : List ℕ) → 0 < length text → begins_with is_blank text ≡ false → (r : Result Token LexStop) → IsPieceAt place text r
     → ((at : ℕ) (end : List ℕ) → length end ≤ steps → IsLexed at end (tokens_within steps at end)) → length text ≤ suc steps
     → IsLexed place text (followed_by (result_map_both Some (λ stop. stop) r) (λ n. tokens_within steps (place + n) (drop n text)))
-piece_lexed steps place text some no_blank (Ok token) s rest enough =
-    let taken = token_no_blank place text token s in
-    token_lexed place text token (tokens_within steps (place + token.length) (drop token.length text)) s
+IsLexed-piece steps place text some no_blank (Ok token) s rest enough =
+    let taken = HasNoBlank-token place text token s in
+    IsLexed-token place text token (tokens_within steps (place + token.length) (drop token.length text)) s
     (rest (place + token.length) (drop token.length text) (omega (arith, length-drop token.length text, taken.some)))
-piece_lexed steps place text some no_blank (Err stop) fault rest enough = record {
+IsLexed-piece steps place text some no_blank (Err stop) fault rest enough = record {
   tokens = [];
   end = text;
   cut = record { blanks = []; parts = refl; blank = refl };
@@ -102,15 +102,15 @@ piece_lexed steps place text some no_blank (Err stop) fault rest enough = record
 }
 
 -- what is read is what the definition says
-pub lexed : (steps place : ℕ) (text : List ℕ) → length text ≤ steps → IsLexed place text (tokens_within steps place text)
-lexed zero place [] enough = record { blanks = []; parts = refl; blank = refl }
-lexed zero place (byte ∷ text) enough = absurd (omega arith)
-lexed (suc steps) place [] enough = record { blanks = []; parts = refl; blank = refl }
-lexed (suc steps) place (byte ∷ text) enough = go (is_blank byte) refl (lexed steps)
+pub IsLexed-tokens_within : (steps place : ℕ) (text : List ℕ) → length text ≤ steps → IsLexed place text (tokens_within steps place text)
+IsLexed-tokens_within zero place [] enough = record { blanks = []; parts = refl; blank = refl }
+IsLexed-tokens_within zero place (byte ∷ text) enough = absurd (omega arith)
+IsLexed-tokens_within (suc steps) place [] enough = record { blanks = []; parts = refl; blank = refl }
+IsLexed-tokens_within (suc steps) place (byte ∷ text) enough = go (is_blank byte) refl (IsLexed-tokens_within steps)
   where
     go : (blank : Bool) → is_blank byte ≡ blank → ((at : ℕ) (end : List ℕ) → length end ≤ steps → IsLexed at end (tokens_within steps at end))
         → IsLexed place (byte ∷ text) (followed_by (cond blank (Ok None) (result_map_both Some (λ stop. stop) (token_at place (byte ∷ text))))
         (λ n. tokens_within steps (place + n) (drop n (byte ∷ text))))
-    go true blank rest = blank_lexed byte place text (tokens_within steps (place + 1) text) blank (rest (place + 1) text (omega arith))
+    go true blank rest = IsLexed-blank byte place text (tokens_within steps (place + 1) text) blank (rest (place + 1) text (omega arith))
     go false no_blank rest =
-        piece_lexed steps place (byte ∷ text) (omega arith) no_blank (token_at place (byte ∷ text)) (stands place (byte ∷ text) (omega arith) no_blank) rest enough
+        IsLexed-piece steps place (byte ∷ text) (omega arith) no_blank (token_at place (byte ∷ text)) (IsPieceAt-token_at place (byte ∷ text) (omega arith) no_blank) rest enough

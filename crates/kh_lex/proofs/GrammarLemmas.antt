@@ -7,7 +7,7 @@ use Rattle.kh_lex.specs.declared.stop.LexStop.{LexStop}
 use Rattle.kh_lex.specs.Cuts.{Stops}
 use Rattle.kh_lex.specs.Grammar.{IsFirstFault, IsViable, LeavesAt, LeavesGrammar, fault_place}
 use Rattle.kh_lex.specs.Symbols.{Means, symbols_of}
-use Rattle.kh_lex.proofs.CutReads.{cuts_one, stops_exactly, stops_uncut}
+use Rattle.kh_lex.proofs.CutReads.{Cuts-one, tokens_of-stop, Stops-uncut}
 
 -- a text is viable
 IsViable-text : (IsText : List Symbol → Type 0) (symbols : List Symbol) → IsText symbols → IsViable IsText symbols
@@ -51,32 +51,32 @@ IsFirstFault-one IsText symbols at other fault again = elim (cases_order at othe
 -- a text has one first fault of its bytes at most
 pub Stops-one : (text : List ℕ) (a b : LexStop) → Stops 0 text a → Stops 0 text b → a ≡ b
 Stops-one text a b first second =
-    let one = (stops_exactly text a).1 first in
-    let other = (stops_exactly text b).1 second in
+    let one = (tokens_of-stop text a).1 first in
+    let other = (tokens_of-stop text b).1 second in
     cc
 
 -- it means one list of symbols at most, and none where its bytes have a fault
 pub Means-one : (text : List ℕ) (a b : List Symbol) → Means text a → Means text b → a ≡ b
 Means-one text a b first second =
-    sym first.meaning ∙ ap (symbols_of text) (cuts_one text first.tokens second.tokens first.cut second.cut) ∙ second.meaning
+    sym first.meaning ∙ ap (symbols_of text) (Cuts-one text first.tokens second.tokens first.cut second.cut) ∙ second.meaning
 
 pub Means-stops : (text : List ℕ) (stop : LexStop) (symbols : List Symbol) → Stops 0 text stop → ¬ Means text symbols
-Means-stops text stop symbols stops means = stops_uncut text stop means.tokens stops means.cut
+Means-stops text stop symbols stops means = Stops-uncut text stop means.tokens stops means.cut
 
 -- it leaves a grammar in one place at most, and in none where its bytes have a fault or its meaning is in the grammar
 pub LeavesGrammar-one : (IsText : List Symbol → Type 0) (text : List ℕ) (a b : ℕ) → LeavesGrammar IsText text a → LeavesGrammar IsText text b → a ≡ b
 LeavesGrammar-one IsText text a b first second =
-    let same = cuts_one text first.tokens second.tokens first.cut second.cut in
+    let same = Cuts-one text first.tokens second.tokens first.cut second.cut in
     let leaves : LeavesAt IsText text second.tokens a = subst (λ tokens. LeavesAt IsText text tokens a) same first.leaves in
     leaves.named
     ∙ ap (fault_place text second.tokens) (IsFirstFault-one IsText (symbols_of text second.tokens) leaves.at second.leaves.at leaves.fault second.leaves.fault)
     ∙ sym second.leaves.named
 
 pub LeavesGrammar-stops : (IsText : List Symbol → Type 0) (text : List ℕ) (stop : LexStop) (place : ℕ) → Stops 0 text stop → ¬ LeavesGrammar IsText text place
-LeavesGrammar-stops IsText text stop place stops leaves = stops_uncut text stop leaves.tokens stops leaves.cut
+LeavesGrammar-stops IsText text stop place stops leaves = Stops-uncut text stop leaves.tokens stops leaves.cut
 
 pub LeavesGrammar-means : (IsText : List Symbol → Type 0) (text : List ℕ) (place : ℕ) (symbols : List Symbol) → LeavesGrammar IsText text place → Means text symbols → ¬ IsText symbols
 LeavesGrammar-means IsText text place symbols leaves means is =
     let meaning : symbols_of text leaves.tokens ≡ symbols
-    = ap (symbols_of text) (cuts_one text leaves.tokens means.tokens leaves.cut means.cut) ∙ means.meaning in
+    = ap (symbols_of text) (Cuts-one text leaves.tokens means.tokens leaves.cut means.cut) ∙ means.meaning in
     IsFirstFault-text IsText (symbols_of text leaves.tokens) leaves.leaves.at leaves.leaves.fault (subst IsText (sym meaning) is)

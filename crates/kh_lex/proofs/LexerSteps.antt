@@ -4,8 +4,8 @@ use Rattle.std.proofs.Math.ListN.{drop_of_length-le}
 use Rattle.std.proofs.Math.Seq.{drop-cons}
 use Rattle.std.proofs.lemmas.List.{append-nil, drop-drop}
 use Rattle.std.proofs.lemmas.List.Elements.{All-append, All-nil, All-push}
-use Rattle.kh_lex.proofs.PieceReads.{token_no_blank}
-use Rattle.kh_lex.proofs.Pieces.{IsTokenAt, piece_stands}
+use Rattle.kh_lex.proofs.PieceReads.{HasNoBlank-token}
+use Rattle.kh_lex.proofs.Pieces.{IsTokenAt, IsTokenAt-piece}
 use Rattle.std.specs.Option.{option_to_list}
 use Rattle.kh_lex.specs.declared.token.Token.{Token}
 use Rattle.kh_lex.specs.declared.stop.LexStop.{LexStop}
@@ -29,8 +29,8 @@ preceded_by-append first more (Ok tokens) = ap Ok (sym (append_assoc first more 
 preceded_by-append first more (Err stop) = refl
 
 -- before the first piece
-pub cut_begins : (text : List ℕ) → IsCut text 0 []
-cut_begins text = record {
+pub IsCut-begin : (text : List ℕ) → IsCut text 0 []
+IsCut-begin text = record {
   steps = length text;
   enough = omega arith;
   whole = preceded_by-none (tokens_of text);
@@ -46,15 +46,15 @@ tokens_within-step steps place text left = rw (drop-cons text place 0) refl
 
 -- a piece takes a byte or more, and none that is not there
 pub piece_length-bounds : (place : ℕ) (text : List ℕ) (piece : Option Token) → 0 < length text → IfSome piece (IsTokenAt place text) → (0 < piece_length piece) × (piece_length piece ≤ length text)
-piece_length-bounds place text None some stands = (omega arith, omega arith)
-piece_length-bounds place text (Some token) some stands =
-    let first = token_no_blank place text token stands in (first.some, first.within)
+piece_length-bounds place text None some here = (omega arith, omega arith)
+piece_length-bounds place text (Some token) some here =
+    let first = HasNoBlank-token place text token here in (first.some, first.within)
 
 -- the token that a piece is ends within the text
-piece_within : (place size : ℕ) (text : List ℕ) (piece : Option Token) → place + length text ≤ size → IfSome piece (IsTokenAt place text) → All (EndsWithin size) (option_to_list piece)
-piece_within place size text None room stands = All-nil (EndsWithin size)
-piece_within place size text (Some token) room stands =
-    All-push (EndsWithin size) [] token (All-nil (EndsWithin size)) (omega (arith, stands.begin, (token_no_blank place text token stands).within))
+All-piece : (place size : ℕ) (text : List ℕ) (piece : Option Token) → place + length text ≤ size → IfSome piece (IsTokenAt place text) → All (EndsWithin size) (option_to_list piece)
+All-piece place size text None room here = All-nil (EndsWithin size)
+All-piece place size text (Some token) room here =
+    All-push (EndsWithin size) [] token (All-nil (EndsWithin size)) (omega (arith, here.begin, (HasNoBlank-token place text token here).within))
 
 -- a piece is one token at most
 length-option_to_list : (piece : Option Token) → length (option_to_list piece) ≤ 1
@@ -62,19 +62,19 @@ length-option_to_list None = omega arith
 length-option_to_list (Some token) = omega arith
 
 -- a piece is taken
-pub cut_goes : (text : List ℕ) (place : ℕ) (tokens : List Token) (piece : Option Token)
+pub IsCut-piece : (text : List ℕ) (place : ℕ) (tokens : List Token) (piece : Option Token)
     → place < length text → piece_at place (drop place text) ≡ Ok piece → IsCut text place tokens
     → IsCut text (place + piece_length piece) (tokens ++ option_to_list piece)
-cut_goes text place tokens piece left read cut = go cut.steps cut.enough cut.whole
+IsCut-piece text place tokens piece left read cut = go cut.steps cut.enough cut.whole
   where
     size : length (drop place text) ≡ length text - place
     size = length-drop place text
 
-    stands : IfSome piece (IsTokenAt place (drop place text))
-    stands = piece_stands place (drop place text) piece read (omega (arith, size))
+    here : IfSome piece (IsTokenAt place (drop place text))
+    here = IsTokenAt-piece place (drop place text) piece read (omega (arith, size))
 
     bounds : (0 < piece_length piece) × (piece_length piece ≤ length (drop place text))
-    bounds = piece_length-bounds place (drop place text) piece (omega (arith, size)) stands
+    bounds = piece_length-bounds place (drop place text) piece (omega (arith, size)) here
 
     step : (steps : ℕ) → tokens_within (suc steps) place (drop place text)
         ≡ preceded_by (option_to_list piece) (tokens_within steps (place + piece_length piece) (drop (place + piece_length piece) text))
@@ -91,14 +91,14 @@ cut_goes text place tokens piece left read cut = go cut.steps cut.enough cut.who
       whole = sym (preceded_by-append tokens (option_to_list piece) _) ∙ sym (ap (preceded_by tokens) (step steps)) ∙ whole;
       inside = omega (arith, bounds.1, size);
       within = All-append (EndsWithin (length text)) tokens (option_to_list piece) cut.within
-          (piece_within place (length text) (drop place text) piece (omega (arith, size)) stands);
+          (All-piece place (length text) (drop place text) piece (omega (arith, size)) here);
       few = omega (arith, cut.few, bounds.0, length-append tokens (option_to_list piece), length-option_to_list piece);
     }
 
 -- a fault stands there
-pub cut_stops : (text : List ℕ) (place : ℕ) (tokens : List Token) (stop : LexStop)
+pub tokens_of-fault : (text : List ℕ) (place : ℕ) (tokens : List Token) (stop : LexStop)
     → place < length text → piece_at place (drop place text) ≡ Err stop → IsCut text place tokens → tokens_of text ≡ Err stop
-cut_stops text place tokens stop left read cut = go cut.steps cut.enough cut.whole
+tokens_of-fault text place tokens stop left read cut = go cut.steps cut.enough cut.whole
   where
     go : (steps : ℕ) → length text ≤ place + steps → preceded_by tokens (tokens_within steps place (drop place text)) ≡ tokens_of text → tokens_of text ≡ Err stop
     go zero enough whole = absurd (omega arith)
@@ -111,7 +111,7 @@ tokens_within-none zero place = refl
 tokens_within-none (suc steps) place = refl
 
 -- nothing is left
-pub cut_ends : (text : List ℕ) (place : ℕ) (tokens : List Token) → length text ≤ place → IsCut text place tokens → tokens_of text ≡ Ok tokens
-cut_ends text place tokens end cut = sym cut.whole
+pub tokens_of-end : (text : List ℕ) (place : ℕ) (tokens : List Token) → length text ≤ place → IsCut text place tokens → tokens_of text ≡ Ok tokens
+tokens_of-end text place tokens end cut = sym cut.whole
     ∙ ap (preceded_by tokens) (ap (tokens_within cut.steps place) (drop_of_length-le text end) ∙ tokens_within-none cut.steps place)
     ∙ ap Ok (append-nil tokens)

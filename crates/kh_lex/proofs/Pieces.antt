@@ -16,8 +16,8 @@ use Rattle.kh_lex.specs.declared.token.Token.{Token}
 use Rattle.kh_lex.specs.Cuts.{BeginsNoToken, IsFault, IsToken, begins_with, is_blank, sign, signed}
 use Rattle.kh_lex.specs.Lexer.{begins_number, digits_at, has_minus, mark_at, mark_of, number_at, piece_at, plain_token, sign_length, token_at, word_at}
 use Rattle.kh_lex.proofs.FirstBytes.{begins_with-first}
-use Rattle.kh_lex.proofs.Numbers.{IsSplit, length-sign, nat_abs-signed, number_is, number_read, split}
-use Rattle.kh_lex.proofs.Runs.{first_of_run, run_at}
+use Rattle.kh_lex.proofs.Numbers.{IsSplit, length-sign, nat_abs-signed, IsNumber-signed, IsReadAs-number, IsSplit-text}
+use Rattle.kh_lex.proofs.Runs.{is-first, IsRun-take_while}
 
 -- a token begins a text
 pub record IsTokenAt (place : ℕ) (text : List ℕ) (token : Token) : Type 0 where
@@ -38,23 +38,23 @@ ok_is : {A E : Type 0} {x y : A} → ◌≡◌ {A = Result A E} (Ok x) (Ok y) �
 ok_is e = cc
 
 -- a word
-word_stands : (place : ℕ) (text : List ℕ) → 0 < length text → is_ascii_alphabetic (slice_index text 0) ≡ true → IsTokenAt place text (word_at place text)
-word_stands place text some letter = record {
+IsTokenAt-word : (place : ℕ) (text : List ℕ) → 0 < length text → is_ascii_alphabetic (slice_index text 0) ≡ true → IsTokenAt place text (word_at place text)
+IsTokenAt-word place text some letter = record {
   bytes = take_while is_ascii_alphabetic text;
   rest = drop (prefix_len is_ascii_alphabetic text) text;
   parts = sym (take-append-drop (prefix_len is_ascii_alphabetic text) text);
   begin = refl;
   size = sym (length-prefix_len is_ascii_alphabetic text);
-  kind = (run_at is_ascii_alphabetic text some letter, refl);
+  kind = (IsRun-take_while is_ascii_alphabetic text some letter, refl);
   limit = omega arith;
 }
 
 -- a number
-number_stands : (place : ℕ) (text : List ℕ) → begins_number text ≡ true → IsPieceAt place text (number_at place text)
-number_stands place text begins = go (nat_lt NUMBER_LIMIT (digits_value 10 (digits_at text))) refl
+IsPieceAt-number : (place : ℕ) (text : List ℕ) → begins_number text ≡ true → IsPieceAt place text (number_at place text)
+IsPieceAt-number place text begins = go (nat_lt NUMBER_LIMIT (digits_value 10 (digits_at text))) refl
   where
     s : IsSplit (has_minus text) text (digits_at text)
-    s = split text begins
+    s = IsSplit-text text begins
 
     go : (large : Bool) → nat_lt NUMBER_LIMIT (digits_value 10 (digits_at text)) ≡ large
         → IsPieceAt place text (cond large (Err (stops.Number place)) (Ok (record {
@@ -70,7 +70,7 @@ number_stands place text begins = go (nat_lt NUMBER_LIMIT (digits_value 10 (digi
         bytes = sign (has_minus text) ++ digits_at text;
         rest = s.rest;
         parts = s.parts;
-        number = number_is (has_minus text) text (digits_at text) s;
+        number = IsNumber-signed (has_minus text) text (digits_at text) s;
         above = rw (nat_abs-signed (has_minus text) (digits_value 10 (digits_at text))) (ltb-true NUMBER_LIMIT (digits_value 10 (digits_at text)) e);
       },
     )
@@ -80,14 +80,14 @@ number_stands place text begins = go (nat_lt NUMBER_LIMIT (digits_value 10 (digi
       parts = s.parts;
       begin = refl;
       size = rw (length-append (sign (has_minus text)) (digits_at text), length-sign (has_minus text)) refl;
-      kind = number_is (has_minus text) text (digits_at text) s;
+      kind = IsNumber-signed (has_minus text) text (digits_at text) s;
       limit = rw (nat_abs-signed (has_minus text) (digits_value 10 (digits_at text))) (ltb-false NUMBER_LIMIT (digits_value 10 (digits_at text)) e);
     }
 
 -- no token of a kind stands where its first byte does not
-begins_none : (text : List ℕ) → 0 < length text → begins_with is_blank text ≡ false → is_ascii_alphabetic (slice_index text 0) ≡ false
+BeginsNoToken-other : (text : List ℕ) → 0 < length text → begins_with is_blank text ≡ false → is_ascii_alphabetic (slice_index text 0) ≡ false
     → begins_number text ≡ false → mark_of (slice_index text 0) ≡ None → BeginsNoToken text
-begins_none text some no_blank no_letter no_number no_mark = record {
+BeginsNoToken-other text some no_blank no_letter no_number no_mark = record {
   some = some;
   no_blank = no_blank;
   none = λ kind value bytes rest parts. none kind bytes rest value parts;
@@ -98,10 +98,10 @@ begins_none text some no_blank no_letter no_number no_mark = record {
 
     none : (kind : Kind) (bytes rest : List ℕ) (value : ℤ) → text ≡ bytes ++ rest → ¬ IsToken kind value bytes rest
     none Word bytes rest value parts is =
-        let first = ap (λ t. is_ascii_alphabetic (slice_index t 0)) parts ∙ first_of_run is_ascii_alphabetic bytes rest is.0 in
+        let first = ap (λ t. is_ascii_alphabetic (slice_index t 0)) parts ∙ is-first is_ascii_alphabetic bytes rest is.0 in
         absurd (cc)
     none Number bytes rest value parts is =
-        let first = ap begins_number parts ∙ (number_read value bytes rest is).begins in
+        let first = ap begins_number parts ∙ (IsReadAs-number value bytes rest is).begins in
         absurd (cc)
     none LeftBracket bytes rest value parts is = let e = marked 91 bytes rest parts is.0 in absurd (cc)
     none RightBracket bytes rest value parts is = let e = marked 93 bytes rest parts is.0 in absurd (cc)
@@ -110,15 +110,15 @@ begins_none text some no_blank no_letter no_number no_mark = record {
     none Comma bytes rest value parts is = let e = marked 44 bytes rest parts is.0 in absurd (cc)
 
 -- a byte that is equal to a number begins a text
-byte_begins : (text : List ℕ) (byte : ℕ) → 0 < length text → slice_index text 0 ≡ byte → (rest : List ℕ) × (text ≡ byte ∷ rest)
-byte_begins [] byte some first = absurd (omega arith)
-byte_begins (b ∷ bs) byte some first = (bs, ap (λ b. b ∷ bs) first)
+text-first_byte : (text : List ℕ) (byte : ℕ) → 0 < length text → slice_index text 0 ≡ byte → (rest : List ℕ) × (text ≡ byte ∷ rest)
+text-first_byte [] byte some first = absurd (omega arith)
+text-first_byte (b ∷ bs) byte some first = (bs, ap (λ b. b ∷ bs) first)
 
 -- a mark
-mark_stands : (place : ℕ) (text : List ℕ) (byte : ℕ) (kind : Kind) → 0 < length text → slice_index text 0 ≡ byte
+IsTokenAt-mark : (place : ℕ) (text : List ℕ) (byte : ℕ) (kind : Kind) → 0 < length text → slice_index text 0 ≡ byte
     → ((rest : List ℕ) → IsToken kind (pos 0) (byte ∷ []) rest) → IsTokenAt place text (plain_token kind place 1)
-mark_stands place text byte kind some first is =
-    let begins = byte_begins text byte some first in
+IsTokenAt-mark place text byte kind some first is =
+    let begins = text-first_byte text byte some first in
     record {
       bytes = byte ∷ [];
       rest = begins.0;
@@ -130,9 +130,9 @@ mark_stands place text byte kind some first is =
     }
 
 -- a mark, or a byte that begins none
-marks : (place : ℕ) (text : List ℕ) → 0 < length text → begins_with is_blank text ≡ false → is_ascii_alphabetic (slice_index text 0) ≡ false
+IsPieceAt-mark : (place : ℕ) (text : List ℕ) → 0 < length text → begins_with is_blank text ≡ false → is_ascii_alphabetic (slice_index text 0) ≡ false
     → begins_number text ≡ false → IsPieceAt place text (mark_at place text)
-marks place text some no_blank no_letter no_number = go
+IsPieceAt-mark place text some no_blank no_letter no_number = go
     (slice_index text 0 == 91) refl (slice_index text 0 == 93) refl (slice_index text 0 == 123) refl (slice_index text 0 == 125) refl (slice_index text 0 == 44) refl
   where
     is : (byte : ℕ) → (slice_index text 0 == byte) ≡ true → slice_index text 0 ≡ byte
@@ -143,26 +143,26 @@ marks place text some no_blank no_letter no_number = go
         → IsPieceAt place text (option_map_or (λ kind. Ok (plain_token kind place 1))
         (cond a (Some LeftBracket) (cond b (Some RightBracket) (cond c (Some LeftBrace) (cond d (Some RightBrace) (cond e (Some Comma) None)))))
         (Err (stops.Bad place)))
-    go true a b _ c _ d _ e _ = mark_stands place text 91 LeftBracket some (is 91 a) (λ rest. (refl, refl))
-    go false _ true b c _ d _ e _ = mark_stands place text 93 RightBracket some (is 93 b) (λ rest. (refl, refl))
-    go false _ false _ true c d _ e _ = mark_stands place text 123 LeftBrace some (is 123 c) (λ rest. (refl, refl))
-    go false _ false _ false _ true d e _ = mark_stands place text 125 RightBrace some (is 125 d) (λ rest. (refl, refl))
-    go false _ false _ false _ false _ true e = mark_stands place text 44 Comma some (is 44 e) (λ rest. (refl, refl))
-    go false a false b false c false d false e = (refl, begins_none text some no_blank no_letter no_number (rw (a, b, c, d, e) refl))
+    go true a b _ c _ d _ e _ = IsTokenAt-mark place text 91 LeftBracket some (is 91 a) (λ rest. (refl, refl))
+    go false _ true b c _ d _ e _ = IsTokenAt-mark place text 93 RightBracket some (is 93 b) (λ rest. (refl, refl))
+    go false _ false _ true c d _ e _ = IsTokenAt-mark place text 123 LeftBrace some (is 123 c) (λ rest. (refl, refl))
+    go false _ false _ false _ true d e _ = IsTokenAt-mark place text 125 RightBrace some (is 125 d) (λ rest. (refl, refl))
+    go false _ false _ false _ false _ true e = IsTokenAt-mark place text 44 Comma some (is 44 e) (λ rest. (refl, refl))
+    go false a false b false c false d false e = (refl, BeginsNoToken-other text some no_blank no_letter no_number (rw (a, b, c, d, e) refl))
 
 -- the token or the fault that is read begins the text
-pub stands : (place : ℕ) (text : List ℕ) → 0 < length text → begins_with is_blank text ≡ false → IsPieceAt place text (token_at place text)
-stands place text some no_blank = go (is_ascii_alphabetic (slice_index text 0)) refl (begins_number text) refl
+pub IsPieceAt-token_at : (place : ℕ) (text : List ℕ) → 0 < length text → begins_with is_blank text ≡ false → IsPieceAt place text (token_at place text)
+IsPieceAt-token_at place text some no_blank = go (is_ascii_alphabetic (slice_index text 0)) refl (begins_number text) refl
   where
     go : (letter : Bool) → is_ascii_alphabetic (slice_index text 0) ≡ letter → (number : Bool) → begins_number text ≡ number
         → IsPieceAt place text (cond letter (Ok (word_at place text)) (cond number (number_at place text) (mark_at place text)))
-    go true letter number _ = word_stands place text some letter
-    go false no_letter true begins = number_stands place text begins
-    go false no_letter false no_number = marks place text some no_blank no_letter no_number
+    go true letter number _ = IsTokenAt-word place text some letter
+    go false no_letter true begins = IsPieceAt-number place text begins
+    go false no_letter false no_number = IsPieceAt-mark place text some no_blank no_letter no_number
 
 -- what is read is a blank, or a token that begins the text
-pub piece_stands : (place : ℕ) (text : List ℕ) (piece : Option Token) → piece_at place text ≡ Ok piece → 0 < length text → IfSome piece (IsTokenAt place text)
-piece_stands place text piece read some = go (is_blank (slice_index text 0)) refl read
+pub IsTokenAt-piece : (place : ℕ) (text : List ℕ) (piece : Option Token) → piece_at place text ≡ Ok piece → 0 < length text → IfSome piece (IsTokenAt place text)
+IsTokenAt-piece place text piece read some = go (is_blank (slice_index text 0)) refl read
   where
     taken : (r : Result Token LexStop) → IsPieceAt place text r → result_map_both Some (λ stop. stop) r ≡ Ok piece → IfSome piece (IsTokenAt place text)
     taken (Ok token) at e = subst (λ p. IfSome p (IsTokenAt place text)) (ok_is e) at
@@ -171,4 +171,4 @@ piece_stands place text piece read some = go (is_blank (slice_index text 0)) ref
     go : (blank : Bool) → is_blank (slice_index text 0) ≡ blank → cond blank (Ok None) (result_map_both Some (λ stop. stop) (token_at place text)) ≡ Ok piece
         → IfSome piece (IsTokenAt place text)
     go true blank e = subst (λ p. IfSome p (IsTokenAt place text)) (ok_is e) tt
-    go false no_blank e = taken (token_at place text) (stands place text some (begins_with-first is_blank text refl ∙ no_blank)) e
+    go false no_blank e = taken (token_at place text) (IsPieceAt-token_at place text some (begins_with-first is_blank text refl ∙ no_blank)) e

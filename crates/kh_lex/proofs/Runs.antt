@@ -24,15 +24,15 @@ pub prefix_len-run : (is : ℕ → Bool) (bytes rest : List ℕ) → IsRun is by
 prefix_len-run is bytes rest run = prefix_len-append is bytes rest run.all run.longest
 
 -- the first byte of a run is the first of the text, and of the sort
-pub first_of_run : (is : ℕ → Bool) (bytes rest : List ℕ) → IsRun is bytes rest → is (slice_index (bytes ++ rest) 0) ≡ true
-first_of_run is [] rest run = let some = run.some in absurd (omega arith)
-first_of_run is (byte ∷ bytes) rest run = (and_parts (is byte) (list_all is bytes) run.all).0
+pub is-first : (is : ℕ → Bool) (bytes rest : List ℕ) → IsRun is bytes rest → is (slice_index (bytes ++ rest) 0) ≡ true
+is-first is [] rest run = let some = run.some in absurd (omega arith)
+is-first is (byte ∷ bytes) rest run = (and_parts (is byte) (list_all is bytes) run.all).0
 
 -- what is measured is of the sort, and what is behind it does not go on
-measured : (is : ℕ → Bool) (text : List ℕ)
+list_all-take_while : (is : ℕ → Bool) (text : List ℕ)
     → (list_all is (take (prefix_len is text) text) ≡ true) × (begins_with is (drop (prefix_len is text) text) ≡ false)
-measured is [] = (refl, refl)
-measured is (byte ∷ bytes) = go (is byte) refl (measured is bytes)
+list_all-take_while is [] = (refl, refl)
+list_all-take_while is (byte ∷ bytes) = go (is byte) refl (list_all-take_while is bytes)
   where
     go : (one : Bool) → is byte ≡ one → (list_all is (take (prefix_len is bytes) bytes) ≡ true) × (begins_with is (drop (prefix_len is bytes) bytes) ≡ false)
         → (list_all is (take (cond one (1 + prefix_len is bytes) 0) (byte ∷ bytes)) ≡ true)
@@ -42,16 +42,16 @@ measured is (byte ∷ bytes) = go (is byte) refl (measured is bytes)
 
 -- so all that is taken is of the sort
 pub take_while_passes : (is : ℕ → Bool) (text : List ℕ) → AllPass is (take_while is text)
-take_while_passes is text = AllPass-from_list_all is (take_while is text) (measured is text).0
+take_while_passes is text = AllPass-from_list_all is (take_while is text) (list_all-take_while is text).0
 
 -- a text whose first byte is of the sort begins with a run
-pub run_at : (is : ℕ → Bool) (text : List ℕ) → 0 < length text → is (slice_index text 0) ≡ true
+pub IsRun-take_while : (is : ℕ → Bool) (text : List ℕ) → 0 < length text → is (slice_index text 0) ≡ true
     → IsRun is (take_while is text) (drop (prefix_len is text) text)
-run_at is [] some first = absurd (omega arith)
-run_at is (byte ∷ bytes) some first = record {
+IsRun-take_while is [] some first = absurd (omega arith)
+IsRun-take_while is (byte ∷ bytes) some first = record {
   some = let size = length-prefix_len is (byte ∷ bytes) in omega (arith, size, positive);
-  all = (measured is (byte ∷ bytes)).0;
-  longest = (measured is (byte ∷ bytes)).1;
+  all = (list_all-take_while is (byte ∷ bytes)).0;
+  longest = (list_all-take_while is (byte ∷ bytes)).1;
 }
   where
     positive : 0 < prefix_len is (byte ∷ bytes)

@@ -40,33 +40,33 @@ completion LoopOpen = Number (pos 0) ∷ RightBracket ∷ RightBracket ∷ []
 completion (LoopNumber n) = RightBracket ∷ RightBracket ∷ []
 
 -- they do
-completed : (state : State) (items : List Item) → (all : List Item) × (run advanced (progress_at state items) (completion state) ≡ Some (progress_at Done all))
+run-completion : (state : State) (items : List Item) → (all : List Item) × (run advanced (progress_at state items) (completion state) ≡ Some (progress_at Done all))
 unfolding completion
-completed Start items = (_, refl)
-completed Named items = (_, refl)
-completed Open items = (_, refl)
-completed Listed items = (_, refl)
-completed Separated items = (_, refl)
-completed Done items = (_, refl)
-completed Crossing items = (_, refl)
-completed CrossingOpen items = (_, refl)
-completed (First i) items = (_, refl)
-completed (FirstComma i) items = (_, refl)
-completed (Second i j) items = (_, refl)
-completed (SecondComma i j) items = (_, refl)
-completed (Third i j k) items = (_, refl)
-completed (ThirdComma i j k) items = (_, refl)
-completed (Fourth i j k l) items = (_, refl)
-completed Loop items = (_, refl)
-completed LoopOpen items = (_, refl)
-completed (LoopNumber n) items = (_, refl)
+run-completion Start items = (_, refl)
+run-completion Named items = (_, refl)
+run-completion Open items = (_, refl)
+run-completion Listed items = (_, refl)
+run-completion Separated items = (_, refl)
+run-completion Done items = (_, refl)
+run-completion Crossing items = (_, refl)
+run-completion CrossingOpen items = (_, refl)
+run-completion (First i) items = (_, refl)
+run-completion (FirstComma i) items = (_, refl)
+run-completion (Second i j) items = (_, refl)
+run-completion (SecondComma i j) items = (_, refl)
+run-completion (Third i j k) items = (_, refl)
+run-completion (ThirdComma i j k) items = (_, refl)
+run-completion (Fourth i j k l) items = (_, refl)
+run-completion Loop items = (_, refl)
+run-completion LoopOpen items = (_, refl)
+run-completion (LoopNumber n) items = (_, refl)
 
 -- the machine reads the grammar
 pub reads_grammar : ReadsGrammar IsText advanced (progress_at Start []) is_end
 reads_grammar = record {
-  sound = λ symbols end ran done. (end.items, run-done symbols end ran done);
+  sound = λ symbols end ran symbols_of-done. (end.items, run-done symbols end ran symbols_of-done);
   whole = λ symbols text. (progress_at Done text.0, ap (run advanced (progress_at Start [])) text.1 ∙ run-spelled text.0, refl);
-  finish = λ progress. let end = completed progress.state progress.items in (completion progress.state, progress_at Done end.0, end.1, refl);
+  finish = λ progress. let end = run-completion progress.state progress.items in (completion progress.state, progress_at Done end.0, end.1, refl);
 }
 
 -- the tokens up to one lead the machine to a state and items
@@ -74,36 +74,36 @@ abbrev pub LeadsTo : List ℕ → List Token → State → List Item → Type 0
 LeadsTo text tokens state items = run advanced (progress_at Start []) (symbols_of text tokens) ≡ Some (progress_at state items)
 
 -- the machine takes the symbol of one more token
-pub taken : (state next : State) (items : List Item) (text : List ℕ) (tokens : List Token) (i : ℕ) (d : Token) (symbol : Symbol) → i < length tokens
+pub LeadsTo-more : (state next : State) (items : List Item) (text : List ℕ) (tokens : List Token) (i : ℕ) (d : Token) (symbol : Symbol) → i < length tokens
     → LeadsTo text (take i tokens) state items → symbol ≡ symbol_of text (get_or tokens i d) → step state symbol ≡ Some next
     → LeadsTo text (take (i + 1) tokens) next (added state items)
-taken state next items text tokens i d symbol less ran means steps =
+LeadsTo-more state next items text tokens i d symbol less ran means steps =
     run-more advanced (progress_at Start []) (progress_at state items) (progress_at next (added state items)) text tokens i d less ran (rw (← means, steps) refl)
 
 -- or refuses it, and the tokens leave the grammar there
-pub refused : (state : State) (items : List Item) (text : List ℕ) (tokens : List Token) (i : ℕ) (d : Token) (symbol : Symbol) → i < length tokens
+pub LeavesAt-refusal : (state : State) (items : List Item) (text : List ℕ) (tokens : List Token) (i : ℕ) (d : Token) (symbol : Symbol) → i < length tokens
     → LeadsTo text (take i tokens) state items → symbol ≡ symbol_of text (get_or tokens i d) → step state symbol ≡ None
     → LeavesAt IsText text tokens (get_or tokens i d).place
-refused state items text tokens i d symbol less ran means stops =
+LeavesAt-refusal state items text tokens i d symbol less ran means stops =
     LeavesAt-refused IsText advanced (progress_at Start []) is_end reads_grammar (progress_at state items) text tokens i d less ran (rw (← means, stops) refl)
 
 -- all tokens are taken
-all_taken : (state : State) (items : List Item) (text : List ℕ) (tokens : List Token) (i : ℕ) → i ≡ length tokens
+LeadsTo-all : (state : State) (items : List Item) (text : List ℕ) (tokens : List Token) (i : ℕ) → i ≡ length tokens
     → LeadsTo text (take i tokens) state items → LeadsTo text tokens state items
-all_taken state items text tokens i all ran = subst (λ t. LeadsTo text t state items) (ap (λ n. take n tokens) all ∙ take-length tokens) ran
+LeadsTo-all state items text tokens i all ran = subst (λ t. LeadsTo text t state items) (ap (λ n. take n tokens) all ∙ take-length tokens) ran
 
 -- and the machine is not at its end: the tokens leave the grammar at the end of the text
-pub early : (state : State) (items : List Item) (text : List ℕ) (tokens : List Token) (i : ℕ) → i ≡ length tokens
+pub LeavesAt-end : (state : State) (items : List Item) (text : List ℕ) (tokens : List Token) (i : ℕ) → i ≡ length tokens
     → LeadsTo text (take i tokens) state items → state ≢ Done → LeavesAt IsText text tokens (length text)
-early state items text tokens i all ran going =
+LeavesAt-end state items text tokens i all ran going =
     LeavesAt-early IsText advanced (progress_at Start []) is_end reads_grammar (progress_at state items) text tokens
-    (all_taken state items text tokens i all ran) (undone state going)
+    (LeadsTo-all state items text tokens i all ran) (undone state going)
   where
     undone : (state : State) → state ≢ Done → is_done state ≡ false
     undone Done going = absurd (going refl)
     undone _ going = refl
 
 -- or it is, and the tokens spell the items
-pub done : (items : List Item) (text : List ℕ) (tokens : List Token) (i : ℕ) → i ≡ length tokens
+pub symbols_of-done : (items : List Item) (text : List ℕ) (tokens : List Token) (i : ℕ) → i ≡ length tokens
     → LeadsTo text (take i tokens) Done items → symbols_of text tokens ≡ spelled items
-done items text tokens i all ran = run-done (symbols_of text tokens) (progress_at Done items) (all_taken Done items text tokens i all ran) refl
+symbols_of-done items text tokens i all ran = run-done (symbols_of text tokens) (progress_at Done items) (LeadsTo-all Done items text tokens i all ran) refl

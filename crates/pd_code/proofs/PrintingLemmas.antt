@@ -14,8 +14,8 @@ use Rattle.kh_lex.proofs.WrittenTexts.{IsWritten, Means-written, comma-written, 
 use Rattle.pd_code.specs.declared.item.Item.{Item}
 use Rattle.pd_code.specs.declared.item.Item.TheVariants.{Crossing, Loop}
 use Rattle.pd_code.specs.Grammar.{Spells, item_symbols, listed, next_symbols, spelled}
-use Rattle.pd_code.specs.Items.{crossings_of, is_loop, loop_count, quadruple_of}
-use Rattle.pd_code.specs.Printing.{IsQuadruple, crossing_item, item_text, items_of_code, listed_text, loop_item, loop_names, next_text, pd_text, text_of_items}
+use Rattle.pd_code.specs.Items.{crossings_of, is_loop, loop_count, slots_of_item}
+use Rattle.pd_code.specs.Printing.{HasFourSlots, crossing_item, item_text, items_of_code, listed_text, loop_item, loop_names, next_text, pd_text, text_of_items}
 use Rattle.pd_code.specs.Reading.{IsReading}
 
 -- items and then the loops up to one name, and that one
@@ -76,28 +76,28 @@ Spells-text_of_items items small = Means-written (text_of_items items) (spelled 
     (word-written (codes "PD") (omega arith) refl refl (left_bracket-written (listed-written items small (right_bracket-written nothing-written))))
 
 -- the items of a code have small numbers
-small_crossings : (crossings : List (List ℕ)) (others : List Item) → AllByRecursion IsQuadruple crossings → AllByRecursion HasSmallNumbers others
+small_crossings : (crossings : List (List ℕ)) (others : List Item) → AllByRecursion HasFourSlots crossings → AllByRecursion HasSmallNumbers others
     → AllByRecursion HasSmallNumbers (map crossing_item crossings ++ others)
-small_crossings [] others quadruples small = small
-small_crossings (arcs ∷ crossings) others quadruples small =
-    let bytes = quadruples.0.bytes in (
+small_crossings [] others four small = small
+small_crossings (arcs ∷ crossings) others four small =
+    let bytes = four.0.bytes in (
       (omega (arith, bytes 0), omega (arith, bytes 1), omega (arith, bytes 2), omega (arith, bytes 3)),
-      small_crossings crossings others quadruples.1 small,
+      small_crossings crossings others four.1 small,
     )
 
 small_loops : (first count : ℕ) → first + count ≤ NUMBER_LIMIT → AllByRecursion HasSmallNumbers (map loop_item (range_with_len first count))
 small_loops first zero few = tt
 small_loops first (suc count) few = (omega arith, small_loops (first + 1) count (omega arith))
 
--- a quadruple is that of its item
-quadruple-item : (arcs : List ℕ) → IsQuadruple arcs → quadruple_of (crossing_item arcs) ≡ Some arcs
-quadruple-item [] is = let four = is.four in absurd (cc)
-quadruple-item (i ∷ []) is = let four = is.four in absurd (omega arith)
-quadruple-item (i ∷ j ∷ []) is = let four = is.four in absurd (omega arith)
-quadruple-item (i ∷ j ∷ k ∷ []) is = let four = is.four in absurd (omega arith)
-quadruple-item (i ∷ j ∷ k ∷ l ∷ []) is =
+-- the slots of the item of a crossing are the crossing's
+slots_of_item-crossing : (arcs : List ℕ) → HasFourSlots arcs → slots_of_item (crossing_item arcs) ≡ Some arcs
+slots_of_item-crossing [] is = let four = is.four in absurd (cc)
+slots_of_item-crossing (i ∷ []) is = let four = is.four in absurd (omega arith)
+slots_of_item-crossing (i ∷ j ∷ []) is = let four = is.four in absurd (omega arith)
+slots_of_item-crossing (i ∷ j ∷ k ∷ []) is = let four = is.four in absurd (omega arith)
+slots_of_item-crossing (i ∷ j ∷ k ∷ l ∷ []) is =
     rw (le-leb i 255 (is.bytes 0), le-leb j 255 (is.bytes 1), le-leb k 255 (is.bytes 2), le-leb l 255 (is.bytes 3)) refl
-quadruple-item (i ∷ j ∷ k ∷ l ∷ m ∷ arcs) is = let four = is.four in absurd (omega arith)
+slots_of_item-crossing (i ∷ j ∷ k ∷ l ∷ m ∷ arcs) is = let four = is.four in absurd (omega arith)
 
 -- no crossing is among loops, and each of them is one
 crossings_of-loops : (names : List ℕ) → crossings_of (map loop_item names) ≡ []
@@ -109,11 +109,11 @@ loops-loops [] = refl
 loops-loops (name ∷ names) = ap suc (loops-loops names)
 
 -- the crossings among the items of a code are the code's, and so many are the loops
-crossings_of-items : (crossings : List (List ℕ)) (names : List ℕ) → AllByRecursion IsQuadruple crossings → crossings_of (map crossing_item crossings ++ map loop_item names) ≡ crossings
-crossings_of-items [] names quadruples = crossings_of-loops names
-crossings_of-items (arcs ∷ crossings) names quadruples =
-    ap (λ first. cons_option first (crossings_of (map crossing_item crossings ++ map loop_item names))) (quadruple-item arcs quadruples.0)
-    ∙ ap (λ others. arcs ∷ others) (crossings_of-items crossings names quadruples.1)
+crossings_of-items : (crossings : List (List ℕ)) (names : List ℕ) → AllByRecursion HasFourSlots crossings → crossings_of (map crossing_item crossings ++ map loop_item names) ≡ crossings
+crossings_of-items [] names four = crossings_of-loops names
+crossings_of-items (arcs ∷ crossings) names four =
+    ap (λ first. cons_option first (crossings_of (map crossing_item crossings ++ map loop_item names))) (slots_of_item-crossing arcs four.0)
+    ∙ ap (λ others. arcs ∷ others) (crossings_of-items crossings names four.1)
 
 loops-items : (crossings : List (List ℕ)) (names : List ℕ) → length (filter is_loop (map crossing_item crossings ++ map loop_item names)) ≡ length names
 loops-items [] names = loops-loops names
@@ -124,21 +124,21 @@ abbrev made : ℕ → List (List ℕ) → Code
 made loops crossings = record { crossings = crossings; loops = loops }
 
 -- the text of a code reads as the code
-pub IsReading-pd_text : (code : Code) → All IsQuadruple code.crossings → length code.crossings ≤ CROSSINGS → code.loops ≤ LOOPS → IsReading (pd_text code) (Ok code)
+pub IsReading-pd_text : (code : Code) → All HasFourSlots code.crossings → length code.crossings ≤ CROSSINGS → code.loops ≤ LOOPS → IsReading (pd_text code) (Ok code)
 IsReading-pd_text code all few few_loops = record {
   items = items_of_code code;
   spelled = Spells-text_of_items (items_of_code code)
-      (small_crossings code.crossings (map loop_item (loop_names code)) quadruples (small_loops (arc_count code.crossings + 1) code.loops (omega arith)));
+      (small_crossings code.crossings (map loop_item (loop_names code)) four (small_loops (arc_count code.crossings + 1) code.loops (omega arith)));
   crossings = rw same_crossings few;
   loops = rw same_loops few_loops;
   same = ap (made code.loops) (sym same_crossings) ∙ ap (λ n. made n (crossings_of (items_of_code code))) (sym same_loops);
 }
   where
-    quadruples : AllByRecursion IsQuadruple code.crossings
-    quadruples = recursion_from_All IsQuadruple code.crossings all
+    four : AllByRecursion HasFourSlots code.crossings
+    four = recursion_from_All HasFourSlots code.crossings all
 
     same_crossings : crossings_of (items_of_code code) ≡ code.crossings
-    same_crossings = crossings_of-items code.crossings (loop_names code) quadruples
+    same_crossings = crossings_of-items code.crossings (loop_names code) four
 
     same_loops : loop_count (items_of_code code) ≡ code.loops
     same_loops = sym (length-filter is_loop (items_of_code code)) ∙ loops-items code.crossings (loop_names code)

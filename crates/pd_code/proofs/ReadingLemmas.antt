@@ -10,7 +10,7 @@ use Rattle.kh_lex.specs.Cuts.{Cuts, Stops}
 use Rattle.kh_lex.specs.Grammar.{IsFirstFault, LeavesGrammar, fault_place}
 use Rattle.kh_lex.specs.Lexer.{tokens_of}
 use Rattle.kh_lex.specs.Machine.{run}
-use Rattle.kh_lex.proofs.CutReads.{cut_exactly, stops_exactly}
+use Rattle.kh_lex.proofs.CutReads.{tokens_of-cut, tokens_of-stop}
 use Rattle.kh_lex.specs.Symbols.{symbols_of}
 use Rattle.kh_lex.proofs.GrammarLemmas.{LeavesGrammar-means, LeavesGrammar-one, LeavesGrammar-stops, Means-one, Means-stops, Stops-one}
 use Rattle.kh_lex.proofs.MachineLemmas.{IsOutcome, outcome, outcome_from_start}
@@ -96,9 +96,9 @@ pub IsReading-reading_of : (text : List ℕ) → IsReading text (reading_of text
 IsReading-reading_of text = go (tokens_of text) refl
   where
     go : (r : Result (List Token) LexStop) → tokens_of text ≡ r → IsReading text (lexing_reading text r)
-    go (Ok tokens) cut = IsReading-outcome text tokens ((cut_exactly text tokens).0 cut) (outcome advanced is_end (progress_at Start []) (symbols_of text tokens))
+    go (Ok tokens) cut = IsReading-outcome text tokens ((tokens_of-cut text tokens).0 cut) (outcome advanced is_end (progress_at Start []) (symbols_of text tokens))
         (outcome_from_start IsText advanced (progress_at Start []) is_end reads_grammar (symbols_of text tokens))
-    go (Err stop) stops = IsReading-stop text stop ((stops_exactly text stop).0 stops)
+    go (Err stop) stops = IsReading-stop text stop ((tokens_of-stop text stop).0 stops)
 
 -- a reading is a fault of the bytes, a fault of the grammar, or the code within the limits of the items that are spelled
 data Case (text : List ℕ) (reading : Result Code PdStop) : Type 0 where

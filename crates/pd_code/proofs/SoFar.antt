@@ -64,56 +64,56 @@ listed-push (first ∷ items) item =
     ∙ sym (append_assoc (listed (first ∷ items)) (Comma ∷ []) (item_symbols item))
 
 -- one more symbol
-grown : (front back : List Symbol) (symbol : Symbol) → ◌≡◌ {A = List Symbol} (Pd ∷ LeftBracket ∷ (front ++ (back ++ symbol ∷ []))) ((Pd ∷ LeftBracket ∷ (front ++ back)) ++ symbol ∷ [])
-grown front back symbol = ap (λ rest. Pd ∷ LeftBracket ∷ rest) (sym (append_assoc front back (symbol ∷ [])))
+so_far-more : (before now : List Symbol) (symbol : Symbol) → ◌≡◌ {A = List Symbol} (Pd ∷ LeftBracket ∷ (before ++ (now ++ symbol ∷ []))) ((Pd ∷ LeftBracket ∷ (before ++ now)) ++ symbol ∷ [])
+so_far-more before now symbol = ap (λ rest. Pd ∷ LeftBracket ∷ rest) (sym (append_assoc before now (symbol ∷ [])))
 
 -- an item ends
-closed : (items : List Item) (item : Item) (back : List Symbol) → back ++ RightBracket ∷ [] ≡ item_symbols item
+so_far-item : (items : List Item) (item : Item) (back : List Symbol) → back ++ RightBracket ∷ [] ≡ item_symbols item
     → (0 < length (items ++ item ∷ [])) × ◌≡◌ {A = List Symbol} (Pd ∷ LeftBracket ∷ listed (items ++ item ∷ [])) ((Pd ∷ LeftBracket ∷ (leading items ++ back)) ++ RightBracket ∷ [])
-closed items item back whole = (
+so_far-item items item back whole = (
   omega (arith, length-append items (item ∷ [])),
-  ap (λ rest. Pd ∷ LeftBracket ∷ rest) (listed-push items item ∙ ap (λ last. leading items ++ last) (sym whole)) ∙ grown (leading items) back RightBracket,
+  ap (λ rest. Pd ∷ LeftBracket ∷ rest) (listed-push items item ∙ ap (λ last. leading items ++ last) (sym whole)) ∙ so_far-more (leading items) back RightBracket,
 )
 
 -- a step keeps this
-kept : (state : State) (symbol : Symbol) (items : List Item) → IsProper state items
+so_far-step : (state : State) (symbol : Symbol) (items : List Item) → IsProper state items
     → IfSome (step state symbol) (λ next. IsProper next (added state items) × (so_far next (added state items) ≡ so_far state items ++ symbol ∷ []))
-kept Start Pd items proper = (proper, refl)
-kept Named LeftBracket items proper = (proper, refl)
-kept Open X [] proper = (tt, refl)
-kept Open X (item ∷ items) proper = absurd (cc)
-kept Open symbols.Loop [] proper = (tt, refl)
-kept Open symbols.Loop (item ∷ items) proper = absurd (cc)
-kept Open RightBracket [] proper = (tt, refl)
-kept Open RightBracket (item ∷ items) proper = absurd (cc)
-kept Listed Comma items proper = (proper, refl)
-kept Listed RightBracket items proper = (tt, refl)
-kept Separated X [] proper = absurd (omega arith)
-kept Separated X (item ∷ items) proper = (tt, refl)
-kept Separated symbols.Loop [] proper = absurd (omega arith)
-kept Separated symbols.Loop (item ∷ items) proper = (tt, refl)
-kept Crossing LeftBracket items proper = (tt, grown (leading items) (present Crossing) LeftBracket)
-kept CrossingOpen (Number i) items proper = (tt, grown (leading items) (present CrossingOpen) (Number i))
-kept (First i) Comma items proper = (tt, grown (leading items) (present (First i)) Comma)
-kept (FirstComma i) (Number j) items proper = (tt, grown (leading items) (present (FirstComma i)) (Number j))
-kept (Second i j) Comma items proper = (tt, grown (leading items) (present (Second i j)) Comma)
-kept (SecondComma i j) (Number k) items proper = (tt, grown (leading items) (present (SecondComma i j)) (Number k))
-kept (Third i j k) Comma items proper = (tt, grown (leading items) (present (Third i j k)) Comma)
-kept (ThirdComma i j k) (Number l) items proper = (tt, grown (leading items) (present (ThirdComma i j k)) (Number l))
-kept (Fourth i j k l) RightBracket items proper = closed items (kinds.Crossing i j k l) (present (Fourth i j k l)) refl
-kept Loop LeftBracket items proper = (tt, grown (leading items) (present Loop) LeftBracket)
-kept LoopOpen (Number n) items proper = (tt, grown (leading items) (present LoopOpen) (Number n))
-kept (LoopNumber n) RightBracket items proper = closed items (kinds.Loop n) (present (LoopNumber n)) refl
-kept _ _ items proper = tt
+so_far-step Start Pd items proper = (proper, refl)
+so_far-step Named LeftBracket items proper = (proper, refl)
+so_far-step Open X [] proper = (tt, refl)
+so_far-step Open X (item ∷ items) proper = absurd (cc)
+so_far-step Open symbols.Loop [] proper = (tt, refl)
+so_far-step Open symbols.Loop (item ∷ items) proper = absurd (cc)
+so_far-step Open RightBracket [] proper = (tt, refl)
+so_far-step Open RightBracket (item ∷ items) proper = absurd (cc)
+so_far-step Listed Comma items proper = (proper, refl)
+so_far-step Listed RightBracket items proper = (tt, refl)
+so_far-step Separated X [] proper = absurd (omega arith)
+so_far-step Separated X (item ∷ items) proper = (tt, refl)
+so_far-step Separated symbols.Loop [] proper = absurd (omega arith)
+so_far-step Separated symbols.Loop (item ∷ items) proper = (tt, refl)
+so_far-step Crossing LeftBracket items proper = (tt, so_far-more (leading items) (present Crossing) LeftBracket)
+so_far-step CrossingOpen (Number i) items proper = (tt, so_far-more (leading items) (present CrossingOpen) (Number i))
+so_far-step (First i) Comma items proper = (tt, so_far-more (leading items) (present (First i)) Comma)
+so_far-step (FirstComma i) (Number j) items proper = (tt, so_far-more (leading items) (present (FirstComma i)) (Number j))
+so_far-step (Second i j) Comma items proper = (tt, so_far-more (leading items) (present (Second i j)) Comma)
+so_far-step (SecondComma i j) (Number k) items proper = (tt, so_far-more (leading items) (present (SecondComma i j)) (Number k))
+so_far-step (Third i j k) Comma items proper = (tt, so_far-more (leading items) (present (Third i j k)) Comma)
+so_far-step (ThirdComma i j k) (Number l) items proper = (tt, so_far-more (leading items) (present (ThirdComma i j k)) (Number l))
+so_far-step (Fourth i j k l) RightBracket items proper = so_far-item items (kinds.Crossing i j k l) (present (Fourth i j k l)) refl
+so_far-step Loop LeftBracket items proper = (tt, so_far-more (leading items) (present Loop) LeftBracket)
+so_far-step LoopOpen (Number n) items proper = (tt, so_far-more (leading items) (present LoopOpen) (Number n))
+so_far-step (LoopNumber n) RightBracket items proper = so_far-item items (kinds.Loop n) (present (LoopNumber n)) refl
+so_far-step _ _ items proper = tt
 
 -- a run keeps this
-run-kept : (state : State) (items : List Item) (symbols : List Symbol) (end : Progress) → IsProper state items → run advanced (progress_at state items) symbols ≡ Some end
+so_far-run : (state : State) (items : List Item) (symbols : List Symbol) (end : Progress) → IsProper state items → run advanced (progress_at state items) symbols ≡ Some end
     → IsProper end.state end.items × (so_far end.state end.items ≡ so_far state items ++ symbols)
-run-kept state items [] end proper ran =
+so_far-run state items [] end proper ran =
     let e : progress_at state items ≡ end = cc in
     (subst (λ (p : Progress). IsProper p.state p.items) e proper, ap (λ (p : Progress). so_far p.state p.items) (sym e) ∙ sym (append-nil (so_far state items)))
-run-kept state items (symbol ∷ symbols) end proper ran =
-    go (step state symbol) (kept state symbol items proper) (λ next. run-kept next (added state items) symbols end) ran
+so_far-run state items (symbol ∷ symbols) end proper ran =
+    go (step state symbol) (so_far-step state symbol items proper) (λ next. so_far-run next (added state items) symbols end) ran
   where
     go : (next : Option State) → IfSome next (λ next. IsProper next (added state items) × (so_far next (added state items) ≡ so_far state items ++ symbol ∷ []))
         → ((next : State) → IsProper next (added state items) → run advanced (progress_at next (added state items)) symbols ≡ Some end
@@ -123,17 +123,17 @@ run-kept state items (symbol ∷ symbols) end proper ran =
     go None after goes ran = absurd (cc)
     go (Some next) after goes ran =
         let rest = goes next after.0 ran in
-        (rest.0, rest.1 ∙ ap (λ front. front ++ symbols) after.1 ∙ append_assoc (so_far state items) (symbol ∷ []) symbols)
+        (rest.0, rest.1 ∙ ap (λ before. before ++ symbols) after.1 ∙ append_assoc (so_far state items) (symbol ∷ []) symbols)
 
 -- what a run from the start has read
 pub run-so_far : (symbols : List Symbol) (end : Progress) → run advanced (progress_at Start []) symbols ≡ Some end → symbols ≡ so_far end.state end.items
-run-so_far symbols end ran = sym (run-kept Start [] symbols end refl ran).1
+run-so_far symbols end ran = sym (so_far-run Start [] symbols end refl ran).1
 
 -- at the end this is a spelling
 so_far-done : (state : State) (items : List Item) → is_done state ≡ true → so_far state items ≡ spelled items
-so_far-done Done items done = refl
-so_far-done _ items done = absurd (cc)
+so_far-done Done items symbols_of-done = refl
+so_far-done _ items symbols_of-done = absurd (cc)
 
 -- what is read to the end is spelled
 pub run-done : (symbols : List Symbol) (end : Progress) → run advanced (progress_at Start []) symbols ≡ Some end → is_end end ≡ true → symbols ≡ spelled end.items
-run-done symbols end ran done = run-so_far symbols end ran ∙ so_far-done end.state end.items done
+run-done symbols end ran symbols_of-done = run-so_far symbols end ran ∙ so_far-done end.state end.items symbols_of-done

@@ -10,10 +10,10 @@ abbrev pub arc_named : ℤ → ℕ
 arc_named (pos n) = if nat_le n 255 then n else 0
 arc_named (negsuc n) = 0
 
--- the quadruple of an item that is a crossing
-abbrev pub quadruple_of : Item → Option (List ℕ)
-quadruple_of (Crossing i j k l) = Some (arc_named i ∷ arc_named j ∷ arc_named k ∷ arc_named l ∷ [])
-quadruple_of (Loop n) = None
+-- the slots of an item that is a crossing, each by its arc
+abbrev pub slots_of_item : Item → Option (List ℕ)
+slots_of_item (Crossing i j k l) = Some (arc_named i ∷ arc_named j ∷ arc_named k ∷ arc_named l ∷ [])
+slots_of_item (Loop n) = None
 
 -- an item is a loop
 abbrev pub is_loop : Item → Bool
@@ -22,7 +22,7 @@ is_loop (Loop n) = true
 
 -- the crossings among items, in order
 abbrev pub crossings_of : List Item → List (List ℕ)
-crossings_of items = filter_map quadruple_of items
+crossings_of items = filter_map slots_of_item items
 
 -- how many loops there are among items; their numbers are not used
 abbrev pub loop_count : List Item → ℕ

@@ -6,15 +6,15 @@ use Rattle.kh_types.specs.Code.{Code, arc_count, arc_in}
 use Rattle.pd_code.specs.declared.item.Item.{Item}
 use Rattle.pd_code.specs.declared.item.Item.TheVariants.{Crossing, Loop}
 
--- a quadruple as a crossing holds it: four arcs, each a byte
-pub record IsQuadruple (arcs : List ℕ) : Type 0 where
-  pub four : length arcs ≡ 4
-  pub bytes : (slot : ℕ) → arc_in arcs slot ≤ 255
+-- slots as a crossing holds them: there are four, and each has an arc that is a byte
+pub record HasFourSlots (slots : List ℕ) : Type 0 where
+  pub four : length slots ≡ 4
+  pub bytes : (slot : ℕ) → arc_in slots slot ≤ 255
 
 -- the item of a crossing, by the arcs at its slots 0 to 3
 abbrev pub crossing_item : List ℕ → Item
-crossing_item quadruple =
-    Crossing (pos (arc_in quadruple 0)) (pos (arc_in quadruple 1)) (pos (arc_in quadruple 2)) (pos (arc_in quadruple 3))
+crossing_item slots =
+    Crossing (pos (arc_in slots 0)) (pos (arc_in slots 1)) (pos (arc_in slots 2)) (pos (arc_in slots 3))
 
 -- the item of a loop, by its name
 abbrev pub loop_item : ℕ → Item

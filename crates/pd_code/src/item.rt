@@ -1,7 +1,7 @@
 //! What a planar diagram text lists.
 
 ghost use Rattle.std.specs.Prelude.{◌≡◌};
-ghost use Rattle.pd_code.specs.Items.{arc_named, is_loop, quadruple_of};
+ghost use Rattle.pd_code.specs.Items.{arc_named, is_loop, slots_of_item};
 
 use kh_types::Crossing;
 
@@ -26,8 +26,8 @@ pub fn is_loop(item: &Item) -> bool
 }
 
 /// The crossing that an item is, if it is one.
-pub fn quadruple_of(item: &Item) -> Option<Crossing>
-    ensures { result ≡ quadruple_of item.now }
+pub fn slots_of_item(item: &Item) -> Option<Crossing>
+    ensures { result ≡ slots_of_item item.now }
 {
     match *item {
         Item::Crossing(i, j, k, l) => Some(Crossing([

@@ -3,7 +3,7 @@
 ghost use Rattle.std.specs.Prelude.{◌≡◌, ◌≤◌, ℕ, All, List, [], ◌∷◌, codes, length, Result, Ok, Err};
 ghost use Rattle.kh_types.specs.Code.{Code};
 ghost use Rattle.pd_code.specs.declared.stop.PdStop.{PdStop};
-ghost use Rattle.pd_code.specs.Printing.{IsQuadruple, pd_text};
+ghost use Rattle.pd_code.specs.Printing.{HasFourSlots, pd_text};
 ghost use Rattle.pd_code.specs.Reading.{IsReading};
 
 use crate::stop::PdStop;
@@ -17,10 +17,10 @@ pub fn each_text_has_one_reading()
         IsReading text a → IsReading text b → a ≡ b }
 {}
 
-/// The text of a code within the limits reads as the code. The crossings of a diagram are such
-/// quadruples by their type.
+/// The text of a code within the limits reads as the code. That a diagram's crossings have four
+/// slots each is part of their type.
 pub fn printed_codes_are_read_back()
-    ensures { (code : Code) → All IsQuadruple code.crossings →
+    ensures { (code : Code) → All HasFourSlots code.crossings →
         length code.crossings ≤ CROSSINGS → code.loops ≤ LOOPS →
         IsReading (pd_text code) (Ok code) }
 {}

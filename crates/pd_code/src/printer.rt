@@ -1,7 +1,7 @@
 //! Prints the code of a diagram as a planar diagram text.
 
 ghost use Rattle.std.specs.Prelude.{◌≡◌, ◌≤◌, ◌++◌, All, length, string_bytes, IfOk, OnOk, Ok};
-ghost use Rattle.pd_code.specs.Printing.{IsQuadruple, crossing_item, item_text, items_of_code, listed_text, loop_item, pd_text, text_of_items};
+ghost use Rattle.pd_code.specs.Printing.{HasFourSlots, crossing_item, item_text, items_of_code, listed_text, loop_item, pd_text, text_of_items};
 ghost use Rattle.pd_code.specs.Reading.{IsReading};
 
 use crate::item::Item;
@@ -24,7 +24,7 @@ pub fn print_pd(alloc: Global, diagram: &Diagram) -> Result<Vec<u8>, NoMemory>
 // The items of a diagram.
 fn items_of_code(alloc: Global, diagram: &Diagram) -> Result<Vec<Item>, NoMemory>
     ensures items { IfOk result (λ items. items.items ≡ items_of_code diagram.now) }
-    ensures quadruples { OnOk result (All IsQuadruple diagram.now.crossings) }
+    ensures four { OnOk result (All HasFourSlots diagram.now.crossings) }
     ensures few { OnOk result (length diagram.now.crossings ≤ CROSSINGS) }
 {
     let mut items = Vec::new(alloc);
@@ -41,7 +41,7 @@ fn items_of_code(alloc: Global, diagram: &Diagram) -> Result<Vec<Item>, NoMemory
 // The item of a crossing.
 fn crossing_item(crossing: &Crossing) -> Item
     ensures item { result ≡ crossing_item crossing.now }
-    ensures quadruple { IsQuadruple crossing.now }
+    ensures four { HasFourSlots crossing.now }
 {
     let [i, j, k, l] = crossing.0;
     Item::Crossing(i.into(), j.into(), k.into(), l.into())

@@ -2,11 +2,11 @@
 
 ghost use Rattle.std.specs.Prelude.{◌≡◌, ◌≢◌, ◌++◌, ◌≤◌, Err, IfOk, length};
 ghost use Rattle.std.specs.Option.{option_to_list};
-ghost use Rattle.pd_code.specs.Items.{crossings_of, loop_count, quadruple_of};
+ghost use Rattle.pd_code.specs.Items.{crossings_of, loop_count, slots_of_item};
 ghost use Rattle.pd_code.specs.Limits.{code_within};
 ghost use Rattle.pd_code.specs.Reading.{IsReading};
 
-use crate::item::{Item, is_loop, quadruple_of};
+use crate::item::{Item, is_loop, slots_of_item};
 use crate::machine::items_of;
 use crate::stop::PdStop;
 use arrayvec::ArrayVec;
@@ -57,7 +57,7 @@ fn crossing_count(items: &[Item]) -> usize
     ensures count { result ≡ length (crossings_of items.now) }
     ensures within { result ≤ length items.now }
 {
-    items.iter().filter_map(quadruple_of).count()
+    items.iter().filter_map(slots_of_item).count()
 }
 
 // The number of loops among items.
@@ -82,10 +82,10 @@ fn crossings_of(items: &[Item]) -> ArrayVec<Crossing, CROSSINGS>
 
 // Adds the crossing that an item is, if it is one.
 fn push_crossing(crossings: &mut ArrayVec<Crossing, CROSSINGS>, item: &Item)
-    requires { length (crossings.old.items ++ option_to_list (quadruple_of item.now)) ≤ CROSSINGS }
-    ensures { crossings.new.items ≡ crossings.old.items ++ option_to_list (quadruple_of item.now) }
+    requires { length (crossings.old.items ++ option_to_list (slots_of_item item.now)) ≤ CROSSINGS }
+    ensures { crossings.new.items ≡ crossings.old.items ++ option_to_list (slots_of_item item.now) }
 {
-    if let Some(crossing) = quadruple_of(item) {
+    if let Some(crossing) = slots_of_item(item) {
         crossings.push(crossing);
     }
 }

@@ -1,13 +1,13 @@
 use Rattle.std.proofs.Common.{◌≡◌, Ok, Err, drop, sym, ◌∙◌, ap, arith}
 use Rattle.std.proofs.lemmas.Result.{err_from_is_err_and}
 use Rattle.kh_lex.specs.Lexer.{piece_at}
-use Rattle.kh_lex.proofs.CutReads.{cut_exactly, stops_exactly}
-use Rattle.kh_lex.proofs.LexerSteps.{cut_begins, cut_goes, cut_stops, cut_ends}
+use Rattle.kh_lex.proofs.CutReads.{tokens_of-cut, tokens_of-stop}
+use Rattle.kh_lex.proofs.LexerSteps.{IsCut-begin, IsCut-piece, tokens_of-fault, tokens_of-end}
 use Rattle.kh_lex.proofs.lexer.tokens.Goals as goal
 
 -- nothing is cut yet
 pub loop-place-init : goal.loop-place-init
-loop-place-init c = rw c.new-tokens.ensures.items (cut_begins c.args.text.now)
+loop-place-init c = rw c.new-tokens.ensures.items (IsCut-begin c.args.text.now)
 
 -- a piece is taken
 pub loop-place-preserved : goal.loop-place-preserved
@@ -15,7 +15,7 @@ loop-place-preserved c =
     let read : piece_at c.loop-place.place (drop c.loop-place.place c.args.text.now) ≡ Ok c.in_ok-piece.piece
     = ap (piece_at c.loop-place.place) (sym c.rest_from.ensures) ∙ sym c.piece_at.ensures ∙ c.in_ok-piece.was in
     rw (c.piece_length.ensures, c.in_ok-push_piece.ensures)
-    (cut_goes c.args.text.now c.loop-place.place c.loop-place.tokens.items c.in_ok-piece.piece (omega arith) read c.loop-place.invariant)
+    (IsCut-piece c.args.text.now c.loop-place.place c.loop-place.tokens.items c.in_ok-piece.piece (omega arith) read c.loop-place.invariant)
 
 -- a fault stands there
 pub returns-in_err-piece-clause-fault : goal.returns-in_err-piece-clause-fault
@@ -23,10 +23,10 @@ returns-in_err-piece-clause-fault c =
     let read : piece_at c.loop-place.place (drop c.loop-place.place c.args.text.now) ≡ Err c.in_err-piece.field-0.0
     = ap (piece_at c.loop-place.place) (sym c.rest_from.ensures) ∙ sym c.piece_at.ensures ∙ c.in_err-piece.was in
     let p = err_from_is_err_and c.from_residual.result c.from_residual.ensures.1 in
-    rw (p.1, p.2) (λ some. (stops_exactly c.args.text.now c.in_err-piece.field-0.0).0
-    (cut_stops c.args.text.now c.loop-place.place c.loop-place.tokens.items c.in_err-piece.field-0.0 (omega arith) read c.loop-place.invariant))
+    rw (p.1, p.2) (λ some. (tokens_of-stop c.args.text.now c.in_err-piece.field-0.0).0
+    (tokens_of-fault c.args.text.now c.loop-place.place c.loop-place.tokens.items c.in_err-piece.field-0.0 (omega arith) read c.loop-place.invariant))
 
 -- nothing is left
 pub returns-clause-cut : goal.returns-clause-cut
-returns-clause-cut c = (cut_exactly c.args.text.now c.loop-place.tokens.items).0
-    (cut_ends c.args.text.now c.loop-place.place c.loop-place.tokens.items (omega arith) c.loop-place.invariant)
+returns-clause-cut c = (tokens_of-cut c.args.text.now c.loop-place.tokens.items).0
+    (tokens_of-end c.args.text.now c.loop-place.place c.loop-place.tokens.items (omega arith) c.loop-place.invariant)

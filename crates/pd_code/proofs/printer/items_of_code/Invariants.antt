@@ -1,13 +1,13 @@
 use Rattle.std.proofs.Common.{◌≡◌, ℕ, ◌-◌, ◌<◌, [], ◌++◌, get_or, map, take}
 use Rattle.std.specs.List.{range_with_len}
-use Rattle.pd_code.specs.Printing.{IsQuadruple, crossing_item, loop_item}
+use Rattle.pd_code.specs.Printing.{HasFourSlots, crossing_item, loop_item}
 use Rattle.pd_code.proofs.printer.items_of_code.Given as goal
 
--- the items of the crossings so far, and each of these is a quadruple
+-- the items of the crossings so far, and each of these has four slots
 abbrev pub invariant-loop-crossing : goal.invariant-loop-crossing
 invariant-loop-crossing l = record {
   items : l.items.items ≡ map crossing_item (take l.crossing-index l.crossing-items);
-  quadruples : (k : ℕ) → k < l.crossing-index → IsQuadruple (get_or l.crossing-items k []);
+  four : (k : ℕ) → k < l.crossing-index → HasFourSlots (get_or l.crossing-items k []);
 }
 
 -- the items of the crossings, and of the loops so far

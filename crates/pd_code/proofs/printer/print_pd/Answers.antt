@@ -9,4 +9,4 @@ pub returns-clause-reads_back : goal.returns-clause-reads_back
 returns-clause-reads_back c = λ few_loops.
     let same : c.into_bytes.result.items ≡ pd_text c.args.diagram.now = search rules in
     subst (λ text. IsReading text (Ok c.args.diagram.now)) (sym same)
-    (IsReading-pd_text c.args.diagram.now c.in_ok-items.ensures.quadruples c.in_ok-items.ensures.few few_loops)
+    (IsReading-pd_text c.args.diagram.now c.in_ok-items.ensures.four c.in_ok-items.ensures.few few_loops)
