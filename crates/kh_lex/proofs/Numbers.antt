@@ -4,10 +4,10 @@ use Rattle.std.proofs.lemmas.Bool.{eqb-true}
 use Rattle.std.specs.Char.{is_ascii_alphabetic, is_ascii_digit}
 use Rattle.std.specs.List.{prefix_len, take_while}
 use Rattle.std.specs.Str.Parse.{digits_value}
-use Rattle.kh_lex.specs.Cuts.{IsNumber, IsRun, begins_with, is_blank, sign, signed}
+use Rattle.kh_lex.specs.Cuts.{IsNumber, IsLongestRun, begins_with, is_blank, sign, signed}
 use Rattle.kh_lex.specs.Lexer.{begins_number, digits_at, has_minus}
 use Rattle.kh_lex.proofs.FirstBytes.{begins_with-first, digit-other}
-use Rattle.kh_lex.proofs.Runs.{is-first, IsRun-take_while, take_while-run}
+use Rattle.kh_lex.proofs.Runs.{is-first, IsLongestRun-take_while, take_while-run}
 
 -- the size of a value is its size without the sign
 pub nat_abs-signed : (minus : Bool) (size : ℕ) → nat_abs (signed minus size) ≡ size
@@ -23,7 +23,7 @@ length-sign false = refl
 pub record IsSplit (minus : Bool) (text digits : List ℕ) : Type 0 where
   pub rest : List ℕ
   pub parts : text ≡ (sign minus ++ digits) ++ rest
-  pub run : IsRun is_ascii_digit digits rest
+  pub run : IsLongestRun is_ascii_digit digits rest
 
 IsSplit-at : (minus : Bool) (text : List ℕ) → has_minus text ≡ minus → is_ascii_digit (slice_index text (cond minus 1 0)) ≡ true
     → IsSplit minus text (take_while is_ascii_digit (drop (cond minus 1 0) text))
@@ -31,7 +31,7 @@ IsSplit-at false [] same digit = absurd (cc)
 IsSplit-at false (byte ∷ bytes) same digit = record {
   rest = drop (prefix_len is_ascii_digit (byte ∷ bytes)) (byte ∷ bytes);
   parts = sym (take-append-drop (prefix_len is_ascii_digit (byte ∷ bytes)) (byte ∷ bytes));
-  run = IsRun-take_while is_ascii_digit (byte ∷ bytes) (omega arith) digit;
+  run = IsLongestRun-take_while is_ascii_digit (byte ∷ bytes) (omega arith) digit;
 }
 IsSplit-at true [] same digit = absurd (cc)
 IsSplit-at true (byte ∷ []) same digit = absurd (cc)
@@ -39,7 +39,7 @@ IsSplit-at true (byte ∷ first ∷ bytes) same digit = record {
   rest = drop (prefix_len is_ascii_digit (first ∷ bytes)) (first ∷ bytes);
   parts = ap (λ b. b ∷ first ∷ bytes) (eqb-true byte 45 same)
       ∙ ap (λ t. 45 ∷ t) (sym (take-append-drop (prefix_len is_ascii_digit (first ∷ bytes)) (first ∷ bytes)));
-  run = IsRun-take_while is_ascii_digit (first ∷ bytes) (omega arith) digit;
+  run = IsLongestRun-take_while is_ascii_digit (first ∷ bytes) (omega arith) digit;
 }
 
 -- a text that begins with a number is split so
@@ -58,7 +58,7 @@ pub record IsReadAs (text : List ℕ) (minus : Bool) (digits : List ℕ) : Type 
   pub letter : is_ascii_alphabetic (slice_index text 0) ≡ false
   pub no_blank : begins_with is_blank text ≡ false
 
-IsReadAs-run : (minus : Bool) (digits rest : List ℕ) → IsRun is_ascii_digit digits rest → IsReadAs ((sign minus ++ digits) ++ rest) minus digits
+IsReadAs-run : (minus : Bool) (digits rest : List ℕ) → IsLongestRun is_ascii_digit digits rest → IsReadAs ((sign minus ++ digits) ++ rest) minus digits
 IsReadAs-run true digits rest run = record {
   begins = is-first is_ascii_digit digits rest run;
   sign = refl;

@@ -9,7 +9,7 @@ use Rattle.kh_lex.specs.declared.token.Kind.TheVariants.{Word, Number, LeftBrack
 use Rattle.kh_lex.specs.declared.stop.LexStop.{LexStop}
 use Rattle.kh_lex.specs.declared.stop.LexStop.TheVariants as stops
 use Rattle.kh_lex.specs.declared.token.Token.{Token}
-use Rattle.kh_lex.specs.Cuts.{IsFault, IsNumber, IsRun, IsToken, begins_with, is_blank, sign}
+use Rattle.kh_lex.specs.Cuts.{IsFault, IsNumber, IsLongestRun, IsToken, begins_with, is_blank, sign}
 use Rattle.kh_lex.specs.Lexer.{token_at}
 use Rattle.kh_lex.proofs.FirstBytes.{begins_with-first, letter-other}
 use Rattle.kh_lex.proofs.Numbers.{length-sign, nat_abs-signed, IsReadAs-number}
@@ -25,7 +25,7 @@ size_of : (value : ℤ) (bytes rest : List ℕ) (n : IsNumber value bytes rest) 
 size_of value bytes rest n = ap nat_abs n.valued ∙ nat_abs-signed n.minus (digits_value 10 n.digits)
 
 -- a word is read
-token_at-word : (place size : ℕ) (value : ℤ) (bytes rest : List ℕ) → size ≡ length bytes → IsRun is_ascii_alphabetic bytes rest × (value ≡ pos 0)
+token_at-word : (place size : ℕ) (value : ℤ) (bytes rest : List ℕ) → size ≡ length bytes → IsLongestRun is_ascii_alphabetic bytes rest × (value ≡ pos 0)
     → token_at place (bytes ++ rest) ≡ Ok (token Word place size value)
 unfolding token
 token_at-word place size value bytes rest sized is =

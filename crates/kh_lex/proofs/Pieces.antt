@@ -17,7 +17,7 @@ use Rattle.kh_lex.specs.Cuts.{BeginsNoToken, IsFault, IsToken, begins_with, is_b
 use Rattle.kh_lex.specs.Lexer.{begins_number, digits_at, has_minus, mark_at, mark_of, number_at, piece_at, plain_token, sign_length, token_at, word_at}
 use Rattle.kh_lex.proofs.FirstBytes.{begins_with-first}
 use Rattle.kh_lex.proofs.Numbers.{IsSplit, length-sign, nat_abs-signed, IsNumber-signed, IsReadAs-number, IsSplit-text}
-use Rattle.kh_lex.proofs.Runs.{is-first, IsRun-take_while}
+use Rattle.kh_lex.proofs.Runs.{is-first, IsLongestRun-take_while}
 
 -- a token begins a text
 pub record IsTokenAt (place : ℕ) (text : List ℕ) (token : Token) : Type 0 where
@@ -45,7 +45,7 @@ IsTokenAt-word place text some letter = record {
   parts = sym (take-append-drop (prefix_len is_ascii_alphabetic text) text);
   begin = refl;
   size = sym (length-prefix_len is_ascii_alphabetic text);
-  kind = (IsRun-take_while is_ascii_alphabetic text some letter, refl);
+  kind = (IsLongestRun-take_while is_ascii_alphabetic text some letter, refl);
   limit = omega arith;
 }
 

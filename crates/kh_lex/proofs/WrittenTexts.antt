@@ -15,7 +15,7 @@ use Rattle.kh_lex.specs.declared.symbol.Symbol.TheVariants as symbols
 use Rattle.kh_lex.specs.declared.token.Kind.{Kind}
 use Rattle.kh_lex.specs.declared.token.Kind.TheVariants.{Word, Number, LeftBracket, RightBracket, LeftBrace, RightBrace, Comma}
 use Rattle.kh_lex.specs.declared.token.Token.{Token}
-use Rattle.kh_lex.specs.Cuts.{Cuts, IsRun, IsToken, SkipsBlanks, begins_with}
+use Rattle.kh_lex.specs.Cuts.{Cuts, IsLongestRun, IsToken, SkipsBlanks, begins_with}
 use Rattle.kh_lex.proofs.Cuttings.{skip-cons}
 use Rattle.kh_lex.specs.Symbols.{Means, bytes_of, kind_symbol, symbols_of, word_symbol}
 
@@ -91,7 +91,7 @@ list_all-digits (digit ∷ digits) all =
     and_from (is_ascii_digit digit) (list_all is_ascii_digit digits) (search (arith, range)) (list_all-digits digits all.1)
 
 -- decimal digits before a text that begins with no digit are a run
-decimal-run : {rest : List ℕ} (n : ℕ) → n ≤ NUMBER_LIMIT → begins_with is_ascii_digit rest ≡ false → IsRun is_ascii_digit (decimal n) rest × (digits_value 10 (decimal n) ≡ n)
+decimal-run : {rest : List ℕ} (n : ℕ) → n ≤ NUMBER_LIMIT → begins_with is_ascii_digit rest ≡ false → IsLongestRun is_ascii_digit (decimal n) rest × (digits_value 10 (decimal n) ≡ n)
 decimal-run n small longest =
     let written = decimal_is_IsNumeral n (omega arith) in
     (record { some = written.0.0; all = list_all-digits (decimal n) written.0.1; longest = longest }, written.1)

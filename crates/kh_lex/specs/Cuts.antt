@@ -22,7 +22,7 @@ begins_with is (byte ∷ bytes) = is byte
 
 -- bytes are a longest run of a sort: there is one at least, all are of the sort, and the rest behind them does not begin
 -- with another
-pub record IsRun (is : ℕ → Bool) (bytes rest : List ℕ) : Type 0 where
+pub record IsLongestRun (is : ℕ → Bool) (bytes rest : List ℕ) : Type 0 where
   pub some : 0 < length bytes
   pub all : IsTrue (list_all is bytes)
   pub longest : IsFalse (begins_with is rest)
@@ -41,13 +41,13 @@ pub record IsNumber (value : ℤ) (bytes rest : List ℕ) : Type 0 where
   pub minus : Bool
   pub digits : List ℕ
   pub parts : bytes ≡ sign minus ++ digits
-  pub run : IsRun is_ascii_digit digits rest
+  pub run : IsLongestRun is_ascii_digit digits rest
   pub valued : value ≡ signed minus (digits_value 10 digits)
 
 -- bytes, with a rest behind them, are a token of a kind and of a value: a word is a longest run of letters, a number is as
 -- above, and each mark is its one byte; words and marks have the value 0
 abbrev pub IsToken : Kind → ℤ → List ℕ → List ℕ → Type 0
-IsToken Word value bytes rest = IsRun is_ascii_alphabetic bytes rest × (value ≡ pos 0)
+IsToken Word value bytes rest = IsLongestRun is_ascii_alphabetic bytes rest × (value ≡ pos 0)
 IsToken Number value bytes rest = IsNumber value bytes rest
 IsToken LeftBracket value bytes rest = (bytes ≡ codes "[") × (value ≡ pos 0)
 IsToken RightBracket value bytes rest = (bytes ≡ codes "]") × (value ≡ pos 0)
