@@ -38,7 +38,9 @@ fn arc_at(members: &[Value], crossing: u32, slot: u8) -> Result<u8, JsonStop>
     ensures { result ≡ arc_at crossing slot (map view members.now) }
 {
     let number = members.get(slot as usize).and_then(Value::as_u64);
-    number.map(arc_named).ok_or(JsonStop::Shape { crossing, slot })
+    number
+        .map(arc_named)
+        .ok_or(JsonStop::Shape { crossing, slot })
 }
 
 // The arc that a number names; 0, which is no arc, for a number above 255.

@@ -193,3 +193,27 @@ fn listed(alloc: Global, element: &str, count: usize) -> Result<Vec<u8>, AllocEr
     text.push(b']')?;
     Ok(text)
 }
+
+#[test]
+fn stops_that_differ_are_not_equal(rt: HostRuntime) {
+    let shape = JsonStop::Shape {
+        crossing: 1,
+        slot: 2,
+    };
+    for other in [
+        JsonStop::JsonText,
+        JsonStop::NoMemory,
+        JsonStop::CrossingLimit { count: 1 },
+        JsonStop::Shape {
+            crossing: 2,
+            slot: 2,
+        },
+        JsonStop::Shape {
+            crossing: 1,
+            slot: 1,
+        },
+    ] {
+        assert!(rt; shape != other);
+    }
+    assert!(rt; JsonStop::CrossingLimit { count: 1 } != JsonStop::CrossingLimit { count: 2 });
+}
