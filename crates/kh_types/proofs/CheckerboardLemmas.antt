@@ -1,14 +1,15 @@
 -- The checkerboard equations, and the choices that solve the first of them.
-use Rattle.std.proofs.Common.{◌≡◌, ℕ, zero, suc, ◌⊎◌, inl, inr, ◌-◌, ◌+◌, ◌*◌, ◌^◌, ◌<◌, ◌≤◌, ◌∙◌, List, [], ◌∷◌, length, take, refl, sym, ap, arith, Bool, true, false, not}
+use Rattle.std.proofs.Common.{◌≡◌, ℕ, inl, inr, ◌-◌, ◌+◌, ◌*◌, ◌^◌, ◌<◌, ◌≤◌, ◌∙◌, List, [], ◌∷◌, length, take, refl, sym, ap, arith, Bool, true, false, not}
 use Rattle.std.specs.Prelude.{Some, None}
 use Rattle.std.specs.List.{list_all, range_with_len}
+use Rattle.std.proofs.lemmas.Bool.{cases_lt}
 use Rattle.std.proofs.lemmas.List.Folds.{list_all-map, list_all_kept}
 use Rattle.std.proofs.lemmas.List.FromFn.{take-map-range_with_len}
 use Rattle.kh_types.specs.declared.fault.CodeFault.{CodeFault}
 use Rattle.kh_types.specs.declared.fault.CodeFault.TheVariants.{Checkerboard}
 use Rattle.kh_types.specs.Checkerboard.{equation_of, equations_of, is_solved, solves_at, solves_up_to, has_choice, IsCheckerboard}
 use Rattle.kh_types.specs.Acceptance.{checkerboard_at, checkerboard_fault, fault_if}
-use Rattle.kh_types.proofs.Ranges.{list_any-below, list_any-below_none, list_any-found, list_all-front}
+use Rattle.kh_types.proofs.Ranges.{list_any-below, list_any-below_none, list_any-found, list_all-range_prefix}
 use Rattle.kh_types.proofs.FaultLemmas.{none_at, none_of_all}
 
 -- to solve the arcs up to a is to solve the first a equations
@@ -39,19 +40,13 @@ checkerboard-none crossings arc choice choices within is_count below solved =
     (solves_up_to-is crossings arc choice within ∙ solved) in
     ap (λ b. fault_if (not b) (Checkerboard arc)) some
 
--- of two numbers the first is below the second or not
-lt_or_le : (k n : ℕ) → (k < n) ⊎ (n ≤ k)
-lt_or_le k zero = inr (omega arith)
-lt_or_le zero (suc n) = inl (omega arith)
-lt_or_le (suc k) (suc n) = elim (lt_or_le k n) [ inl earlier ↦ inl (omega arith) | inr later ↦ inr (omega arith) ]
-
 -- choices that fail for some arcs fail for one arc more, and those that were tried now fail too
 pub tried_more : (crossings : List (List ℕ)) (place before now : ℕ)
     → ((k : ℕ) → k < before → list_all (is_solved k) (take place (equations_of crossings)) ≡ false)
     → ((k : ℕ) → before ≤ k → k < now → list_all (is_solved k) (take (place + 1) (equations_of crossings)) ≡ false)
     → (k : ℕ) → k < now → list_all (is_solved k) (take (place + 1) (equations_of crossings)) ≡ false
 tried_more crossings place before now tried fails k below =
-    elim (lt_or_le k before) [
+    elim (cases_lt k before) [
       | inl earlier ↦ list_all_kept (is_solved k) (equations_of crossings) place (tried k earlier)
       | inr later ↦ fails k later below
     ]
@@ -81,7 +76,7 @@ pub none-from_choice : (crossings : List (List ℕ)) → IsCheckerboard crossing
 none-from_choice crossings solution =
     none_of_all (checkerboard_at crossings) 1 (2 * length crossings)
     (λ k below.
-    let solves = list_all-front (solves_at crossings solution.choice) 1 (1 + k) (2 * length crossings) (omega arith)
+    let solves = list_all-range_prefix (solves_at crossings solution.choice) 1 (1 + k) (2 * length crossings) (omega arith)
     solution.solves in
     let some = list_any-below (solves_up_to crossings (1 + k)) (2 ^ length crossings) solution.choice solution.below solves in
     ap (λ b. fault_if (not b) (Checkerboard (1 + k))) some)

@@ -1,14 +1,11 @@
 -- The first fault of the numbers of a range.
 use Rattle.std.proofs.Common.{◌≡◌, ℕ, zero, suc, ◌+◌, ◌-◌, ◌<◌, ◌∙◌, List, [], ◌∷◌, ◌++◌, refl, ap, sym, arith}
-use Rattle.std.specs.Prelude.{Option, Some, None, is_none, IsTrue, nat_eq, not}
-use Rattle.std.proofs.lemmas.Bool.Decides.{nat_tests}
+use Rattle.std.specs.Prelude.{Option, Some, None, is_none, IsTrue}
 use Rattle.std.specs.List.{range_with_len}
 use Rattle.std.specs.Option.{option_or}
 use Rattle.kh_types.specs.declared.fault.CodeFault.{CodeFault}
-use Rattle.kh_types.specs.declared.fault.CodeFault.TheVariants.{Genus}
 use Rattle.kh_types.specs.Code.{Code}
-use Rattle.kh_types.specs.Faces.{face_count, planar_face_count}
-use Rattle.kh_types.specs.Acceptance.{first_of, fault_if, direction_fault, checkerboard_fault, genus_fault, components_fault, first_fault, accepted}
+use Rattle.kh_types.specs.Acceptance.{first_of, direction_fault, checkerboard_fault, genus_fault, components_fault, first_fault, accepted}
 use Rattle.kh_types.proofs.Ranges.{range_more, range_around}
 
 option_or_assoc : (a b c : Option CodeFault) → option_or (option_or a b) c ≡ option_or a (option_or b c)
@@ -33,16 +30,6 @@ first_of_at fault_at a n k j fault below is_j none has =
     ∙ ap (λ o. option_or o (first_of fault_at (j ∷ later))) none
     ∙ ap (λ o. option_or o (first_of fault_at later)) has
 
-pub first_of_from_zero : (fault_at : ℕ → Option CodeFault) (n k : ℕ) (fault : CodeFault) → k < n
-    → first_of fault_at (range_with_len 0 k) ≡ None → fault_at k ≡ Some fault
-    → first_of fault_at (range_with_len 0 n) ≡ Some fault
-first_of_from_zero fault_at n k fault below = first_of_at fault_at 0 n k k fault below (omega arith)
-
-pub first_of_from_one : (fault_at : ℕ → Option CodeFault) (n k : ℕ) (fault : CodeFault) → k < n
-    → first_of fault_at (range_with_len 1 k) ≡ None → fault_at (k + 1) ≡ Some fault
-    → first_of fault_at (range_with_len 1 n) ≡ Some fault
-first_of_from_one fault_at n k fault below = first_of_at fault_at 1 n k (k + 1) fault below (omega arith)
-
 -- no fault, where one more number has none
 pub none_of_more : (fault_at : ℕ → Option CodeFault) (a k j : ℕ) → a + k ≡ j
     → first_of fault_at (range_with_len a k) ≡ None → fault_at j ≡ None
@@ -52,14 +39,6 @@ none_of_more fault_at a k j is_j none has_none =
     ∙ first_of-append fault_at (range_with_len a k) (j ∷ [])
     ∙ ap (λ o. option_or o (first_of fault_at (j ∷ []))) none
     ∙ ap (λ o. option_or o None) has_none
-
-pub none_from_zero : (fault_at : ℕ → Option CodeFault) (k : ℕ) → first_of fault_at (range_with_len 0 k) ≡ None → fault_at k ≡ None
-    → first_of fault_at (range_with_len 0 (k + 1)) ≡ None
-none_from_zero fault_at k = none_of_more fault_at 0 k k (omega arith)
-
-pub none_from_one : (fault_at : ℕ → Option CodeFault) (k : ℕ) → first_of fault_at (range_with_len 1 k) ≡ None
-    → fault_at (k + 1) ≡ None → first_of fault_at (range_with_len 1 (k + 1)) ≡ None
-none_from_one fault_at k = none_of_more fault_at 1 k (k + 1) (omega arith)
 
 -- where the numbers of a range have no fault, none of them has one, and the other way round
 option_or-none : (a b : Option CodeFault) → option_or a b ≡ None → (a ≡ None) × (b ≡ None)
@@ -121,14 +100,3 @@ unfolding first_fault accepted
 accepted-from_faults code none =
     first_of_none (direction_fault code.crossings) (checkerboard_fault code.crossings) (genus_fault code.crossings)
     (components_fault code) none.0 none.1 none.2 none.3
-
--- two numbers are the same, where another would be a fault
-kept_same : (x y : ℕ) (fault : CodeFault) → fault_if (not (nat_eq x y)) fault ≡ None → x ≡ y
-kept_same x y fault none = grind (arith, nat_tests)
-
-pub faces-from_accepted : (code : Code) → IsTrue (accepted code)
-    → face_count code.crossings ≡ planar_face_count code.crossings
-faces-from_accepted code holds =
-    let faces = face_count code.crossings in
-    let wanted = planar_face_count code.crossings in
-    kept_same faces wanted (Genus faces wanted) (faults-from_accepted code holds).2

@@ -4,11 +4,12 @@ use Rattle.std.specs.Prelude.{Option, Some, None}
 use Rattle.std.specs.List.{range_with_len, filter, count_by, sum_by, flat_map, list_all, list_any, find}
 use Rattle.std.specs.Option.{option_or, option_map}
 use Rattle.std.proofs.lemmas.List.{map-append, append-nil}
-use Rattle.std.proofs.Math.Bool.{and-true, or-false}
+use Rattle.std.proofs.Math.Bool.{or-false}
+use Rattle.std.proofs.lemmas.Bool.{and_parts}
 use Rattle.std.proofs.lemmas.List.Elements.{filter-append}
 use Rattle.std.proofs.lemmas.List.Sums.{sum_by_push}
 use Rattle.std.proofs.lemmas.List.Folds.{list_all-append, list_any-append, find-append, list_any_at, Any-from_list_any}
-use Rattle.std.proofs.lemmas.List.FromFn.{length-range_with_len, length-map-range_with_len, get_or-range_with_len}
+use Rattle.std.proofs.lemmas.List.FromFn.{length-range_with_len, length-map-range_with_len, get_or-range_with_len, map-range_with_len_more}
 use Rattle.std.proofs.lemmas.Grind.{flat_map-append}
 
 -- the last number of a range, which the lemmas take as j
@@ -18,14 +19,6 @@ range_more a (suc n) j is_j =
     let e : suc n + 1 ≡ suc (n + 1) = omega arith in
     let is_j_from_next : a + 1 + n ≡ j = omega arith in
     ap (λ k. range_with_len a k) e ∙ ap (λ xs. a ∷ xs) (range_more (a + 1) n j is_j_from_next)
-
--- the same where the length is counted up
-pub range_grown : (a n j m : ℕ) → a + n ≡ j → n + 1 ≡ m → range_with_len a m ≡ range_with_len a n ++ j ∷ []
-range_grown a n j m is_j is_m = let e : m ≡ n + 1 = omega arith in ap (λ k. range_with_len a k) e ∙ range_more a n j is_j
-
-pub map-range_more : {X : Type 0} (f : ℕ → X) (a n j : ℕ) → a + n ≡ j
-    → map f (range_with_len a (n + 1)) ≡ map f (range_with_len a n) ++ f j ∷ []
-map-range_more f a n j is_j = ap (λ xs. map f xs) (range_more a n j is_j) ∙ map-append f (range_with_len a n) (j ∷ [])
 
 pub filter-range_more : (p : ℕ → Bool) (a n j : ℕ) → a + n ≡ j
     → filter p (range_with_len a (n + 1)) ≡ filter p (range_with_len a n) ++ cond (p j) (j ∷ []) []
@@ -47,21 +40,11 @@ flat_map-range_more f a n j is_j =
     ap (λ xs. flat_map f xs) (range_more a n j is_j) ∙ flat_map-append f (range_with_len a n) (j ∷ [])
     ∙ ap (λ ys. flat_map f (range_with_len a n) ++ ys) (append-nil (f j))
 
-pub list_all-range_more : (p : ℕ → Bool) (a n j : ℕ) → a + n ≡ j
-    → list_all p (range_with_len a (n + 1)) ≡ (list_all p (range_with_len a n) && p j)
-list_all-range_more p a n j is_j =
-    ap (λ xs. list_all p xs) (range_more a n j is_j) ∙ list_all-append p (range_with_len a n) (j ∷ [])
-    ∙ ap (λ b. list_all p (range_with_len a n) && b) (and-true (p j))
-
 pub list_any-range_more : (p : ℕ → Bool) (a n j : ℕ) → a + n ≡ j
     → list_any p (range_with_len a (n + 1)) ≡ (list_any p (range_with_len a n) || p j)
 list_any-range_more p a n j is_j =
     ap (λ xs. list_any p xs) (range_more a n j is_j) ∙ list_any-append p (range_with_len a n) (j ∷ [])
     ∙ ap (λ b. list_any p (range_with_len a n) || b) (or-false (p j))
-
-pub find-range_more : (p : ℕ → Bool) (a n j : ℕ) → a + n ≡ j
-    → find p (range_with_len a (n + 1)) ≡ option_or (find p (range_with_len a n)) (cond (p j) (Some j) None)
-find-range_more p a n j is_j = ap (λ xs. find p xs) (range_more a n j is_j) ∙ find-append p (range_with_len a n) (j ∷ [])
 
 -- a range is cut after any of its numbers
 pub range-append : (a k m : ℕ) → range_with_len a (k + m) ≡ range_with_len a k ++ range_with_len (a + k) m
@@ -83,28 +66,13 @@ range_around a n k j below is_j =
     ap (λ m. range_with_len a m) e ∙ range-append a k (suc (n - (k + 1)))
     ∙ ap (λ x. range_with_len a k ++ range_with_len x (suc (n - (k + 1)))) is_j
 
--- the first number that passes a test, where the numbers before it do not
-pub find_at_range : (p : ℕ → Bool) (a n k j : ℕ) → k < n → a + k ≡ j → find p (range_with_len a k) ≡ None → p j ≡ true
-    → find p (range_with_len a n) ≡ Some j
-find_at_range p a n k j below is_j none passes =
-    let later = range_with_len (j + 1) (n - (k + 1)) in
-    ap (λ xs. find p xs) (range_around a n k j below is_j) ∙ find-append p (range_with_len a k) (j ∷ later)
-    ∙ ap (λ o. option_or o (find p (j ∷ later))) none ∙ ap (λ b. cond b (Some j) (find p later)) passes
-
--- no number passes, where one number more does not
-pub find_none_more : (p : ℕ → Bool) (a k j : ℕ) → a + k ≡ j → find p (range_with_len a k) ≡ None → p j ≡ false
-    → find p (range_with_len a (k + 1)) ≡ None
-find_none_more p a k j is_j none fails =
-    find-range_more p a k j is_j ∙ ap (λ o. option_or o (cond (p j) (Some j) None)) none
-    ∙ ap (λ b. cond b (Some j) None) fails
-
--- one element more in front
+-- one element more at the beginning of a search
 find-map_step : {X : Type 0} (passes : Bool) (f : ℕ → X) (x : ℕ) (later : Option X) (place : Option ℕ)
     → later ≡ option_map f place → cond passes (Some (f x)) later ≡ option_map f (cond passes (Some x) place)
 find-map_step true f x later place same = refl
 find-map_step false f x later place same = same
 
--- the same of what a function makes of the numbers
+-- a search among what a function makes of numbers
 pub find-map : {X : Type 0} (p : X → Bool) (f : ℕ → X) (xs : List ℕ)
     → find p (map f xs) ≡ option_map f (find (λ x. p (f x)) xs)
 find-map p f [] = refl
@@ -124,13 +92,8 @@ find-map_range p f n k below none passes =
 pub find-map_range_more : {X : Type 0} (p : X → Bool) (f : ℕ → X) (k : ℕ) → find p (map f (range_with_len 0 k)) ≡ None
     → p (f k) ≡ false → find p (map f (range_with_len 0 (k + 1))) ≡ None
 find-map_range_more p f k none fails =
-    ap (λ xs. find p xs) (map-range_more f 0 k k (omega arith)) ∙ find-append p (map f (range_with_len 0 k)) (f k ∷ [])
+    ap (λ xs. find p xs) (map-range_with_len_more f 0 k k (omega arith)) ∙ find-append p (map f (range_with_len 0 k)) (f k ∷ [])
     ∙ ap (λ o. option_or o (find p (f k ∷ []))) none ∙ ap (λ b. cond b (Some (f k)) None) fails
-
--- both tests hold where they hold together
-first_true : (a b : Bool) → (a && b) ≡ true → a ≡ true
-first_true true b both = refl
-first_true false b both = both
 
 -- whether a number below n passes
 pub list_any-below_none : (p : ℕ → Bool) (n : ℕ) → ((k : ℕ) → k < n → p k ≡ false) → list_any p (range_with_len 0 n) ≡ false
@@ -153,15 +116,15 @@ list_any-found p n passes =
     let is_k : found.1 ≡ found.0 = sym found.3 ∙ get_or-range_with_len 0 n found.0 found.1 below ∙ omega arith in
     (found.0, below, ap p (sym is_k) ∙ found.4)
 
--- what all numbers of a range pass, those of its front pass
-pub list_all-front : (p : ℕ → Bool) (a k n : ℕ) → k ≤ n → list_all p (range_with_len a n) ≡ true
+-- what all numbers of a range pass, the first of them pass
+pub list_all-range_prefix : (p : ℕ → Bool) (a k n : ℕ) → k ≤ n → list_all p (range_with_len a n) ≡ true
     → list_all p (range_with_len a k) ≡ true
-list_all-front p a k n within passes =
+list_all-range_prefix p a k n within passes =
     let e : n ≡ k + (n - k) = omega arith in
     let cut : list_all p (range_with_len a n) ≡ (list_all p (range_with_len a k) && list_all p (range_with_len (a + k) (n - k))) =
     ap (λ m. list_all p (range_with_len a m)) e ∙ ap (λ xs. list_all p xs) (range-append a k (n - k))
     ∙ list_all-append p (range_with_len a k) (range_with_len (a + k) (n - k)) in
-    first_true (list_all p (range_with_len a k)) (list_all p (range_with_len (a + k) (n - k))) (sym cut ∙ passes)
+    (and_parts (list_all p (range_with_len a k)) (list_all p (range_with_len (a + k) (n - k))) (sym cut ∙ passes)).0
 
 -- the same for ranges that begin with 0 or with 1, in forms that `grind` applies by itself
 pub range_from_zero : (n : ℕ) → range_with_len 0 (n + 1) ≡ range_with_len 0 n ++ n ∷ []
@@ -170,24 +133,23 @@ range_from_zero n = range_more 0 n n (omega arith)
 pub range_from_one : (n : ℕ) → range_with_len 1 (n + 1) ≡ range_with_len 1 n ++ (n + 1) ∷ []
 range_from_one n = range_more 1 n (n + 1) (omega arith)
 
-pub find_from_one : (p : ℕ → Bool) (n k : ℕ) → k < n → find p (range_with_len 1 k) ≡ None → p (k + 1) ≡ true
-    → find p (range_with_len 1 n) ≡ Some (k + 1)
-find_from_one p n k below = find_at_range p 1 n k (k + 1) below (omega arith)
-
-pub find_none_from_one : (p : ℕ → Bool) (k : ℕ) → find p (range_with_len 1 k) ≡ None → p (k + 1) ≡ false
-    → find p (range_with_len 1 (k + 1)) ≡ None
-find_none_from_one p k = find_none_more p 1 k (k + 1) (omega arith)
-
 pub count_from_one : (p : ℕ → Bool) (n : ℕ)
     → count_by p (range_with_len 1 (n + 1)) ≡ count_by p (range_with_len 1 n) + cond (p (n + 1)) 1 0
 count_from_one p n = count_by-range_more p 1 n (n + 1) (omega arith)
 
+pub sum_from_one : (f : ℕ → ℕ) (n : ℕ) → sum_by f (range_with_len 1 (n + 1)) ≡ sum_by f (range_with_len 1 n) + f (n + 1)
+sum_from_one f n = sum_by-range_more f 1 n (n + 1) (omega arith)
+
+pub filter_from_one : (p : ℕ → Bool) (n : ℕ)
+    → filter p (range_with_len 1 (n + 1)) ≡ filter p (range_with_len 1 n) ++ filter p ((n + 1) ∷ [])
+filter_from_one p n = filter-range_more p 1 n (n + 1) (omega arith)
+
 pub map_from_zero : {X : Type 0} (f : ℕ → X) (n : ℕ) → map f (range_with_len 0 (n + 1)) ≡ map f (range_with_len 0 n) ++ f n ∷ []
-map_from_zero f n = map-range_more f 0 n n (omega arith)
+map_from_zero f n = map-range_with_len_more f 0 n n (omega arith)
 
 pub map_from_one : {X : Type 0} (f : ℕ → X) (n : ℕ)
     → map f (range_with_len 1 (n + 1)) ≡ map f (range_with_len 1 n) ++ f (n + 1) ∷ []
-map_from_one f n = map-range_more f 1 n (n + 1) (omega arith)
+map_from_one f n = map-range_with_len_more f 1 n (n + 1) (omega arith)
 
 pub ruleset range_steps =
     (range_from_zero, range_from_one, map_from_zero, map_from_one, length-range_with_len, length-map-range_with_len)

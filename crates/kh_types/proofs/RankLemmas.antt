@@ -82,7 +82,7 @@ has_entry-reduced p pivot row none =
     let no_factor : slice_index row column * power ≡ 0 = ap (λ x. x * power) (slice_index-none row column none) ∙ omega arith in
     has_entry-remove (cleared p pivot column row) column (has_entry-minus p (slice_index row column * power) row pivot no_factor none)
 
--- what a turn gives is the same where a row without an entry is put in front
+-- what a turn gives is the same where a row without an entry is put before the others
 after_turn-none : (steps p : ℕ) (row : List ℕ) (rows : List (List ℕ)) (place : Option ℕ)
     → ((first : List ℕ) (others : List (List ℕ)) → has_entry first ≡ false
     → rank_within steps p (first ∷ others) ≡ rank_within steps p others)
@@ -93,7 +93,7 @@ after_turn-none steps p row rows (Some at) same none =
     ap suc (same (remove (cleared p pivot (lead_of pivot) row) (lead_of pivot)) (reduced_by p pivot (remove rows at))
     (has_entry-reduced p pivot row none))
 
--- a row without an entry in front does not change the rank, for any number of steps
+-- a first row without an entry does not change the rank, for any number of steps
 rank_within-none : (steps p : ℕ) (row : List ℕ) (rows : List (List ℕ)) → has_entry row ≡ false
     → rank_within steps p (row ∷ rows) ≡ rank_within steps p rows
 rank_within-none zero p row rows none = refl

@@ -1,5 +1,4 @@
--- What a diagram keeps, and the code that contracts see: its crossings stand at the front of an array, the rest of which is
--- blank.
+-- What a diagram keeps, and the code that contracts see: its crossings stand first in an array, the rest of which is blank.
 use Rattle.std.specs.Prelude.{◌≡◌, ℕ, List, length, take, IsTrue}
 use Rattle.std.proofs.Common.{◌∙◌, ap}
 use Rattle.kh_types.specs.Code.{Code}
@@ -7,7 +6,7 @@ use Rattle.kh_types.specs.Acceptance.{accepted}
 use Rattle.kh_types.specs.Filling.{filled, IsFilled, filled-take, length-take_filled}
 use Rattle.kh_types.specs.declared.diagram.Diagram.TheInside.{Inside}
 
--- the code that contracts see: the crossings at the front of the array, and the loops
+-- the code that contracts see: the crossings that the array begins with, and the loops
 abbrev pub code_of_diagram : Inside → Code
 code_of_diagram diagram = record { crossings = take diagram.count diagram.table; loops = diagram.loops }
 
@@ -16,7 +15,7 @@ pub record IsDiagram (diagram : Inside) : Type 0 where
   pub table : IsFilled diagram.table diagram.count
   pub code : IsTrue (accepted (code_of_diagram diagram))
 
--- what a diagram keeps: an array, the number of crossings at its front, and the number of loops
+-- what a diagram keeps: an array, the number of crossings that it begins with, and the number of loops
 abbrev pub made : List (List ℕ) → ℕ → ℕ → Inside
 made table count loops = record { table = table; count = count; loops = loops }
 

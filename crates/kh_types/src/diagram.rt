@@ -106,8 +106,7 @@ impl Diagram {
 
     /// The sign of a crossing, 1 or -1: 1 where its over pass goes from slot 3 to slot 1.
     pub fn sign(&self, crossing: u8) -> i8
-        requires positive { 1 ≤ crossing }
-        requires within { crossing ≤ length self.now.crossings }
+        requires { IsCrossing self.now.crossings crossing }
         ensures { result ≡ sign_of self.now.crossings crossing }
     {
         sign(acceptance::is_positive(self.crossings(), crossing))
@@ -127,9 +126,7 @@ impl Diagram {
     {
         self.count - self.plus()
     }
-}
 
-impl Diagram {
     /// The arc of a dart, 1 to twice the number of crossings.
     #[tactic(auto, using(crate::proofs::AcceptedCodes::accepted_arcs))]
     pub fn arc_at(&self, dart: Dart) -> u8

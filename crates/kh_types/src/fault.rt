@@ -4,7 +4,7 @@
 /// 0 to 3. The rules stand in the order of their tests. Source: this project's rule.
 #[derive(Clone, Copy, Debug, PartialEq, Eq)]
 pub enum CodeFault {
-    /// The first slot, crossing first, that holds a number which is no arc.
+    /// The first slot, in order of crossing, then slot, that holds a number which is no arc.
     ArcRange { crossing: u8, slot: u8 },
     /// The least arc that does not stand exactly twice, and how often it stands.
     ArcTimes { arc: u8, times: u8 },

@@ -1,8 +1,8 @@
-//! Want of memory.
+//! Out of memory.
 
 use std::alloc::{AllocError, AllocFailed};
 
-/// There was no memory for what a call had to make. It may stand in place of any answer of a call that allocates.
+/// Out of memory: there was none for what a call had to make. It may stand in place of any answer of a call that allocates.
 #[derive(Clone, Copy, Debug, PartialEq, Eq)]
 pub struct NoMemory;
 

@@ -1,8 +1,9 @@
 //! What no clause says: that acceptance is the one that is meant, that the calls succeed, and what known diagrams come to.
 
 mod plain_acceptance;
+mod values;
 
-use crate::{Crossing, Diagram, RawCode, Words};
+use crate::{CodeFault, Crossing, Diagram, RawCode, Words, count_faces};
 use arrayvec::ArrayVec;
 use std::test::Fail;
 
@@ -28,14 +29,14 @@ fn accepts_what_the_plain_acceptance_accepts(rt: HostRuntime) {
     }
 }
 
+/// No text reaches this fault: the loops of a text are fewer.
 #[test]
-fn accepts_twenty_four_loops(rt: HostRuntime) {
+fn loops_alone_are_accepted_up_to_twenty_four(rt: HostRuntime) {
     for loops in 0..=255 {
-        assert_eq!(rt;
-            Diagram::try_new(&code(&[], loops)).is_ok(),
-            loops <= 24,
-            "{loops}"
-        );
+        let fault = Diagram::try_new(&code(&[], loops)).err();
+        let count = u16::from(loops);
+        let wanted = (loops > 24).then_some(CodeFault::Components { count });
+        assert_eq!(rt; fault, wanted, "{loops}");
     }
 }
 
@@ -59,12 +60,12 @@ fn known_diagrams_have_their_codes_and_signs(rt: HostRuntime) -> Result<(), Fail
         let back = diagram.to_raw();
         assert_eq!(rt; back.crossings.as_slice(), raw.crossings.as_slice());
         assert_eq!(rt; back.loops, 2);
-        for number in 1..=diagram.count() {
-            let sign = diagram.sign(number);
+        for crossing in 1..=diagram.count() {
+            let sign = diagram.sign(crossing);
             assert_eq!(rt;
-                signs.get(number as usize - 1),
+                signs.get(crossing as usize - 1),
                 Some(&sign),
-                "{number} of {raw:?}"
+                "{crossing} of {raw:?}"
             );
         }
         assert_eq!(rt;
@@ -75,6 +76,13 @@ fn known_diagrams_have_their_codes_and_signs(rt: HostRuntime) -> Result<(), Fail
             diagram.minus() as usize,
             signs.iter().filter(|sign| **sign == -1).count()
         );
+        let faces = count_faces(&raw);
+        assert_eq!(rt; faces.faces, faces.wanted, "{raw:?}");
+        for arc in 1..=2 * diagram.count() {
+            let (head, tail) = (diagram.head(arc), diagram.tail(arc));
+            assert_eq!(rt; (diagram.arc_at(head), diagram.arc_at(tail)), (arc, arc));
+            assert_eq!(rt; diagram.partner(head), tail, "{arc} of {raw:?}");
+        }
     }
     Ok(())
 }
@@ -85,17 +93,29 @@ fn known_diagrams_have_their_codes_and_signs(rt: HostRuntime) -> Result<(), Fail
 fn sixteen_crossings_are_not_slow(rt: HostRuntime) {
     let link = Diagram::try_new(&two_strands((1, 17)));
     assert_eq!(rt; link.map(|diagram| diagram.plus()), Ok(16));
-    assert!(rt; Diagram::try_new(&two_strands((17, 1))).is_err());
+    let fault = Diagram::try_new(&two_strands((17, 1))).err();
+    assert!(rt; matches!(fault, Some(CodeFault::Checkerboard { .. })));
 }
 
 #[test]
 fn words_are_kept_in_order(rt: HostRuntime) -> Result<(), Fail> {
-    let wanted = ["homology", "", "--field"];
+    let wanted = [
+        "homology",
+        "",
+        "--field",
+        "a word of more than eight bytes, and of more than sixteen",
+        "3",
+        "--field",
+        "x",
+        "--threads",
+        "16",
+        "homology",
+    ];
     let mut words = Words::new(rt.alloc())?;
     for word in wanted {
         words.push(rt.alloc(), word)?;
     }
-    assert_eq!(rt; words.count(), 3);
+    assert_eq!(rt; words.count(), wanted.len());
     for place in 0..words.count() {
         assert_eq!(rt;
             wanted.get(place).copied(),

@@ -15,11 +15,11 @@ pub fn components_of(crossings: &[Crossing]) -> ArrayVec<u8, CLASS_MEMBERS>
     requires { length crossings.now ≤ CROSSINGS }
     ensures { result.items ≡ components_of crossings.now }
 {
-    classes_of(2 * crossings.len() + 1, &passes_of(crossings))
+    classes_of(2 * crossings.len() + 1, &all_passes(crossings))
 }
 
 /// The two passes of each crossing, each by the arcs that it joins.
-fn passes_of(crossings: &[Crossing]) -> ArrayVec<(u8, u8), ARCS>
+fn all_passes(crossings: &[Crossing]) -> ArrayVec<(u8, u8), ARCS>
     requires { length crossings.now ≤ CROSSINGS }
     ensures { result.items ≡ flat_map passes_of crossings.now }
 {

@@ -8,5 +8,5 @@ use Rattle.kh_types.proofs.diagram.table_of.Goals as goal
 
 pub returns : goal.returns
 returns c =
-    ap (λ (front : List (List ℕ)). front ++ drop (length c.args.crossings.now) (replicate CROSSINGS blank)) c.copy_from_slice.ensures.after
+    ap (λ (first : List (List ℕ)). first ++ drop (length c.args.crossings.now) (replicate CROSSINGS blank)) c.copy_from_slice.ensures.after
     ∙ ap (λ (rest : List (List ℕ)). c.args.crossings.now ++ rest) (drop-replicate (length c.args.crossings.now) CROSSINGS blank)

@@ -2,7 +2,7 @@ use Rattle.std.proofs.Common.{◌≡◌, ℕ, ◌+◌, ◌*◌, ◌<◌, ◌≤�
 use Rattle.std.specs.List.{list_all}
 use Rattle.kh_types.specs.Checkerboard.{equations_of, is_solved}
 use Rattle.kh_types.specs.Acceptance.{checkerboard_at}
-use Rattle.kh_types.proofs.FaultLemmas.{first_of_from_one, none_from_one}
+use Rattle.kh_types.proofs.FaultLemmas.{first_of_at, none_of_more}
 use Rattle.kh_types.proofs.CheckerboardLemmas.{checkerboard-fault, checkerboard-none, tried_more}
 use Rattle.kh_types.proofs.acceptance.checkerboard.checkerboard_fault.Goals as goal
 
@@ -21,7 +21,7 @@ returns-then-choice-choices c =
     let within : arc ≤ 2 * length crossings = omega arith in
     let fault = checkerboard-fault crossings arc c.first_choice-choice.result within
     (c.if-choice-choices.true ∙ c.choice_count-choices.ensures) tried in
-    sym (first_of_from_one _ _ _ _ c.loop-place-test.true c.loop-place.invariant.none fault)
+    sym (first_of_at _ 1 _ _ _ _ c.loop-place-test.true (omega arith) c.loop-place.invariant.none fault)
 
 pub loop-place-preserved : goal.loop-place-preserved
 loop-place-preserved c =
@@ -45,7 +45,7 @@ loop-place-preserved c =
     let none = checkerboard-none crossings arc c.first_choice-choice.result c.choice_count-choices.result within
     c.choice_count-choices.ensures below solved in
     record {
-      none = none_from_one (checkerboard_at crossings) c.loop-place.place c.loop-place.invariant.none none;
+      none = none_of_more (checkerboard_at crossings) 1 c.loop-place.place arc (omega arith) c.loop-place.invariant.none none;
       below = bound;
       tried = tried;
     }

@@ -1,7 +1,7 @@
 use Rattle.std.proofs.Common.{◌≡◌, ◌*◌, take, length}
 use Rattle.std.specs.List.{flat_map}
 use Rattle.kh_types.specs.Components.{passes_of}
-use Rattle.kh_types.proofs.acceptance.components.passes_of.Given as goal
+use Rattle.kh_types.proofs.acceptance.components.all_passes.Given as goal
 
 abbrev pub invariant-loop-crossing : goal.invariant-loop-crossing
 invariant-loop-crossing l = record {
