@@ -1,17 +1,11 @@
--- The steps of the loops over bits, crossings and names.
+-- The steps of the loops over crossings and names.
 use Rattle.std.proofs.Common.{◌≡◌, ℕ, ◌+◌, ◌<◌, ◌∷◌, [], ◌++◌, Bool, List, length, take, get_or, ap, sym, ◌∙◌, arith}
-use Rattle.std.specs.List.{range_with_len, filter, flat_map, sum_by, enumerate_from}
+use Rattle.std.specs.List.{range_with_len, filter, flat_map, enumerate_from}
 use Rattle.std.proofs.lemmas.List.{take_more, length-take-le, append-nil}
 use Rattle.std.proofs.lemmas.List.Concat.{flat_map-append}
-use Rattle.kh_types.specs.Bits.{bit, ones}
+use Rattle.kh_types.specs.Bits.{bit}
 use Rattle.kh_types.specs.Circles.{smoothing_of, smoothings_of}
-use Rattle.kh_types.proofs.Ranges.{sum_by-range_more, filter-range_more}
-
-pub ones_more : (n x : ℕ) → ones (n + 1) x ≡ ones n x + bit x n
-ones_more n x = sum_by-range_more (bit x) 0 n n (omega arith)
-
-pub sum_from_one : (f : ℕ → ℕ) (n : ℕ) → sum_by f (range_with_len 1 (n + 1)) ≡ sum_by f (range_with_len 1 n) + f (n + 1)
-sum_from_one f n = sum_by-range_more f 1 n (n + 1) (omega arith)
+use Rattle.kh_types.proofs.Ranges.{filter-range_more}
 
 pub names_more : (p : ℕ → Bool) (n : ℕ)
     → filter p (range_with_len 1 (n + 1)) ≡ filter p (range_with_len 1 n) ++ filter p ((n + 1) ∷ [])

@@ -1,7 +1,7 @@
 pub mod CircleLemmas
+pub mod CoefficientLemmas
 pub mod GeneratorLemmas
 pub mod LabelLemmas
 pub mod ListLemmas
-pub mod PowerLemmas
-pub mod RankLemmas
+pub mod MatrixLemmas
 pub mod TableLemmas

@@ -8,12 +8,13 @@ use Rattle.std.proofs.lemmas.Int.{to_z-of_z}
 use Rattle.kh_types.specs.Code.{Code}
 use Rattle.kh_types.specs.Generators.{Generator, generators, generators_at}
 use Rattle.kh_types.specs.Differential.{coefficient, differential}
-use Rattle.kh_types.specs.Table.{Row, dimension, Table, row_at, rows_at, table, table_text}
+use Rattle.kh_types.specs.Table.{Row, dimension, is_shown, rows_within, Table, row_at, rows_at, table, table_text}
 use Rattle.kh_types.specs.declared.limits.TheConstants.{EXPONENT}
 use Rattle.plain_table.specs.declared.generators.Placed.{Placed}
-use Rattle.plain_table.specs.Placed.{placed_in, is_placed_at, row_for, rows_for}
-use Rattle.kh_types.specs.Table.{is_shown, rows_within}
-use Rattle.kh_types.proofs.Ranges.{range_from_zero}
+use Rattle.plain_matrix.specs.Matrices.{Matrix}
+use Rattle.plain_table.specs.Matrices.{row_for, rows_for, matrix_for}
+use Rattle.plain_table.specs.Placed.{placed_in, is_placed_at}
+use Rattle.kh_types.proofs.Ranges.{map_from_zero}
 use Rattle.plain_table.proofs.ListLemmas.{filter-map, map-map}
 
 -- the numbers from -n on, as many as a count says
@@ -22,9 +23,7 @@ from_minus_to n count = map (λ k. pos k -ℤ pos n) (range_with_len 0 count)
 
 -- one number more
 pub from_minus_more : (n count : ℕ) → from_minus_to n (count + 1) ≡ from_minus_to n count ++ (pos count -ℤ pos n) ∷ []
-from_minus_more n count =
-    ap (map (λ (k : ℕ). pos k -ℤ pos n)) (range_from_zero count)
-    ∙ map_push (λ (k : ℕ). pos k -ℤ pos n) (range_with_len 0 count) count
+from_minus_more n count = map_from_zero (λ k. pos k -ℤ pos n) count
 
 -- the generators of two degrees, among all
 pub placed_at : (code : Code) (i j : ℤ) (all made : List Placed) → all ≡ map (placed_in code) (generators code)
@@ -56,11 +55,11 @@ pub placed_count : (code : Code) (i j : ℤ) (made : List Placed) → made ≡ m
 placed_count code i j made is_made = ap length is_made ∙ length-map (generators_at code i j) (placed_in code)
 
 -- the matrix for the generators of two degrees is the differential
-pub differential_placed : (p : ℕ) (code : Code) (i j : ℤ) (tails heads : List Placed) (rows : List (List ℕ))
+pub differential_placed : (p : ℕ) (code : Code) (i j : ℤ) (tails heads : List Placed) (made : Matrix)
     → tails ≡ map (placed_in code) (generators_at code i j) → heads ≡ map (placed_in code) (generators_at code (i +ℤ pos 1) j)
-    → rows ≡ rows_for p code tails heads → rows ≡ differential p code i j
-differential_placed p code i j tails heads rows is_tails is_heads is_rows =
-    is_rows ∙ ap (λ (gs : List Placed). rows_for p code gs heads) is_tails
+    → made ≡ matrix_for p code tails heads → made.rows ≡ differential p code i j
+differential_placed p code i j tails heads made is_tails is_heads is_made =
+    ap (λ (matrix : Matrix). matrix.rows) is_made ∙ ap (λ (gs : List Placed). rows_for p code gs heads) is_tails
     ∙ ap (rows_for p code (map (placed_in code) (generators_at code i j))) is_heads
     ∙ rows_for_placed p code (generators_at code i j) (generators_at code (i +ℤ pos 1) j)
 

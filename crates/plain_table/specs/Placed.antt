@@ -1,7 +1,6 @@
 -- Generators with their degrees, as the program holds them.
-use Rattle.std.specs.Prelude.{ℕ, ◌+◌, ◌*◌, ℤ, pos, ◌+ℤ◌, ◌-ℤ◌, List, map, Bool, ◌&&◌}
+use Rattle.std.specs.Prelude.{ℕ, ◌+◌, ◌*◌, ℤ, pos, ◌+ℤ◌, ◌-ℤ◌, Bool, ◌&&◌}
 use Rattle.std.specs.Ordering.{int_eq}
-use Rattle.kh_types.specs.Differential.{coefficient}
 use Rattle.kh_types.specs.Code.{Code}
 use Rattle.kh_types.specs.Bits.{ones}
 use Rattle.kh_types.specs.Circles.{circle_count}
@@ -36,11 +35,3 @@ placed_by shared generator =
 -- whether a generator has two degrees
 abbrev pub is_placed_at : ℤ → ℤ → Placed → Bool
 is_placed_at i j placed = int_eq placed.i i && int_eq placed.j j
-
--- the coefficients from each generator of a list to one generator
-abbrev pub row_for : ℕ → Code → List Placed → Generator → List ℕ
-row_for p code tails head = map (λ tail. coefficient p code tail.generator head) tails
-
--- a row for each generator of one list, with an entry for each generator of another
-abbrev pub rows_for : ℕ → Code → List Placed → List Placed → List (List ℕ)
-rows_for p code tails heads = map (λ head. row_for p code tails head.generator) heads

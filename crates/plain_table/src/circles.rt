@@ -9,9 +9,8 @@ ghost use Rattle.kh_types.specs.Circles.{smoothing_of, smoothings_of, circles_of
 ghost use Rattle.kh_types.specs.declared.limits.TheConstants.{ARCS};
 ghost use Rattle.plain_table.specs.declared.circles.TheConstants.{NAMES};
 
-use crate::bits::bit;
 use arrayvec::ArrayVec;
-use kh_types::{ARCS, CLASS_MEMBERS, COMPONENTS, Crossing, Diagram, classes_of, is_least};
+use kh_types::{ARCS, CLASS_MEMBERS, COMPONENTS, Crossing, Diagram, bit, classes_of, is_least};
 
 /// The most arcs and loops of a diagram.
 pub const NAMES: usize = ARCS + COMPONENTS;

@@ -4,41 +4,44 @@ ghost use Rattle.std.specs.Prelude.{◌≡◌, ◌≤◌, ◌||◌, ◌&&◌, le
 ghost use Rattle.kh_types.specs.Differential.{label_of, is_touched, is_edge, keeps_labels, changes_labels, edge_sign, coefficient_at, coefficient};
 ghost use Rattle.kh_types.specs.declared.limits.TheConstants.{CROSSINGS};
 
-use crate::bits::{bit, ones};
 use crate::generators::Generator;
 use crate::labels::{is_merge, is_split};
 use crate::resolved::Resolved;
-use kh_types::Diagram;
+use kh_types::{Diagram, bit, ones};
+use prime_field::PrimeField;
+use prime_field::laws::element_laws;
 
-/// The coefficient from one generator to another, modulo `p`: along the one edge that leads from state to state, if any does.
+/// The coefficient from one generator to another: along the one edge that leads from state to state, if any does.
 /// Source: Bar-Natan 2002, section 3.
-#[tactic(auto, using(crate::proofs::CircleLemmas::sum_from_one))]
-pub fn coefficient(p: u8, diagram: &Diagram, tail: Generator, head: Generator) -> u8
-    requires low { 1 ≤ p }
-    requires high { p ≤ 7 }
-    ensures { result ≡ coefficient p diagram.now tail head }
+#[tactic(auto, using(crate::proofs::CoefficientLemmas::coefficient_more))]
+pub fn coefficient<F: PrimeField>(diagram: &Diagram, tail: Generator, head: Generator) -> F
+    ensures { F.value_of result ≡ coefficient F.P diagram.now tail head }
 {
-    let mut sum = 0;
+    element_laws::<F>();
+    let mut sum = F::of(0);
     'crossings: for place in 0..usize::from(diagram.count()) {
-        sum += coefficient_at(p, diagram, tail, head, place + 1);
+        sum = sum.add(coefficient_at(diagram, tail, head, place + 1));
     }
     sum
 }
 
 /// The coefficient along the edge at one crossing.
-fn coefficient_at(p: u8, diagram: &Diagram, tail: Generator, head: Generator, crossing: usize) -> u8
-    requires p_low { 1 ≤ p }
-    requires p_high { p ≤ 7 }
+fn coefficient_at<F: PrimeField>(
+    diagram: &Diagram,
+    tail: Generator,
+    head: Generator,
+    crossing: usize,
+) -> F
     requires low { 1 ≤ crossing }
     requires high { crossing ≤ length diagram.now.crossings }
     requires fits { crossing ≤ CROSSINGS }
-    ensures coefficient { result ≡ coefficient_at p diagram.now tail head crossing }
-    ensures small { result ≤ 6 }
+    ensures { F.value_of result ≡ coefficient_at F.P diagram.now tail head crossing }
 {
+    element_laws::<F>();
     if is_edge(tail, head, crossing) && changes(diagram, tail, head, crossing) {
-        edge_sign(p, tail.state, crossing)
+        edge_sign(tail.state, crossing)
     } else {
-        0
+        F::of(0)
     }
 }
 
@@ -104,18 +107,18 @@ fn changes_labels(tail: &Resolved, head: &Resolved, crossing: usize) -> bool
     is_merge(before.as_slice(), after.as_slice()) || is_split(before.as_slice(), after.as_slice())
 }
 
-/// Modulo `p`, -1 to the number of crossings listed before this one that have their 1-smoothing.
-fn edge_sign(p: u8, state: u32, crossing: usize) -> u8
-    requires p_low { 1 ≤ p }
-    requires p_high { p ≤ 7 }
+/// -1 to the number of crossings listed before this one that have their 1-smoothing.
+/// Source: Bar-Natan 2002, section 3.
+#[tactic(auto, using(crate::proofs::CoefficientLemmas::signs))]
+fn edge_sign<F: PrimeField>(state: u32, crossing: usize) -> F
     requires low { 1 ≤ crossing }
     requires high { crossing ≤ CROSSINGS }
-    ensures sign { result ≡ edge_sign p state crossing }
-    ensures small { result ≤ 6 }
+    ensures { F.value_of result ≡ edge_sign F.P state crossing }
 {
+    element_laws::<F>();
     if ones(crossing - 1, u64::from(state)) % 2 == 0 {
-        1
+        F::of(1)
     } else {
-        p - 1
+        F::of(1).neg()
     }
 }

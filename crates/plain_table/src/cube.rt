@@ -1,42 +1,36 @@
-//! The cube of a diagram over a small field, and its homology dimensions.
+//! The cube of a diagram, and its homology dimensions over a field.
 
-ghost use Rattle.std.specs.Prelude.{◌≡◌, ◌≤◌, length, map, pos, neg_ℤ, ◌≤ℤ◌, IfOk};
+ghost use Rattle.std.specs.Prelude.{◌≡◌, ◌<◌, ◌≤◌, length, map, pos, neg_ℤ, ◌≤ℤ◌, IfOk};
 ghost use Rattle.kh_types.specs.Generators.{generators, generators_at};
 ghost use Rattle.kh_types.specs.Differential.{differential};
 ghost use Rattle.kh_types.specs.Rank.{rank};
 ghost use Rattle.kh_types.specs.Table.{dimension};
-ghost use Rattle.kh_types.specs.declared.limits.TheConstants.{CROSSINGS};
-ghost use Rattle.plain_table.specs.Matrices.{rows_of};
-ghost use Rattle.plain_table.specs.Placed.{placed_in, row_for, rows_for};
+ghost use Rattle.kh_types.specs.declared.limits.TheConstants.{CROSSINGS, EXPONENT};
+ghost use Rattle.plain_table.specs.Matrices.{matrix_for, row_for, with_row};
+ghost use Rattle.plain_table.specs.Placed.{placed_in};
 
 use crate::coefficient::coefficient;
 use crate::generators::{Generator, Placed, generators, generators_at};
-use crate::rank::rank;
 use kh_types::{Diagram, NoMemory};
-use std::alloc::{AllocError, Global};
+use plain_matrix::{Dense, matrix_laws, rank};
+use prime_field::PrimeField;
+use std::alloc::Global;
 
-/// A diagram, the number of elements of a field, and all generators with their degrees.
+/// A diagram, and all generators of its cube with their degrees.
 #[derive(Drop)]
 pub struct Cube {
-    p: u8,
     diagram: Diagram,
     all: Vec<Placed>,
-    ghost low: { 2 ≤ p },
-    ghost high: { p ≤ 7 },
     ghost listed: { all.items ≡ map (placed_in diagram) (generators diagram) },
 }
 
 impl Cube {
-    /// The cube of a diagram over the field of `p` elements.
-    pub fn new(alloc: Global, p: u8, diagram: &Diagram) -> Result<Cube, NoMemory>
-        requires low { 2 ≤ p }
-        requires high { p ≤ 7 }
-        ensures field { IfOk result (λ cube. cube.p ≡ p) }
-        ensures diagram { IfOk result (λ cube. cube.diagram ≡ diagram.now) }
+    /// The cube of a diagram.
+    pub fn new(alloc: Global, diagram: &Diagram) -> Result<Cube, NoMemory>
+        ensures { IfOk result (λ cube. cube.diagram ≡ diagram.now) }
     {
         let all = generators(alloc, diagram)?;
         Ok(Cube {
-            p,
             diagram: *diagram,
             all,
         })
@@ -44,57 +38,80 @@ impl Cube {
 
     /// The homology dimension at (i, j).
     #[tactic(auto, using(crate::proofs::TableLemmas::counting))]
-    pub fn dimension(&self, alloc: Global, i: i16, j: i16) -> Result<usize, NoMemory>
-        requires low { neg_ℤ (pos 1000) ≤ℤ i }
-        requires high { i ≤ℤ pos 1000 }
-        ensures { IfOk result (λ dim. dim ≡ dimension self.now.p self.now.diagram i j) }
+    pub fn dimension<F: PrimeField>(
+        &self,
+        alloc: Global,
+        i: i16,
+        j: i16,
+    ) -> Result<usize, NoMemory>
+        requires low { neg_ℤ (pos EXPONENT) ≤ℤ i }
+        requires high { i ≤ℤ pos EXPONENT }
+        ensures { IfOk result (λ dim. dim ≡ dimension F.P self.now.diagram i j) }
     {
         let count = self.generators_at(alloc, i, j)?.len();
-        let out = self.differential_rank(alloc, i, j)?;
-        let into = self.differential_rank(alloc, i - 1, j)?;
-        Ok(count.saturating_sub(out).saturating_sub(into))
+        let out = self.differential_rank::<F>(alloc, i, j)?;
+        let into = self.differential_rank::<F>(alloc, i - 1, j)?;
+        Ok(count
+            .saturating_sub(out as usize)
+            .saturating_sub(into as usize))
     }
 
     /// The rank of the differential from degree i at j.
     #[tactic(auto, using(crate::proofs::TableLemmas::matrices))]
-    fn differential_rank(&self, alloc: Global, i: i16, j: i16) -> Result<usize, NoMemory>
-        requires { i ≤ℤ pos 1000 }
-        ensures { let p = self.now.p in
-            IfOk result (λ found. found ≡ rank p (differential p self.now.diagram i j)) }
+    fn differential_rank<F: PrimeField>(
+        &self,
+        alloc: Global,
+        i: i16,
+        j: i16,
+    ) -> Result<u32, NoMemory>
+        requires { i ≤ℤ pos EXPONENT }
+        ensures { IfOk result (λ found.
+            found ≡ rank F.P (differential F.P self.now.diagram i j)) }
     {
         let tails = self.generators_at(alloc, i, j)?;
         let heads = self.generators_at(alloc, i + 1, j)?;
-        let rows = self.matrix(alloc, &tails, &heads)?;
-        rank(alloc, self.p, rows)
+        let differential: Dense<F> = self.matrix(alloc, &tails, &heads)?;
+        rank(alloc, &differential)
     }
 
     /// The matrix with a row for each generator of one list and in it the coefficient from each generator of another.
-    fn matrix(
+    #[tactic(auto, using(crate::proofs::MatrixLemmas::rows))]
+    fn matrix<F: PrimeField>(
         &self,
         alloc: Global,
         tails: &[Placed],
         heads: &[Placed],
-    ) -> Result<Vec<Vec<u8>>, NoMemory>
+    ) -> Result<Dense<F>, NoMemory>
         ensures { IfOk result (λ made.
-            rows_of made.items ≡ rows_for self.now.p self.now.diagram tails.now heads.now) }
+            made ≡ matrix_for F.P self.now.diagram tails.now heads.now) }
     {
-        let mut made = Vec::new(alloc);
-        'rows: for head in heads {
-            made.push(self.row(alloc, tails, head.generator)?)?;
+        let rows = matrix_size(heads)?;
+        let mut made = Dense::zero(alloc, rows, matrix_size(tails)?)?;
+        'rows: for row in 0..rows {
+            self.put_row(&mut made, row, tails, heads[row as usize].generator);
         }
         Ok(made)
     }
 
-    /// The coefficients from each generator of a list to one generator.
-    fn row(&self, alloc: Global, tails: &[Placed], head: Generator) -> Result<Vec<u8>, AllocError>
-        ensures { IfOk result (λ made.
-            made.items ≡ row_for self.now.p self.now.diagram tails.now head) }
+    /// Puts the coefficients from each generator of a list to one generator into a row of a matrix.
+    #[tactic(auto, using(crate::proofs::MatrixLemmas::entries))]
+    fn put_row<F: PrimeField>(
+        &self,
+        made: &mut Dense<F>,
+        row: u32,
+        tails: &[Placed],
+        head: Generator,
+    )
+        requires row { row < length made.old.rows }
+        requires columns { made.old.columns ≡ length tails.now }
+        ensures { made.new
+            ≡ with_row made.old row (row_for F.P self.now.diagram tails.now head) }
     {
-        let (p, diagram) = (self.p, &self.diagram);
-        tails
-            .iter()
-            .map(|tail| coefficient(p, diagram, tail.generator, head))
-            .collect(alloc)
+        matrix_laws(made);
+        'columns: for column in 0..made.columns() {
+            let tail = tails[column as usize].generator;
+            made.set(row, column, coefficient(&self.diagram, tail, head));
+        }
     }
 
     /// The generators of the degrees i and j.
@@ -112,5 +129,16 @@ impl Cube {
         ensures fits { result ≤ CROSSINGS }
     {
         usize::from(self.diagram.count())
+    }
+}
+
+/// How many rows or columns a matrix has for a list of generators. From 2^32 on it is out of memory, as a list of as many
+/// generators takes more than 64 GiB.
+fn matrix_size(generators: &[Placed]) -> Result<u32, NoMemory>
+    ensures { IfOk result (λ size. size ≡ length generators.now) }
+{
+    match u32::try_from(generators.len()) {
+        Ok(size) => Ok(size),
+        Err(_) => Err(NoMemory),
     }
 }

@@ -3,12 +3,12 @@
 ghost use Rattle.std.specs.Prelude.{◌≡◌, ◌≤◌, ◌+◌, ◌*◌, ◌++◌, map, pos, neg_ℤ, ◌-ℤ◌, ◌≤ℤ◌, IfOk, OnOk};
 ghost use Rattle.std.specs.List.{filter};
 ghost use Rattle.kh_types.specs.Generators.{generators, generators_of};
+ghost use Rattle.kh_types.specs.declared.limits.TheConstants.{CROSSINGS};
 ghost use Rattle.plain_table.specs.declared.circles.TheConstants.{NAMES};
 ghost use Rattle.plain_table.specs.Placed.{placed_in, placed_by, shared_in, is_placed_at};
 
-use crate::bits::ones;
 use crate::circles::{circle_names, circles_of};
-use kh_types::{Diagram, NoMemory};
+use kh_types::{Diagram, NoMemory, ones};
 use std::alloc::{AllocError, Global};
 use std::marker::Model;
 
@@ -76,8 +76,8 @@ fn push_generators(made: &mut Vec<Placed>, diagram: &Diagram, state: u32) -> Res
 fn shared_by(diagram: &Diagram, state: u32) -> Shared
     ensures shared { result ≡ shared_in diagram.now state }
     ensures circles { result.circles ≤ NAMES }
-    ensures low { neg_ℤ (pos 1000) ≤ℤ result.shift }
-    ensures high { result.shift ≤ℤ pos 1000 }
+    ensures low { neg_ℤ (pos (2 * CROSSINGS)) ≤ℤ result.shift }
+    ensures high { result.shift ≤ℤ pos (2 * CROSSINGS) }
 {
     let circles = circle_names(diagram, &circles_of(diagram, state)).len();
     let raised = ones(usize::from(diagram.count()), u64::from(state));
@@ -98,9 +98,12 @@ fn homological_degree(raised: u8, minus: u8) -> i16
 
 /// What the quantum degree has above the label degree.
 fn shift(raised: u8, plus: u8, minus: u8) -> i16
+    requires raised { raised ≤ CROSSINGS }
+    requires plus { plus ≤ CROSSINGS }
+    requires minus { minus ≤ CROSSINGS }
     ensures shift { result ≡ pos (raised + plus) -ℤ pos (2 * minus) }
-    ensures low { neg_ℤ (pos 1000) ≤ℤ result }
-    ensures high { result ≤ℤ pos 1000 }
+    ensures low { neg_ℤ (pos (2 * CROSSINGS)) ≤ℤ result }
+    ensures high { result ≤ℤ pos (2 * CROSSINGS) }
 {
     i16::from(raised) + i16::from(plus) - 2 * i16::from(minus)
 }
@@ -108,8 +111,8 @@ fn shift(raised: u8, plus: u8, minus: u8) -> i16
 /// A generator with its two degrees.
 fn with_degrees(shared: Shared, generator: Generator) -> Placed
     requires circles { shared.circles ≤ NAMES }
-    requires low { neg_ℤ (pos 1000) ≤ℤ shared.shift }
-    requires high { shared.shift ≤ℤ pos 1000 }
+    requires low { neg_ℤ (pos (2 * CROSSINGS)) ≤ℤ shared.shift }
+    requires high { shared.shift ≤ℤ pos (2 * CROSSINGS) }
     ensures { result ≡ placed_by shared generator }
 {
     let labelled = shared.circles as i16 - 2 * i16::from(ones(shared.circles, generator.label));

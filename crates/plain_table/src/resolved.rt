@@ -8,11 +8,11 @@ ghost use Rattle.kh_types.specs.Circles.{circles_of, circle_names};
 ghost use Rattle.kh_types.specs.Differential.{label_of, is_touched, touched};
 ghost use Rattle.plain_table.specs.declared.circles.TheConstants.{NAMES};
 
-use crate::bits::bit;
 use crate::circles::{Circles, Names, circle_names, circles_of};
 use crate::generators::Generator;
+use crate::labels::Labels;
 use arrayvec::ArrayVec;
-use kh_types::{Crossing, Diagram, class_of};
+use kh_types::{Crossing, Diagram, bit, class_of};
 
 /// A generator of a diagram's cube, the circle of each arc and loop in its state, and the names of the circles.
 #[derive(Drop)]
@@ -74,7 +74,7 @@ impl Resolved {
     }
 
     /// The labels of the circles that a crossing touches, by their least arcs.
-    pub fn touched_labels(&self, crossing: usize) -> Names
+    pub fn touched_labels(&self, crossing: usize) -> Labels
         requires low { 1 ≤ crossing }
         requires high { crossing ≤ length self.now.diagram.crossings }
         ensures { let code = self.now.diagram in let generator = self.now.generator in
@@ -89,7 +89,7 @@ impl Resolved {
     }
 
     /// Adds the label of a circle to a list where a crossing touches it.
-    fn push_label(&self, labels: &mut Names, crossing: usize, circle: u8)
+    fn push_label(&self, labels: &mut Labels, crossing: usize, circle: u8)
         requires low { 1 ≤ crossing }
         requires high { crossing ≤ length self.now.diagram.crossings }
         requires room { array_vec_len labels.old < NAMES }

@@ -2,11 +2,12 @@
 
 ghost use Rattle.std.specs.Prelude.{◌≡◌, ◌≤◌, ◌*◌, ◌∷◌, [], ◌++◌, pos, neg_ℤ, ◌-ℤ◌, ◌≤ℤ◌, IfOk, OnOk};
 ghost use Rattle.std.specs.List.{filter};
-ghost use Rattle.kh_types.specs.Table.{rows_at};
-ghost use Rattle.kh_types.specs.Table.{is_shown, rows_within};
+ghost use Rattle.kh_types.specs.Table.{is_shown, rows_at, rows_within};
+ghost use Rattle.kh_types.specs.declared.limits.TheConstants.{EXPONENT};
 
 use crate::cube::Cube;
 use kh_types::NoMemory;
+use prime_field::PrimeField;
 use std::alloc::Global;
 use std::marker::Model;
 
@@ -31,27 +32,32 @@ impl Model for Row {
 
 /// The rows with a dimension above 0, ascending by j, then by i, with j up to a size.
 #[tactic(auto, using(crate::proofs::TableLemmas::degrees_more))]
-pub fn rows(alloc: Global, cube: &Cube, most: usize) -> Result<Vec<Row>, NoMemory>
-    requires { most ≤ 1000 }
-    ensures { IfOk result (λ made. made.items ≡ rows_within most cube.now.p cube.now.diagram) }
+pub fn rows<F: PrimeField>(alloc: Global, cube: &Cube, most: usize) -> Result<Vec<Row>, NoMemory>
+    requires { most ≤ EXPONENT }
+    ensures { IfOk result (λ made. made.items ≡ rows_within most F.P cube.now.diagram) }
 {
     let mut made = Vec::new(alloc);
     'degrees: for k in 0..2 * most + 1 {
-        push_rows(alloc, &mut made, cube, degree(k, most))?;
+        push_rows::<F>(alloc, &mut made, cube, degree(k, most))?;
     }
     Ok(made)
 }
 
 /// Adds the rows of one quantum degree.
 #[tactic(auto, using(crate::proofs::TableLemmas::degrees))]
-fn push_rows(alloc: Global, made: &mut Vec<Row>, cube: &Cube, j: i16) -> Result<(), NoMemory>
+fn push_rows<F: PrimeField>(
+    alloc: Global,
+    made: &mut Vec<Row>,
+    cube: &Cube,
+    j: i16,
+) -> Result<(), NoMemory>
     ensures { OnOk result (made.new.items
-        ≡ made.old.items ++ rows_at cube.now.p cube.now.diagram j) }
+        ≡ made.old.items ++ rows_at F.P cube.now.diagram j) }
 {
     let most = cube.crossing_count();
     'degrees: for k in 0..2 * most + 1 {
         let i = degree(k, most);
-        let dim = cube.dimension(alloc, i, j)?;
+        let dim = cube.dimension::<F>(alloc, i, j)?;
         push_row(made, Row { j, i, dim })?;
     }
     Ok(())
@@ -59,11 +65,11 @@ fn push_rows(alloc: Global, made: &mut Vec<Row>, cube: &Cube, j: i16) -> Result<
 
 /// The number at a place, counted from 0, among those from `-most` on.
 fn degree(place: usize, most: usize) -> i16
-    requires most { most ≤ 1000 }
-    requires place { place ≤ 2000 }
+    requires most { most ≤ EXPONENT }
+    requires place { place ≤ 2 * most }
     ensures degree { result ≡ pos place -ℤ pos most }
-    ensures low { neg_ℤ (pos 1000) ≤ℤ result }
-    ensures high { place ≤ 2 * most → result ≤ℤ pos 1000 }
+    ensures low { neg_ℤ (pos EXPONENT) ≤ℤ result }
+    ensures high { result ≤ℤ pos EXPONENT }
 {
     place as i16 - most as i16
 }

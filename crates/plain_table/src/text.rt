@@ -6,25 +6,24 @@ ghost use Rattle.kh_types.specs.Table.{row_text, table_text, table};
 use crate::cube::Cube;
 use crate::table::{Row, rows};
 use kh_types::{Diagram, EXPONENT, NoMemory};
+use prime_field::PrimeField;
 use std::alloc::Global;
 
-/// The text of the homology table of a diagram over the field of `p` elements.
-pub fn table_text_of(alloc: Global, p: u8, diagram: &Diagram) -> Result<String, NoMemory>
-    requires low { 2 ≤ p }
-    requires high { p ≤ 7 }
-    ensures { IfOk result (λ text. string_bytes text ≡ table_text (table p diagram.now)) }
+/// The text of the homology table of a diagram over a field.
+pub fn table_text_of<F: PrimeField>(alloc: Global, diagram: &Diagram) -> Result<String, NoMemory>
+    ensures { IfOk result (λ text. string_bytes text ≡ table_text (table F.P diagram.now)) }
 {
-    let cube = Cube::new(alloc, p, diagram)?;
-    let rows = rows(alloc, &cube, EXPONENT)?;
-    table_text(alloc, p, &rows)
+    let cube = Cube::new(alloc, diagram)?;
+    let rows = rows::<F>(alloc, &cube, EXPONENT)?;
+    table_text::<F>(alloc, &rows)
 }
 
 /// The text of a table: the line of its field, then the lines of its rows.
-fn table_text(alloc: Global, p: u8, rows: &[Row]) -> Result<String, NoMemory>
+fn table_text<F: PrimeField>(alloc: Global, rows: &[Row]) -> Result<String, NoMemory>
     ensures { IfOk result (λ text.
-        string_bytes text ≡ table_text (record { field = p; rows = rows.now })) }
+        string_bytes text ≡ table_text (record { field = F.P; rows = rows.now })) }
 {
-    let mut text = format!(in alloc; "field {p}\n")?;
+    let mut text = format!(in alloc; "field {}\n", F::P)?;
     'rows: for row in rows {
         push_row(alloc, &mut text, *row)?;
     }

@@ -5,4 +5,4 @@ use Rattle.plain_table.proofs.TableLemmas.{from_minus_to}
 use Rattle.plain_table.proofs.table.rows.Given as goal
 
 abbrev pub invariant-degrees : goal.invariant-degrees
-invariant-degrees l = l.made.items ≡ flat_map (rows_at l.cube.p l.cube.diagram) (from_minus_to l.most l.k)
+invariant-degrees g l = l.made.items ≡ flat_map (rows_at g.F.PrimeField.P l.cube.diagram) (from_minus_to l.most l.k)

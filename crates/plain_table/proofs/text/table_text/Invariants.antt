@@ -4,4 +4,4 @@ use Rattle.kh_types.specs.Table.{row_text}
 use Rattle.plain_table.proofs.text.table_text.Given as goal
 
 abbrev pub invariant-rows : goal.invariant-rows
-invariant-rows l = string_bytes l.text ≡ string_bytes l.initial.text ++ flat_map row_text (take l.row-index l.rows)
+invariant-rows g l = string_bytes l.text ≡ string_bytes l.initial.text ++ flat_map row_text (take l.row-index l.rows)
