@@ -1,6 +1,6 @@
 //! The command that the words after the program's name give.
 
-ghost use Rattle.std.specs.Prelude.{◌≡◌, ◌≤◌, ◌<◌, length, drop};
+ghost use Rattle.std.specs.Prelude.{◌≡◌, ◌<◌, length, drop};
 ghost use Rattle.kh_work.specs.Commands.{task_of, field_of, form_of, no_options, with_field, with_form, with_option, with_options, command_with, command_of};
 
 use kh_types::Words;
@@ -25,24 +25,6 @@ pub enum Field {
     Five,
     /// The field of seven elements.
     Seven,
-}
-
-impl Field {
-    ghost use Rattle.kh_work.specs.Commands.{size_of};
-
-    /// The number of elements.
-    pub fn size(self) -> u8
-        ensures size { result ≡ size_of self }
-        ensures low { 2 ≤ result }
-        ensures high { result ≤ 7 }
-    {
-        match self {
-            Field::Two => 2,
-            Field::Three => 3,
-            Field::Five => 5,
-            Field::Seven => 7,
-        }
-    }
 }
 
 /// A form of codes as text. Source: this project's rule.

@@ -4,14 +4,13 @@ use Rattle.std.specs.Prelude.{nat_eq}
 use Rattle.std.specs.List.{sum_by, range_with_len}
 use Rattle.std.proofs.Math.Nat.{mod-eq_of_lt}
 use Rattle.std.proofs.Math.Pow.{pow-lt}
-use Rattle.std.proofs.lemmas.Bool.{and_parts, eqb-true}
-use Rattle.std.proofs.lemmas.Bool.Decides.{nat_tests}
+use Rattle.std.proofs.lemmas.Bool.{and_parts, eqb-true, false_from_ne_true}
 use Rattle.std.proofs.lemmas.List.Sums.{sum_by-cons}
 use Rattle.kh_types.specs.Bits.{bit}
 use Rattle.kh_types.specs.Code.{Code}
 use Rattle.kh_types.specs.Generators.{Generator}
-use Rattle.kh_types.specs.Differential.{is_edge, edge_sign, coefficient_at, coefficient}
-use Rattle.kh_types.proofs.Ranges.{sum_by-range_more}
+use Rattle.kh_types.specs.Differential.{is_edge, edge_sign, coefficient_at}
+use Rattle.kh_types.proofs.Ranges.{sum_from_one}
 use Rattle.prime_field.specs.Residues.{sum_mod, negative_mod}
 
 -- a sum of terms that are all 0
@@ -64,15 +63,11 @@ edge-state tail head crossing edge =
     eqb-true head.state (tail.state + 2 ^ (crossing - 1))
     (and_parts (nat_eq (bit tail.state (crossing - 1)) 0) (nat_eq head.state (tail.state + 2 ^ (crossing - 1))) edge).1
 
-not_true : (b : Bool) → ¬ (b ≡ true) → b ≡ false
-not_true true absent = absurd (absent refl)
-not_true false absent = refl
-
 -- so no two crossings have an edge between the same states
 edge-alone : (tail head : Generator) (j k : ℕ) → 1 ≤ j → j < k → is_edge tail head j ≡ true → is_edge tail head k ≡ false
 edge-alone tail head j k from later edge =
     let power : 2 ^ (j - 1) < 2 ^ (k - 1) = pow-lt (omega (arith, from, later)) in
-    not_true (is_edge tail head k)
+    false_from_ne_true (is_edge tail head k)
     (λ other. omega (arith, edge-state tail head j edge, edge-state tail head k other, power))
 
 -- the sum of the coefficients at crossings is below p
@@ -93,7 +88,7 @@ coefficient_more p code tail head n sum one next above is_sum is_one is_next =
     let f : ℕ → ℕ = coefficient_at p code tail head in
     let whole : sum + one ≡ sum_by f (range_with_len 1 (n + 1)) =
     ap (λ s. s + one) is_sum ∙ ap (λ x. sum_by f (range_with_len 1 n) + x) is_one
-    ∙ sym (sum_by-range_more f 1 n (n + 1) (omega arith)) in
+    ∙ sym (sum_from_one f n) in
     is_next ∙ ap (λ s. s % p) whole ∙ mod-eq_of_lt (coefficients-below p code tail head (n + 1) above)
 
 -- -1 modulo p

@@ -1,8 +1,7 @@
 -- The steps of the loops over states and labels.
 use Rattle.std.proofs.Common.{◌≡◌, ℕ, ◌+◌, ◌∷◌, [], ◌++◌, List, map, ap, ◌∙◌, arith}
 use Rattle.std.specs.List.{range_with_len, flat_map}
-use Rattle.std.proofs.lemmas.List.{append_assoc, append-nil, map-append, map_push}
-use Rattle.std.proofs.lemmas.List.Concat.{flat_map-append}
+use Rattle.std.proofs.lemmas.List.{append_assoc, map-append, map_push}
 use Rattle.kh_types.specs.Code.{Code}
 use Rattle.kh_types.specs.Generators.{Generator, generator_of, generators_of}
 use Rattle.plain_table.specs.declared.generators.Placed.{Placed}

@@ -2,6 +2,5 @@ pub mod CircleLemmas
 pub mod CoefficientLemmas
 pub mod GeneratorLemmas
 pub mod LabelLemmas
-pub mod ListLemmas
 pub mod MatrixLemmas
 pub mod TableLemmas

@@ -5,6 +5,7 @@ use Rattle.std.proofs.lemmas.List.{append_assoc, append-nil, map_push, length-ma
 use Rattle.std.proofs.lemmas.List.Concat.{flat_map-append}
 use Rattle.std.proofs.lemmas.List.Elements.{filter-append}
 use Rattle.std.proofs.lemmas.Int.{to_z-of_z}
+use Rattle.std.proofs.lemmas.Simd.{map-map}
 use Rattle.kh_types.specs.Code.{Code}
 use Rattle.kh_types.specs.Generators.{Generator, generators, generators_at}
 use Rattle.kh_types.specs.Differential.{coefficient, differential}
@@ -14,8 +15,8 @@ use Rattle.plain_table.specs.declared.generators.Placed.{Placed}
 use Rattle.plain_matrix.specs.Matrices.{Matrix}
 use Rattle.plain_table.specs.Matrices.{row_for, rows_for, matrix_for}
 use Rattle.plain_table.specs.Placed.{placed_in, is_placed_at}
+use Rattle.kh_types.proofs.Lists.{filter-map}
 use Rattle.kh_types.proofs.Ranges.{map_from_zero}
-use Rattle.plain_table.proofs.ListLemmas.{filter-map, map-map}
 
 -- the numbers from -n on, as many as a count says
 abbrev pub from_minus_to : ℕ → ℕ → List ℤ

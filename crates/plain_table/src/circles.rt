@@ -78,7 +78,7 @@ fn smoothing_of(choice: u8, crossing: &Crossing) -> [(u8, u8); 2]
 }
 
 /// The circles by their least arcs, ascending, and the loops after them.
-#[tactic(auto, using(crate::proofs::CircleLemmas::names_more))]
+#[tactic(auto, using(kh_types::proofs::Ranges::filter_from_one))]
 pub fn circle_names(diagram: &Diagram, circles: &[u8]) -> Names
     ensures { result.items ≡ filter (is_least circles.now) (arcs_and_loops diagram.now) }
 {

@@ -36,14 +36,9 @@ impl Cube {
         })
     }
 
-    /// The homology dimension at (i, j).
+    /// The homology dimension at (i, j) over a field.
     #[tactic(auto, using(crate::proofs::TableLemmas::counting))]
-    pub fn dimension<F: PrimeField>(
-        &self,
-        alloc: Global,
-        i: i16,
-        j: i16,
-    ) -> Result<usize, NoMemory>
+    pub fn dimension<F: PrimeField>(&self, alloc: Global, i: i16, j: i16) -> Result<usize, NoMemory>
         requires low { neg_ℤ (pos EXPONENT) ≤ℤ i }
         requires high { i ≤ℤ pos EXPONENT }
         ensures { IfOk result (λ dim. dim ≡ dimension F.P self.now.diagram i j) }
@@ -51,9 +46,7 @@ impl Cube {
         let count = self.generators_at(alloc, i, j)?.len();
         let out = self.differential_rank::<F>(alloc, i, j)?;
         let into = self.differential_rank::<F>(alloc, i - 1, j)?;
-        Ok(count
-            .saturating_sub(out as usize)
-            .saturating_sub(into as usize))
+        Ok(count.saturating_sub(out).saturating_sub(into))
     }
 
     /// The rank of the differential from degree i at j.
@@ -63,7 +56,7 @@ impl Cube {
         alloc: Global,
         i: i16,
         j: i16,
-    ) -> Result<u32, NoMemory>
+    ) -> Result<usize, NoMemory>
         requires { i ≤ℤ pos EXPONENT }
         ensures { IfOk result (λ found.
             found ≡ rank F.P (differential F.P self.now.diagram i j)) }
@@ -71,10 +64,10 @@ impl Cube {
         let tails = self.generators_at(alloc, i, j)?;
         let heads = self.generators_at(alloc, i + 1, j)?;
         let differential: Dense<F> = self.matrix(alloc, &tails, &heads)?;
-        rank(alloc, &differential)
+        Ok(rank(alloc, &differential)? as usize)
     }
 
-    /// The matrix with a row for each generator of one list and in it the coefficient from each generator of another.
+    /// The matrix with a row for each generator of one list, `heads`, and in it the coefficient from each generator of another.
     #[tactic(auto, using(crate::proofs::MatrixLemmas::rows))]
     fn matrix<F: PrimeField>(
         &self,
@@ -132,8 +125,8 @@ impl Cube {
     }
 }
 
-/// How many rows or columns a matrix has for a list of generators. From 2^32 on it is out of memory, as a list of as many
-/// generators takes more than 64 GiB.
+/// How many rows or columns a matrix has for a list of generators. Matrices have fewer than 2^32, so a longer list, which
+/// takes 96 GiB by itself, is answered as out of memory.
 fn matrix_size(generators: &[Placed]) -> Result<u32, NoMemory>
     ensures { IfOk result (λ size. size ≡ length generators.now) }
 {

@@ -115,10 +115,9 @@ fn slots(diagram: &Diagram, crossing: usize) -> &Crossing
 }
 
 /// The place of a circle among the names, or their number where it is none of them.
-#[tactic(auto, using(crate::proofs::ListLemmas::places))]
+#[tactic(auto, using(kh_types::proofs::Lists::places))]
 fn place_among(names: &[u8], circle: u8) -> usize
-    ensures place { result ≡ position_or_len (nat_eq circle) names.now }
-    ensures within { result ≤ length names.now }
+    ensures { result ≡ position_or_len (nat_eq circle) names.now }
 {
     first_place(names, circle).unwrap_or(names.len())
 }

@@ -1,6 +1,6 @@
 //! The text of a homology table.
 
-ghost use Rattle.std.specs.Prelude.{◌≡◌, ◌≤◌, ◌++◌, string_bytes, IfOk, OnOk};
+ghost use Rattle.std.specs.Prelude.{◌≡◌, ◌++◌, string_bytes, IfOk, OnOk};
 ghost use Rattle.kh_types.specs.Table.{row_text, table_text, table};
 
 use crate::cube::Cube;

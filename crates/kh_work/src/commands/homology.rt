@@ -1,6 +1,8 @@
 //! The command `homology`: the table of homology dimensions.
 
-ghost use Rattle.std.specs.Prelude.{◌≡◌, IfOk};
+ghost use Rattle.std.specs.Prelude.{◌≡◌, string_bytes, IfOk};
+ghost use Rattle.kh_types.specs.Table.{table, table_text};
+ghost use Rattle.kh_work.specs.Commands.{size_of};
 ghost use Rattle.kh_work.specs.Homology.{homology_reply};
 
 use crate::command::Field;
@@ -10,6 +12,7 @@ use crate::reply::{Reply, reply_with};
 use crate::status::Status;
 use kh_types::{Diagram, NoMemory};
 use plain_table::table_text_of;
+use prime_field::{F2, F3, F5, F7};
 use std::alloc::Global;
 
 /// The text of the homology table over a field, where the diagram has few enough crossings.
@@ -19,6 +22,19 @@ pub fn reply_to_homology(alloc: Global, field: Field, diagram: &Diagram) -> Resu
     if usize::from(diagram.count()) > HOMOLOGY_CROSSINGS {
         return too_many_for_homology(alloc, diagram.count());
     }
-    let text = table_text_of(alloc, field.size(), diagram)?;
+    let text = table_text_over(alloc, field, diagram)?;
     Ok(reply_with(Status::Done, text))
+}
+
+/// The text of the homology table over a field.
+fn table_text_over(alloc: Global, field: Field, diagram: &Diagram) -> Result<String, NoMemory>
+    ensures { IfOk result (λ text.
+        string_bytes text ≡ table_text (table (size_of field) diagram.now)) }
+{
+    match field {
+        Field::Two => table_text_of::<F2>(alloc, diagram),
+        Field::Three => table_text_of::<F3>(alloc, diagram),
+        Field::Five => table_text_of::<F5>(alloc, diagram),
+        Field::Seven => table_text_of::<F7>(alloc, diagram),
+    }
 }

@@ -1,4 +1,4 @@
-use Rattle.std.proofs.Common.{◌≡◌, ◌∙◌, ap, length, arith}
+use Rattle.std.proofs.Common.{◌∙◌, ap, length, arith}
 use Rattle.std.proofs.lemmas.List.{length-set}
 use Rattle.plain_matrix.specs.Matrices.{Matrix}
 use Rattle.plain_table.proofs.MatrixLemmas.{row_begun-more}
