@@ -4,10 +4,11 @@
     bench/inputs.py [RUNS] [WORD]
 
 For each input the runs of the two are alternated, so that whatever else the machine does falls on both. It prints the medians, their
-ratio and the greatest memory that a run has had resident; with a word only the inputs whose names have it. Build the program first, by
-`./kh`. The gate does not run it.
+ratio, and whether a run gets by with an address space of 20 MB; with a word only the inputs whose names have it. Build the program
+first, by `./kh`. The gate does not run it.
 """
 import os
+import resource
 import statistics
 import subprocess
 import sys
@@ -17,6 +18,8 @@ TOP = os.path.dirname(os.path.dirname(os.path.abspath(__file__)))
 PROGRAM = os.path.join(TOP, "crates", "kh_main", "out", "kh_main")
 TREFOIL = b"PD[X[1,4,2,5], X[3,6,4,1], X[5,2,6,3]]"
 LIMIT = 65_536
+MEMORY = 20 * 1024 * 1024
+OUT_OF_MEMORY = 5
 
 # Name, words and input.
 INPUTS = [
@@ -37,37 +40,34 @@ INPUTS = [
 ]
 
 
-def run(words, given):
-    """The seconds that a run takes, and the most memory that it has resident, in KB."""
-    read, write = os.pipe()
+def run(words, given, memory=resource.RLIM_INFINITY):
+    """The seconds that a run takes, and its status."""
     start = time.perf_counter()
-    program = subprocess.Popen(words, stdin=read, stdout=subprocess.DEVNULL)
-    os.close(read)
-    try:
-        with os.fdopen(write, "wb") as pipe:
-            pipe.write(given)
-    except BrokenPipeError:
-        pass
-    _, _, usage = os.wait4(program.pid, 0)
-    program.returncode = 0
-    return time.perf_counter() - start, usage.ru_maxrss
+    program = subprocess.Popen(
+        words,
+        stdin=subprocess.PIPE,
+        stdout=subprocess.DEVNULL,
+        preexec_fn=(lambda: resource.setrlimit(resource.RLIMIT_AS, (memory, memory))) if memory >= 0 else None,
+    )
+    program.communicate(given)
+    return time.perf_counter() - start, program.returncode
 
 
 def measure(words, given, runs):
     mine, others = [], []
     for _ in range(runs):
-        mine.append(run([PROGRAM, *words], given))
-        others.append(run(["/bin/true"], b""))
-    seconds = statistics.median(time for time, _ in mine)
-    other = statistics.median(time for time, _ in others)
-    return seconds, other, max(memory for _, memory in mine)
+        mine.append(run(words, given)[0])
+        others.append(run(["/bin/true"], b"")[0])
+    fits = run(words, given, MEMORY)[1] != OUT_OF_MEMORY
+    return statistics.median(mine), statistics.median(others), fits
 
 
 def main(runs, word):
     for name, words, given in INPUTS:
         if word in name:
-            seconds, other, memory = measure(words, given, runs)
-            print(f"{name}: {seconds * 1000:.2f} ms, true {other * 1000:.2f} ms, ratio {seconds / other:.1f}, {memory:,} KB")
+            mine, other, fits = measure([PROGRAM, *words], given, runs)
+            memory = "20 MB are enough" if fits else "20 MB are not enough"
+            print(f"{name}: {mine * 1000:.2f} ms, true {other * 1000:.2f} ms, ratio {mine / other:.1f}, {memory}")
 
 
 if __name__ == "__main__":
