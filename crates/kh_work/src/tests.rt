@@ -81,9 +81,10 @@ fn a_full_input_is_read_and_a_byte_more_is_not(rt: HostRuntime) -> Result<(), Fa
 #[test]
 fn a_fault_ends_a_run_with_what_was_written(rt: HostRuntime) -> Result<(), Fail> {
     let words = words_of(&rt, &["homology"])?;
+    let (none, second): (&[u64], &[u64]) = (&[], &[2]);
     for (reads, writes, status, output) in [
-        (&[] as &[u64], &[2] as &[u64], Status::WriteFault, "f"),
-        (&[2], &[], Status::ReadFault, ""),
+        (none, second, Status::WriteFault, "f"),
+        (second, none, Status::ReadFault, ""),
     ] {
         let mut source = MemSource::new(rt.alloc(), TREFOIL.as_bytes(), 4, reads)?;
         let mut sink = MemSink::new(rt.alloc(), 4_096, 1, writes)?;
