@@ -1,5 +1,5 @@
 -- The least arcs of the components: ascending, and each the one of its own component.
-use Rattle.std.proofs.Common.{◌≡◌, ℕ, zero, suc, inl, inr, ◌+◌, ◌-◌, ◌<◌, ◌≤◌, ◌∙◌, List, ◌∷◌, length, get_or, refl, sym, ap, subst, arith, Bool, true, false, cond}
+use Rattle.std.proofs.Common.{◌≡◌, ◌↔◌, ℕ, zero, suc, inl, inr, ◌+◌, ◌-◌, ◌<◌, ◌≤◌, ◌∙◌, List, ◌∷◌, length, get_or, refl, sym, ap, subst, arith, Bool, true, false, cond}
 use Rattle.std.specs.Prelude.{nat_eq, slice_index, IsTrue}
 use Rattle.std.specs.List.{Contains, filter, range_with_len, position_or_len}
 use Rattle.std.proofs.lemmas.Bool.{cases_Bool, cases_lt, eq-eqb, eqb-true}
@@ -8,11 +8,12 @@ use Rattle.std.proofs.lemmas.List.Sums.{fails_before_first, passes_at_first, pos
 use Rattle.std.proofs.lemmas.List.FromFn.{length-range_with_len, get_or-range_with_len}
 use Rattle.kh_types.specs.Code.{Code, arc_count, arcs, IsArc}
 use Rattle.kh_types.specs.Classes.{is_least}
-use Rattle.kh_types.specs.Components.{components_of, component_of, component_count, first_arcs}
+use Rattle.kh_types.specs.Components.{components_of, component_of, component_count, first_arcs, next}
 use Rattle.kh_types.specs.Acceptance.{accepted}
 use Rattle.kh_types.specs.Accepted.{IsDirected}
 use Rattle.kh_types.proofs.Lists.{Contains-filter}
-use Rattle.orient_arcs.specs.Numbers.{component_number, first_arc}
+use Rattle.kh_types.proofs.NextArcs.{HasPlace-directed, component-next, next-injective}
+use Rattle.orient_arcs.specs.Numbers.{component_number, first_arc, GoesRound}
 use Rattle.orient_arcs.proofs.ComponentLemmas.{IsDirected-accepted, IsFirstOf-directed}
 
 -- a number of a range that passes a test
@@ -165,3 +166,45 @@ number-first_arc crossings component within =
   where
     apart : (x y : ℕ) → y < x → nat_eq x y ≡ false
     apart x y less = grind (arith, nat_tests)
+
+-- two arcs have one number exactly where they are in one component
+pub number-together : (code : Code) (arc other : ℕ) → IsTrue (accepted code) → IsArc code.crossings arc → IsArc code.crossings other
+    → (component_number code.crossings arc ≡ component_number code.crossings other)
+    ↔ (component_of (components_of code.crossings) arc ≡ component_of (components_of code.crossings) other)
+number-together code arc other holds is other_is = (
+  λ same. sym (first_arc-number code arc holds is) ∙ ap (first_arc code.crossings) same ∙ first_arc-number code other holds other_is,
+  λ same. ap (λ first. position_or_len (nat_eq first) (first_arcs code.crossings)) same,
+)
+
+-- the first arc of an arc's component is at most the arc
+pub first_arc-le : (code : Code) (arc : ℕ) → IsTrue (accepted code) → IsArc code.crossings arc
+    → first_arc code.crossings (component_number code.crossings arc) ≤ arc
+first_arc-le code arc holds is =
+    omega (
+      arith,
+      first_arc-number code arc holds is,
+      (HasPlace-directed code.crossings (IsDirected-accepted code holds) arc is).from,
+    )
+
+-- the arc that follows
+
+pub number-next : (code : Code) (arc : ℕ) → IsTrue (accepted code) → IsArc code.crossings arc
+    → component_number code.crossings (next code.crossings arc) ≡ component_number code.crossings arc
+number-next code arc holds is =
+    ap (λ first. position_or_len (nat_eq first) (first_arcs code.crossings))
+    (component-next code.crossings (IsDirected-accepted code holds) arc is)
+
+pub next-once : (code : Code) (arc other : ℕ) → IsTrue (accepted code) → IsArc code.crossings arc → IsArc code.crossings other
+    → next code.crossings arc ≡ next code.crossings other → arc ≡ other
+next-once code arc other holds is other_is same =
+    next-injective code.crossings (IsDirected-accepted code holds) arc other is other_is same
+
+pub GoesRound-accepted : (code : Code) (arc : ℕ) → IsTrue (accepted code) → IsArc code.crossings arc → GoesRound code.crossings arc
+GoesRound-accepted code arc holds is =
+    let place = HasPlace-directed code.crossings (IsDirected-accepted code holds) arc is in
+    record {
+      from = place.from;
+      below = place.below;
+      inside = place.inside;
+      last = λ is_last. place.last (omega (arith, is_last));
+    }
