@@ -4,9 +4,10 @@ use Rattle.std.specs.Prelude.{slice_index, min, IsTrue}
 use Rattle.std.specs.List.{fold, flat_map, range_with_len}
 use Rattle.std.proofs.Math.Seq.{take-append_seam}
 use Rattle.std.proofs.lemmas.List.FromFn.{length-range_with_len}
+use Rattle.kh_types.specs.declared.limits.TheConstants.{COMPONENTS}
 use Rattle.kh_types.specs.Code.{Code, arc_count, IsArc}
 use Rattle.kh_types.specs.Classes.{joined}
-use Rattle.kh_types.specs.Components.{passes_of, components_of, component_of}
+use Rattle.kh_types.specs.Components.{passes_of, components_of, component_of, component_count}
 use Rattle.kh_types.specs.Acceptance.{accepted}
 use Rattle.kh_types.specs.Accepted.{IsDirected}
 use Rattle.kh_types.proofs.ClassLemmas.{length-joined, classes-finest}
@@ -37,6 +38,10 @@ take_spread crossings least arcs is_least is_count =
 -- an accepted code is directed
 pub IsDirected-accepted : (code : Code) → IsTrue (accepted code) → IsDirected code.crossings
 IsDirected-accepted code holds = ((IsAccepted-is code).0 holds).directed
+
+-- and has few components and loops
+pub accepted_few : (code : Code) → IsTrue (accepted code) → component_count code.crossings + code.loops ≤ COMPONENTS
+accepted_few code holds = ((IsAccepted-is code).0 holds).components
 
 -- the least arc of the component of an arc
 pub record IsFirstOf (crossings : List (List ℕ)) (arc : ℕ) : Type 0 where

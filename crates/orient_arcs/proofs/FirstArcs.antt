@@ -6,15 +6,16 @@ use Rattle.std.proofs.lemmas.Bool.{cases_Bool, cases_lt, eq-eqb, eqb-true}
 use Rattle.std.proofs.lemmas.Bool.Decides.{nat_tests}
 use Rattle.std.proofs.lemmas.List.Sums.{fails_before_first, passes_at_first, position_or_len_is}
 use Rattle.std.proofs.lemmas.List.FromFn.{length-range_with_len, get_or-range_with_len}
+use Rattle.std.proofs.lemmas.List.{get_or_past}
 use Rattle.kh_types.specs.Code.{Code, arc_count, arcs, IsArc}
 use Rattle.kh_types.specs.Classes.{is_least}
 use Rattle.kh_types.specs.Components.{components_of, component_of, component_count, first_arcs, next}
 use Rattle.kh_types.specs.Acceptance.{accepted}
 use Rattle.kh_types.specs.Accepted.{IsDirected}
 use Rattle.kh_types.proofs.Lists.{Contains-filter}
-use Rattle.kh_types.proofs.NextArcs.{HasPlace-directed, component-next, next-injective}
-use Rattle.orient_arcs.specs.Numbers.{component_number, first_arc, GoesRound}
-use Rattle.orient_arcs.proofs.ComponentLemmas.{IsDirected-accepted, IsFirstOf-directed}
+use Rattle.kh_types.proofs.NextArcs.{HasPlace-directed, component-inside, component-next, next-injective}
+use Rattle.orient_arcs.specs.Numbers.{component_number, first_arc, end_of, GoesRound}
+use Rattle.orient_arcs.proofs.ComponentLemmas.{IsDirected-accepted, IsFirstOf-directed, components_size}
 
 -- a number of a range that passes a test
 pub record Passes (p : ℕ → Bool) (a n x : ℕ) : Type 0 where
@@ -198,6 +199,28 @@ pub next-once : (code : Code) (arc other : ℕ) → IsTrue (accepted code) → I
     → next code.crossings arc ≡ next code.crossings other → arc ≡ other
 next-once code arc other holds is other_is same =
     next-injective code.crossings (IsDirected-accepted code holds) arc other is other_is same
+
+-- the numbers from the least arc of a component on, as many as it has arcs, are its arcs
+pub number-inside : (code : Code) (arc other : ℕ) → IsTrue (accepted code) → IsArc code.crossings arc
+    → component_of (components_of code.crossings) arc ≤ other → other < end_of code.crossings arc
+    → IsArc code.crossings other × (component_number code.crossings other ≡ component_number code.crossings arc)
+number-inside code arc other holds is from below =
+    let crossings = code.crossings in
+    let directed = IsDirected-accepted code holds in
+    let same = component-inside crossings directed arc other is from below in
+    let positive = (IsFirstOf-directed crossings directed arc is).is_arc.positive in (
+      elim (cases_lt (arc_count crossings) other) [
+        | inl past ↦
+            absurd (omega (
+              arith,
+              same,
+              positive,
+              get_or_past (components_of crossings) other 0 (omega (arith, past, components_size crossings)),
+            ))
+        | inr within ↦ record { positive = omega (arith, from, positive); within = within }
+      ],
+      ap (λ first. position_or_len (nat_eq first) (first_arcs crossings)) same,
+    )
 
 pub GoesRound-accepted : (code : Code) (arc : ℕ) → IsTrue (accepted code) → IsArc code.crossings arc → GoesRound code.crossings arc
 GoesRound-accepted code arc holds is =

@@ -5,7 +5,7 @@ ghost use Rattle.kh_types.specs.Code.{Code, IsArc};
 ghost use Rattle.kh_types.specs.Components.{components_of, component_of, component_count, first_arcs, arcs_in, next};
 ghost use Rattle.kh_types.specs.Acceptance.{accepted};
 ghost use Rattle.kh_types.specs.WorkedCodes.{one_loop, two_curls, over_circle, hopf_link, trefoil, figure_eight};
-ghost use Rattle.orient_arcs.specs.Numbers.{component_number, first_arc, GoesRound};
+ghost use Rattle.orient_arcs.specs.Numbers.{component_number, first_arc, end_of, GoesRound};
 
 /// Components are numbered from 0 by their least arcs: the number of an arc's component is below their count, and two arcs have
 /// one number exactly where they are in one component; the first arc of a component is its least; it has the component's number,
@@ -37,6 +37,10 @@ pub fn arcs_follow_one_another_round_components()
     ensures once { (code : Code) (arc other : ℕ) → IsTrue (accepted code)
         → IsArc code.crossings arc → IsArc code.crossings other
         → next code.crossings arc ≡ next code.crossings other → arc ≡ other }
+    ensures interval { (code : Code) (arc other : ℕ) → IsTrue (accepted code)
+        → IsArc code.crossings arc → component_of (components_of code.crossings) arc ≤ other
+        → other < end_of code.crossings arc → IsArc code.crossings other
+        × (component_number code.crossings other ≡ component_number code.crossings arc) }
     ensures round { (code : Code) (arc : ℕ) → IsTrue (accepted code) → IsArc code.crossings arc
         → GoesRound code.crossings arc }
 {}

@@ -3,7 +3,7 @@
 ghost use Rattle.std.specs.Prelude.{◌≡◌, ◌+◌, ◌<◌, ◌≤◌, [], ◌∷◌, ◌++◌, length, nat_eq, IsTrue};
 ghost use Rattle.std.specs.List.{filter, position_or_len, range_with_len};
 ghost use Rattle.arrayvec.specs.ArrayVec.{array_vec_len};
-ghost use Rattle.kh_types.specs.declared.limits.TheConstants.{ARCS};
+ghost use Rattle.kh_types.specs.declared.limits.TheConstants.{ARCS, COMPONENTS};
 ghost use Rattle.kh_types.specs.Code.{IsArc};
 ghost use Rattle.kh_types.specs.Classes.{is_least};
 ghost use Rattle.kh_types.specs.Components.{components_of, component_of, component_count, first_arcs, arcs_in};
@@ -46,6 +46,7 @@ impl Model for Components {
 }
 
 impl Components {
+    /// The components of a diagram.
     pub(crate) fn of_diagram(diagram: &Diagram) -> Components
         ensures { result ≡ diagram.now }
     {
@@ -56,8 +57,10 @@ impl Components {
     }
 
     /// How many components there are.
+    #[tactic(auto, using(crate::proofs::ComponentLemmas::accepted_few))]
     pub fn count(&self) -> u8
-        ensures { result ≡ component_count self.now.crossings }
+        ensures count { result ≡ component_count self.now.crossings }
+        ensures few { component_count self.now.crossings + self.now.loops ≤ COMPONENTS }
     {
         self.first_arcs().len() as u8
     }
@@ -89,6 +92,7 @@ impl Components {
         arcs_in(self.least(), self.first(component)) as u8
     }
 
+    /// The least arc of the component of each number up to 2n.
     #[tactic(auto, using(crate::proofs::ComponentLemmas::take_spread))]
     fn least(&self) -> &[u8]
         ensures least { result.now ≡ components_of self.now.crossings }
@@ -97,12 +101,14 @@ impl Components {
         &self.least[..arc_count(&self.diagram) + 1]
     }
 
+    /// The least arc of the component of an arc.
     fn least_of(&self, arc: u8) -> u8
         ensures { result ≡ component_of (components_of self.now.crossings) arc }
     {
         class_of(self.least(), usize::from(arc))
     }
 
+    /// The least arcs of the components, ascending.
     fn first_arcs(&self) -> ArrayVec<u8, ARCS>
         ensures firsts { result.items ≡ first_arcs self.now.crossings }
         ensures size { length result.items ≤ ARCS }
@@ -112,6 +118,7 @@ impl Components {
     }
 }
 
+/// The array that begins with the components of some numbers, with 0 behind them.
 fn spread(components: &[u8]) -> [u8; NUMBERS]
     requires { length components.now ≤ NUMBERS }
     ensures { result ≡ spread components.now }
@@ -121,7 +128,7 @@ fn spread(components: &[u8]) -> [u8; NUMBERS]
     least
 }
 
-/// The least arcs of the components, ascending.
+/// The arcs, up to a number of them, that are the least of their components, ascending.
 #[tactic(auto, using(kh_types::proofs::Ranges::filter_from_one))]
 fn first_arcs(arcs: usize, components: &[u8]) -> ArrayVec<u8, ARCS>
     requires { arcs ≤ ARCS }
