@@ -1,6 +1,6 @@
 -- The list of components, and its least arcs in an accepted code.
-use Rattle.std.proofs.Common.{◌≡◌, ℕ, ◌+◌, ◌<◌, ◌≤◌, ◌∙◌, List, [], ◌∷◌, length, take, refl, sym, ap, arith}
-use Rattle.std.specs.Prelude.{slice_index, min, IsTrue}
+use Rattle.std.proofs.Common.{◌≡◌, ℕ, ◌+◌, ◌≤◌, ◌∙◌, List, [], ◌∷◌, length, take, refl, sym, ap, arith}
+use Rattle.std.specs.Prelude.{min, IsTrue}
 use Rattle.std.specs.List.{fold, flat_map, range_with_len}
 use Rattle.std.proofs.Math.Seq.{take-append_seam}
 use Rattle.std.proofs.lemmas.List.FromFn.{length-range_with_len}

@@ -1,6 +1,6 @@
 -- The least arcs of the components: ascending, and each the one of its own component.
 use Rattle.std.proofs.Common.{◌≡◌, ◌↔◌, ℕ, zero, suc, inl, inr, ◌+◌, ◌-◌, ◌<◌, ◌≤◌, ◌∙◌, List, ◌∷◌, length, get_or, refl, sym, ap, subst, arith, Bool, true, false, cond}
-use Rattle.std.specs.Prelude.{nat_eq, slice_index, IsTrue}
+use Rattle.std.specs.Prelude.{nat_eq, IsTrue}
 use Rattle.std.specs.List.{Contains, filter, range_with_len, position_or_len}
 use Rattle.std.proofs.lemmas.Bool.{cases_Bool, cases_lt, eq-eqb, eqb-true}
 use Rattle.std.proofs.lemmas.Bool.Decides.{nat_tests}
@@ -11,7 +11,6 @@ use Rattle.kh_types.specs.Code.{Code, arc_count, arcs, IsArc}
 use Rattle.kh_types.specs.Classes.{is_least}
 use Rattle.kh_types.specs.Components.{components_of, component_of, component_count, first_arcs, next}
 use Rattle.kh_types.specs.Acceptance.{accepted}
-use Rattle.kh_types.specs.Accepted.{IsDirected}
 use Rattle.kh_types.proofs.Lists.{Contains-filter}
 use Rattle.kh_types.proofs.NextArcs.{HasPlace-directed, component-inside, component-next, next-injective}
 use Rattle.orient_arcs.specs.Numbers.{component_number, first_arc, end_of, GoesRound}
