@@ -1,0 +1,12 @@
+//! The components of a diagram, numbered by their least arcs, and the arc that follows an arc along the orientation.
+#![tactic(auto)]
+
+pub mod laws;
+mod numbered;
+mod of_diagram;
+mod passes;
+#[cfg(test)]
+mod tests;
+
+pub use numbered::Components;
+pub use of_diagram::{components, next};

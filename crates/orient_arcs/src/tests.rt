@@ -1,0 +1,84 @@
+//! What no clause says: that the calls succeed, and what known diagrams come to.
+
+use crate::{components, next};
+use arrayvec::ArrayVec;
+use kh_types::{Crossing, Diagram, RawCode};
+use std::test::Fail;
+
+/// Of each component its first arc and its length, and of each arc the number of its component and the arc that follows. The
+/// arcs are those of the Gauss codes on the Knot Atlas pages of the Hopf link (L2a1), the trefoil (3_1) and the Borromean rings
+/// (L6a4), and of two curls by hand. Two loops are added to each, which are not counted.
+#[test]
+fn known_diagrams_have_their_components(rt: HostRuntime) -> Result<(), Fail> {
+    for (crossings, wanted, arcs) in [
+        ([].as_slice(), [].as_slice(), [].as_slice()),
+        (
+            &[[1, 1, 2, 2], [3, 3, 4, 4]],
+            &[(1, 2), (3, 2)],
+            &[(0, 2), (0, 1), (1, 4), (1, 3)],
+        ),
+        (
+            &[[4, 1, 3, 2], [2, 3, 1, 4]],
+            &[(1, 2), (3, 2)],
+            &[(0, 2), (0, 1), (1, 4), (1, 3)],
+        ),
+        (
+            &[[1, 4, 2, 5], [3, 6, 4, 1], [5, 2, 6, 3]],
+            &[(1, 6)],
+            &[(0, 2), (0, 3), (0, 4), (0, 5), (0, 6), (0, 1)],
+        ),
+        (
+            &[
+                [6, 1, 7, 2],
+                [12, 8, 9, 7],
+                [4, 12, 1, 11],
+                [10, 5, 11, 6],
+                [8, 4, 5, 3],
+                [2, 9, 3, 10],
+            ],
+            &[(1, 4), (5, 4), (9, 4)],
+            &[
+                (0, 2),
+                (0, 3),
+                (0, 4),
+                (0, 1),
+                (1, 6),
+                (1, 7),
+                (1, 8),
+                (1, 5),
+                (2, 10),
+                (2, 11),
+                (2, 12),
+                (2, 9),
+            ],
+        ),
+    ] {
+        let diagram = Diagram::try_new(&code(crossings))?;
+        let found = components(&diagram);
+        assert_eq!(rt; found.count() as usize, wanted.len(), "{crossings:?}");
+        for component in 0..found.count() {
+            let is = (found.first(component), found.length(component));
+            assert_eq!(rt; wanted.get(component as usize), Some(&is), "{crossings:?}");
+        }
+        for arc in 1..=2 * diagram.count() {
+            let is = (found.of_arc(arc), next(&diagram, arc));
+            assert_eq!(rt;
+                arcs.get(arc as usize - 1),
+                Some(&is),
+                "{arc} of {crossings:?}"
+            );
+        }
+    }
+    Ok(())
+}
+
+fn code(arcs: &[[u8; 4]]) -> RawCode {
+    let mut crossings = ArrayVec::new();
+    for slots in arcs {
+        let _ = crossings.try_push(Crossing(*slots));
+    }
+    RawCode {
+        crossings,
+        loops: 2,
+    }
+}
