@@ -5,9 +5,9 @@ use arrayvec::ArrayVec;
 use kh_types::{Crossing, Diagram, RawCode};
 use std::test::Fail;
 
-/// Of each component its first arc and its length, and of each arc the number of its component and the arc that follows. The
-/// arcs are those of the Gauss codes on the Knot Atlas pages of the Hopf link (L2a1), the trefoil (3_1) and the Borromean rings
-/// (L6a4), and of two curls by hand. Two loops are added to each, which are not counted.
+/// Of each component its first arc and its length, and of each arc the number of its component and the arc that follows, worked
+/// by hand from the codes: two curls, and from the Knot Atlas the Hopf link (L2a1), the trefoil (3_1) and the Borromean rings
+/// (L6a4). Two loops are added to each, which are not counted.
 #[test]
 fn known_diagrams_have_their_components(rt: HostRuntime) -> Result<(), Fail> {
     for (crossings, wanted, arcs) in [
