@@ -24,13 +24,13 @@ use Rattle.face_walk.specs.Numbered.{face_numbers}
 use Rattle.face_walk.proofs.NumberLemmas.{class_number-below}
 
 -- what holds of each image of a range holds of all
-AllByRecursion-map_range : {X : Type 0} (P : X → Type 0) (f : ℕ → X) (a n : ℕ) → ((k : ℕ) → k < a + n → P (f k))
+pub AllByRecursion-map_range : {X : Type 0} (P : X → Type 0) (f : ℕ → X) (a n : ℕ) → ((k : ℕ) → k < a + n → P (f k))
     → AllByRecursion P (map f (range_with_len a n))
 AllByRecursion-map_range P f a zero holds = tt
 AllByRecursion-map_range P f a (suc n) holds =
     (holds a (omega arith), AllByRecursion-map_range P f (a + 1) n (λ k below. holds k (omega (arith, below))))
 
-turned-below : (n place : ℕ) → place < 4 * n → turned place < 4 * n
+pub turned-below : (n place : ℕ) → place < 4 * n → turned place < 4 * n
 turned-below n place below = omega (arith, below)
 
 -- what holds of all images of a range holds of each
@@ -43,7 +43,7 @@ map_range-at P f a (suc n) k holds from below = elim (cases_eq a k) [
 ]
 
 -- the pairs of the faces of an accepted code are of its darts
-face_pairs-below : (code : Code) → IsTrue (accepted code)
+pub face_pairs-below : (code : Code) → IsTrue (accepted code)
     → AreBelow (4 * length code.crossings) (map (face_pair (partner_at code.crossings)) (range_with_len 0 (4 * length code.crossings)))
 face_pairs-below code is =
     let n = length code.crossings in
@@ -54,7 +54,7 @@ face_pairs-below code is =
     (within, turned-below n (partner_at code.crossings k) (pairing.below k within)))
 
 -- a dart and the one that follows are in one class
-faces-step : (code : Code) (place : ℕ) → IsTrue (accepted code) → place < 4 * length code.crossings
+pub faces-step : (code : Code) (place : ℕ) → IsTrue (accepted code) → place < 4 * length code.crossings
     → slice_index (faces_of code.crossings) place
     ≡ slice_index (faces_of code.crossings) (face_step (partner_at code.crossings) place)
 faces-step code place is below =

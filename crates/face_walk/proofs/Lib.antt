@@ -1,2 +1,4 @@
 pub mod NumberLemmas
 pub mod FaceLemmas
+pub mod WalkLemmas
+pub mod FaceCycles

@@ -1,3 +1,4 @@
 pub mod ClassNumbers
 pub mod FaceNumbers
 pub mod Numbered
+pub mod Walks

@@ -10,6 +10,7 @@ mod numbered;
 mod sides;
 #[cfg(test)]
 mod tests;
+mod walk;
 
 pub use connected::{piece_of, pieces};
 pub use finding::faces;

@@ -1,8 +1,0 @@
-use Rattle.std.proofs.Common.{◌≡◌, map}
-use Rattle.std.specs.List.{range_with_len}
-use Rattle.kh_types.specs.Darts.{partner_at}
-use Rattle.kh_types.specs.Faces.{face_pair}
-use Rattle.face_walk.proofs.finding.face_pairs.Given as goal
-
-abbrev pub invariant-loop-place : goal.invariant-loop-place
-invariant-loop-place l = l.pairs.items ≡ map (face_pair (partner_at l.diagram.crossings)) (range_with_len 0 l.place)
