@@ -142,6 +142,18 @@ face_number-below code dart is is_dart =
     class_number-below (faces_of code.crossings) (dart_place dart) (IsNamed-faces code (faces_of code.crossings) is refl)
     (omega (arith, named.size, dart_place-below code.crossings dart is_dart))
 
+-- all the numbers that are kept are below it
+pub face_numbers-below : (code : Code) → IsTrue (accepted code)
+    → AllByRecursion (λ number. number < face_count code.crossings) (face_numbers code.crossings)
+face_numbers-below code is =
+    let crossings = code.crossings in
+    let places = range_with_len 0 (4 * length crossings) in
+    subst (λ (xs : List ℕ). AllByRecursion (λ number. number < face_count crossings) xs)
+    (sym (map-map (face_number crossings) dart_at places))
+    (AllByRecursion-map_range (λ (number : ℕ). number < face_count crossings) (λ k. face_number crossings (dart_at k)) 0
+    (4 * length crossings)
+    (λ k below. face_number-below code (dart_at k) is (IsDart-at crossings k (omega (arith, below)))))
+
 -- the length of a face is how often its number is kept
 pub face_length-counted : (crossings : List (List ℕ)) (face : ℕ)
     → count_by (λ number. nat_eq number face) (face_numbers crossings) ≡ face_length crossings face

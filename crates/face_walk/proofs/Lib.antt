@@ -2,3 +2,4 @@ pub mod NumberLemmas
 pub mod FaceLemmas
 pub mod WalkLemmas
 pub mod FaceCycles
+pub mod LengthLemmas

@@ -1,10 +1,10 @@
 //! The order of darts: by crossing, then by slot.
 
-ghost use Rattle.std.specs.Prelude.{◌≡◌, ◌<◌, ◌≤◌, ◌*◌, length};
-ghost use Rattle.kh_types.specs.Darts.{IsDart, dart_at, dart_place};
+ghost use Rattle.std.specs.Prelude.{◌≡◌, ◌<◌, ◌≤◌};
+ghost use Rattle.kh_types.specs.Darts.{dart_at, dart_place};
 ghost use Rattle.kh_types.specs.declared.limits.TheConstants.{CROSSINGS};
 
-use kh_types::{CROSSINGS, Dart};
+use kh_types::Dart;
 
 /// The dart at a place in the order of all darts.
 pub fn dart_at(place: u8) -> Dart

@@ -8,7 +8,6 @@ use crate::walk::faces_of;
 use kh_types::{Diagram, class_count};
 
 /// The faces of a diagram.
-#[tactic(auto, using(crate::proofs::FaceLemmas::numbers))]
 pub fn faces(diagram: &Diagram) -> Faces
     ensures { result ≡ diagram.now }
 {

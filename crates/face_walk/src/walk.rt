@@ -1,6 +1,6 @@
 //! Walks round the faces of a diagram.
 
-ghost use Rattle.std.specs.Prelude.{◌≡◌, ◌+◌, ◌<◌, ◌≤◌, ◌*◌, length, slice_index, IsTrue};
+ghost use Rattle.std.specs.Prelude.{◌≡◌, ◌+◌, ◌<◌, ◌≤◌, length, slice_index, IsTrue};
 ghost use Rattle.kh_types.specs.Acceptance.{accepted};
 ghost use Rattle.kh_types.specs.Darts.{dart_count, dart_place, face_step, partner_at, turned};
 ghost use Rattle.kh_types.specs.Faces.{faces_of};

@@ -1,12 +1,14 @@
 //! What the numbers of faces and pieces mean.
 
 ghost use Rattle.std.specs.Prelude.{◌≡◌, ◌<◌, ◌↔◌, ℕ, List, IsTrue, slice_index, length};
+ghost use Rattle.std.specs.List.{range_with_len, sum_by};
 ghost use Rattle.kh_types.specs.Code.{Code};
+ghost use Rattle.kh_types.specs.Faces.{face_count};
 ghost use Rattle.kh_types.specs.Classes.{IsNamed};
 ghost use Rattle.kh_types.specs.Darts.{dart_at, dart_count, face_step, partner_at};
 ghost use Rattle.kh_types.specs.Acceptance.{accepted};
 ghost use Rattle.face_walk.specs.ClassNumbers.{least_numbers, class_number};
-ghost use Rattle.face_walk.specs.FaceNumbers.{face_number};
+ghost use Rattle.face_walk.specs.FaceNumbers.{face_number, face_length};
 
 use crate::finding::faces;
 use kh_types::{Diagram, count_faces};
@@ -37,4 +39,11 @@ pub fn faces_are_closed()
     ensures { (code : Code) (place : ℕ) → IsTrue (accepted code) → place < dart_count code.crossings
         → face_number code.crossings (dart_at (face_step (partner_at code.crossings) place))
         ≡ face_number code.crossings (dart_at place) }
+{}
+
+/// In an accepted code the lengths of all faces come to the number of darts.
+pub fn lengths_come_to_the_darts()
+    ensures { (code : Code) → IsTrue (accepted code)
+        → sum_by (face_length code.crossings) (range_with_len 0 (face_count code.crossings))
+        ≡ dart_count code.crossings }
 {}
