@@ -23,8 +23,8 @@ pub fn pieces(diagram: &Diagram) -> u8
     class_count(&pieces_of(diagram)) as u8
 }
 
-/// The piece that a crossing is in, from 1 to the number of crossings: pieces are numbered from 0 by their least
-/// crossing. Source: this project's rule.
+/// The piece that a crossing is in; crossings are numbered from 1, and pieces from 0 by their least crossing.
+/// Source: this project's rule.
 pub fn piece_of(diagram: &Diagram, crossing: u8) -> u8
     requires { IsCrossing diagram.now.crossings crossing }
     ensures piece { result ≡ piece_number diagram.now.crossings crossing }
@@ -49,7 +49,8 @@ fn pieces_of(diagram: &Diagram) -> ArrayVec<u8, CLASS_MEMBERS>
 fn piece_pairs(diagram: &Diagram, count: usize) -> ArrayVec<(u8, u8), CLASS_MEMBERS>
     requires count { count ≡ dart_count diagram.now.crossings }
     requires few { count ≤ CLASS_MEMBERS }
-    ensures { result.items ≡ map (piece_pair (partner_at diagram.now.crossings)) (range_with_len 0 count) }
+    ensures { result.items
+        ≡ map (piece_pair (partner_at diagram.now.crossings)) (range_with_len 0 count) }
 {
     let mut pairs = ArrayVec::new();
     for place in 0..count {
