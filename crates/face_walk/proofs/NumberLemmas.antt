@@ -1,0 +1,72 @@
+-- The numbers of classes, by counting.
+use Rattle.std.proofs.Common.{◌≡◌, ℕ, zero, suc, ◌+◌, ◌-◌, ◌<◌, ◌∙◌, List, ◌∷◌, ◌++◌, length, refl, ap, arith, Bool, true, false, cond, not}
+use Rattle.std.specs.Prelude.{nat_eq, slice_index}
+use Rattle.std.specs.List.{filter, position_or_len, range_with_len}
+use Rattle.std.proofs.lemmas.Bool.{eq-eqb, eqb-true, false_from_ne_true}
+use Rattle.std.proofs.Math.Seq.{get_or-append_seam}
+use Rattle.std.proofs.lemmas.List.{length-append}
+use Rattle.std.proofs.lemmas.List.Elements.{filter-append}
+use Rattle.kh_types.specs.Classes.{class_count, is_least, IsNamed}
+use Rattle.kh_types.proofs.Ranges.{range_around}
+use Rattle.face_walk.specs.ClassNumbers.{least_numbers, class_number}
+
+-- the place of a number behind the lesser ones that pass a test is how many those are
+position-behind : (p : ℕ → Bool) (a k c : ℕ) (rest : List ℕ) → a + k ≡ c
+    → position_or_len (nat_eq c) (filter p (range_with_len a k) ++ c ∷ rest) ≡ length (filter p (range_with_len a k))
+position-behind p a zero c rest is = ap (λ b. cond (not b) (1 + position_or_len (nat_eq c) rest) 0) (eq-eqb c c refl)
+position-behind p a (suc k) c rest is =
+    let passed = filter p (range_with_len (a + 1) k) in
+    let later : position_or_len (nat_eq c) (passed ++ c ∷ rest) ≡ length passed = position-behind p (a + 1) k c rest (omega (arith, is)) in
+    let apart : nat_eq c a ≡ false = false_from_ne_true (nat_eq c a) (λ same. omega (arith, is, eqb-true c a same)) in
+    elim (p a) as (λ b. position_or_len (nat_eq c) (cond b (a ∷ passed) passed ++ c ∷ rest) ≡ length (cond b (a ∷ passed) passed)) [
+      | true ↦ ap (λ b. cond (not b) (1 + position_or_len (nat_eq c) (passed ++ c ∷ rest)) 0) apart ∙ ap (λ n. 1 + n) later ∙ omega arith
+      | false ↦ later
+    ]
+
+-- the least numbers of the classes, about one of them
+least_numbers-around : (classes : List ℕ) (least : ℕ) → least < length classes → is_least classes least ≡ true
+    → least_numbers classes
+    ≡ filter (is_least classes) (range_with_len 0 least)
+    ++ least ∷ filter (is_least classes) (range_with_len (least + 1) (length classes - (least + 1)))
+least_numbers-around classes least below is =
+    let p = is_least classes in
+    let back = range_with_len (least + 1) (length classes - (least + 1)) in
+    ap (λ xs. filter p xs) (range_around 0 (length classes) least least below (omega arith))
+    ∙ filter-append p (range_with_len 0 least) (least ∷ back)
+    ∙ ap (λ b. filter p (range_with_len 0 least) ++ cond b (least ∷ filter p back) (filter p back)) is
+
+-- the number of a class is how many classes have a lesser least number
+pub class_number-counted : (classes : List ℕ) (x : ℕ) → IsNamed (length classes) classes → x < length classes
+    → class_number classes x ≡ length (filter (is_least classes) (range_with_len 0 (slice_index classes x)))
+class_number-counted classes x named below =
+    let least = slice_index classes x in
+    let back = filter (is_least classes) (range_with_len (least + 1) (length classes - (least + 1))) in
+    ap (λ xs. position_or_len (nat_eq least) xs)
+    (least_numbers-around classes least (omega (arith, named.least x below)) (eq-eqb (slice_index classes least) least (named.own x below)))
+    ∙ position-behind (is_least classes) 0 least least back (omega arith)
+
+-- and is below their count
+pub class_number-below : (classes : List ℕ) (x : ℕ) → IsNamed (length classes) classes → x < length classes
+    → class_number classes x < class_count classes
+class_number-below classes x named below =
+    let least = slice_index classes x in
+    let front = filter (is_least classes) (range_with_len 0 least) in
+    let back = filter (is_least classes) (range_with_len (least + 1) (length classes - (least + 1))) in
+    let count = ap length
+    (least_numbers-around classes least (omega (arith, named.least x below)) (eq-eqb (slice_index classes least) least (named.own x below)))
+    ∙ length-append front (least ∷ back) in
+    omega (arith, count, class_number-counted classes x named below)
+
+-- the least numbers have that of a class at the number of the class
+pub least_numbers-class_number : (classes : List ℕ) (x : ℕ) → IsNamed (length classes) classes → x < length classes
+    → slice_index (least_numbers classes) (class_number classes x) ≡ slice_index classes x
+least_numbers-class_number classes x named below =
+    let least = slice_index classes x in
+    let front = filter (is_least classes) (range_with_len 0 least) in
+    let back = filter (is_least classes) (range_with_len (least + 1) (length classes - (least + 1))) in
+    ap (λ n. slice_index (least_numbers classes) n) (class_number-counted classes x named below)
+    ∙ ap (λ xs. slice_index xs (length front))
+    (least_numbers-around classes least (omega (arith, named.least x below)) (eq-eqb (slice_index classes least) least (named.own x below)))
+    ∙ get_or-append_seam front least back 0
+
+pub ruleset counted = (class_number-counted, class_number-below)

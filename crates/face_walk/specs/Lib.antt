@@ -1,0 +1,4 @@
+pub mod ClassNumbers
+pub mod FaceNumbers
+pub mod Numbered
+pub mod Walks

@@ -1,0 +1,4 @@
+//! What faces and pieces are, on known diagrams and in general.
+
+pub mod known;
+pub mod numbers;
