@@ -1,0 +1,5 @@
+pub mod Rule
+pub mod Steps
+pub mod Commits
+pub mod Joining
+pub mod Shown

@@ -1,0 +1,44 @@
+//! What each seat at the lock's table knows, and the rule that each atomic step keeps.
+//! Word 0 is the turn, word 1 the version, and the one slot has the value.
+ghost use Rattle.std.specs.Prelude.{length};
+
+use crate::held::Held;
+use atomic_table::TableRule;
+use std::alloc::Global;
+use std::collections::LinkedList;
+use std::marker::PhantomData;
+use std::snapshot::Snapshot;
+
+/// What a seat knows. No value of it is made.
+pub struct View<O, E> {
+    /// The value's origin. It is `None` once a join has spent the view.
+    pub origin: Option<O>,
+    /// A beginning of the history.
+    pub seen: LinkedList<E, Global>,
+    /// The places of the entries that this seat committed.
+    pub mine: LinkedList<u64, Global>,
+    pub share: u64,
+    /// The whole history, while this seat has the turn.
+    pub held: Option<LinkedList<E, Global>>,
+    /// Further beginnings of the history.
+    pub begun: LinkedList<LinkedList<E, Global>, Global>,
+}
+
+/// What the table is told once: the value as it was, and the number of seats.
+#[derive(Drop)]
+pub struct Opening<B> {
+    pub value: Snapshot<B>,
+    pub seats: u32,
+}
+
+pub struct Law<B> {
+    of: PhantomData<B>,
+}
+
+impl<B: Held> TableRule<B, View<B::Origin, B::Entry>, Opening<B>> for Law<B> {
+    ghost use Rattle.version_lock.specs.Rule.{LockRule, opened};
+
+    ghost holds = { λ key. LockRule B.origin B.history (B.origin key.value.value) (length (B.history key.value.value)) key.seats };
+
+    ghost first = { λ key. opened (B.origin key.value.value) (B.history key.value.value) key.seats };
+}
