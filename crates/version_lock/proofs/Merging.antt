@@ -3,8 +3,7 @@ use Rattle.std.proofs.Common.{◌≡◌, ◌≢◌, ℕ, Bool, true, false, ◌+
 use Rattle.std.proofs.lemmas.Bool.{ltb-true, ltb-false, leb-true, leb-false}
 use native.Mathlib.Decide.{ℕ_discrete}
 use mathlib.Core.Logic.{dite}
-use Rattle.version_lock.specs.Rule.{Each, IsAscending, copies, one_if}
-use Rattle.version_lock.specs.Joining.{inserted, merged, longer}
+use Rattle.version_lock.specs.Places.{Each, IsAscending, copies, one_if, inserted, merged_places, longer}
 use Rattle.version_lock.proofs.Prefixes.{prefix_shorter}
 use mathlib.Core.List.{IsPrefix}
 use Rattle.version_lock.proofs.Sums.{Each-map}
@@ -16,9 +15,9 @@ Each-inserted P n (x ∷ xs) p h = by_case (Each-inserted P n xs p h.1) (nat_lt 
   by_case below true = (p, h)
   by_case below false = (h.0, below)
 
-pub Each-merged : (P : ℕ → Type 0) (xs ys : List ℕ) → Each P xs → Each P ys → Each P (merged xs ys)
-Each-merged P [] ys h k = k
-Each-merged P (x ∷ xs) ys h k = Each-inserted P x (merged xs ys) h.0 (Each-merged P xs ys h.1 k)
+pub Each-merged_places : (P : ℕ → Type 0) (xs ys : List ℕ) → Each P xs → Each P ys → Each P (merged_places xs ys)
+Each-merged_places P [] ys h k = k
+Each-merged_places P (x ∷ xs) ys h k = Each-inserted P x (merged_places xs ys) h.0 (Each-merged_places P xs ys h.1 k)
 
 copies-inserted : (place n : ℕ) (xs : List ℕ) → copies place (inserted n xs) ≡ one_if (nat_eq n place) + copies place xs
 copies-inserted place n [] = refl
@@ -28,9 +27,20 @@ copies-inserted place n (x ∷ xs) = by_case (copies-inserted place n xs) (nat_l
   by_case below true = refl
   by_case below false = omega (arith, below)
 
-pub copies-merged : (place : ℕ) (xs ys : List ℕ) → copies place (merged xs ys) ≡ copies place xs + copies place ys
-copies-merged place [] ys = omega arith
-copies-merged place (x ∷ xs) ys = omega (arith, copies-inserted place x (merged xs ys), copies-merged place xs ys)
+length-inserted : (n : ℕ) (xs : List ℕ) → length (inserted n xs) ≡ length xs + 1
+length-inserted n [] = refl
+length-inserted n (x ∷ xs) = by_case (length-inserted n xs) (nat_lt n x) where
+  by_case : length (inserted n xs) ≡ length xs + 1 → (b : Bool) → length (if b then n ∷ x ∷ xs else x ∷ inserted n xs) ≡ length (x ∷ xs) + 1
+  by_case rest true = omega arith
+  by_case rest false = omega (arith, rest)
+
+pub length-merged_places : (xs ys : List ℕ) → length (merged_places xs ys) ≡ length xs + length ys
+length-merged_places [] ys = omega arith
+length-merged_places (x ∷ xs) ys = omega (arith, length-inserted x (merged_places xs ys), length-merged_places xs ys)
+
+pub copies-merged_places : (place : ℕ) (xs ys : List ℕ) → copies place (merged_places xs ys) ≡ copies place xs + copies place ys
+copies-merged_places place [] ys = omega arith
+copies-merged_places place (x ∷ xs) ys = omega (arith, copies-inserted place x (merged_places xs ys), copies-merged_places place xs ys)
 
 pub copies-none : (place : ℕ) (xs : List ℕ) → Each (λ x. x ≢ place) xs → copies place xs ≡ 0
 copies-none place [] h = refl
@@ -50,10 +60,10 @@ IsAscending-inserted n (x ∷ xs) z h = by_case (IsAscending-inserted n xs (omeg
   by_case below false e = let more : x ≤ n = ltb-false n x e in let apart : x ≢ n = λ same. omega (arith, z, ap one_if (eq-eqb x n same)) in
       (Each-inserted (λ y. x < y) n xs (omega (arith, more, apart)) h.0, below)
 
-pub IsAscending-merged : (xs ys : List ℕ) → ((place : ℕ) → copies place xs + copies place ys ≤ 1) → IsAscending xs → IsAscending ys → IsAscending (merged xs ys)
-IsAscending-merged [] ys once h k = k
-IsAscending-merged (x ∷ xs) ys once h k = IsAscending-inserted x (merged xs ys) (omega (arith, once x, ap one_if (eq-eqb x x refl), copies-merged x xs ys))
-    (IsAscending-merged xs ys (λ place. omega (arith, once place)) h.1 k)
+pub IsAscending-merged_places : (xs ys : List ℕ) → ((place : ℕ) → copies place xs + copies place ys ≤ 1) → IsAscending xs → IsAscending ys → IsAscending (merged_places xs ys)
+IsAscending-merged_places [] ys once h k = k
+IsAscending-merged_places (x ∷ xs) ys once h k = IsAscending-inserted x (merged_places xs ys) (omega (arith, once x, ap one_if (eq-eqb x x refl), copies-merged_places x xs ys))
+    (IsAscending-merged_places xs ys (λ place. omega (arith, once place)) h.1 k)
 
 -- of two beginnings of one list the longer is kept
 pub longer_seen : {E : Type 0} (xs ys log new : List E) → new ≡ longer xs ys → IsPrefix xs log → IsPrefix ys log → ((new ≡ xs) × IsPrefix ys xs) ⊎ ((new ≡ ys) × IsPrefix xs ys)
@@ -62,5 +72,5 @@ longer_seen {E} xs ys log new e p q = by_case (nat_le (length ys) (length xs)) r
   by_case true l e = inl (e, prefix_shorter ys xs log q p (leb-true _ _ l))
   by_case false l e = let m = leb-false _ _ l in inr (e, prefix_shorter xs ys log p q (omega (arith, m)))
 
-pub apart : (place : ℕ) (xs ys zs : List ℕ) → zs ≡ merged xs ys → IsAscending zs → copies place xs + copies place ys ≤ 1
-apart place xs ys zs e h = omega (arith, copies-ascending place zs h, ap (copies place) e, copies-merged place xs ys)
+pub apart : (place : ℕ) (xs ys zs : List ℕ) → zs ≡ merged_places xs ys → IsAscending zs → copies place xs + copies place ys ≤ 1
+apart place xs ys zs e h = omega (arith, copies-ascending place zs h, ap (copies place) e, copies-merged_places place xs ys)

@@ -1,11 +1,12 @@
 -- Ascending places, each of which stands there once, are a whole range.
-use Rattle.std.proofs.Common.{◌≡◌, ◌≢◌, ℕ, zero, suc, ◌+◌, ◌<◌, ◌≤◌, List, [], ◌∷◌, sym, refl, ap, ◌∙◌, arith, eq-eqb, ne_eqb}
+use Rattle.std.proofs.Common.{◌≡◌, ◌≢◌, ℕ, zero, suc, ◌+◌, ◌-◌, ◌<◌, ◌≤◌, List, [], ◌∷◌, length, sym, refl, ap, ◌∙◌, arith, eq-eqb, ne_eqb}
 use Rattle.std.specs.List.{range_with_len}
+use Rattle.std.proofs.lemmas.List.FromFn.{length-range_with_len}
 use mathlib.Core.Logic.{dite}
 use native.Mathlib.Decide.{ℕ_discrete, dec_le}
-use Rattle.version_lock.specs.Rule.{IsAscending, copies, one_if}
+use Rattle.version_lock.specs.Places.{IsAscending, copies, one_if, merged_places}
 use Rattle.version_lock.proofs.Sums.{Each-map}
-use Rattle.version_lock.proofs.Merging.{copies-none}
+use Rattle.version_lock.proofs.Merging.{copies-none, length-merged_places}
 
 here : (x : ℕ) (xs : List ℕ) → 1 ≤ copies x (x ∷ xs)
 here x xs = omega (arith, ap one_if (eq-eqb x x refl))
@@ -29,3 +30,7 @@ places_are (suc n) first (x ∷ xs) h within before after =
     (λ place a. dite (ℕ_discrete place first) (λ z. ap (λ k. copies k xs) z ∙ gone) (λ apart. other place apart ∙ before place (omega (arith, a, apart))))
     (λ place a. other place (λ z. omega (arith, a, z)) ∙ after place (omega (arith, a))) in
     λ i. e i ∷ rest i
+
+-- where the places of two seats, merged, are all those from the first on, they are as many as those
+pub length-all_places : (first size : ℕ) (xs ys zs : List ℕ) → zs ≡ merged_places xs ys → zs ≡ range_with_len first (size - first) → length xs + length ys ≡ size - first
+length-all_places first size xs ys zs both all = omega (arith, ap length both, length-merged_places xs ys, ap length all, length-range_with_len first (size - first))

@@ -1,5 +1,6 @@
+pub mod Places
+pub mod Views
 pub mod Rule
 pub mod Steps
-pub mod Commits
-pub mod Joining
-pub mod Shown
+pub mod Turns
+pub mod Calls

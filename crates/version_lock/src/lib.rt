@@ -1,14 +1,18 @@
-//! A lock that keeps one history: what threads commit under it stands in that history, each once.
+//! A lock that keeps one history: what threads commit under it stands in that history, each entry once.
 #![tactic(auto)]
 
 mod commit_seen;
 mod held;
-mod plays;
 mod rule;
+mod steps;
+#[cfg(test)]
+mod tests;
 mod turns;
 mod versioned;
+mod work_seat;
 
 pub use commit_seen::CommitSeen;
 pub use held::Held;
-pub use rule::{Law, Opening, View};
-pub use versioned::{Versioned, WorkSeat};
+pub use rule::{Opening, TurnRule, View};
+pub use versioned::Versioned;
+pub use work_seat::WorkSeat;

@@ -21,7 +21,7 @@ pub struct View<O, E> {
     /// The whole history, while this seat has the turn.
     pub held: Option<LinkedList<E, Global>>,
     /// Further beginnings of the history.
-    pub begun: LinkedList<LinkedList<E, Global>, Global>,
+    pub prefixes: LinkedList<LinkedList<E, Global>, Global>,
 }
 
 /// What the table is told once: the value as it was, and the number of seats.
@@ -31,14 +31,15 @@ pub struct Opening<B> {
     pub seats: u32,
 }
 
-pub struct Law<B> {
+pub struct TurnRule<B> {
     of: PhantomData<B>,
 }
 
-impl<B: Held> TableRule<B, View<B::Origin, B::Entry>, Opening<B>> for Law<B> {
-    ghost use Rattle.version_lock.specs.Rule.{LockRule, opened};
+impl<B: Held> TableRule<B, View<B::Origin, B::Entry>, Opening<B>> for TurnRule<B> {
+    ghost use Rattle.version_lock.specs.Views.{opening_view};
+    ghost use Rattle.version_lock.specs.Rule.{LockRule};
 
     ghost holds = { λ key. LockRule B.origin B.history (B.origin key.value.value) (length (B.history key.value.value)) key.seats };
 
-    ghost first = { λ key. opened (B.origin key.value.value) (B.history key.value.value) key.seats };
+    ghost first = { λ key. opening_view (B.origin key.value.value) (B.history key.value.value) key.seats };
 }

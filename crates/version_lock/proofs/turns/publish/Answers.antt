@@ -1,6 +1,6 @@
 use Rattle.std.proofs.Common.{rules, ap, ◌∙◌, ℕ, ◌+◌, sym}
-use Rattle.version_lock.proofs.Steps.{commits_at}
-use Rattle.version_lock.specs.Steps.{grown}
+use Rattle.version_lock.proofs.RuleKept.{commits_at}
+use Rattle.version_lock.specs.Views.{grown}
 use Rattle.version_lock.proofs.turns.publish.Goals as goal
 
 pub store-requires : goal.store-requires

@@ -1,5 +1,5 @@
 use Rattle.std.proofs.Common.{rules, refl}
-use Rattle.version_lock.proofs.Steps.{releases_at}
+use Rattle.version_lock.proofs.RuleKept.{releases_at}
 use Rattle.version_lock.proofs.turns.release.Goals as goal
 
 pub store-requires : goal.store-requires

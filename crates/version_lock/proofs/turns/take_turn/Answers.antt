@@ -1,5 +1,5 @@
 use Rattle.std.proofs.Common.{rules}
-use Rattle.version_lock.proofs.Steps.{takes_turn_at}
+use Rattle.version_lock.proofs.RuleKept.{takes_turn_at}
 use Rattle.version_lock.proofs.turns.take_turn.Goals as goal
 
 pub compare_exchange-requires : goal.compare_exchange-requires

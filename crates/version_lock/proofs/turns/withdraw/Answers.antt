@@ -1,5 +1,5 @@
 use Rattle.std.proofs.Common.{rules, refl}
-use Rattle.version_lock.proofs.Steps.{withdraws_at}
+use Rattle.version_lock.proofs.RuleKept.{withdraws_at}
 use Rattle.version_lock.proofs.turns.withdraw.Goals as goal
 
 pub store-requires : goal.store-requires

@@ -1,5 +1,5 @@
 use Rattle.std.proofs.Common.{rules, ap, ◌∙◌}
-use Rattle.version_lock.proofs.Steps.{closes}
+use Rattle.version_lock.proofs.RuleKept.{closes}
 use Rattle.version_lock.proofs.versioned.Versioned.close.Goals as goal
 
 pub returns-clause-origin : goal.returns-clause-origin

@@ -1,7 +1,6 @@
 //! What each step on the lock's table tells.
+ghost use Rattle.version_lock.specs.Views.{spent, kept_view, given_view, joined_view};
 ghost use Rattle.version_lock.specs.Steps.{tried, measured, committed, released, withdrawn, affirmed};
-ghost use Rattle.version_lock.specs.Rule.{spent};
-ghost use Rattle.version_lock.specs.Joining.{keeping, given, joined};
 
 use crate::held::Held;
 use crate::rule::View;
@@ -48,18 +47,18 @@ impl<B: Held> Play<B, View<B::Origin, B::Entry>> for Affirm {
     ghost then = { affirmed };
 }
 
-pub(crate) struct Cut;
+pub(crate) struct SplitShare;
 
-impl<O, E> Split<View<O, E>> for Cut {
-    ghost left = { keeping };
+impl<O, E> Split<View<O, E>> for SplitShare {
+    ghost left = { kept_view };
 
-    ghost right = { given };
+    ghost right = { given_view };
 }
 
-pub(crate) struct Glue;
+pub(crate) struct JoinShares;
 
-impl<O, E> Join<View<O, E>> for Glue {
-    ghost both = { joined };
+impl<O, E> Join<View<O, E>> for JoinShares {
+    ghost both = { joined_view };
 
     ghost spent = { spent };
 }

@@ -1,6 +1,6 @@
 use Rattle.std.proofs.Common.{rules}
-use Rattle.version_lock.proofs.Steps.{measures, if_some}
-use Rattle.version_lock.proofs.turns.version.Goals as goal
+use Rattle.version_lock.proofs.RuleKept.{measures, if_some}
+use Rattle.version_lock.proofs.turns.read_version.Goals as goal
 
 pub load-requires : goal.load-requires
 load-requires g c = (search rules, search rules, measures _ _ _ _ _ _ _ _ _ (search rules))

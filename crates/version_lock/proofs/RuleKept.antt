@@ -4,8 +4,9 @@ use Rattle.std.proofs.lemmas.Bool.{leb-true, leb-false}
 use native.Mathlib.Decide.{dec_le}
 use Rattle.std.specs.List.{range_with_len}
 use Rattle.version_lock.proofs.Places.{places_are}
-use Rattle.version_lock.specs.Joining.{longer, keeping, given, joined}
-use Rattle.version_lock.proofs.Merging.{Each-merged, copies-merged, copies-none, IsAscending-merged}
+use Rattle.version_lock.specs.Places.{longer}
+use Rattle.version_lock.specs.Views.{kept_view, given_view, joined_view}
+use Rattle.version_lock.proofs.Merging.{Each-merged_places, copies-merged_places, copies-none, IsAscending-merged_places}
 use mathlib.Core.Logic.{dite}
 use native.Mathlib.Decide.{ℕ_discrete}
 use mathlib.Core.Option.{some, none, some-injective, some-ne-none}
@@ -16,8 +17,10 @@ use prog.Atomic.{either}
 use Rattle.atomic_table.specs.Table.{State, Me, Act, opening, step, keeps, takes, gives, stepped, Allows, Splits, Joins, Final, Seen, Valid, carried_after}
 use Rattle.atomic_table.proofs.Lists.{at_set, set_again, set_else, at_snoc, exchanged}
 use Rattle.version_lock.specs.declared.rule.View.{View}
-use Rattle.version_lock.specs.Rule.{total, Each, IsAscending, turn_of, share_of, owns, copies, one_if, opened, one_held, latest, spent, Knows, Dealt, IsAtHome, LockRule}
-use Rattle.version_lock.specs.Steps.{holding, grown, freed, tried, measured, committed, released, withdrawn, affirmed}
+use Rattle.version_lock.specs.Places.{total, Each, IsAscending, copies, one_if}
+use Rattle.version_lock.specs.Views.{opening_view, one_held, latest, spent, holding, grown, freed}
+use Rattle.version_lock.specs.Rule.{turn_of, share_of, owns, Knows, Dealt, IsAtHome, LockRule}
+use Rattle.version_lock.specs.Steps.{tried, measured, committed, released, withdrawn, affirmed}
 use Rattle.version_lock.proofs.Sums.{Each-map, Each-push, IsAscending-push, total-append, total-set, total-alone, term_le, terms_le}
 use Rattle.version_lock.proofs.Prefixes.{prefix_self, prefix_trans, prefix_length, prefix_whole}
 
@@ -107,7 +110,7 @@ module _ {S O E : Type 0} (origin_of : S → O) (history_of : S → List E) (ori
     share = k.share;
     seen = k.seen;
     least = k.least;
-    begun = k.begun;
+    prefixes = k.prefixes;
     held = same;
     ascending = k.ascending;
     below = Each-map (λ place. place < length v.seen) (λ place. place < length log) (λ place b. omega (arith, b, longer)) v.mine (below_log log v free k.below);
@@ -154,7 +157,7 @@ module _ {S O E : Type 0} (origin_of : S → O) (history_of : S → List E) (ori
     share = k.share;
     seen = prefix_trans u.seen history more k.seen longer;
     least = k.least;
-    begun = Each-map (λ log. IsPrefix log history) (λ log. IsPrefix log more) (λ log p. prefix_trans log history more p longer) u.begun k.begun;
+    prefixes = Each-map (λ log. IsPrefix log history) (λ log. IsPrefix log more) (λ log p. prefix_trans log history more p longer) u.prefixes k.prefixes;
     held = holds_none (λ log. log ≡ more) u.held free;
     ascending = k.ascending;
     below = k.below;
@@ -167,7 +170,7 @@ module _ {S O E : Type 0} (origin_of : S → O) (history_of : S → List E) (ori
         share = k.share;
         seen = prefix_trans v.seen history more k.seen longer;
         least = k.least;
-        begun = Each-map (λ l. IsPrefix l history) (λ l. IsPrefix l more) (λ l p. prefix_trans l history more p longer) v.begun k.begun;
+        prefixes = Each-map (λ l. IsPrefix l history) (λ l. IsPrefix l more) (λ l p. prefix_trans l history more p longer) v.prefixes k.prefixes;
         held = refl;
         ascending = IsAscending-push v.mine (length log) k.ascending below;
         below = Each-push (λ place. place < length more) v.mine (length log) (Each-map (λ place. place < length log) (λ place. place < length more) (λ place b. omega (arith, b, n)) v.mine below) (omega (arith, n));
@@ -233,7 +236,7 @@ module _ {S O E : Type 0} (origin_of : S → O) (history_of : S → List E) (ori
       share = k.share;
       seen = subst (IsPrefix seen) same begins;
       least = least;
-      begun = k.begun;
+      prefixes = k.prefixes;
       held = tt;
       ascending = k.ascending;
       below = below;
@@ -285,8 +288,8 @@ module _ {S O E : Type 0} (origin_of : S → O) (history_of : S → List E) (ori
   dealt_sum : (end : ℕ) (vs ws : List V) → ((place : ℕ) → total (owns place) ws ≡ total (owns place) vs) → Dealt first end vs → Dealt first end ws
   dealt_sum end vs ws same d = record { within = λ place a b. same place ∙ d.within place a b; before = λ place a. same place ∙ d.before place a; after = λ place a. same place ∙ d.after place a }
 
-  pub splits : (id : ℕ) (v : V) → 2 ≤ v.share → v.held ≡ None → Splits Rule id v (keeping v) (given v)
-  splits id v two free s r at = let k = knows s r id v (omega (arith, two)) at in let l : V = keeping v in let n : V = given v in record {
+  pub splits : (id : ℕ) (v : V) → 2 ≤ v.share → v.held ≡ None → Splits Rule id v (kept_view v) (given_view v)
+  splits id v two free s r at = let k = knows s r id v (omega (arith, two)) at in let l : V = kept_view v in let n : V = given_view v in record {
     history = r.history;
     turn = r.turn;
     words = r.words;
@@ -298,15 +301,15 @@ module _ {S O E : Type 0} (origin_of : S → O) (history_of : S → List E) (ori
     dealt = dealt_sum (length r.history) s.views (set s.views id l ++ n ∷ []) (λ place. omega (arith, total-append (owns place) (set s.views id l) (n ∷ []), total-set (owns place) s.views id v l at)) r.dealt;
     each_view = λ j u e. ⊎_elim
         (λ there. views_after (λ u. (u ≡ spent) ⊎ K r.history u) (λ u. (u ≡ spent) ⊎ K r.history u) s.views id l
-        (inr record { origin_is = k.origin_is; share = omega (arith, two); seen = k.seen; least = k.least; begun = k.begun; held = k.held; ascending = k.ascending; below = k.below })
+        (inr record { origin_is = k.origin_is; share = omega (arith, two); seen = k.seen; least = k.least; prefixes = k.prefixes; held = k.held; ascending = k.ascending; below = k.below })
         (λ j u n e h. h) r.each_view j u there)
-        (λ (new : n ≡ u). subst (λ u. (u ≡ spent) ⊎ K r.history u) new (inr record { origin_is = k.origin_is; share = omega arith; seen = k.seen; least = k.least; begun = tt; held = tt; ascending = tt; below = tt }))
+        (λ (new : n ≡ u). subst (λ u. (u ≡ spent) ⊎ K r.history u) new (inr record { origin_is = k.origin_is; share = omega arith; seen = k.seen; least = k.least; prefixes = tt; held = tt; ascending = tt; below = tt }))
         (at_snoc (set s.views id l) n u j e);
   }
 
-  pub joins : (id : ℕ) (v : V) (other : ℕ) (w : V) → 1 ≤ v.share → v.held ≡ None → 1 ≤ w.share → w.held ≡ None → Joins Rule id v other w (joined v w) spent
+  pub joins : (id : ℕ) (v : V) (other : ℕ) (w : V) → 1 ≤ v.share → v.held ≡ None → 1 ≤ w.share → w.held ≡ None → Joins Rule id v other w (joined_view v w) spent
   joins id v other w one free one' free' s r at apart there =
-      let b : V = joined v w in
+      let b : V = joined_view v w in
       let at' : get_elem? s.views other ≡ some w = sym (set_else s.views id other b apart) ∙ there in
       let k = knows s r id v one at in let k' = knows s r other w one' at' in
       let once : (place : ℕ) → copies place v.mine + copies place w.mine ≤ 1 = λ place. omega (arith, terms_le (owns place) s.views id other v w apart at at', dealt_once (length r.history) s.views r.dealt place) in
@@ -319,24 +322,24 @@ module _ {S O E : Type 0} (origin_of : S → O) (history_of : S → List E) (ori
         at_home = r.at_home;
         shares = omega (arith, total-set share_of ws other w spent there, total-set share_of s.views id v b at, r.shares);
         few = r.few;
-        dealt = dealt_sum (length r.history) s.views (set ws other spent) (λ place. omega (arith, total-set (owns place) ws other w spent there, total-set (owns place) s.views id v b at, copies-merged place v.mine w.mine)) r.dealt;
+        dealt = dealt_sum (length r.history) s.views (set ws other spent) (λ place. omega (arith, total-set (owns place) ws other w spent there, total-set (owns place) s.views id v b at, copies-merged_places place v.mine w.mine)) r.dealt;
         each_view = views_after (λ u. (u ≡ spent) ⊎ K r.history u) (λ u. (u ≡ spent) ⊎ K r.history u) ws other spent (inl refl) (λ j u n e h. h)
             (views_after (λ u. (u ≡ spent) ⊎ K r.history u) (λ u. (u ≡ spent) ⊎ K r.history u) s.views id b (inr record {
               origin_is = k.origin_is;
               share = omega (arith, one);
               seen = longer_is (λ l. IsPrefix l r.history) v.seen w.seen k.seen k'.seen;
               least = longer_is (λ l. first ≤ length l) v.seen w.seen k.least k'.least;
-              begun = (k.seen, (k'.seen, tt));
+              prefixes = (k.seen, (k'.seen, tt));
               held = tt;
-              ascending = IsAscending-merged v.mine w.mine once k.ascending k'.ascending;
-              below = Each-merged (λ place. place < length (longer v.seen w.seen)) v.mine w.mine
+              ascending = IsAscending-merged_places v.mine w.mine once k.ascending k'.ascending;
+              below = Each-merged_places (λ place. place < length (longer v.seen w.seen)) v.mine w.mine
                   (Each-map (λ place. place < length v.seen) (λ place. place < length (longer v.seen w.seen)) (λ place h. omega (arith, h, (longer_size v.seen w.seen).0)) v.mine (below_log v.seen v free k.below))
                   (Each-map (λ place. place < length w.seen) (λ place. place < length (longer v.seen w.seen)) (λ place h. omega (arith, h, (longer_size v.seen w.seen).1)) w.mine (below_log w.seen w free' k'.below));
             }) (λ j u n e h. h) r.each_view);
       }
 
   pub affirms : (slots id : ℕ) (v : V) (cs : List (ℕ × S)) → 1 ≤ v.share → Allows Rule slots id (v, cs) 0 (λ n. n) (affirmed (step slots 0 0 0 none) (v, cs))
-  affirms slots id v cs one s r wide at small = let k = knows s r id v one at in (v, keeps, tt, unmoved s r 0 id cs v at, (refl, (r.history, k.begun), k.ascending, omega (arith, term_le share_of s.views id v at, r.shares, r.few)))
+  affirms slots id v cs one s r wide at small = let k = knows s r id v one at in (v, keeps, tt, unmoved s r 0 id cs v at, (refl, (r.history, k.prefixes), k.ascending, omega (arith, term_le share_of s.views id v at, r.shares, r.few)))
 
   -- where one view has all shares, the value is at home with what it has seen, and it has all places
   pub ends : (s : St) (id : ℕ) (v : V) → Rule s → get_elem? s.views id ≡ some v → v.share ≡ seats → 1 ≤ v.share → v.held ≡ None
@@ -373,7 +376,7 @@ module _ {S O E : Type 0} (origin_of : S → O) (history_of : S → List E) (ori
       )
 
 pub opens : {S O E : Type 0} (origin_of : S → O) (history_of : S → List E) (value : S) (seats : ℕ) → 1 ≤ seats → seats < 2 ^ 32
-    → LockRule origin_of history_of (origin_of value) (length (history_of value)) seats (opening (0 ∷ length (history_of value) ∷ []) (value ∷ []) (opened (origin_of value) (history_of value) seats))
+    → LockRule origin_of history_of (origin_of value) (length (history_of value)) seats (opening (0 ∷ length (history_of value) ∷ []) (value ∷ []) (opening_view (origin_of value) (history_of value) seats))
 opens origin_of history_of value seats one few = let log = history_of value in record {
   history = log;
   turn = 0;
@@ -389,7 +392,7 @@ opens origin_of history_of value seats one few = let log = history_of value in r
     share = one;
     seen = prefix_self log;
     least = le_refl _;
-    begun = tt;
+    prefixes = tt;
     held = tt;
     ascending = tt;
     below = tt;
