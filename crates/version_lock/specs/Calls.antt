@@ -1,5 +1,5 @@
 -- A lock and its seats as the clauses of the calls see them. All of it is this project's rule.
-use Rattle.std.specs.Prelude.{◌≡◌, ℕ, ◌<◌, List, [], ◌∷◌, ◌++◌, length, Option, Some}
+use Rattle.std.specs.Prelude.{◌≡◌, ℕ, ◌<◌, List, [], ◌∷◌, ◌++◌, ◌⊎◌, length, Option, Some}
 use mathlib.Core.List.{IsPrefix}
 use Rattle.atomic_table.specs.Seated.{TableId}
 use Rattle.version_lock.specs.declared.rule.View.{View}
@@ -39,3 +39,7 @@ module _ {O E : Type 0} where
       (after.seen ≡ before.seen ++ entry ∷ []) × (after.mine ≡ before.mine ++ length before.seen ∷ []) × (version ≡ length after.seen)
   CommitsTo entry before (Stale looked now) after =
       IsPrefix before.seen after.seen × (after.mine ≡ before.mine) × (looked ≡ length before.seen) × (now ≡ length after.seen) × (looked < now)
+
+-- of two lists one is a prefix of the other, and this is the longer
+abbrev pub IsLongerOf : {E : Type 0} → List E → List E → List E → Type 0
+IsLongerOf xs ys kept = ((kept ≡ xs) × IsPrefix ys xs) ⊎ ((kept ≡ ys) × IsPrefix xs ys)

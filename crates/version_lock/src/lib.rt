@@ -1,4 +1,5 @@
-//! A lock that keeps one history: what threads commit under it stands in that history, each entry once.
+//! A lock that keeps one history: what threads commit under it stands in that history, each entry
+//! once.
 #![tactic(auto)]
 
 mod commit_seen;

@@ -13,24 +13,26 @@ use std::snapshot::Snapshot;
 pub struct View<O, E> {
     /// The value's origin. It is `None` once a join has spent the view.
     pub origin: Option<O>,
-    /// A beginning of the history.
+    /// A prefix of the history.
     pub seen: LinkedList<E, Global>,
-    /// The places of the entries that this seat committed.
+    /// The places, from 0, of the entries that this seat committed, ascending.
     pub mine: LinkedList<u64, Global>,
+    /// For how many seats the seat stands.
     pub share: u64,
     /// The whole history, while this seat has the turn.
     pub held: Option<LinkedList<E, Global>>,
-    /// Further beginnings of the history.
+    /// Further prefixes of the history: those that the seats of the last join had seen.
     pub prefixes: LinkedList<LinkedList<E, Global>, Global>,
 }
 
-/// What the table is told once: the value as it was, and the number of seats.
+/// What is known of a lock from its making: the value as it was, and the number of seats.
 #[derive(Drop)]
 pub struct Opening<B> {
     pub value: Snapshot<B>,
     pub seats: u32,
 }
 
+/// What holds of a lock between any two steps. No value of it is made.
 pub struct TurnRule<B> {
     of: PhantomData<B>,
 }

@@ -1,5 +1,7 @@
-//! A turn at the lock: it is taken, the value is read or written, and it is given up. Word 0 is the turn, word 1 the version, slot 0 has the value.
-ghost use Rattle.std.specs.Prelude.{◌≡◌, List, IfErr, ◌+◌, ◌<◌, ◌≤◌, ◌^◌, [], ◌∷◌, ◌++◌, length, Some, None, IfOk, IfSome, IfNone};
+//! A turn at the lock: it is taken, the value is read or written, and it is given up. Word 0 is the
+//! turn, word 1 the version, slot 0 has the value.
+ghost use Rattle.std.specs.Prelude.{◌≡◌, List, IfErr, ◌+◌, ◌<◌, ◌≤◌, ◌^◌, []};
+ghost use Rattle.std.specs.Prelude.{◌∷◌, ◌++◌, length, Some, None, IfOk, IfSome, IfNone};
 ghost use mathlib.Core.List.{IsPrefix};
 ghost use Rattle.version_lock.specs.Places.{Each, IsAscending};
 ghost use Rattle.version_lock.specs.Views.{kept_view, given_view, joined_view, freed, grown};
@@ -15,8 +17,10 @@ use kh_types::NoMemory;
 use std::alloc::Global;
 use std::sync::Wait;
 
+/// A seat at the table of a lock over a B.
 pub(crate) type TableSeat<B> = Seat<B, View<<B as Held>::Origin, <B as Held>::Entry>>;
 
+/// The table of a lock over a B.
 pub(crate) type LockTable<B> = Shared<
     B,
     View<<B as Held>::Origin, <B as Held>::Entry>,
@@ -24,6 +28,7 @@ pub(crate) type LockTable<B> = Shared<
     TurnRule<B>,
 >;
 
+/// Takes the turn and the value. It waits where another seat has the turn.
 pub(crate) fn take_turn<B: Held, R: Wait>(rt: &R, table: &LockTable<B>, seat: &mut TableSeat<B>)
     requires table { (seat.old.table_id ≡ table.now.table_id) × (table.now.table_id.words ≡ 2) }
     requires idle { (seat.old.me.1 ≡ []) × (seat.old.me.0.held ≡ None) × (1 ≤ seat.old.me.0.share) }
@@ -47,9 +52,13 @@ pub(crate) fn look_at_value<B: Held>(
     hint: u32,
 ) -> Result<Option<B::Look>, NoMemory>
     requires { (seat.old.table_id ≡ table.now.table_id) × Holds (λ value. Unit {0}) seat.old.me }
-    ensures table { (seat.new.table_id ≡ seat.old.table_id) × (seat.new.id ≡ seat.old.id) × (seat.new.me ≡ seat.old.me) }
-    ensures none { Holds (λ value. IfOk result (λ seen. IfNone seen (B.done (B.origin value) (B.history value)))) seat.old.me }
-    ensures look { Holds (λ value. IfOk result (λ seen. IfSome seen (λ look. (¬ B.done (B.origin value) (B.history value)) × B.look_fits look (B.origin value) (B.history value)))) seat.old.me }
+    ensures table { (seat.new.table_id ≡ seat.old.table_id) × (seat.new.id ≡ seat.old.id) ×
+        (seat.new.me ≡ seat.old.me) }
+    ensures none { Holds (λ value. IfOk result (λ seen.
+        IfNone seen (B.done (B.origin value) (B.history value)))) seat.old.me }
+    ensures look { Holds (λ value. IfOk result (λ seen. IfSome seen (λ look.
+        (¬ B.done (B.origin value) (B.history value)) ×
+        B.look_fits look (B.origin value) (B.history value)))) seat.old.me }
 {
     seat.slot_mut(table, 0).look_at(alloc, hint)
 }
@@ -57,9 +66,13 @@ pub(crate) fn look_at_value<B: Held>(
 /// Takes the patch into the value that is out with the seat.
 pub(crate) fn take_patch<B: Held>(table: &LockTable<B>, seat: &mut TableSeat<B>, patch: B::Patch)
     requires table { seat.old.table_id ≡ table.now.table_id }
-    requires fits { Holds (λ value. B.patch_fits patch (B.origin value) (B.history value)) seat.old.me }
-    ensures table { (seat.new.table_id ≡ seat.old.table_id) × (seat.new.id ≡ seat.old.id) × (seat.new.me.0 ≡ seat.old.me.0) }
-    ensures taken { Holds (λ value. Holds (λ left. (B.history left ≡ B.history value ++ B.entry patch ∷ []) × (B.origin left ≡ B.origin value)) seat.new.me) seat.old.me }
+    requires fits { Holds (λ value.
+        B.patch_fits patch (B.origin value) (B.history value)) seat.old.me }
+    ensures table { (seat.new.table_id ≡ seat.old.table_id) × (seat.new.id ≡ seat.old.id) ×
+        (seat.new.me.0 ≡ seat.old.me.0) }
+    ensures taken { Holds (λ value. Holds (λ left.
+        (B.history left ≡ B.history value ++ B.entry patch ∷ []) ×
+        (B.origin left ≡ B.origin value)) seat.new.me) seat.old.me }
 {
     let value = seat.slot_mut(table, 0);
     value.take(patch);
@@ -67,8 +80,10 @@ pub(crate) fn take_patch<B: Held>(table: &LockTable<B>, seat: &mut TableSeat<B>,
 
 /// The version, which is the length of the history that the seat holds.
 pub(crate) fn read_version<B: Held>(table: &LockTable<B>, seat: &mut TableSeat<B>) -> u64
-    requires { (seat.old.table_id ≡ table.now.table_id) × (table.now.table_id.words ≡ 2) × (1 ≤ seat.old.me.0.share) }
-    ensures table { (seat.new.table_id ≡ seat.old.table_id) × (seat.new.id ≡ seat.old.id) × (seat.new.me ≡ seat.old.me) }
+    requires { (seat.old.table_id ≡ table.now.table_id) × (table.now.table_id.words ≡ 2) ×
+        (1 ≤ seat.old.me.0.share) }
+    ensures table { (seat.new.table_id ≡ seat.old.table_id) × (seat.new.id ≡ seat.old.id) ×
+        (seat.new.me ≡ seat.old.me) }
     ensures length { IfSome seat.old.me.0.held (λ log. result ≡ length log) }
 {
     table.load::<Measure>(seat, 1)
@@ -76,10 +91,15 @@ pub(crate) fn read_version<B: Held>(table: &LockTable<B>, seat: &mut TableSeat<B
 
 /// Gives the turn up with the value, whose history the seat has seen.
 pub(crate) fn release<B: Held>(table: &LockTable<B>, seat: &mut TableSeat<B>)
-    requires table { (seat.old.table_id ≡ table.now.table_id) × (table.now.table_id.words ≡ 2) × (table.now.table_id.slots ≡ 1) }
-    requires out { Holds (λ value. (seat.old.me.0.held ≡ Some (B.history value)) × (seat.old.me.0.origin ≡ Some (B.origin value))) seat.old.me × (1 ≤ seat.old.me.0.share) }
+    requires table { (seat.old.table_id ≡ table.now.table_id) × (table.now.table_id.words ≡ 2) ×
+        (table.now.table_id.slots ≡ 1) }
+    requires out { Holds (λ value. (seat.old.me.0.held ≡ Some (B.history value)) ×
+        (seat.old.me.0.origin ≡ Some (B.origin value))) seat.old.me × (1 ≤ seat.old.me.0.share) }
     ensures table { (seat.new.table_id ≡ seat.old.table_id) × (seat.new.id ≡ seat.old.id) }
-    ensures freed { Holds (λ value. seat.new.me ≡ (freed seat.old.me.0 (B.history value), [])) seat.old.me }
+    ensures freed { Holds (λ value. seat.new.me ≡ (
+      freed seat.old.me.0 (B.history value),
+      [],
+    )) seat.old.me }
 {
     table.store::<Release>(seat, 0, 0);
     table.wake_one(0);
@@ -87,8 +107,10 @@ pub(crate) fn release<B: Held>(table: &LockTable<B>, seat: &mut TableSeat<B>)
 
 /// The same, and the seat has seen no more than before it had the turn.
 pub(crate) fn withdraw<B: Held>(table: &LockTable<B>, seat: &mut TableSeat<B>)
-    requires table { (seat.old.table_id ≡ table.now.table_id) × (table.now.table_id.words ≡ 2) × (table.now.table_id.slots ≡ 1) }
-    requires out { Holds (λ value. (seat.old.me.0.held ≡ Some (B.history value)) × (seat.old.me.0.origin ≡ Some (B.origin value))) seat.old.me × (1 ≤ seat.old.me.0.share) }
+    requires table { (seat.old.table_id ≡ table.now.table_id) × (table.now.table_id.words ≡ 2) ×
+        (table.now.table_id.slots ≡ 1) }
+    requires out { Holds (λ value. (seat.old.me.0.held ≡ Some (B.history value)) ×
+        (seat.old.me.0.origin ≡ Some (B.origin value))) seat.old.me × (1 ≤ seat.old.me.0.share) }
     requires below { Each (λ place. place < length seat.old.me.0.seen) seat.old.me.0.mine }
     ensures table { (seat.new.table_id ≡ seat.old.table_id) × (seat.new.id ≡ seat.old.id) }
     ensures freed { seat.new.me ≡ (freed seat.old.me.0 seat.old.me.0.seen, []) }
@@ -99,10 +121,14 @@ pub(crate) fn withdraw<B: Held>(table: &LockTable<B>, seat: &mut TableSeat<B>)
 
 /// Enters what the value has gained into the history, and raises the version.
 pub(crate) fn publish<B: Held>(table: &LockTable<B>, seat: &mut TableSeat<B>, version: u64)
-    requires table { (seat.old.table_id ≡ table.now.table_id) × (table.now.table_id.words ≡ 2) × (version < 2 ^ 63) }
+    requires table { (seat.old.table_id ≡ table.now.table_id) × (table.now.table_id.words ≡ 2) ×
+        (version < 2 ^ 63) }
     requires grown { HasGrown B.history version seat.old.me × (1 ≤ seat.old.me.0.share) }
     ensures table { (seat.new.table_id ≡ seat.old.table_id) × (seat.new.id ≡ seat.old.id) }
-    ensures grown { Holds (λ value. seat.new.me ≡ (grown seat.old.me.0 version (B.history value), seat.old.me.1)) seat.old.me }
+    ensures grown { Holds (λ value. seat.new.me ≡ (
+      grown seat.old.me.0 version (B.history value),
+      seat.old.me.1,
+    )) seat.old.me }
 {
     table.store::<Commit<B>>(seat, 1, version + 1);
 }
@@ -115,10 +141,14 @@ pub(crate) fn look<B: Held, R: Wait>(
     seat: &mut TableSeat<B>,
     hint: u32,
 ) -> Result<(u64, Option<B::Look>), NoMemory>
-    requires table { (seat.old.table_id ≡ table.now.table_id) × (table.now.table_id.words ≡ 2) × (table.now.table_id.slots ≡ 1) }
+    requires table { (seat.old.table_id ≡ table.now.table_id) × (table.now.table_id.words ≡ 2) ×
+        (table.now.table_id.slots ≡ 1) }
     requires idle { (seat.old.me.1 ≡ []) × (seat.old.me.0.held ≡ None) × (1 ≤ seat.old.me.0.share) }
     ensures table { (seat.new.table_id ≡ seat.old.table_id) × (seat.new.id ≡ seat.old.id) }
-    ensures found { IfOk result (λ r. (start : B.Origin) × (log : List B.Entry) × (seat.old.me.0.origin ≡ Some start) × Saw seat.old.me.0 log seat.new.me.0 × (seat.new.me.1 ≡ []) × (r.0 ≡ length log) × IfNone r.1 (B.done start log) × IfSome r.1 (λ look. (¬ B.done start log) × B.look_fits look start log)) }
+    ensures found { IfOk result (λ r. (start : B.Origin) × (log : List B.Entry) ×
+        (seat.old.me.0.origin ≡ Some start) × Saw seat.old.me.0 log seat.new.me.0 ×
+        (seat.new.me.1 ≡ []) × (r.0 ≡ length log) × IfNone r.1 (B.done start log) ×
+        IfSome r.1 (λ look. (¬ B.done start log) × B.look_fits look start log)) }
     ensures memory { IfErr result (λ _. seat.new.me ≡ seat.old.me) }
 {
     take_turn(rt, table, seat);
@@ -143,11 +173,14 @@ pub(crate) fn commit<B: Held, R: Wait>(
     looked: u64,
     patch: B::Patch,
 ) -> CommitSeen
-    requires table { (seat.old.table_id ≡ table.now.table_id) × (table.now.table_id.words ≡ 2) × (table.now.table_id.slots ≡ 1) }
+    requires table { (seat.old.table_id ≡ table.now.table_id) × (table.now.table_id.words ≡ 2) ×
+        (table.now.table_id.slots ≡ 1) }
     requires idle { (seat.old.me.1 ≡ []) × (seat.old.me.0.held ≡ None) × (1 ≤ seat.old.me.0.share) }
     requires looked { looked ≡ length seat.old.me.0.seen }
-    requires fits { (start : B.Origin) × (seat.old.me.0.origin ≡ Some start) × B.patch_fits patch start seat.old.me.0.seen }
-    ensures table { (seat.new.table_id ≡ seat.old.table_id) × (seat.new.id ≡ seat.old.id) × (seat.new.me.1 ≡ []) }
+    requires fits { (start : B.Origin) × (seat.old.me.0.origin ≡ Some start) ×
+        B.patch_fits patch start seat.old.me.0.seen }
+    ensures table { (seat.new.table_id ≡ seat.old.table_id) × (seat.new.id ≡ seat.old.id) ×
+        (seat.new.me.1 ≡ []) }
     ensures commit { Commits (B.entry patch) seat.old.me.0 result seat.new.me.0 }
 {
     take_turn(rt, table, seat);
@@ -163,12 +196,16 @@ pub(crate) fn commit<B: Held, R: Wait>(
     }
 }
 
-/// Cuts one share off.
+/// A new seat with one of the shares.
 pub(crate) fn split_share<B: Held>(table: &LockTable<B>, seat: &mut TableSeat<B>) -> TableSeat<B>
     requires table { (seat.old.table_id ≡ table.now.table_id) × (table.now.table_id.words ≡ 2) }
     requires idle { (seat.old.me.0.held ≡ None) × (2 ≤ seat.old.me.0.share) }
-    ensures kept { (seat.new.table_id ≡ seat.old.table_id) × (seat.new.me ≡ (kept_view seat.old.me.0, seat.old.me.1)) }
-    ensures given { (result.table_id ≡ seat.old.table_id) × (result.me ≡ (given_view seat.old.me.0, [])) }
+    ensures kept { (seat.new.table_id ≡ seat.old.table_id) ×
+        (seat.new.me ≡ (kept_view seat.old.me.0, seat.old.me.1)) }
+    ensures given { (result.table_id ≡ seat.old.table_id) × (result.me ≡ (
+      given_view seat.old.me.0,
+      [],
+    )) }
 {
     table.split_seat::<SplitShare>(seat)
 }
@@ -179,11 +216,14 @@ pub(crate) fn join_shares<B: Held>(
     seat: &mut TableSeat<B>,
     other: TableSeat<B>,
 )
-    requires table { (seat.old.table_id ≡ table.now.table_id) × (other.table_id ≡ table.now.table_id) × (table.now.table_id.words ≡ 2) }
+    requires table { (seat.old.table_id ≡ table.now.table_id) ×
+        (other.table_id ≡ table.now.table_id) × (table.now.table_id.words ≡ 2) }
     requires idle { (seat.old.me.0.held ≡ None) × (1 ≤ seat.old.me.0.share) }
     requires other { (other.me.1 ≡ []) × (other.me.0.held ≡ None) × (1 ≤ other.me.0.share) }
-    ensures kept { (seat.new.table_id ≡ seat.old.table_id) × (seat.new.me ≡ (joined_view seat.old.me.0 other.me.0, seat.old.me.1)) }
-    ensures seen { (log : List B.Entry) × IsPrefix seat.old.me.0.seen log × IsPrefix other.me.0.seen log }
+    ensures kept { (seat.new.table_id ≡ seat.old.table_id) ×
+        (seat.new.me ≡ (joined_view seat.old.me.0 other.me.0, seat.old.me.1)) }
+    ensures seen { (log : List B.Entry) × IsPrefix seat.old.me.0.seen log ×
+        IsPrefix other.me.0.seen log }
     ensures places { IsAscending seat.new.me.0.mine × (seat.new.me.0.share < 2 ^ 32) }
 {
     table.join_seat::<JoinShares>(seat, other);

@@ -1,9 +1,11 @@
-//! The lock and its calls. A turn is taken in each call that reads or changes the value, so no seat holds the turn between calls.
-ghost use Rattle.std.specs.Prelude.{◌≡◌, ◌⊎◌, ◌-◌, ℕ, ◌+◌, ◌<◌, ◌≤◌, ◌^◌, [], ◌∷◌, ◌++◌, length, Some, None, IfOk, IfErr, IfSome, IfNone};
+//! The lock and its calls. A turn is taken in each call that reads or changes the value, so no seat
+//! holds the turn between calls.
+ghost use Rattle.std.specs.Prelude.{◌≡◌, ◌⊎◌, ◌-◌, ℕ, ◌+◌, ◌<◌, ◌≤◌, ◌^◌, []};
+ghost use Rattle.std.specs.Prelude.{◌∷◌, ◌++◌, length, Some, None, IfOk, IfErr, IfSome, IfNone};
 ghost use mathlib.Core.List.{IsPrefix};
 ghost use Rattle.version_lock.specs.Places.{copies, merged_places, IsAscending};
 ghost use Rattle.std.specs.List.{range_with_len};
-ghost use Rattle.version_lock.specs.Calls.{IsSeatOf, CommitsTo};
+ghost use Rattle.version_lock.specs.Calls.{IsSeatOf, IsLongerOf, CommitsTo};
 
 use crate::commit_seen::CommitSeen;
 use crate::held::Held;
@@ -17,7 +19,8 @@ use std::marker::Model;
 use std::snapshot::Snapshot;
 use std::sync::Wait;
 
-/// A value that threads take turns at. It keeps its origin, the length of the history that it was made with (`first`), and its number of seats.
+/// A value that threads take turns at. It keeps its origin, the length of the history that it was
+/// made with (`first`), and its number of seats.
 #[derive(Drop)]
 pub struct Versioned<B: Held> {
     table: Table<B, View<B::Origin, B::Entry>, Opening<B>, TurnRule<B>, Global>,
@@ -32,16 +35,22 @@ impl<B: Held> Model for Versioned<B> {
 
     ghost view = { λ l. lock_facts l.table.shared.table_id (B.origin l.table.shared.key.value.value) (B.history l.table.shared.key.value.value) l.seats };
 
-    ghost invariant = { λ l. (l.table.shared.table_id.words ≡ 2) × (l.table.shared.table_id.slots ≡ 1) × (l.table.shared.key.seats ≡ l.seats) };
+    ghost invariant = { λ l. (l.table.shared.table_id.words ≡ 2) ×
+        (l.table.shared.table_id.slots ≡ 1) × (l.table.shared.key.seats ≡ l.seats) };
 }
 
 impl<B: Held> Versioned<B> {
-    /// A lock over the value, and its first seat, which has seen the whole history and has all shares. Where memory is out the value is gone.
+    /// A lock over the value, and its first seat, which has seen the whole history and has all
+    /// shares. Where memory is out the value is gone.
     pub fn new(alloc: Global, value: B, seats: u32) -> Result<(Versioned<B>, WorkSeat<B>), NoMemory>
         requires { 1 ≤ seats }
-        ensures lock { IfOk result (λ made. (made.0.origin ≡ B.origin value) × (made.0.first ≡ length (B.history value)) × (made.0.seats ≡ seats)) }
+        ensures origin { IfOk result (λ made. made.0.origin ≡ B.origin value) }
+        ensures first { IfOk result (λ made. made.0.first ≡ length (B.history value)) }
+        ensures seats { IfOk result (λ made. made.0.seats ≡ seats) }
         ensures belongs { IfOk result (λ made. IsSeatOf made.0 made.1) }
-        ensures seat { IfOk result (λ made. (made.1.seen ≡ B.history value) × (made.1.mine ≡ []) × (made.1.share ≡ seats)) }
+        ensures seen { IfOk result (λ made. made.1.seen ≡ B.history value) }
+        ensures mine { IfOk result (λ made. made.1.mine ≡ []) }
+        ensures share { IfOk result (λ made. made.1.share ≡ seats) }
     {
         let about = Opening {
             value: Snapshot::of(&value),
@@ -63,8 +72,8 @@ impl<B: Held> Versioned<B> {
         }
     }
 
-    /// A look at the value, which fits what the seat has seen since; `None` exactly where the value is done. It waits for its turn. Where memory is
-    /// out the seat is as before.
+    /// A look at the value, which fits what the seat has seen since; `None` exactly where the value
+    /// is done. It waits for its turn. Where memory is out the seat is as before.
     pub fn look_with<R: Wait>(
         &self,
         rt: &R,
@@ -78,8 +87,10 @@ impl<B: Held> Versioned<B> {
         ensures mine { seat.new.mine ≡ seat.old.mine }
         ensures seen { IsPrefix seat.old.seen seat.new.seen }
         ensures none { IfOk result (λ found. IfNone found (B.done self.now.origin seat.new.seen)) }
-        ensures open { IfOk result (λ found. IfSome found (λ look. ¬ B.done self.now.origin seat.new.seen)) }
-        ensures look { IfOk result (λ found. IfSome found (λ look. B.look_fits look self.now.origin seat.new.seen)) }
+        ensures open { IfOk result (λ found. IfSome found (λ _.
+            ¬ B.done self.now.origin seat.new.seen)) }
+        ensures look { IfOk result (λ found. IfSome found (λ look.
+            B.look_fits look self.now.origin seat.new.seen)) }
         ensures memory { IfErr result (λ _. seat.new ≡ seat.old) }
     {
         let (looked, found) = look(rt, alloc, &self.table.shared, &mut seat.seat, hint)?;
@@ -87,8 +98,9 @@ impl<B: Held> Versioned<B> {
         Ok(found)
     }
 
-    /// Has the value take the patch, unless others have committed since the seat looked; then the patch is dropped, and the seat has seen what they
-    /// committed. It waits for its turn, and takes no memory.
+    /// Has the value take the patch, unless others have committed since the seat looked; then the
+    /// patch is dropped, and the seat has seen what they committed. It waits for its turn, and
+    /// takes no memory.
     pub fn commit_with<R: Wait>(
         &self,
         rt: &R,
@@ -116,13 +128,15 @@ impl<B: Held> Versioned<B> {
         self.seats
     }
 
-    /// Two seats of one that stands for at least two: the second stands for one seat, has seen as much, and has committed nothing.
+    /// Two seats of one that stands for at least two: the second stands for one seat, has seen as
+    /// much, and has committed nothing.
     pub fn split(&self, seat: WorkSeat<B>) -> (WorkSeat<B>, WorkSeat<B>)
         requires belongs { IsSeatOf self.now seat }
         requires share { 2 ≤ seat.share }
         ensures belongs { IsSeatOf self.now result.0 × IsSeatOf self.now result.1 }
-        ensures kept { (result.0.seen ≡ seat.seen) × (result.0.mine ≡ seat.mine) × (result.0.share ≡ seat.share - 1) }
-        ensures given { (result.1.seen ≡ seat.seen) × (result.1.mine ≡ []) × (result.1.share ≡ 1) }
+        ensures seen { (result.0.seen ≡ seat.seen) × (result.1.seen ≡ seat.seen) }
+        ensures mine { (result.0.mine ≡ seat.mine) × (result.1.mine ≡ []) }
+        ensures share { (result.0.share ≡ seat.share - 1) × (result.1.share ≡ 1) }
     {
         let WorkSeat {
             mut seat,
@@ -144,11 +158,12 @@ impl<B: Held> Versioned<B> {
         )
     }
 
-    /// One seat of two. Of what they have seen, one is a prefix of the other and the longer is kept; no entry is of both.
+    /// One seat of two. Of what they have seen, one is a prefix of the other and the longer is
+    /// kept; no entry is of both.
     pub fn join(&self, seat: WorkSeat<B>, other: WorkSeat<B>) -> WorkSeat<B>
         requires belongs { IsSeatOf self.now seat × IsSeatOf self.now other }
         ensures belongs { IsSeatOf self.now result }
-        ensures seen { ((result.seen ≡ seat.seen) × IsPrefix other.seen seat.seen) ⊎ ((result.seen ≡ other.seen) × IsPrefix seat.seen other.seen) }
+        ensures seen { IsLongerOf seat.seen other.seen result.seen }
         ensures mine { result.mine ≡ merged_places seat.mine other.mine }
         ensures ascending { IsAscending result.mine }
         ensures apart { (place : ℕ) → copies place seat.mine + copies place other.mine ≤ 1 }
@@ -172,7 +187,8 @@ impl<B: Held> Versioned<B> {
         }
     }
 
-    /// Takes the value out, where the seat has all shares again. Its history is what the seat has seen, and each entry since the lock was made is of this seat.
+    /// Takes the value out, where the seat has all shares again. Its history is what the seat has
+    /// seen, and each entry since the lock was made is of this seat.
     pub fn close(self, seat: WorkSeat<B>) -> B
         requires belongs { IsSeatOf self seat }
         requires all { seat.share ≡ self.seats }

@@ -51,7 +51,8 @@ impl Held for Numbers {
 
     ghost look_fits = { λ count room log. (count ≡ length log) × (count < room) × (room < 2 ^ 63) };
 
-    ghost patch_fits = { λ addition room log. (addition.count ≡ length log) × (addition.count < room) × (room < 2 ^ 63) };
+    ghost patch_fits = { λ addition room log. (addition.count ≡ length log) ×
+        (addition.count < room) × (room < 2 ^ 63) };
 
     ghost done = { λ room log. room ≤ length log };
 

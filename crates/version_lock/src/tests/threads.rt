@@ -60,7 +60,8 @@ fn add_often<R: Wait>(
     (seat, count)
 }
 
-/// The list of a lock that was made over an empty one: it has as many numbers as the seats committed.
+/// The list of a lock that was made over an empty one: it has as many numbers as the seats
+/// committed.
 fn closed(lock: Versioned<Numbers>, one: WorkSeat<Numbers>, two: WorkSeat<Numbers>) -> Numbers
     requires belongs { IsSeatOf lock one × IsSeatOf lock two }
     requires all { one.share + two.share ≡ lock.seats }
@@ -71,7 +72,8 @@ fn closed(lock: Versioned<Numbers>, one: WorkSeat<Numbers>, two: WorkSeat<Number
     lock.close(seat)
 }
 
-/// The list after two threads, and how many numbers each added: the first adds ones, the second twos.
+/// The list after two threads, and how many numbers each added: the first adds ones, the second
+/// twos.
 fn added_by_two<R: Threads + Wait + Sync>(
     rt: &R,
     alloc: Global,
@@ -86,11 +88,13 @@ fn added_by_two<R: Threads + Wait + Sync>(
         rt,
         || -> (WorkSeat<Numbers>, u64)
             requires { IsSeatOf lock one × (one.mine ≡ []) }
-            ensures { IsSeatOf lock result.0 × (result.0.share ≡ one.share) × (length result.0.mine ≡ result.1) × (result.1 ≤ 100) }
+            ensures { IsSeatOf lock result.0 × (result.0.share ≡ one.share) ×
+                (length result.0.mine ≡ result.1) × (result.1 ≤ 100) }
         { add_often(rt, alloc, &lock, one, 1) },
         || -> (WorkSeat<Numbers>, u64)
             requires { IsSeatOf lock two × (two.mine ≡ []) }
-            ensures { IsSeatOf lock result.0 × (result.0.share ≡ two.share) × (length result.0.mine ≡ result.1) × (result.1 ≤ 100) }
+            ensures { IsSeatOf lock result.0 × (result.0.share ≡ two.share) ×
+                (length result.0.mine ≡ result.1) × (result.1 ≤ 100) }
         { add_often(rt, alloc, &lock, two, 2) },
     );
     let (one, ones) = a;
