@@ -60,7 +60,7 @@ longer_is P xs ys p q = by_case (nat_le (length ys) (length xs)) where
   by_case true = p
   by_case false = q
 
-longer_size : {E : Type 0} (xs ys : List E) → (length xs ≤ length (longer xs ys)) × (length ys ≤ length (longer xs ys))
+pub longer_size : {E : Type 0} (xs ys : List E) → (length xs ≤ length (longer xs ys)) × (length ys ≤ length (longer xs ys))
 longer_size xs ys = by_case (nat_le (length ys) (length xs)) refl where
   by_case : (b : Bool) → nat_le (length ys) (length xs) ≡ b → (length xs ≤ length (if b then xs else ys)) × (length ys ≤ length (if b then xs else ys))
   by_case true e = (le_refl _, leb-true _ _ e)

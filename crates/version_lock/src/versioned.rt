@@ -42,6 +42,7 @@ impl<B: Held> Model for Versioned<B> {
 impl<B: Held> Versioned<B> {
     /// A lock over the value, and its first seat, which has seen the whole history and has all
     /// shares. Where memory is out the value is gone.
+    #[tactic(auto, using(crate::proofs::Own::own_none))]
     pub fn new(alloc: Global, value: B, seats: u32) -> Result<(Versioned<B>, WorkSeat<B>), NoMemory>
         requires { 1 ≤ seats }
         ensures origin { IfOk result (λ made. made.0.origin ≡ B.origin value) }
@@ -74,6 +75,7 @@ impl<B: Held> Versioned<B> {
 
     /// A look at the value, which fits what the seat has seen since; `None` exactly where the value
     /// is done. It waits for its turn. Where memory is out the seat is as before.
+    #[tactic(auto, using(crate::proofs::Own::own_after_look, crate::proofs::Own::own_same))]
     pub fn look_with<R: Wait>(
         &self,
         rt: &R,
@@ -101,6 +103,7 @@ impl<B: Held> Versioned<B> {
     /// Has the value take the patch, unless others have committed since the seat looked; then the
     /// patch is dropped, and the seat has seen what they committed. It waits for its turn, and
     /// takes no memory.
+    #[tactic(auto, using(crate::proofs::Own::own_after_commit))]
     pub fn commit_with<R: Wait>(
         &self,
         rt: &R,
@@ -111,6 +114,7 @@ impl<B: Held> Versioned<B> {
         requires fits { B.patch_fits patch self.now.origin seat.old.seen }
         ensures belongs { IsSeatOf self.now seat.new }
         ensures share { seat.new.share ≡ seat.old.share }
+        ensures ascending { IsAscending seat.new.mine }
         ensures commit { CommitsTo (B.entry patch) seat.old result seat.new }
     {
         let seen = commit(rt, &self.table.shared, &mut seat.seat, seat.looked, patch);
@@ -130,6 +134,7 @@ impl<B: Held> Versioned<B> {
 
     /// Two seats of one that stands for at least two: the second stands for one seat, has seen as
     /// much, and has committed nothing.
+    #[tactic(auto, using(crate::proofs::Own::own_none, crate::proofs::Own::own_same))]
     pub fn split(&self, seat: WorkSeat<B>) -> (WorkSeat<B>, WorkSeat<B>)
         requires belongs { IsSeatOf self.now seat }
         requires share { 2 ≤ seat.share }
@@ -160,6 +165,7 @@ impl<B: Held> Versioned<B> {
 
     /// One seat of two. Of what they have seen, one is a prefix of the other and the longer is
     /// kept; no entry is of both.
+    #[tactic(auto, using(crate::proofs::Own::own_after_join))]
     pub fn join(&self, seat: WorkSeat<B>, other: WorkSeat<B>) -> WorkSeat<B>
         requires belongs { IsSeatOf self.now seat × IsSeatOf self.now other }
         ensures belongs { IsSeatOf self.now result }

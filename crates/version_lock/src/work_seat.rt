@@ -26,7 +26,8 @@ impl<B: Held> Model for WorkSeat<B> {
     ghost view = { λ s. seat_facts s.seat.table_id s.seat.me.0 };
 
     ghost invariant = { λ s. (s.seat.me.1 ≡ []) × (s.seat.me.0.held ≡ None) ×
-        (s.looked ≡ length s.seat.me.0.seen) × (s.seat.me.0.share ≡ s.share) × (1 ≤ s.share) };
+        (s.looked ≡ length s.seat.me.0.seen) × (s.seat.me.0.share ≡ s.share) × (1 ≤ s.share) ×
+        AreOwn (length s.seat.me.0.seen) s.seat.me.0.mine };
 }
 
 impl<B: Held> WorkSeat<B> {
