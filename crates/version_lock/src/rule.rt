@@ -41,7 +41,9 @@ impl<B: Held> TableRule<B, View<B::Origin, B::Entry>, Opening<B>> for TurnRule<B
     ghost use Rattle.version_lock.specs.Views.{opening_view};
     ghost use Rattle.version_lock.specs.Rule.{LockRule};
 
-    ghost holds = { λ key. LockRule B.origin B.history (B.origin key.value.value) (length (B.history key.value.value)) key.seats };
+    ghost holds = { λ key. LockRule B.origin B.history (B.origin key.value.value)
+        (length (B.history key.value.value)) key.seats };
 
-    ghost first = { λ key. opening_view (B.origin key.value.value) (B.history key.value.value) key.seats };
+    ghost first = { λ key. opening_view (B.origin key.value.value)
+        (B.history key.value.value) key.seats };
 }

@@ -33,7 +33,9 @@ impl<B: Held> Model for Versioned<B> {
 
     ghost Value = { LockFacts B.Origin };
 
-    ghost view = { λ l. lock_facts l.table.shared.table_id (B.origin l.table.shared.key.value.value) (B.history l.table.shared.key.value.value) l.seats };
+    ghost view = { λ l. lock_facts l.table.shared.table_id
+        (B.origin l.table.shared.key.value.value)
+        (B.history l.table.shared.key.value.value) l.seats };
 
     ghost invariant = { λ l. (l.table.shared.table_id.words ≡ 2) ×
         (l.table.shared.table_id.slots ≡ 1) × (l.table.shared.key.seats ≡ l.seats) };
