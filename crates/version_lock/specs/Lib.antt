@@ -1,0 +1,6 @@
+pub mod Places
+pub mod Views
+pub mod Rule
+pub mod Steps
+pub mod Turns
+pub mod Calls
