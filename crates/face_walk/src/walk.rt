@@ -5,7 +5,7 @@ ghost use Rattle.kh_types.specs.Acceptance.{accepted};
 ghost use Rattle.kh_types.specs.Darts.{dart_count, dart_place, face_step, partner_at, turned};
 ghost use Rattle.kh_types.specs.Faces.{faces_of};
 ghost use Rattle.kh_types.specs.declared.limits.TheConstants.{CROSSINGS};
-ghost use Rattle.face_walk.specs.Walks.{IsWalked};
+ghost use Rattle.kh_types.specs.Walks.{IsWalked};
 
 use crate::dart_order::{dart_at, dart_place};
 use arrayvec::ArrayVec;
