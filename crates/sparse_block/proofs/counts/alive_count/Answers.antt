@@ -1,0 +1,14 @@
+use Rattle.std.proofs.Common.{arith, ◌^◌, ap, length}
+use Rattle.sparse_block.proofs.LineLemmas.{count-at}
+use Rattle.sparse_block.proofs.counts.alive_count.Goals as goal
+
+pub overflow_cast-result : goal.overflow_cast-result
+overflow_cast-result c =
+    let degree = c.in-Some.degree.now in
+    let found = c.in-Some.ensures.lookup in
+    omega (
+      arith,
+      c.live_count.ensures.within,
+      ap length c.deref.ensures.value,
+      count-at (2 ^ 32) c.args.alive.now c.args.k degree found.3.0 found.1 c.requires,
+    )

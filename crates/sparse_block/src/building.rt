@@ -1,0 +1,95 @@
+//! How a complex comes from its columns.
+
+ghost use Rattle.std.specs.Prelude.{◌≡◌, ℕ, ◌<◌, ◌^◌, pos, ◌+ℤ◌, ◌≤ℤ◌, length, map, IfOk, All};
+ghost use Rattle.sparse_block.specs.Complexes.{all_alive, degree_from_lists, degrees_from};
+ghost use Rattle.sparse_block.specs.Complexes.{sparse_complex, HaveEntries, SquaresToZero};
+ghost use Rattle.sparse_block.specs.Inside.{entries_in, lines_in, lists_in, row_entries};
+
+use crate::counts::name_count;
+use crate::lines::rows_of;
+use crate::{Complex, Entry, Generator, INLINE_ENTRIES};
+use kh_types::NoMemory;
+use prime_field::PrimeField;
+use prime_field::laws::element_laws;
+use smallvec::SmallVec;
+use std::alloc::Global;
+use std::marker::PhantomData;
+
+/// The complex with these names of places, degree by degree from `low` on, and these columns, all places
+/// alive.
+pub fn build<F: PrimeField>(
+    alloc: Global,
+    low: i16,
+    names: Vec<Vec<Generator>>,
+    columns: Vec<Vec<SmallVec<Entry, INLINE_ENTRIES>>>,
+) -> Result<Complex<F>, NoMemory>
+    requires some { 0 < length names.items }
+    requires end { (low +ℤ pos (length names.items)) ≤ℤ pos 32767 }
+    requires counts { All (λ degree. length degree < 2 ^ 32) (lists_in names.items) }
+    requires sizes { map length (lines_in columns.items) ≡ map length (lists_in names.items) }
+    requires entries { HaveEntries F.P (lists_in names.items) (lines_in columns.items) }
+    requires squares { SquaresToZero F.P
+        (sparse_complex low (lists_in names.items) (lines_in columns.items)).complex }
+    ensures { IfOk result (λ made.
+        made ≡ sparse_complex low (lists_in names.items) (lines_in columns.items)) }
+{
+    element_laws::<F>();
+    let alive = all_alive(alloc, &names)?;
+    let rows = all_rows(alloc, &names, &columns)?;
+    Ok(Complex {
+        low,
+        names,
+        alive,
+        columns,
+        rows,
+        field: PhantomData,
+    })
+}
+
+/// Marks every place alive.
+fn all_alive(alloc: Global, names: &[Vec<Generator>]) -> Result<Vec<Vec<bool>>, NoMemory>
+    ensures { IfOk result (λ made. lists_in made.items ≡ all_alive (lists_in names.now)) }
+{
+    let mut made = Vec::with_capacity(alloc, names.len())?;
+    'degrees: for degree in names {
+        made.push(vec![in alloc; true; degree.len()]?)?;
+    }
+    Ok(made)
+}
+
+/// The rows of the differential out of each degree.
+fn all_rows(
+    alloc: Global,
+    names: &[Vec<Generator>],
+    columns: &[Vec<SmallVec<Entry, INLINE_ENTRIES>>],
+) -> Result<Vec<Vec<SmallVec<Entry, INLINE_ENTRIES>>>, NoMemory>
+    requires counts { All (λ degree. length degree < 2 ^ 32) (lists_in names.now) }
+    requires sizes { map length (lines_in columns.now) ≡ map length (lists_in names.now) }
+    requires entries { (p : ℕ) × HaveEntries p (lists_in names.now) (lines_in columns.now) }
+    ensures { IfOk result (λ made. lines_in made.items
+        ≡ map row_entries (degrees_from (all_alive (lists_in names.now)) (lines_in columns.now))) }
+{
+    let mut made = Vec::with_capacity(alloc, names.len())?;
+    'degrees: for k in 0..names.len() {
+        made.push(degree_rows(alloc, names, columns, k)?)?;
+    }
+    Ok(made)
+}
+
+/// The rows out of degree number `k`.
+fn degree_rows(
+    alloc: Global,
+    names: &[Vec<Generator>],
+    columns: &[Vec<SmallVec<Entry, INLINE_ENTRIES>>],
+    k: usize,
+) -> Result<Vec<SmallVec<Entry, INLINE_ENTRIES>>, NoMemory>
+    requires degree { k < length names.now }
+    requires counts { All (λ degree. length degree < 2 ^ 32) (lists_in names.now) }
+    requires sizes { map length (lines_in columns.now) ≡ map length (lists_in names.now) }
+    requires entries { (p : ℕ) × HaveEntries p (lists_in names.now) (lines_in columns.now) }
+    ensures { IfOk result (λ made. entries_in made.items
+        ≡ row_entries (degree_from_lists (all_alive (lists_in names.now)) (lines_in columns.now) k)) }
+{
+    let height = name_count(names, k + 1);
+    rows_of(alloc, height, &columns[k])
+}

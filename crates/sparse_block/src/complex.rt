@@ -1,0 +1,151 @@
+//! A complex at one quantum degree.
+
+ghost use Rattle.std.specs.Prelude.{◌≡◌, ◌<◌, pos, ◌+ℤ◌, ◌≤ℤ◌, length};
+ghost use Rattle.std.specs.List.{list_all};
+ghost use Rattle.kh_types.specs.Complex.{alive_count, entry_of, is_zero};
+ghost use Rattle.sparse_block.specs.Complexes.{column_of, high_of, name_of, place_count, row_of};
+ghost use Rattle.sparse_block.specs.Entries.{entries_of};
+ghost use Rattle.sparse_block.specs.Inside.{are_empty};
+
+use crate::counts::{alive_count, name_count};
+use crate::laws::complex_laws;
+use crate::lines::{line_at, value_at};
+use crate::{Entry, Generator, INLINE_ENTRIES};
+use prime_field::PrimeField;
+use smallvec::SmallVec;
+use std::marker::{Model, PhantomData};
+
+/// A complex over a field. Each degree, from the least to the greatest, has places, numbered from 0, each
+/// alive or dead and each with the name of a generator. The differential out of a degree has a column
+/// for each place of it, and a row for each place of the next. Contracts see the matrices whole.
+#[derive(Drop)]
+pub struct Complex<F: PrimeField> {
+    pub(crate) low: i16,
+    pub(crate) names: Vec<Vec<Generator>>,
+    pub(crate) alive: Vec<Vec<bool>>,
+    pub(crate) columns: Vec<Vec<SmallVec<Entry, INLINE_ENTRIES>>>,
+    pub(crate) rows: Vec<Vec<SmallVec<Entry, INLINE_ENTRIES>>>,
+    pub(crate) field: PhantomData<F>,
+}
+
+impl<F: PrimeField> Model for Complex<F> {
+    ghost use Rattle.sparse_block.specs.Complexes.{NamedComplex};
+    ghost use Rattle.sparse_block.specs.Inside.{IsKept, lines_in, lists_in, named_complex};
+
+    ghost Value = { NamedComplex };
+
+    ghost view = { λ held. named_complex held.low held.names.items held.alive.items
+        held.columns.items };
+
+    ghost invariant = { λ held. IsKept F.P held.low (lists_in held.names.items)
+        (lists_in held.alive.items) (lines_in held.columns.items) (lines_in held.rows.items) };
+}
+
+impl<F: PrimeField> Complex<F> {
+    /// The least degree.
+    pub fn low(&self) -> i16
+        ensures { result ≡ self.now.complex.low }
+    {
+        self.low
+    }
+
+    /// The greatest degree.
+    pub fn high(&self) -> i16
+        ensures { result ≡ high_of self.now.complex }
+    {
+        (i32::from(self.low) + self.names.len() as i32 - 1) as i16
+    }
+
+    /// Whether all entries are zero.
+    pub fn is_zero(&self) -> bool
+        ensures { result ≡ is_zero self.now.complex }
+    {
+        all_empty(&self.rows)
+    }
+
+    /// How many places a degree has, alive and dead; none outside of the complex.
+    pub fn places(&self, i: i16) -> u32
+        ensures { result ≡ place_count self.now.complex i }
+    {
+        if i < self.low {
+            return 0;
+        }
+        name_count(&self.names, distance(self.low, i))
+    }
+
+    /// How many places of a degree are alive; none outside of the complex.
+    pub fn alive(&self, i: i16) -> u32
+        ensures { result ≡ alive_count self.now.complex i }
+    {
+        if i < self.low {
+            return 0;
+        }
+        alive_count(&self.alive, distance(self.low, i))
+    }
+
+    /// The entry of the differential out of degree i at a row and a column.
+    pub fn entry(&self, i: i16, row: u32, column: u32) -> F
+        requires low { self.now.complex.low ≤ℤ i }
+        requires high { i ≤ℤ high_of self.now.complex }
+        requires row { row < place_count self.now.complex (i +ℤ pos 1) }
+        requires column { column < place_count self.now.complex i }
+        ensures { F.value_of result ≡ entry_of self.now.complex i row column }
+    {
+        complex_laws(self);
+        F::of(value_at(self.column(i, column), row))
+    }
+
+    /// The generator that a place of degree i stands for, whether it is alive or dead.
+    pub fn name(&self, i: i16, place: u32) -> Generator
+        requires low { self.now.complex.low ≤ℤ i }
+        requires high { i ≤ℤ high_of self.now.complex }
+        requires place { place < place_count self.now.complex i }
+        ensures { result ≡ name_of self.now i place }
+    {
+        self.names[distance(self.low, i)][place as usize]
+    }
+
+    /// The entries of a column of the differential out of degree i, ascending by row; none in the
+    /// greatest degree.
+    pub fn column(&self, i: i16, place: u32) -> &[Entry]
+        requires low { self.now.complex.low ≤ℤ i }
+        requires high { i ≤ℤ high_of self.now.complex }
+        requires place { place < place_count self.now.complex i }
+        ensures { result.now ≡ entries_of (column_of self.now.complex i place) }
+    {
+        line_at(&self.columns, distance(self.low, i), place)
+    }
+
+    /// The entries of a row of the differential out of degree i, ascending by column. The row is a place
+    /// of degree i + 1.
+    pub fn row(&self, i: i16, place: u32) -> &[Entry]
+        requires low { self.now.complex.low ≤ℤ i }
+        requires high { (i +ℤ pos 1) ≤ℤ high_of self.now.complex }
+        requires place { place < place_count self.now.complex (i +ℤ pos 1) }
+        ensures { result.now ≡ entries_of (row_of self.now.complex i place) }
+    {
+        line_at(&self.rows, distance(self.low, i), place)
+    }
+}
+
+/// Whether no row of any degree has an entry.
+fn all_empty(degrees: &[Vec<SmallVec<Entry, INLINE_ENTRIES>>]) -> bool
+    ensures { result ≡ list_all (λ degree. are_empty degree.items) degrees.now }
+{
+    degrees.iter().all(|degree| are_empty(degree))
+}
+
+/// Whether no row of a degree has an entry.
+fn are_empty(rows: &[SmallVec<Entry, INLINE_ENTRIES>]) -> bool
+    ensures { result ≡ are_empty rows.now }
+{
+    rows.iter().all(|row| row.is_empty())
+}
+
+/// How far a degree is above the least one.
+fn distance(low: i16, i: i16) -> usize
+    requires { low ≤ℤ i }
+    ensures { i ≡ low +ℤ pos result }
+{
+    (i32::from(i) - i32::from(low)) as usize
+}

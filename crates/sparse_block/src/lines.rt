@@ -1,0 +1,103 @@
+//! Columns and rows as lists of entries.
+
+ghost use Rattle.std.specs.Prelude.{◌≡◌, ℕ, ◌<◌, ◌≤◌, ◌^◌, [], ◌∷◌, ◌++◌, length, map, replicate};
+ghost use Rattle.std.specs.Prelude.{slice_set, slice_index_or, All, IfOk, OnOk};
+ghost use Rattle.sparse_block.specs.Complexes.{matrix_from};
+ghost use Rattle.sparse_block.specs.Entries.{AreEntries, entries_of, value_at};
+ghost use Rattle.sparse_block.specs.Inside.{entries_in, lines_in, HaveColumn};
+
+use crate::{Entry, INLINE_ENTRIES};
+use kh_types::NoMemory;
+use smallvec::SmallVec;
+use std::alloc::Global;
+
+/// The value at a place: that of the entry which has it, and 0 where there is none.
+pub(crate) fn value_at(entries: &[Entry], place: u32) -> u8
+    ensures { result ≡ value_at entries.now place }
+{
+    match entries.iter().find(|entry| entry.place == place) {
+        Some(entry) => entry.value,
+        None => 0,
+    }
+}
+
+/// The entries of a column, or a row, of degree number `k`.
+pub(crate) fn line_at(
+    degrees: &[Vec<SmallVec<Entry, INLINE_ENTRIES>>],
+    k: usize,
+    place: u32,
+) -> &[Entry]
+    requires degree { k < length degrees.now }
+    requires place { place < length (slice_index_or (lines_in degrees.now) k []) }
+    ensures { result.now ≡ slice_index_or (slice_index_or (lines_in degrees.now) k []) place [] }
+{
+    let lines = &degrees[k];
+    lines[place as usize].as_slice()
+}
+
+/// The rows of a matrix with `height` rows, from its columns.
+pub(crate) fn rows_of(
+    alloc: Global,
+    height: u32,
+    columns: &[SmallVec<Entry, INLINE_ENTRIES>],
+) -> Result<Vec<SmallVec<Entry, INLINE_ENTRIES>>, NoMemory>
+    requires count { length columns.now < 2 ^ 32 }
+    requires entries { (p : ℕ) × All (AreEntries p height) (entries_in columns.now) }
+    ensures { IfOk result (λ rows. entries_in rows.items
+        ≡ map entries_of (matrix_from height (entries_in columns.now))) }
+{
+    let mut rows = empty_rows(alloc, height)?;
+    'columns: for column in 0..columns.len() {
+        push_column(&mut rows, column as u32, columns[column].as_slice())?;
+    }
+    Ok(rows)
+}
+
+fn empty_rows(alloc: Global, height: u32) -> Result<Vec<SmallVec<Entry, INLINE_ENTRIES>>, NoMemory>
+    ensures { IfOk result (λ rows. entries_in rows.items ≡ replicate height []) }
+{
+    let mut rows = Vec::with_capacity(alloc, height as usize)?;
+    'rows: for _ in 0..height {
+        rows.push(SmallVec::new(alloc))?;
+    }
+    Ok(rows)
+}
+
+/// Puts the entries of one more column at the ends of the rows. The columns come in order, so each row
+/// ascends.
+fn push_column(
+    rows: &mut Vec<SmallVec<Entry, INLINE_ENTRIES>>,
+    column: u32,
+    entries: &[Entry],
+) -> Result<(), NoMemory>
+    requires { (p : ℕ) × AreEntries p (length rows.old.items) entries.now }
+    ensures { OnOk result
+        (HaveColumn column entries.now (entries_in rows.old.items) (entries_in rows.new.items)) }
+{
+    'entries: for entry in entries {
+        let value = entry.value;
+        push_entry(
+            rows,
+            entry.place,
+            Entry {
+                place: column,
+                value,
+            },
+        )?;
+    }
+    Ok(())
+}
+
+/// Puts an entry at the end of a row.
+fn push_entry(
+    rows: &mut Vec<SmallVec<Entry, INLINE_ENTRIES>>,
+    row: u32,
+    entry: Entry,
+) -> Result<(), NoMemory>
+    requires { row < length rows.old.items }
+    ensures { OnOk result (entries_in rows.new.items ≡ slice_set (entries_in rows.old.items) row
+        (slice_index_or (entries_in rows.old.items) row [] ++ entry ∷ [])) }
+{
+    rows[row as usize].push(entry)?;
+    Ok(())
+}
