@@ -5,3 +5,5 @@ pub mod LineLemmas
 pub mod DegreeLemmas
 pub mod KeptLemmas
 pub mod BuildLemmas
+pub mod WorkedLemmas
+pub mod ReadingLemmas

@@ -1,3 +1,4 @@
 pub mod Entries
 pub mod Complexes
 pub mod Inside
+pub mod Worked

@@ -15,8 +15,8 @@ use smallvec::SmallVec;
 use std::alloc::Global;
 use std::marker::PhantomData;
 
-/// The complex with these names of places, degree by degree from `low` on, and these columns, all places
-/// alive.
+/// The complex with these names of places, by degree from `low` on, and the entries of these
+/// columns, all places alive.
 pub fn build<F: PrimeField>(
     alloc: Global,
     low: i16,
@@ -88,7 +88,8 @@ fn degree_rows(
     requires sizes { map length (lines_in columns.now) ≡ map length (lists_in names.now) }
     requires entries { (p : ℕ) × HaveEntries p (lists_in names.now) (lines_in columns.now) }
     ensures { IfOk result (λ made. entries_in made.items
-        ≡ row_entries (degree_from_lists (all_alive (lists_in names.now)) (lines_in columns.now) k)) }
+        ≡ row_entries (degree_from_lists (all_alive (lists_in names.now))
+        (lines_in columns.now) k)) }
 {
     let height = name_count(names, k + 1);
     rows_of(alloc, height, &columns[k])

@@ -15,9 +15,9 @@ use prime_field::PrimeField;
 use smallvec::SmallVec;
 use std::marker::{Model, PhantomData};
 
-/// A complex over a field. Each degree, from the least to the greatest, has places, numbered from 0, each
-/// alive or dead and each with the name of a generator. The differential out of a degree has a column
-/// for each place of it, and a row for each place of the next. Contracts see the matrices whole.
+/// A complex over a field. Each degree from the least to the greatest has places, numbered from 0,
+/// each alive or dead, and each with the name of a generator. The differential out of a degree has
+/// a column for each of its places and a row for each of the next. Contracts see whole matrices.
 #[derive(Drop)]
 pub struct Complex<F: PrimeField> {
     pub(crate) low: i16,
@@ -116,8 +116,8 @@ impl<F: PrimeField> Complex<F> {
         line_at(&self.columns, distance(self.low, i), place)
     }
 
-    /// The entries of a row of the differential out of degree i, ascending by column. The row is a place
-    /// of degree i + 1.
+    /// The entries of a row of the differential out of degree i, ascending by column. The row is a
+    /// place of degree i + 1.
     pub fn row(&self, i: i16, place: u32) -> &[Entry]
         requires low { self.now.complex.low ≤ℤ i }
         requires high { (i +ℤ pos 1) ≤ℤ high_of self.now.complex }

@@ -2,8 +2,8 @@
 
 use std::marker::Model;
 
-/// A generator of the cube: a state of the diagram, by the bits of its crossings, and a label of its
-/// circles, whose bit t is 1 where circle t has v-. Source: Bar-Natan 2002, section 3.
+/// A generator of the cube: a state of the diagram with a label on each of its circles. Source:
+/// Bar-Natan 2002, section 3.
 #[derive(Clone, Copy, Debug, PartialEq, Eq)]
 pub struct Generator {
     /// Bit k is 1 where the crossing at place k has its 1-smoothing.

@@ -1,4 +1,4 @@
-//! Complexes over a field of prime size, block by block: the entries that are not zero, by columns and by rows.
+//! Complexes over a field of prime size, sparse: the entries other than zero, by columns and rows.
 #![tactic(auto)]
 
 mod building;
@@ -6,11 +6,13 @@ mod complex;
 mod counts;
 mod entry;
 mod generator;
-mod laws;
+pub mod laws;
 mod lines;
+#[cfg(test)]
+mod tests;
 
 pub use building::build;
 pub use complex::Complex;
 pub use entry::{Entry, INLINE_ENTRIES};
 pub use generator::Generator;
-pub use laws::{complex_laws, entries_laws};
+pub use laws::complex_laws;

@@ -63,8 +63,8 @@ fn empty_rows(alloc: Global, height: u32) -> Result<Vec<SmallVec<Entry, INLINE_E
     Ok(rows)
 }
 
-/// Puts the entries of one more column at the ends of the rows. The columns come in order, so each row
-/// ascends.
+/// Puts the entries of one more column at the ends of the rows. The columns come in order, so each
+/// row ascends.
 fn push_column(
     rows: &mut Vec<SmallVec<Entry, INLINE_ENTRIES>>,
     column: u32,

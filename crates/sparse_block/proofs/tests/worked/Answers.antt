@@ -1,0 +1,40 @@
+use Rattle.std.proofs.Common.{arith}
+use Rattle.std.specs.Prelude.{slice_index}
+use Rattle.std.proofs.lemmas.List.{length-map}
+use Rattle.std.specs.Global.{Vec}
+use Rattle.kh_types.specs.Generators.{Generator}
+use Rattle.sparse_block.specs.Inside.{lists_in, lines_in}
+use Rattle.sparse_block.proofs.WorkedLemmas.{worked-build}
+use Rattle.sparse_block.proofs.tests.worked.Goals as goal
+
+pub build-requires-clause-counts : goal.build-requires-clause-counts
+build-requires-clause-counts g c κs within =
+    let can =
+    worked-build g.F.PrimeField.P (slice_index c.args.last 0) (slice_index c.args.last 1) (slice_index c.args.last 2)
+    (lists_in c.in_ok-names.names.items) (lines_in c.in_ok-columns.columns.items) c.in_ok-names.ensures c.in_ok-columns.ensures
+    c.requires.entries c.requires.squares in
+    can.counts
+
+pub build-requires-clause-sizes : goal.build-requires-clause-sizes
+build-requires-clause-sizes g c κs within =
+    let can =
+    worked-build g.F.PrimeField.P (slice_index c.args.last 0) (slice_index c.args.last 1) (slice_index c.args.last 2)
+    (lists_in c.in_ok-names.names.items) (lines_in c.in_ok-columns.columns.items) c.in_ok-names.ensures c.in_ok-columns.ensures
+    c.requires.entries c.requires.squares in
+    can.sizes
+
+pub build-requires-clause-entries : goal.build-requires-clause-entries
+build-requires-clause-entries g c κs within =
+    let can =
+    worked-build g.F.PrimeField.P (slice_index c.args.last 0) (slice_index c.args.last 1) (slice_index c.args.last 2)
+    (lists_in c.in_ok-names.names.items) (lines_in c.in_ok-columns.columns.items) c.in_ok-names.ensures c.in_ok-columns.ensures
+    c.requires.entries c.requires.squares in
+    can.entries
+
+pub build-requires-clause-squares : goal.build-requires-clause-squares
+build-requires-clause-squares g c κs within =
+    let can =
+    worked-build g.F.PrimeField.P (slice_index c.args.last 0) (slice_index c.args.last 1) (slice_index c.args.last 2)
+    (lists_in c.in_ok-names.names.items) (lines_in c.in_ok-columns.columns.items) c.in_ok-names.ensures c.in_ok-columns.ensures
+    c.requires.entries c.requires.squares in
+    can.squares

@@ -1,0 +1,37 @@
+-- A worked complex with six places at degree -1, three at 0, one at 1 and none at 2. Its matrices were multiplied by hand: the
+-- rows of the first are 1 0 1 1 0 1, 1 1 1 1 1 1 and 0 2 0 0 2 0, and the second has one row x y z. The product is 0 where
+-- x + y and y + 2z are 0: over three elements with the row 2 1 1, and over five with 2 3 1.
+use Rattle.std.specs.Prelude.{ℕ, neg_ℤ, pos, List, [], ◌∷◌}
+use Rattle.kh_types.specs.Generators.{Generator, generator_of}
+use Rattle.sparse_block.specs.declared.entry.Entry.{Entry}
+use Rattle.sparse_block.specs.Entries.{entry_at}
+use Rattle.sparse_block.specs.Complexes.{NamedComplex, sparse_complex}
+
+-- the names, which stand for nothing here
+abbrev pub worked_names : List (List Generator)
+worked_names =
+    (generator_of 0 0 ∷ generator_of 0 1 ∷ generator_of 0 2 ∷ generator_of 0 3 ∷ generator_of 0 4 ∷ generator_of 0 5 ∷ [])
+    ∷ (generator_of 1 0 ∷ generator_of 1 1 ∷ generator_of 1 2 ∷ []) ∷ (generator_of 3 0 ∷ []) ∷ [] ∷ []
+
+-- the columns of the first matrix
+abbrev pub worked_first : List (List Entry)
+worked_first =
+    let left = entry_at (0, 1) ∷ entry_at (1, 1) ∷ [] in
+    let right = entry_at (1, 1) ∷ entry_at (2, 2) ∷ [] in
+    left ∷ right ∷ left ∷ left ∷ right ∷ left ∷ []
+
+-- the columns of all four degrees
+abbrev pub worked_columns : ℕ → ℕ → ℕ → List (List (List Entry))
+worked_columns x y z =
+    worked_first ∷ ((entry_at (0, x) ∷ []) ∷ (entry_at (0, y) ∷ []) ∷ (entry_at (0, z) ∷ []) ∷ []) ∷ ([] ∷ []) ∷ [] ∷ []
+
+-- the complex
+abbrev pub worked_complex : ℕ → ℕ → ℕ → NamedComplex
+worked_complex x y z = sparse_complex (neg_ℤ (pos 1)) worked_names (worked_columns x y z)
+
+-- a complex with one place, and so without entries
+abbrev pub point_names : List (List Generator)
+point_names = (generator_of 0 0 ∷ []) ∷ []
+
+abbrev pub point_columns : List (List (List Entry))
+point_columns = ([] ∷ []) ∷ []
