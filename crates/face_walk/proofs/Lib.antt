@@ -3,3 +3,6 @@ pub mod FaceLemmas
 pub mod WalkLemmas
 pub mod FaceCycles
 pub mod LengthLemmas
+pub mod RangeImages
+pub mod Paths
+pub mod Exchanges

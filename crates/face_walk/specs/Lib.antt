@@ -1,4 +1,6 @@
+pub mod AddedArcs
 pub mod ClassNumbers
 pub mod FaceNumbers
 pub mod Numbered
+pub mod Permutations
 pub mod Walks
