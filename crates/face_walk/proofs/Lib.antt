@@ -1,6 +1,5 @@
 pub mod NumberLemmas
 pub mod FaceLemmas
-pub mod WalkLemmas
 pub mod FaceCycles
 pub mod LengthLemmas
 pub mod RangeImages

@@ -3,4 +3,3 @@ pub mod ClassNumbers
 pub mod FaceNumbers
 pub mod Numbered
 pub mod Permutations
-pub mod Walks
