@@ -1,29 +1,18 @@
 -- Where two images of a permutation are exchanged, two cycles become one or one becomes two.
 use Rattle.std.proofs.Common.{◌≡◌, ◌≢◌, ℕ, zero, suc, ◌⊎◌, inl, inr, ◌+◌, ◌<◌, ◌≤◌, ◌∙◌, List, [], ◌∷◌, ◌++◌, refl, sym, ap, subst, length, map, arith, cond, ◌||◌}
 use Rattle.std.specs.Prelude.{slice_index, nat_eq}
-use Rattle.std.specs.List.{AllByRecursion, range_with_len}
-use Rattle.std.proofs.lemmas.Bool.{cases_eq}
+use Rattle.std.specs.List.{range_with_len}
 use Rattle.std.proofs.lemmas.Bool.Decides.{nat_tests}
 use Rattle.std.proofs.lemmas.List.Sums.{fold-append}
-use Rattle.kh_types.specs.Classes.{merged, merged_all, joined, classes_of, class_count, AreBelow, IsNamed}
+use Rattle.kh_types.specs.Classes.{merged, merged_all, joined, classes_of, class_count, IsNamed}
 use Rattle.kh_types.proofs.ClassLemmas.{slice_index-joined, merged-both}
 use Rattle.kh_types.proofs.JoinedClasses.{joined-together, classes_of-same, classes_of-more, slice_index-range, IsNamed-classes_of, class_count-joined}
 use Rattle.kh_types.proofs.Lists.{AllByRecursion-append, AllByRecursion-first, AllByRecursion-second}
 use Rattle.kh_types.proofs.Ranges.{map_from_zero}
 use Rattle.face_walk.specs.Permutations.{IsPermutation, IsExchange, IsMerge, step_pair, cycles_of}
+use Rattle.face_walk.proofs.Cycles.{step_pairs-below, IsNamed-cycles_of}
 use Rattle.face_walk.proofs.RangeImages.{all-map_range, map_range-at}
 use Rattle.face_walk.proofs.Paths.{ArePaths, ArePaths-joined, ArePaths-said}
-
--- the pairs of the steps below n, and what functions respect
-
-pub step_pairs-below : (n : ℕ) (f : ℕ → ℕ) → ((z : ℕ) → z < n → f z < n) → AreBelow n (map (step_pair f) (range_with_len 0 n))
-step_pairs-below n f below =
-    all-map_range (λ (pair : ℕ × ℕ). (pair.0 < n) × (pair.1 < n)) (step_pair f) 0 n
-    (λ z z_below. let small : z < n = omega (arith, z_below) in (small, below z small))
-
--- the cycles are named by their least numbers
-pub IsNamed-cycles_of : (n : ℕ) (f : ℕ → ℕ) → ((z : ℕ) → z < n → f z < n) → IsNamed n (cycles_of n f)
-IsNamed-cycles_of n f below = IsNamed-classes_of n (map (step_pair f) (range_with_len 0 n)) (step_pairs-below n f below)
 
 -- a function with the steps from x and y left out
 

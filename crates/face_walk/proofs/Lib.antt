@@ -1,7 +1,9 @@
+pub mod RangeImages
+pub mod Cycles
+pub mod Paths
+pub mod Exchanges
+pub mod OpenFaces
 pub mod NumberLemmas
 pub mod FaceLemmas
 pub mod FaceCycles
 pub mod LengthLemmas
-pub mod RangeImages
-pub mod Paths
-pub mod Exchanges
