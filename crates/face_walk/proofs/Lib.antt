@@ -7,3 +7,4 @@ pub mod NumberLemmas
 pub mod FaceLemmas
 pub mod FaceCycles
 pub mod LengthLemmas
+pub mod AddedArcs
