@@ -8,3 +8,6 @@ pub mod FaceLemmas
 pub mod FaceCycles
 pub mod LengthLemmas
 pub mod AddedArcs
+pub mod BareCrossings
+pub mod PlanarArcs
+pub mod PartArcs
