@@ -1,20 +1,20 @@
 -- What one more arc does to open darts, faces and pieces.
-use Rattle.std.proofs.Common.{◌≡◌, ◌≢◌, ℕ, inl, inr, ◌⊎◌, ◌+◌, ◌*◌, ◌/◌, ◌<◌, ◌≤◌, ◌∙◌, [], ◌∷◌, ◌++◌, refl, sym, ap, map, arith, true, cond, not, ◌&&◌, eq-eqb}
+use Rattle.std.proofs.Common.{◌≡◌, ◌≢◌, ℕ, inl, inr, ◌⊎◌, ◌+◌, ◌*◌, ◌/◌, ◌<◌, ◌∙◌, [], ◌∷◌, ◌++◌, sym, ap, map, arith, true, not, ◌&&◌, eq-eqb}
 use Rattle.std.specs.Prelude.{slice_index, nat_eq}
-use Rattle.std.specs.List.{AllByRecursion, count_by, range_with_len}
+use Rattle.std.specs.List.{range_with_len}
 use Rattle.std.proofs.lemmas.Bool.{cases_eq}
 use Rattle.std.proofs.lemmas.Bool.Decides.{nat_tests}
-use Rattle.kh_types.specs.Classes.{joined, class_count}
+use Rattle.kh_types.specs.Classes.{joined}
 use Rattle.kh_types.specs.Darts.{IsPairing, face_step, turned}
 use Rattle.kh_types.specs.Faces.{open_faces, open_pieces, piece_pair}
 use Rattle.kh_types.proofs.JoinedClasses.{joined-together, classes_of-same, classes_of-more}
 use Rattle.kh_types.proofs.Lists.{AllByRecursion-append, AllByRecursion-first, AllByRecursion-second}
 use Rattle.kh_types.proofs.RangeCounts.{but, count_by-but, count_by-alike}
 use Rattle.face_walk.specs.Permutations.{IsExchange, IsMerge}
-use Rattle.face_walk.specs.AddedArcs.{is_open, open_dart_count, open_face_count, open_piece_count, with_arc, HasArcMore, JoinsPieces, StaysInPiece}
+use Rattle.face_walk.specs.AddedArcs.{is_open, open_dart_count, with_arc, HasArcMore, JoinsPieces, StaysInPiece}
 use Rattle.face_walk.proofs.RangeImages.{all-map_range, map_range-at}
-use Rattle.face_walk.proofs.Exchanges.{IsMerge-apart, IsMerge-split, IsMerge-count}
-use Rattle.face_walk.proofs.OpenFaces.{face_back, crossing-below, IsPermutation-face_step, AreCycles-open_faces, piece_pairs-below, IsNamed-open_pieces, open_faces-in_pieces}
+use Rattle.face_walk.proofs.Exchanges.{IsMerge-apart, IsMerge-split}
+use Rattle.face_walk.proofs.OpenFaces.{face_back, crossing-below, IsPermutation-face_step, piece_pairs-below, open_faces-in_pieces}
 
 -- an arc can be added between two open darts
 

@@ -1,5 +1,5 @@
 -- Bare crossings: n faces, n pieces, and 4n open darts.
-use Rattle.std.proofs.Common.{◌≡◌, ◌≢◌, ℕ, zero, suc, ◌+◌, ◌*◌, ◌/◌, ◌<◌, ◌≤◌, ◌∙◌, [], refl, sym, ap, length, map, arith, Bool, true, false, cond, eq-eqb}
+use Rattle.std.proofs.Common.{◌≡◌, ◌≢◌, ℕ, zero, suc, ◌+◌, ◌*◌, ◌/◌, ◌<◌, ◌≤◌, ◌∙◌, [], refl, sym, ap, length, map, arith, Bool, cond, eq-eqb}
 use Rattle.std.specs.Prelude.{slice_index, nat_eq}
 use Rattle.std.specs.List.{count_by, filter, range_with_len}
 use Rattle.std.proofs.lemmas.Bool.{ne_eqb}

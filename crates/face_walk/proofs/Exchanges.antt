@@ -84,7 +84,7 @@ ArePaths-cut n f back x y (suc k) permutes within =
     let before = ArePaths-cut n f back x y k permutes (omega (arith, within)) in
     let classes = cut_classes n f x y k in
     let said : (cs : List ℕ) → cs ≡ cut_classes n f x y (suc k) → ArePaths n cs (IsLeft x y (suc k)) (IsUnmet n back x y (suc k))
-        → ArePaths n (cut_classes n f x y (suc k)) (IsLeft x y (suc k)) (IsUnmet n back x y (suc k)) =
+    → ArePaths n (cut_classes n f x y (suc k)) (IsLeft x y (suc k)) (IsUnmet n back x y (suc k)) =
     λ cs same paths. subst (λ (xs : List ℕ). ArePaths n xs (IsLeft x y (suc k)) (IsUnmet n back x y (suc k))) same paths in
     elim (one_or_other x y k) [
       | inl one ↦

@@ -11,3 +11,4 @@ pub mod AddedArcs
 pub mod BareCrossings
 pub mod PlanarArcs
 pub mod PartArcs
+pub mod FewFaces
