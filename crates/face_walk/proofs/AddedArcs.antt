@@ -160,7 +160,8 @@ open_pieces-more n before after dart other pairing more =
     ((crossing-below n dart more.dart_below, crossing-below n other more.other_below), tt))
     (λ h holds.
     let at : (x : ℕ) → x < 4 * n → h (x / 4) ≡ h (after x / 4) =
-    λ x below. map_range-at (λ (pair : ℕ × ℕ). h pair.0 ≡ h pair.1) (piece_pair after) 0 (4 * n) x holds (omega arith) (omega (arith, below)) in
+    λ x below. map_range-at (λ (pair : ℕ × ℕ). h pair.0 ≡ h pair.1) (piece_pair after) 0 (4 * n) x holds (omega arith)
+    (omega (arith, below)) in
     AllByRecursion-append (λ (pair : ℕ × ℕ). h pair.0 ≡ h pair.1) old (arc ∷ [])
     (all-map_range (λ (pair : ℕ × ℕ). h pair.0 ≡ h pair.1) (piece_pair before) 0 (4 * n)
     (λ x below.

@@ -15,12 +15,12 @@ use Rattle.kh_types.specs.Faces.{faces_of, face_count, pieces_of, planar_face_co
 use Rattle.kh_types.proofs.AcceptedLemmas.{IsAccepted-is, HasArcsTwice-accepted}
 use Rattle.kh_types.proofs.DartPairs.{IsPairing-partner_at, IsDart-at, dart_place-at, dart_at-place, dart_place-below}
 use Rattle.kh_types.proofs.Lists.{count_by-map}
+use Rattle.kh_types.proofs.WalkLemmas.{AreCycles}
 use Rattle.face_walk.specs.ClassNumbers.{least_numbers, class_number, class_numbers}
 use Rattle.face_walk.specs.FaceNumbers.{face_number, face_length}
 use Rattle.face_walk.specs.Numbered.{face_numbers}
 use Rattle.face_walk.proofs.RangeImages.{all-map_range}
 use Rattle.face_walk.proofs.OpenFaces.{AreCycles-open_faces, IsNamed-open_pieces, face_back}
-use Rattle.kh_types.proofs.WalkLemmas.{AreCycles}
 use Rattle.face_walk.proofs.NumberLemmas.{class_number-below}
 
 -- the partner function of an accepted code

@@ -206,7 +206,9 @@ IsPart-more m part after whole dart other whole_pairing is_part more is_arc x x_
   | inl is_dart ↦ inl (ap after is_dart ∙ more.dart_after ∙ sym is_arc ∙ ap whole (sym is_dart))
   | inr beside ↦ elim beside [
     | inl is_other ↦
-        inl (ap after is_other ∙ more.other_after ∙ sym (whole_pairing.back dart more.dart_below) ∙ ap whole is_arc ∙ ap whole (sym is_other))
+        inl
+        (ap after is_other ∙ more.other_after ∙ sym (whole_pairing.back dart more.dart_below) ∙ ap whole is_arc
+        ∙ ap whole (sym is_other))
     | inr none ↦
         let same = more.others x x_below none.0 none.1 in
         elim (is_part x x_below) [ inl is ↦ inl (same ∙ is) | inr is ↦ inr (same ∙ is) ]

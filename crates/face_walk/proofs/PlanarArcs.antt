@@ -54,7 +54,8 @@ IsNoNearer-more n before after dart other pairing more =
                 omega (arith, darts, pieces, open_face_count-merge n before after dart other pairing more.dart_below more.other_below merge)
             | inr split ↦
                 let after_pairing = IsPairing-more (4 * n) before after dart other pairing more in
-                omega (arith, darts, pieces, open_face_count-merge n after before dart other after_pairing more.dart_below more.other_below split)
+                let faces = open_face_count-merge n after before dart other after_pairing more.dart_below more.other_below split in
+                omega (arith, darts, pieces, faces)
           ]
     ]
 
