@@ -1,6 +1,7 @@
 pub mod RangeImages
 pub mod Cycles
 pub mod Paths
+pub mod CutCycles
 pub mod Exchanges
 pub mod OpenFaces
 pub mod NumberLemmas
