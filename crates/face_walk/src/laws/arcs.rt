@@ -91,8 +91,8 @@ pub fn codes_have_few_faces()
         → (genus_fault crossings ≢ None) ↔ (face_count crossings < planar_face_count crossings) }
 {}
 
-/// An accepted code is planar: it has n + 2k faces, and no code of as many crossings in as many
-/// pieces has more.
+/// An accepted code is planar: it has n + 2k faces, and of the codes in which each arc stands twice
+/// none of as many crossings in as many pieces has more.
 pub fn accepted_codes_have_most_faces()
     ensures planar { (code : Code) → IsTrue (accepted code)
         → IsPlanar (length code.crossings) (partner_at code.crossings) }
@@ -104,7 +104,8 @@ pub fn accepted_codes_have_most_faces()
         → face_count others ≤ face_count code.crossings }
 {}
 
-/// So `count_faces` never counts more faces in such a code than a drawing on the sphere has.
+/// Where each arc of a code stands twice, `count_faces` counts no more faces than a drawing on the
+/// sphere has.
 pub fn few_faces_are_counted(raw: &RawCode) -> bool
     ensures { HasArcsTwice raw.now.crossings → IsTrue result }
 {
