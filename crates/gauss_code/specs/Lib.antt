@@ -1,0 +1,8 @@
+pub mod Stops
+pub mod Listings
+pub mod Grammar
+pub mod Labels
+pub mod Passes
+pub mod Faults
+pub mod Reading
+pub mod Printing

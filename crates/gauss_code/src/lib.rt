@@ -1,0 +1,11 @@
+//! Reads and prints signed Gauss codes: a text lists the labels of its components and the signs of its crossings, and these are a code.
+#![tactic(auto)]
+
+pub mod laws;
+mod printer;
+mod reader;
+mod stop;
+
+pub use printer::print_gauss;
+pub use reader::read_gauss;
+pub use stop::GaussStop;
