@@ -33,10 +33,10 @@ int_eq-same x y same = (Decides-int_eq x y).1 same
 pub int_eq-other : (x y : ℤ) → x ≢ y → int_eq x y ≡ false
 int_eq-other x y other = false_from_ne_true (int_eq x y) (λ same. other ((Decides-int_eq x y).0 same))
 
-over_at-is : (place : ℕ) → over_at place ≡ pos (suc place)
+pub over_at-is : (place : ℕ) → over_at place ≡ pos (suc place)
 over_at-is place = let e : place + 1 ≡ suc place = omega arith in ap pos e
 
-under_at-is : (place : ℕ) → under_at place ≡ negsuc place
+pub under_at-is : (place : ℕ) → under_at place ≡ negsuc place
 under_at-is place = let e : place + 1 ≡ suc place = omega arith in ap (λ n. neg_ℤ (pos n)) e
 
 -- a label names one crossing, with one of its two passes

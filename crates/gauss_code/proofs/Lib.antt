@@ -1,2 +1,6 @@
 mod Sums
 pub mod Labels
+mod Passes
+mod ArcCounts
+mod Found
+mod CrossingPasses
