@@ -4,3 +4,5 @@ mod Passes
 mod ArcCounts
 mod Found
 mod CrossingPasses
+mod TextCrossings
+mod TextComponents

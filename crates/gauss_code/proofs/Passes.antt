@@ -167,7 +167,7 @@ leaves-last first at size last = grind (arith, nat_tests)
 leaves-inside : (first at size : ℕ) → at + 1 ≢ size → (if nat_eq (at + 1) size then first else first + at + 1) ≡ first + at + 1
 leaves-inside first at size inside = grind (arith, nat_tests)
 
-after_arc-inside : (arc start start_of_next : ℕ) → start_of_next ≡ start → after_arc arc start start_of_next ≡ arc + 1
+pub after_arc-inside : (arc start start_of_next : ℕ) → start_of_next ≡ start → after_arc arc start start_of_next ≡ arc + 1
 after_arc-inside arc start start_of_next same = grind (arith, nat_tests)
 
 after_arc-last : (arc start start_of_next : ℕ) → start_of_next ≢ start → after_arc arc start start_of_next ≡ start
@@ -253,7 +253,7 @@ All-map_range P f a (suc n) each = (
   All-map_range P f (a + 1) n (λ k from below. each k (omega (arith, from)) (omega (arith, below))),
 )
 
-All-weaker : {X : Type 0} (P Q : X → Type 0) (xs : List X) → ((x : X) → P x → Q x) → AllByRecursion P xs → AllByRecursion Q xs
+pub All-weaker : {X : Type 0} (P Q : X → Type 0) (xs : List X) → ((x : X) → P x → Q x) → AllByRecursion P xs → AllByRecursion Q xs
 All-weaker P Q [] onward all = tt
 All-weaker P Q (x ∷ xs) onward all = (onward x all.0, All-weaker P Q xs onward all.1)
 
