@@ -6,3 +6,7 @@ mod Found
 mod CrossingPasses
 mod TextCrossings
 mod TextComponents
+mod Intervals
+mod DartCounts
+pub mod DirectedText
+mod FaultLemmas

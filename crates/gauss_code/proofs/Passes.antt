@@ -54,7 +54,7 @@ label_from first [] arc = pos 0
 label_from first (labels ∷ more) arc =
     if nat_lt arc (first + length labels) then number_at (turned labels) (arc - first) else label_from (first + length labels) more arc
 
-then_if : {X : Type 0} (arc end : ℕ) (x y : X) → arc < end → (if nat_lt arc end then x else y) ≡ x
+pub then_if : {X : Type 0} (arc end : ℕ) (x y : X) → arc < end → (if nat_lt arc end then x else y) ≡ x
 then_if arc end x y below = grind (arith, nat_tests)
 
 else_if : {X : Type 0} (arc end : ℕ) (x y : X) → end ≤ arc → (if nat_lt arc end then x else y) ≡ y
@@ -81,12 +81,12 @@ length-labels_more labels more = length-append labels (all_labels more)
 
 -- the first arcs of the components, by the arcs
 
-start-here : (first : ℕ) (labels : List ℤ) (more : List (List ℤ)) (arc : ℕ) → first ≤ arc → arc < first + length labels
+pub start-here : (first : ℕ) (labels : List ℤ) (more : List (List ℤ)) (arc : ℕ) → first ≤ arc → arc < first + length labels
     → start_from first (labels ∷ more) arc ≡ first
 start-here first labels more arc from below =
     then_if arc (first + length labels) (min first arc) (start_from (first + length labels) more arc) below ∙ omega (arith, from)
 
-start-later : (first : ℕ) (labels : List ℤ) (more : List (List ℤ)) (arc : ℕ) → first + length labels ≤ arc
+pub start-later : (first : ℕ) (labels : List ℤ) (more : List (List ℤ)) (arc : ℕ) → first + length labels ≤ arc
     → start_from first (labels ∷ more) arc ≡ start_from (first + length labels) more arc
 start-later first labels more arc past =
     else_if arc (first + length labels) (min first arc) (start_from (first + length labels) more arc) past

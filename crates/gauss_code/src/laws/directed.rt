@@ -1,10 +1,32 @@
 //! The code of a signed Gauss text is a directed code.
 
-ghost use Rattle.std.specs.Prelude.{◌≡◌, ◌≤◌, ◌*◌, length, nat_abs, ℤ, None};
+ghost use Rattle.std.specs.Prelude.{
+  ◌≡◌,
+  ◌≤◌,
+  ◌*◌,
+  ℕ,
+  List,
+  [],
+  ◌∷◌,
+  length,
+  nat_abs,
+  ℤ,
+  pos,
+  negsuc,
+  None,
+  Some,
+  Ok,
+};
 ghost use Rattle.std.specs.List.{All, count_by};
 ghost use Rattle.std.specs.Ordering.{int_eq};
+ghost use Rattle.kh_types.specs.Code.{Code};
+ghost use Rattle.kh_types.specs.Acceptance.{direction_fault, first_fault};
+ghost use Rattle.kh_types.specs.Accepted.{IsDirected};
+ghost use Rattle.kh_types.specs.declared.fault.CodeFault.TheVariants.{Checkerboard};
 ghost use Rattle.gauss_code.specs.Listings.{Body, labels_of, crossing_count};
 ghost use Rattle.gauss_code.specs.Labels.{bad_label};
+ghost use Rattle.gauss_code.specs.Passes.{code_of};
+ghost use Rattle.gauss_code.specs.Reading.{IsReading};
 
 /// Where no label of a body is bad, each crossing has one over pass and one under pass: each number
 /// of a crossing stands once among the labels, and so does its negative, and nothing else stands.
@@ -17,4 +39,24 @@ pub fn labels_stand_once()
     ensures others { (body : Body) → bad_label (labels_of body) ≡ None
         → All (λ label. (1 ≤ nat_abs label) × (nat_abs label ≤ crossing_count body))
         (labels_of body) }
+{}
+
+/// The code of a text breaks none of the first six rules of acceptance: it is a directed code,
+/// whatever its signs are.
+pub fn gauss_codes_are_directed()
+    ensures directed { (body : Body) (signs : List ℤ) → bad_label (labels_of body) ≡ None
+        → IsDirected (code_of body signs).crossings }
+    ensures unbroken { (text : List ℕ) (code : Code) → IsReading text (Ok code)
+        → direction_fault code.crossings ≡ None }
+{}
+
+/// A directed code need not have a drawing: the labels 1, 2, -1 and -2 of two positive crossings
+/// have one, and its arcs 1 and 2 allow no checkerboard.
+pub fn directed_codes_without_drawing()
+    ensures unbroken { direction_fault (code_of
+        (Body.Bare (pos 1 ∷ pos 2 ∷ negsuc 0 ∷ negsuc 1 ∷ []))
+        (pos 1 ∷ pos 1 ∷ [])).crossings ≡ None }
+    ensures refused { first_fault (code_of
+        (Body.Bare (pos 1 ∷ pos 2 ∷ negsuc 0 ∷ negsuc 1 ∷ []))
+        (pos 1 ∷ pos 1 ∷ [])) ≡ Some (Checkerboard 2) }
 {}
