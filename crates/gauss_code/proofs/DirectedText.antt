@@ -51,20 +51,20 @@ module _ (groups : List (List ℤ)) (signs : List ℤ) (none : bad_label (all_la
   crossings = crossings_of groups signs
 
   -- the place of a crossing
-  place-below : (crossing : ℕ) → IsCrossing crossings crossing → crossing - 1 < crossings_in groups
+  pub place-below : (crossing : ℕ) → IsCrossing crossings crossing → crossing - 1 < crossings_in groups
   place-below crossing is = omega (arith, is.positive, is.within, length-crossings groups signs)
 
   all-passes : AllByRecursion (IsPassOf 1 groups) (all_passes 1 groups)
   all-passes = IsPassOf-all 1 groups (omega arith)
 
   -- the ends of a pass are arcs
-  IsArc-enters : (pass : Pass) → IsPassOf 1 groups pass → (arc : ℕ) → arc ≡ pass.enters → IsArc crossings arc
+  pub IsArc-enters : (pass : Pass) → IsPassOf 1 groups pass → (arc : ℕ) → arc ≡ pass.enters → IsArc crossings arc
   IsArc-enters pass is arc same = record {
     positive = omega (arith, same, is.from);
     within = omega (arith, same, is.below, arc_count-crossings groups signs none);
   }
 
-  IsArc-leaves : (pass : Pass) → IsPassOf 1 groups pass → (arc : ℕ) → arc ≡ pass.leaves → IsArc crossings arc
+  pub IsArc-leaves : (pass : Pass) → IsPassOf 1 groups pass → (arc : ℕ) → arc ≡ pass.leaves → IsArc crossings arc
   IsArc-leaves pass is arc same = record {
     positive = omega (arith, same, is.leaves_from);
     within = omega (arith, same, is.leaves_below, arc_count-crossings groups signs none);
@@ -144,7 +144,7 @@ module _ (groups : List (List ℤ)) (signs : List ℤ) (none : bad_label (all_la
       ]
 
   -- no two under passes come in on one arc, since the arc tells the label
-  label-enters : (crossing : ℕ) → IsCrossing crossings crossing
+  pub label-enters : (crossing : ℕ) → IsCrossing crossings crossing
       → under_at (crossing - 1) ≡ label_from 1 groups (arc_in (slots_of crossings crossing) 0)
   label-enters crossing is =
       let below = place-below crossing is in

@@ -83,7 +83,7 @@ stands label labels = count_by (λ other. int_eq other label) labels
 
 -- no bad label
 
-find-none_at : (p : ℕ → Bool) (a n k : ℕ) → find p (range_with_len a n) ≡ None → a ≤ k → k < a + n → p k ≡ false
+pub find-none_at : (p : ℕ → Bool) (a n k : ℕ) → find p (range_with_len a n) ≡ None → a ≤ k → k < a + n → p k ≡ false
 find-none_at p a zero k none from below = absurd (omega (arith, from, below))
 find-none_at p a (suc n) k none from below = elim (cases_Bool (p a)) [
   | inl passes ↦ absurd (some_none a (find p (range_with_len (a + 1) n)) (p a) passes none)

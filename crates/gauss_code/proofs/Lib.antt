@@ -10,3 +10,6 @@ mod Intervals
 mod DartCounts
 pub mod DirectedText
 mod FaultLemmas
+mod TurnedLabels
+mod SignRules
+mod TextSigns

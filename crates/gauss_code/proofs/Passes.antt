@@ -57,7 +57,7 @@ label_from first (labels ∷ more) arc =
 pub then_if : {X : Type 0} (arc end : ℕ) (x y : X) → arc < end → (if nat_lt arc end then x else y) ≡ x
 then_if arc end x y below = grind (arith, nat_tests)
 
-else_if : {X : Type 0} (arc end : ℕ) (x y : X) → end ≤ arc → (if nat_lt arc end then x else y) ≡ y
+pub else_if : {X : Type 0} (arc end : ℕ) (x y : X) → end ≤ arc → (if nat_lt arc end then x else y) ≡ y
 else_if arc end x y past = grind (arith, nat_tests)
 
 -- the arc that follows an arc of a component with a first arc: the arc plus 1, if that one is in the same component, else the first
