@@ -105,7 +105,8 @@ IsInterval-component groups signs none first positive within own arc from below 
     let count : arcs_in components first ≤ end.0 - first =
     count-places (nat_eq first) components 0 first end.0
     (λ at at_below passes.
-    let same : start_of groups at ≡ first = sym (component-is groups signs none at) ∙ sym (eqb-true first (component_of components at) passes) in
+    let same : start_of groups at ≡ first =
+    sym (component-is groups signs none at) ∙ sym (eqb-true first (component_of components at) passes) in
     let before = end.1.only at (same ∙ sym own) in
     (omega (arith, same, start-le 1 groups at), omega (arith, before))) in
     component-is groups signs none arc

@@ -12,4 +12,6 @@ pub mod DirectedText
 mod FaultLemmas
 mod TurnedLabels
 mod SignRules
+mod OverPasses
 mod TextSigns
+mod SingleArcs

@@ -33,7 +33,8 @@ module _ (groups : List (List ℤ)) (signs : List ℤ) (none : bad_label (all_la
       pairs-of_passes (λ x y. (x < arc_count (crossings_of groups signs) + 1) × (y < arc_count (crossings_of groups signs) + 1))
       (λ x y both. (both.1, both.0)) groups signs none
       (All-weaker (IsPassOf 1 groups)
-      (λ (pass : Pass). (pass.enters < arc_count (crossings_of groups signs) + 1) × (pass.leaves < arc_count (crossings_of groups signs) + 1))
+      (λ (pass : Pass).
+      (pass.enters < arc_count (crossings_of groups signs) + 1) × (pass.leaves < arc_count (crossings_of groups signs) + 1))
       (all_passes 1 groups)
       (λ pass is. (omega (arith, is.below, size), omega (arith, is.leaves_below, size)))
       (IsPassOf-all 1 groups (omega arith)))

@@ -1,144 +1,31 @@
 -- Where no component has a single arc, each crossing of the code of a text has the sign that the text lists.
-use Rattle.std.proofs.Common.{◌≡◌, ◌≢◌, ℕ, inl, inr, ◌⊎◌, ◌+◌, ◌-◌, ◌<◌, ◌≤◌, ◌∙◌, List, length, refl, sym, subst, ap, arith, Bool, true, false, ℤ, pos}
+use Rattle.std.proofs.Common.{◌≡◌, ◌≢◌, ℕ, inl, inr, ◌⊎◌, ◌+◌, ◌-◌, ◌<◌, ◌≤◌, ◌∙◌, List, length, refl, sym, ap, arith, true, false, pos}
 use Rattle.std.specs.Prelude.{Option, Some, None, nat_eq, int_lt}
 use Rattle.std.specs.Ordering.{int_eq}
 use Rattle.std.proofs.lemmas.Bool.{both_ways, cases_lt, eq-eqb, eqb-true}
 use Rattle.std.proofs.lemmas.Bool.Decides.{nat_tests}
 use Rattle.kh_types.specs.Code.{arc_in, slots_of, IsArc, IsCrossing}
-use Rattle.kh_types.specs.Components.{components_of, arcs_in, next}
-use Rattle.kh_types.specs.Directions.{first_under, first_over, passes_under, passes_over, is_positive_by_next, is_positive_of_two, is_positive, HasNoSingleArcs}
-use Rattle.kh_types.specs.Accepted.{IsDirected}
-use Rattle.kh_types.proofs.NextArcs.{component, size_at, HasPlace-directed, component-next, next-twice}
-use Rattle.kh_types.proofs.PassPairs.{IsArc-at}
-use Rattle.kh_types.proofs.DirectedPasses.{is_positive-under, is_positive-order}
-use Rattle.gauss_code.specs.Labels.{number_at, bad_label}
+use Rattle.kh_types.specs.Components.{components_of, arcs_in}
+use Rattle.kh_types.specs.Directions.{first_under, first_over, passes_under, passes_over, is_positive}
+use Rattle.kh_types.proofs.NextArcs.{component, size_at, HasPlace-directed, component-next}
+use Rattle.kh_types.proofs.DirectedPasses.{is_positive-order}
+use Rattle.gauss_code.specs.Labels.{number_at}
 use Rattle.gauss_code.specs.Passes.{Pass, is_over}
-use Rattle.gauss_code.proofs.SignRules.{Goes, Goes-between, large-rule, by_next, by_under, by_order, other_arc, not_back, find-first, under-over, over-same}
+use Rattle.gauss_code.proofs.SignRules.{by_order, find-first, over-same}
 use Rattle.gauss_code.proofs.Labels.{over_at, find-none_at}
-use Rattle.gauss_code.proofs.Passes.{all_labels, start_from, start-past, label_from, IsPassOf, IsPassOf-all}
-use Rattle.gauss_code.proofs.CrossingPasses.{crossings_in, under_pass, over_pass, over-holds, label-over, all-passes_hold, entering, enters-entering, entering-holds}
-use Rattle.gauss_code.proofs.TextCrossings.{crossings_of, length-crossings, arc_count-crossings, slots-at, HasSlots-of}
-use Rattle.gauss_code.proofs.TextComponents.{component-is, next-passes}
+use Rattle.gauss_code.proofs.Passes.{all_labels, start_from, start-past, label_from}
+use Rattle.gauss_code.proofs.CrossingPasses.{crossings_in, under_pass, over_pass, all-passes_hold, entering, enters-entering, entering-holds}
+use Rattle.gauss_code.proofs.TextCrossings.{crossings_of, length-crossings, arc_count-crossings, HasSlots-of}
+use Rattle.gauss_code.proofs.TextComponents.{component-is}
 use Rattle.gauss_code.proofs.TurnedLabels.{two_over-rise}
-use Rattle.gauss_code.proofs.DirectedText.{place-below, IsArc-enters, IsArc-leaves, label-enters, IsDirected-crossings}
+use Rattle.gauss_code.proofs.DirectedText.{place-below}
+use Rattle.gauss_code.proofs.OverPasses.{GoodText, Goes_on, directed, over-goes_on, goes-at, component-slot, positive-large, apart, in_two, label-enters_over, positive-under}
 
-module _ (groups : List (List ℤ)) (signs : List ℤ) (none : bad_label (all_labels groups) ≡ None)
-    (moves : HasNoSingleArcs (crossings_of groups signs)) where
+module _ (text : GoodText) where
+  open text use {groups, signs, none, moves}
+
   abbrev crossings : List (List ℕ)
   crossings = crossings_of groups signs
-
-  directed : IsDirected crossings
-  directed = IsDirected-crossings groups signs none
-
-  -- what is known of the pass that is over at a crossing, or under at it, with the arcs on which it enters and leaves
-  record Goes_on (from to : ℕ) : Type 0 where
-    from_is : IsArc crossings from
-    to_is : IsArc crossings to
-    follows : to ≡ next crossings from
-
-  Goes_on-pass : (pass : Pass) → IsPassOf 1 groups pass → pass.leaves ≡ next crossings pass.enters → Goes_on pass.enters pass.leaves
-  Goes_on-pass pass is follows = record {
-    from_is = IsArc-enters groups signs none pass is pass.enters refl;
-    to_is = IsArc-leaves groups signs none pass is pass.leaves refl;
-    follows = follows;
-  }
-
-  over-goes_on : (place : ℕ) → place < crossings_in groups → Goes_on (over_pass groups place).enters (over_pass groups place).leaves
-  over-goes_on place below =
-      Goes_on-pass (over_pass groups place) (over-holds groups none (IsPassOf 1 groups) place below (IsPassOf-all 1 groups (omega arith)))
-      (over-holds groups none (λ (pass : Pass). pass.leaves ≡ next crossings pass.enters) place below (next-passes groups signs none))
-
-  -- the slots of the over pass of a crossing
-  goes-at : (crossing : ℕ) → IsCrossing crossings crossing
-      → Goes (int_eq (number_at signs (crossing - 1)) (pos 1)) (arc_in (slots_of crossings crossing) 1)
-      (arc_in (slots_of crossings crossing) 3) (over_pass groups (crossing - 1)).enters (over_pass groups (crossing - 1)).leaves
-  goes-at crossing is =
-      let place = crossing - 1 in
-      let over = over_pass groups place in
-      subst (λ (slots : List ℕ). Goes (int_eq (number_at signs place) (pos 1)) (arc_in slots 1) (arc_in slots 3) over.enters over.leaves)
-      (sym (slots-at groups signs place (place-below groups signs none crossing is)))
-      (Goes-between (under_pass groups place) over (number_at signs place))
-
-  -- slot 1 of it is in the component of its arcs
-  component-slot : (listed : Bool) (one three from to : ℕ) → Goes_on from to → Goes listed one three from to
-      → component crossings one ≡ component crossings from
-  component-slot listed one three from to on (inl up) =
-      ap (component crossings) (up.2 ∙ on.follows) ∙ component-next crossings directed from on.from_is
-  component-slot listed one three from to on (inr down) = ap (component crossings) down.1
-
-  -- in a component of three arcs or more
-  positive-large : (crossing from to : ℕ) (listed : Bool) → Goes_on from to
-      → Goes listed (arc_in (slots_of crossings crossing) 1) (arc_in (slots_of crossings crossing) 3) from to
-      → 2 < size_at crossings from → is_positive crossings crossing ≡ listed
-  positive-large crossing from to listed on goes large =
-      let slots = slots_of crossings crossing in
-      let components = components_of crossings in
-      let one = arc_in slots 1 in
-      let same = component-slot listed one (arc_in slots 3) from to on goes in
-      let size : size_at crossings one ≡ size_at crossings from = ap (arcs_in components) same in
-      let rule = large-rule (size_at crossings one) (is_positive_by_next components slots)
-      (is_positive_of_two crossings components crossing) (omega (arith, size, large)) in
-      let place = HasPlace-directed crossings directed from on.from_is in
-      let to_place = HasPlace-directed crossings directed to on.to_is in
-      let together : component crossings to ≡ component crossings from =
-      ap (component crossings) on.follows ∙ component-next crossings directed from on.from_is in
-      let alike : size_at crossings to ≡ size_at crossings from = ap (arcs_in components) together in
-      let apart = not_back (component crossings from) (size_at crossings from) from to (next crossings to) large place.from place.below
-      (λ within. on.follows ∙ place.inside within) (λ behind. on.follows ∙ place.last behind)
-      (omega (arith, to_place.from, together)) (omega (arith, to_place.below, together, alike))
-      (λ within. to_place.inside (omega (arith, within, together, alike)))
-      (λ behind. to_place.last (omega (arith, behind, together, alike)) ∙ together) in
-      by_next (is_positive crossings crossing) listed one (arc_in slots 3) from to (next crossings (arc_in slots 3)) (next crossings to)
-      rule (λ at_from. ap (next crossings) at_from ∙ sym on.follows) (λ at_to. ap (next crossings) at_to) apart goes
-
-  -- in a component of two arcs
-  apart : (from to : ℕ) → Goes_on from to → to ≢ from
-  apart from to on stays = moves from on.from_is (sym on.follows ∙ stays)
-
-  in_two : (from to x : ℕ) → Goes_on from to → size_at crossings from ≤ 2 → IsArc crossings x
-      → component crossings x ≡ component crossings from → (x ≡ from) ⊎ (x ≡ to)
-  in_two from to x on small is same =
-      let place = HasPlace-directed crossings directed from on.from_is in
-      let x_place = HasPlace-directed crossings directed x is in
-      let alike : size_at crossings x ≡ size_at crossings from = ap (arcs_in (components_of crossings)) same in
-      other_arc (component crossings from) (size_at crossings from) from to x small place.from place.below
-      (λ within. on.follows ∙ place.inside within) (λ behind. on.follows ∙ place.last behind) (apart from to on)
-      (omega (arith, x_place.from, same)) (omega (arith, x_place.below, same, alike))
-
-  next-back : (from to : ℕ) → Goes_on from to → size_at crossings from ≤ 2 → next crossings to ≡ from
-  next-back from to on small = ap (next crossings) on.follows ∙ next-twice crossings directed from on.from_is small
-
-  label-enters_over : (place : ℕ) → place < crossings_in groups → label_from 1 groups (over_pass groups place).enters ≡ over_at place
-  label-enters_over place below =
-      sym (over-holds groups none (IsPassOf 1 groups) place below (IsPassOf-all 1 groups (omega arith))).label
-      ∙ label-over groups none place below
-
-  -- one that passes under somewhere
-  positive-under : (crossing under from to place : ℕ) (listed : Bool) → Goes_on from to
-      → Goes listed (arc_in (slots_of crossings crossing) 1) (arc_in (slots_of crossings crossing) 3) from to
-      → size_at crossings from ≤ 2 → label_from 1 groups from ≡ over_at place
-      → first_under crossings (components_of crossings) (component crossings (arc_in (slots_of crossings crossing) 1)) ≡ Some under
-      → is_positive crossings crossing ≡ listed
-  positive-under crossing under from to place listed on goes small label found =
-      let slots = slots_of crossings crossing in
-      let components = components_of crossings in
-      let one = arc_in slots 1 in
-      let same = component-slot listed one (arc_in slots 3) from to on goes in
-      let size : size_at crossings one ≡ size_at crossings from = ap (arcs_in components) same in
-      let first = find-first (passes_under crossings components (component crossings one)) 1 (length crossings) under found in
-      let is : IsCrossing crossings under = record { positive = first.from; within = omega (arith, first.below) } in
-      let enters = arc_in (slots_of crossings under) 0 in
-      let inside : component crossings enters ≡ component crossings from =
-      eqb-true (component crossings enters) (component crossings one) first.passes ∙ same in
-      elim (in_two from to enters on small (IsArc-at crossings under 0 directed is (omega arith)) inside) [
-        | inl is_from ↦ absurd
-            (under-over (under - 1) place (label-enters groups signs none under is ∙ ap (label_from 1 groups) is_from ∙ label))
-        | inr is_to ↦
-            let end : arc_in (slots_of crossings under) 2 ≡ from =
-            directed.under under is ∙ ap (next crossings) is_to ∙ next-back from to on small in
-            by_under (is_positive crossings crossing) listed one (arc_in slots 3) from to (arc_in (slots_of crossings under) 2)
-            (is_positive-under crossings crossing under (omega (arith, size, small)) found) end (apart from to on) goes
-      ]
 
   -- one that is over at both its crossings: the pass at the lesser crossing enters on its first arc
   rises : (low high low_place high_place : ℕ) → IsArc crossings low → IsArc crossings high → component crossings low ≡ low
@@ -152,7 +39,7 @@ module _ (groups : List (List ℤ)) (signs : List ℤ) (none : bad_label (all_la
       λ same. elim (cases_lt (low + 2) (1 + length (all_labels groups))) [
         | inr past ↦ omega (arith, same, start-past 1 groups (low + 2) past, low_is.positive)
         | inl within ↦
-            let place = HasPlace-directed crossings directed (low + 2)
+            let place = HasPlace-directed crossings (directed text) (low + 2)
             (record { positive = omega arith; within = omega (arith, within, count) }) in
             let there : component crossings (low + 2) ≡ low = component-is groups signs none (low + 2) ∙ same in
             let alike : size_at crossings (low + 2) ≡ size_at crossings low =
@@ -186,18 +73,19 @@ module _ (groups : List (List ℤ)) (signs : List ℤ) (none : bad_label (all_la
   number-of place below = record { positive = omega arith; within = omega (arith, below, length-crossings groups signs) }
 
   -- its arcs are the first and the next, in one order or the other, and the lesser crossing comes first
-  both-rise : (from to place other : ℕ) → Goes_on from to → size_at crossings from ≤ 2 → label_from 1 groups from ≡ over_at place
+  both-rise : (from to place other : ℕ) → Goes_on text from to → size_at crossings from ≤ 2 → label_from 1 groups from ≡ over_at place
       → label_from 1 groups to ≡ over_at other → place ≢ other → ((from < to) × (place < other)) ⊎ ((to < from) × (other < place))
   both-rise from to place other on small label other_label differ =
       let components = components_of crossings in
-      let at = HasPlace-directed crossings directed from on.from_is in
+      let at = HasPlace-directed crossings (directed text) from on.from_is in
       let together : component crossings to ≡ component crossings from =
-      ap (component crossings) on.follows ∙ component-next crossings directed from on.from_is in
+      ap (component crossings) on.follows ∙ component-next crossings (directed text) from on.from_is in
       let alike : size_at crossings to ≡ size_at crossings from = ap (arcs_in components) together in
       elim (ends (component crossings from) (size_at crossings from) from to small at.from at.below
-      (λ within. on.follows ∙ at.inside within) (λ behind. on.follows ∙ at.last behind) (apart from to on)) [
+      (λ within. on.follows ∙ at.inside within) (λ behind. on.follows ∙ at.last behind) (apart text from to on)) [
         | inl up ↦
-            let le = rises from to place other on.from_is on.to_is (sym up.0) (up.1 ∙ ap (λ x. x + 1) (sym up.0)) (together ∙ sym up.0) small
+            let le = rises from to place other on.from_is on.to_is (sym up.0) (up.1 ∙ ap (λ x. x + 1) (sym up.0)) (together ∙ sym up.0)
+            small
             label other_label in
             inl (omega (arith, up.0, up.1), omega (arith, le, differ))
         | inr down ↦
@@ -209,21 +97,21 @@ module _ (groups : List (List ℤ)) (signs : List ℤ) (none : bad_label (all_la
       ends : (first size a b : ℕ) → size ≤ 2 → first ≤ a → a < first + size → (a + 1 < first + size → b ≡ a + 1)
           → (first + size ≤ a + 1 → b ≡ first) → b ≢ a
           → ((a ≡ first) × (b ≡ first + 1)) ⊎ ((b ≡ first) × (a ≡ first + 1))
-      ends first size a b small after below inside last apart = grind arith
+      ends first size a b small after below inside last differ = grind arith
 
   -- what is over in such a component is one of the two passes
-  over-one_of : (first from to place other : ℕ) → Goes_on from to → size_at crossings from ≤ 2 → label_from 1 groups from ≡ over_at place
-      → label_from 1 groups to ≡ over_at other → IsCrossing crossings first
+  over-one_of : (first from to place other : ℕ) → Goes_on text from to → size_at crossings from ≤ 2
+      → label_from 1 groups from ≡ over_at place → label_from 1 groups to ≡ over_at other → IsCrossing crossings first
       → component crossings (arc_in (slots_of crossings first) 1) ≡ component crossings from → (first - 1 ≡ place) ⊎ (first - 1 ≡ other)
   over-one_of first from to place other on small label other_label is same =
       let slots = slots_of crossings first in
       let below = place-below groups signs none first is in
       let over = over_pass groups (first - 1) in
-      let over_on = over-goes_on (first - 1) below in
-      let inside = sym (component-slot (int_eq (number_at signs (first - 1)) (pos 1)) (arc_in slots 1) (arc_in slots 3) over.enters
-      over.leaves over_on (goes-at first is)) ∙ same in
-      let over_label = sym (label-enters_over (first - 1) below) in
-      elim (in_two from to over.enters on small over_on.from_is inside) [
+      let over_on = over-goes_on text (first - 1) below in
+      let inside = sym (component-slot text (int_eq (number_at signs (first - 1)) (pos 1)) (arc_in slots 1) (arc_in slots 3) over.enters
+      over.leaves over_on (goes-at text first is)) ∙ same in
+      let over_label = sym (label-enters_over text (first - 1) below) in
+      elim (in_two text from to over.enters on small over_on.from_is inside) [
         | inl is_from ↦ inl (over-same (first - 1) place (over_label ∙ ap (label_from 1 groups) is_from ∙ label))
         | inr is_to ↦ inr (over-same (first - 1) other (over_label ∙ ap (label_from 1 groups) is_to ∙ other_label))
       ]
@@ -243,14 +131,14 @@ module _ (groups : List (List ℤ)) (signs : List ℤ) (none : bad_label (all_la
       let place_within = place-below groups signs none crossing is in
       let from = (over_pass groups (crossing - 1)).enters in
       let to = (over_pass groups (crossing - 1)).leaves in
-      let on = over-goes_on (crossing - 1) place_within in
-      let goes = goes-at crossing is in
-      let same = component-slot listed one (arc_in slots 3) from to on goes in
+      let on = over-goes_on text (crossing - 1) place_within in
+      let goes = goes-at text crossing is in
+      let same = component-slot text listed one (arc_in slots 3) from to on goes in
       let size : size_at crossings one ≡ size_at crossings from = ap (arcs_in components) same in
-      let label = label-enters_over (crossing - 1) place_within in
-      let other_label = ap (label_from 1 groups) (sym enters) ∙ label-enters_over other below in
+      let label = label-enters_over text (crossing - 1) place_within in
+      let other_label = ap (label_from 1 groups) (sym enters) ∙ label-enters_over text other below in
       let differ : crossing - 1 ≢ other =
-      λ is_other. apart from to on (sym enters ∙ ap (λ place. (over_pass groups place).enters) (sym is_other)) in
+      λ is_other. apart text from to on (sym enters ∙ ap (λ place. (over_pass groups place).enters) (sym is_other)) in
       let search = find-first (passes_over crossings components (component crossings one)) 1 (length crossings) first found in
       let is_first : IsCrossing crossings first = record { positive = search.from; within = omega (arith, search.below) } in
       let inside = eqb-true (component crossings (arc_in (slots_of crossings first) 1)) (component crossings one) search.passes ∙ same in
@@ -259,10 +147,11 @@ module _ (groups : List (List ℤ)) (signs : List ℤ) (none : bad_label (all_la
       let other_slots = slots_of crossings (other + 1) in
       let other_pass = over_pass groups (other + 1 - 1) in
       let other_same : component crossings (arc_in other_slots 1) ≡ component crossings one =
-      component-slot (int_eq (number_at signs (other + 1 - 1)) (pos 1)) (arc_in other_slots 1) (arc_in other_slots 3) other_pass.enters
-      other_pass.leaves (over-goes_on (other + 1 - 1) (place-below groups signs none (other + 1) other_is)) (goes-at (other + 1) other_is)
+      component-slot text (int_eq (number_at signs (other + 1 - 1)) (pos 1)) (arc_in other_slots 1) (arc_in other_slots 3) other_pass.enters
+      other_pass.leaves (over-goes_on text (other + 1 - 1) (place-below groups signs none (other + 1) other_is))
+      (goes-at text (other + 1) other_is)
       ∙ ap (λ place. component crossings (over_pass groups place).enters) back
-      ∙ ap (component crossings) (enters ∙ on.follows) ∙ component-next crossings directed from on.from_is ∙ sym same in
+      ∙ ap (component crossings) (enters ∙ on.follows) ∙ component-next crossings (directed text) from on.from_is ∙ sym same in
       by_order (is_positive crossings crossing) listed one (arc_in slots 3) from to first crossing (other + 1)
       (is_positive-order crossings crossing first (omega (arith, size, small)) nowhere found)
       (search.first crossing is.positive (eq-eqb (component crossings one) (component crossings one) refl))
@@ -304,16 +193,16 @@ module _ (groups : List (List ℤ)) (signs : List ℤ) (none : bad_label (all_la
       let slots = slots_of crossings crossing in
       let one = arc_in slots 1 in
       let over = over_pass groups (crossing - 1) in
-      let on = over-goes_on (crossing - 1) (place-below groups signs none crossing is) in
-      let same = component-slot (int_eq (number_at signs (crossing - 1)) (pos 1)) one (arc_in slots 3) over.enters over.leaves on
-      (goes-at crossing is) in
+      let on = over-goes_on text (crossing - 1) (place-below groups signs none crossing is) in
+      let same = component-slot text (int_eq (number_at signs (crossing - 1)) (pos 1)) one (arc_in slots 3) over.enters over.leaves on
+      (goes-at text crossing is) in
       let under_is = number-of place below in
       let zero_slot = arc_in (slots_of crossings (place + 1)) 0 in
       let back : place + 1 - 1 ≡ place = omega arith in
       let under_same : component crossings zero_slot ≡ component crossings one =
       ap (component crossings)
       ((HasSlots-of groups signs (place + 1) under_is).under_from ∙ ap (λ at. (under_pass groups at).enters) back ∙ enters ∙ on.follows)
-      ∙ component-next crossings directed over.enters on.from_is ∙ sym same in
+      ∙ component-next crossings (directed text) over.enters on.from_is ∙ sym same in
       both_ways (nat_eq (component crossings zero_slot) (component crossings one))
       (find-none_at (passes_under crossings components (component crossings one)) 1 (length crossings) (place + 1) nowhere
       (omega arith) (omega (arith, under_is.within)))
@@ -332,11 +221,11 @@ module _ (groups : List (List ℤ)) (signs : List ℤ) (none : bad_label (all_la
       by (Some under) found =
           let over = over_pass groups (crossing - 1) in
           let within = place-below groups signs none crossing is in
-          positive-under crossing under over.enters over.leaves (crossing - 1) (int_eq (number_at signs (crossing - 1)) (pos 1))
-          (over-goes_on (crossing - 1) within) (goes-at crossing is) small (label-enters_over (crossing - 1) within) found
+          positive-under text crossing under over.enters over.leaves (crossing - 1) (int_eq (number_at signs (crossing - 1)) (pos 1))
+          (over-goes_on text (crossing - 1) within) (goes-at text crossing is) small (label-enters_over text (crossing - 1) within) found
       by None nowhere =
           let over = over_pass groups (crossing - 1) in
-          let on = over-goes_on (crossing - 1) (place-below groups signs none crossing is) in
+          let on = over-goes_on text (crossing - 1) (place-below groups signs none crossing is) in
           let enters = enters-entering groups over.leaves on.to_is.positive
           (omega (arith, on.to_is.within, arc_count-crossings groups signs none)) in
           let meets = entering-meets over.leaves on.to_is in
@@ -356,7 +245,7 @@ module _ (groups : List (List ℤ)) (signs : List ℤ) (none : bad_label (all_la
       let over = over_pass groups (crossing - 1) in
       elim (cases_lt 2 (size_at crossings over.enters)) [
         | inl large ↦
-            positive-large crossing over.enters over.leaves (int_eq (number_at signs (crossing - 1)) (pos 1))
-            (over-goes_on (crossing - 1) (place-below groups signs none crossing is)) (goes-at crossing is) large
+            positive-large text crossing over.enters over.leaves (int_eq (number_at signs (crossing - 1)) (pos 1))
+            (over-goes_on text (crossing - 1) (place-below groups signs none crossing is)) (goes-at text crossing is) large
         | inr small ↦ positive-small crossing is small
       ]
