@@ -1,0 +1,6 @@
+pub mod CircleNumbers
+pub mod Edges
+pub mod GeneratorCounts
+pub mod Steps
+pub mod Numbered
+pub mod Prepared

@@ -1,0 +1,3 @@
+//! What an edge does to the circles, what the numbers of circles are, and known diagrams.
+
+pub mod known;
