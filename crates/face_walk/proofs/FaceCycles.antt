@@ -10,9 +10,9 @@ use Rattle.kh_types.specs.Faces.{face_pair, faces_of}
 use Rattle.kh_types.proofs.AcceptedLemmas.{HasArcsTwice-accepted}
 use Rattle.kh_types.proofs.ClassLemmas.{classes-finest}
 use Rattle.kh_types.proofs.DartPairs.{IsPairing-partner_at}
-use Rattle.face_walk.specs.Walks.{IsWalked}
+use Rattle.kh_types.specs.Walks.{IsWalked}
 use Rattle.face_walk.proofs.FaceLemmas.{AllByRecursion-map_range, IsNamed-faces_of, face_pairs-below, faces-step, turned-below}
-use Rattle.face_walk.proofs.WalkLemmas.{AreCycles, IsOnWalk, IsOnWalk-first, IsOnWalk-more, IsWalked-more, IsWalked-skip, IsWalked-none, walked-all}
+use Rattle.kh_types.proofs.WalkLemmas.{AreCycles, IsOnWalk, IsOnWalk-first, IsOnWalk-more, IsWalked-more, IsWalked-skip, IsWalked-none, walked-all}
 
 -- the place of the dart at the slot behind, and the way back from a face step
 abbrev pub turned_back : ℕ → ℕ

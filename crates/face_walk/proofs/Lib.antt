@@ -1,5 +1,4 @@
 pub mod NumberLemmas
 pub mod FaceLemmas
-pub mod WalkLemmas
 pub mod FaceCycles
 pub mod LengthLemmas

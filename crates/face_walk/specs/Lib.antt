@@ -1,4 +1,3 @@
 pub mod ClassNumbers
 pub mod FaceNumbers
 pub mod Numbered
-pub mod Walks

@@ -11,7 +11,6 @@ ghost use Rattle.kh_types.specs.declared.limits.TheConstants.{CROSSINGS};
 ghost use Rattle.face_walk.specs.FaceNumbers.{piece_number};
 
 use crate::class_numbers::class_number;
-use crate::dart_order::dart_at;
 use arrayvec::ArrayVec;
 use kh_types::{CLASS_MEMBERS, Diagram, class_count, classes_of};
 
@@ -60,12 +59,9 @@ fn piece_pairs(diagram: &Diagram, count: usize) -> ArrayVec<(u8, u8), CLASS_MEMB
 }
 
 /// The places of the two crossings at the ends of a dart's arc.
-#[tactic(auto, using(crate::proofs::FaceLemmas::places))]
 fn piece_pair(diagram: &Diagram, place: u8) -> (u8, u8)
     requires { place < dart_count diagram.now.crossings }
     ensures { result ≡ piece_pair (partner_at diagram.now.crossings) place }
 {
-    let dart = dart_at(place);
-    let partner = diagram.partner(dart);
-    (dart.crossing - 1, partner.crossing - 1)
+    (place / 4, diagram.partner_at(place) / 4)
 }

@@ -3,7 +3,6 @@
 
 mod class_numbers;
 mod connected;
-mod dart_order;
 mod finding;
 pub mod laws;
 mod numbered;

@@ -6,9 +6,8 @@ ghost use Rattle.kh_types.specs.Darts.{IsDart};
 ghost use Rattle.kh_types.specs.Faces.{face_count, planar_face_count};
 ghost use Rattle.face_walk.specs.FaceNumbers.{face_number, face_length};
 
-use crate::dart_order::dart_place;
 use arrayvec::ArrayVec;
-use kh_types::{CLASS_MEMBERS, Dart, Diagram};
+use kh_types::{CLASS_MEMBERS, Dart, Diagram, dart_place};
 use std::marker::Model;
 
 /// The faces of a diagram, numbered from 0 by their least darts, crossing first, then slot. A face is a cycle of darts, each

@@ -2,14 +2,13 @@
 
 ghost use Rattle.std.specs.Prelude.{◌≡◌, ◌+◌, ◌<◌, ◌≤◌, length, slice_index, IsTrue};
 ghost use Rattle.kh_types.specs.Acceptance.{accepted};
-ghost use Rattle.kh_types.specs.Darts.{dart_count, dart_place, face_step, partner_at, turned};
+ghost use Rattle.kh_types.specs.Darts.{dart_count, face_step, partner_at};
 ghost use Rattle.kh_types.specs.Faces.{faces_of};
 ghost use Rattle.kh_types.specs.declared.limits.TheConstants.{CROSSINGS};
-ghost use Rattle.face_walk.specs.Walks.{IsWalked};
+ghost use Rattle.kh_types.specs.Walks.{IsWalked};
 
-use crate::dart_order::{dart_at, dart_place};
 use arrayvec::ArrayVec;
-use kh_types::{CLASS_MEMBERS, Dart, Diagram, classes_of, is_least};
+use kh_types::{CLASS_MEMBERS, Diagram, classes_of, is_least, turned};
 
 /// The face of each dart, by the place of its least dart. Each face is walked once, from its least dart.
 #[tactic(auto, using(crate::proofs::FaceCycles::walks))]
@@ -57,23 +56,10 @@ fn walk_from(diagram: &Diagram, classes: &mut [u8], least: u8)
 }
 
 /// The place of the dart that follows in a face: from the other end of the arc on to the slot before it.
-#[tactic(auto, using(crate::proofs::FaceLemmas::places))]
 fn place_after(diagram: &Diagram, place: u8) -> u8
     requires few { length diagram.now.crossings ≤ CROSSINGS }
     requires place { place < dart_count diagram.now.crossings }
     ensures { result ≡ face_step (partner_at diagram.now.crossings) place }
 {
-    turned_place(diagram.partner(dart_at(place)))
-}
-
-/// The place of the dart at the slot before, round the same crossing.
-fn turned_place(dart: Dart) -> u8
-    requires crossing { dart.crossing ≤ CROSSINGS }
-    requires slot { dart.slot < 4 }
-    ensures { result ≡ turned (dart_place dart) }
-{
-    dart_place(Dart {
-        crossing: dart.crossing,
-        slot: (dart.slot + 3) % 4,
-    })
+    turned(diagram.partner_at(place))
 }

@@ -26,3 +26,4 @@ pub mod DirectedPasses
 pub mod TwoHeads
 pub mod OneHead
 pub mod Heads
+pub mod WalkLemmas

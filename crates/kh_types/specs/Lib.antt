@@ -21,5 +21,6 @@ pub mod ComplexTests
 pub mod History
 pub mod WorkedCodes
 pub mod WorkedHistories
+pub mod Walks
 pub mod Filling
 pub mod Inside

@@ -16,7 +16,7 @@ mod signs;
 use crate::code::RawCode;
 use crate::fault::CodeFault;
 use checkerboard::checkerboard_fault;
-use components::components_of;
+pub use components::{arcs_in, components_of, next_in};
 use directed::{components_fault, direction_fault};
 use faces::genus_fault;
 pub(crate) use faces::{face_count, planar_face_count};

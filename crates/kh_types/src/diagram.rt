@@ -1,9 +1,9 @@
 //! Accepted diagrams.
 
-ghost use Rattle.std.specs.Prelude.{◌≡◌, ◌≤◌, ◌↔◌, length, IsTrue, IfOk, IsOk, if◌then◌else◌, pos, neg_ℤ};
+ghost use Rattle.std.specs.Prelude.{◌≡◌, ◌≤◌, ◌<◌, ◌↔◌, length, IsTrue, IfOk, IsOk, if◌then◌else◌, pos, neg_ℤ};
 ghost use Rattle.std.specs.Result.{result_err};
 ghost use Rattle.kh_types.specs.Code.{IsCrossing, IsArc};
-ghost use Rattle.kh_types.specs.Darts.{IsDart, arc_of, partner};
+ghost use Rattle.kh_types.specs.Darts.{IsDart, arc_of, dart_count, partner, partner_at};
 ghost use Rattle.kh_types.specs.Acceptance.{accepted, first_fault};
 ghost use Rattle.kh_types.specs.Filling.{filled};
 ghost use Rattle.kh_types.specs.Directions.{sign_of, plus_count, minus_count, head_of, tail_of};
@@ -144,6 +144,15 @@ impl Diagram {
         ensures within { IsDart self.now.crossings result }
     {
         darts::partner(self.crossings(), dart)
+    }
+
+    /// The place of the other dart of the arc of the dart at a place.
+    pub fn partner_at(&self, place: u8) -> u8
+        requires { place < dart_count self.now.crossings }
+        ensures place { result ≡ partner_at self.now.crossings place }
+        ensures below { result < dart_count self.now.crossings }
+    {
+        darts::partner_at(self.crossings(), place)
     }
 
     /// The head of an arc: the dart at which it enters a crossing.

@@ -16,10 +16,11 @@ mod memory;
 mod tests;
 mod words;
 
+pub use acceptance::{arcs_in, components_of, next_in};
 pub use bits::{bit, ones};
 pub use classes::{CLASS_MEMBERS, class_count, class_of, classes_of, is_least};
 pub use code::{Crossing, RawCode};
-pub use dart::Dart;
+pub use dart::{Dart, dart_at, dart_place, turned};
 pub use diagram::Diagram;
 pub use face_count::{FaceCount, count_faces};
 pub use fault::CodeFault;

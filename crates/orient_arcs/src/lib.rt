@@ -4,7 +4,6 @@
 pub mod laws;
 mod numbered;
 mod of_diagram;
-mod passes;
 #[cfg(test)]
 mod tests;
 

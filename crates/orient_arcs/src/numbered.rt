@@ -4,7 +4,7 @@ ghost use Rattle.std.specs.Prelude.{◌≡◌, ◌+◌, ◌<◌, ◌≤◌, [], 
 ghost use Rattle.std.specs.List.{filter, position_or_len, range_with_len};
 ghost use Rattle.arrayvec.specs.ArrayVec.{array_vec_len};
 ghost use Rattle.kh_types.specs.declared.limits.TheConstants.{ARCS, COMPONENTS};
-ghost use Rattle.kh_types.specs.Code.{IsArc};
+ghost use Rattle.kh_types.specs.Code.{IsArc, arc_count};
 ghost use Rattle.kh_types.specs.Classes.{is_least};
 ghost use Rattle.kh_types.specs.Components.{components_of, component_of, component_count, first_arcs, arcs_in};
 ghost use Rattle.kh_types.specs.Acceptance.{accepted};
@@ -12,9 +12,8 @@ ghost use Rattle.orient_arcs.specs.Numbers.{component_number, first_arc};
 ghost use Rattle.orient_arcs.specs.Inside.{spread};
 ghost use Rattle.orient_arcs.specs.declared.numbered.TheConstants.{NUMBERS};
 
-use crate::passes::{arc_count, components_of};
 use arrayvec::ArrayVec;
-use kh_types::{ARCS, Diagram, class_of, is_least};
+use kh_types::{ARCS, Diagram, arcs_in, class_of, components_of, is_least};
 use std::marker::Model;
 
 /// The numbers that have a component: the most arcs, and the number 0, which is no arc.
@@ -47,12 +46,13 @@ impl Model for Components {
 
 impl Components {
     /// The components of a diagram.
+    #[tactic(auto, using(crate::proofs::ComponentLemmas::components_size))]
     pub(crate) fn of_diagram(diagram: &Diagram) -> Components
         ensures { result ≡ diagram.now }
     {
         Components {
             diagram: *diagram,
-            least: spread(&components_of(diagram)),
+            least: spread(&components_of(diagram.crossings())),
         }
     }
 
@@ -118,6 +118,15 @@ impl Components {
     }
 }
 
+/// The number of arcs, 2n.
+fn arc_count(diagram: &Diagram) -> usize
+    ensures count { result ≡ arc_count diagram.now.crossings }
+    ensures within { result ≤ ARCS }
+    ensures accepted { IsTrue (accepted diagram.now) }
+{
+    2 * diagram.crossings().len()
+}
+
 /// The array that begins with the components of some numbers, with 0 behind them.
 fn spread(components: &[u8]) -> [u8; NUMBERS]
     requires { length components.now ≤ NUMBERS }
@@ -160,15 +169,4 @@ fn place_of(arc: u8, list: &[u8]) -> usize
     ensures within { result ≤ length list.now }
 {
     list.iter().take_while(|other| arc != **other).count()
-}
-
-/// How many arcs a component has, which is given by its least arc.
-fn arcs_in(components: &[u8], first: u8) -> usize
-    ensures arcs { result ≡ arcs_in components.now first }
-    ensures within { result ≤ length components.now }
-{
-    components
-        .iter()
-        .filter(|component| first == **component)
-        .count()
 }

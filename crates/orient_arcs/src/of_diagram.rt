@@ -1,12 +1,11 @@
 //! What is asked of a diagram: its components, and the arc that follows an arc.
 
-ghost use Rattle.std.specs.Prelude.{◌≡◌, ◌<◌};
+ghost use Rattle.std.specs.Prelude.{◌≡◌};
 ghost use Rattle.kh_types.specs.Code.{IsArc};
-ghost use Rattle.kh_types.specs.Components.{next, next_in};
+ghost use Rattle.kh_types.specs.Components.{next};
 
 use crate::numbered::Components;
-use crate::passes::components_of;
-use kh_types::{Diagram, class_of};
+use kh_types::{Diagram, components_of, next_in};
 
 /// The components of a diagram, numbered from 0 by their least arcs; loops are not counted. Source: this project's rule.
 pub fn components(diagram: &Diagram) -> Components
@@ -23,18 +22,5 @@ pub fn next(diagram: &Diagram, arc: u8) -> u8
     ensures follows { result ≡ next diagram.now.crossings arc }
     ensures within { IsArc diagram.now.crossings result }
 {
-    next_in(&components_of(diagram), arc)
-}
-
-/// The same, given the least arc of the component of each arc.
-fn next_in(components: &[u8], arc: u8) -> u8
-    requires { arc < 255 }
-    ensures { result ≡ next_in components.now arc }
-{
-    let component = class_of(components, usize::from(arc));
-    if class_of(components, usize::from(arc) + 1) == component {
-        arc + 1
-    } else {
-        component
-    }
+    next_in(&components_of(diagram.crossings()), arc) as u8
 }

@@ -3,6 +3,7 @@
 use crate::{components, next};
 use arrayvec::ArrayVec;
 use kh_types::{Crossing, Diagram, RawCode};
+use std::process::Abort;
 use std::test::Fail;
 
 /// Of each component its first arc and its length, and of each arc the number of its component and the arc that follows, worked
@@ -53,21 +54,32 @@ fn known_diagrams_have_their_components(rt: HostRuntime) -> Result<(), Fail> {
             ],
         ),
     ] {
-        let diagram = Diagram::try_new(&code(crossings))?;
-        let found = components(&diagram);
-        assert_eq!(rt; found.count() as usize, wanted.len(), "{crossings:?}");
-        for component in 0..found.count() {
-            let is = (found.first(component), found.length(component));
-            assert_eq!(rt; wanted.get(component as usize), Some(&is), "{crossings:?}");
-        }
-        for arc in 1..=2 * diagram.count() {
-            let is = (found.of_arc(arc), next(&diagram, arc));
-            assert_eq!(rt;
-                arcs.get(arc as usize - 1),
-                Some(&is),
-                "{arc} of {crossings:?}"
-            );
-        }
+        has_components(&rt, crossings, wanted, arcs)?;
+    }
+    Ok(())
+}
+
+// A diagram has these components and arcs, and two loops.
+fn has_components(
+    rt: &impl Abort,
+    crossings: &[[u8; 4]],
+    wanted: &[(u8, u8)],
+    arcs: &[(u8, u8)],
+) -> Result<(), Fail> {
+    let diagram = Diagram::try_new(&code(crossings))?;
+    let found = components(&diagram);
+    assert_eq!(rt; found.count() as usize, wanted.len(), "{crossings:?}");
+    for component in 0..found.count() {
+        let is = (found.first(component), found.length(component));
+        assert_eq!(rt; wanted.get(component as usize), Some(&is), "{crossings:?}");
+    }
+    for arc in 1..=2 * diagram.count() {
+        let is = (found.of_arc(arc), next(&diagram, arc));
+        assert_eq!(rt;
+            arcs.get(arc as usize - 1),
+            Some(&is),
+            "{arc} of {crossings:?}"
+        );
     }
     Ok(())
 }

@@ -30,7 +30,7 @@ pub struct Bytes<'a> {
 
 impl<'a> System<'a> {
     /// A system that reads these bytes and has room for this many, of which a write takes at most five.
-    pub fn new(
+    pub(crate) fn new(
         alloc: Global,
         line: &'a [&'a [u8]],
         input: &'a [u8],
@@ -46,7 +46,7 @@ impl<'a> System<'a> {
     }
 
     /// The system whose input fails behind its last byte.
-    pub fn broken(self) -> System<'a> {
+    pub(crate) fn broken(self) -> System<'a> {
         System {
             is_broken: true,
             ..self
@@ -54,7 +54,7 @@ impl<'a> System<'a> {
     }
 
     /// Asserts that these bytes were written, and no others.
-    pub fn has_written(&self, rt: &impl Abort, bytes: &[u8]) {
+    pub(crate) fn has_written(&self, rt: &impl Abort, bytes: &[u8]) {
         match self.sink.try_borrow() {
             Ok(sink) => assert_eq!(rt; sink.bytes(), bytes),
             Err(_) => assert!(rt; false, "the output is in use"),

@@ -11,6 +11,7 @@ use crate::limits::{ARCS, CROSSINGS};
 use arrayvec::ArrayVec;
 
 /// The component of each number up to 2n, by its least arc; the number 0 is no arc and stands alone.
+/// Source: Knot Atlas, "Planar Diagrams".
 pub fn components_of(crossings: &[Crossing]) -> ArrayVec<u8, CLASS_MEMBERS>
     requires { length crossings.now ≤ CROSSINGS }
     ensures { result.items ≡ components_of crossings.now }
@@ -52,9 +53,10 @@ pub fn component_count(crossings: &[Crossing], components: &[u8]) -> usize
         .count()
 }
 
-/// How many arcs a component has.
+/// How many arcs a component has, which is given by its least arc.
 pub fn arcs_in(components: &[u8], first: u8) -> usize
-    ensures { result ≡ arcs_in components.now first }
+    ensures arcs { result ≡ arcs_in components.now first }
+    ensures within { result ≤ length components.now }
 {
     components
         .iter()
@@ -71,7 +73,7 @@ pub fn is_interval(components: &[u8], first: u8) -> bool
     arcs.all(|arc| class_of(components, arc) == first)
 }
 
-/// The arc that follows.
+/// The arc that follows an arc, given the component of each number.
 pub fn next_in(components: &[u8], arc: u8) -> u16
     ensures { result ≡ next_in components.now arc }
 {

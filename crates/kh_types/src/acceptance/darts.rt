@@ -5,31 +5,12 @@ ghost use Rattle.std.specs.List.{find};
 ghost use Rattle.kh_types.specs.declared.dart.Dart.{Dart};
 ghost use Rattle.kh_types.specs.declared.limits.TheConstants.{CROSSINGS};
 ghost use Rattle.kh_types.specs.Code.{IsArc};
-ghost use Rattle.kh_types.specs.Darts.{dart_at, dart_place, darts, arc_of, times, first_dart, is_same_dart, is_partner, partner, partner_at, turned, IsDart};
+ghost use Rattle.kh_types.specs.Darts.{dart_at, darts, arc_of, times, first_dart, is_partner, partner, partner_at, IsDart};
 
 use crate::acceptance::arcs::arc_at;
 use crate::code::Crossing;
-use crate::dart::Dart;
+use crate::dart::{Dart, dart_at, dart_place};
 use crate::limits::CROSSINGS;
-
-/// The dart at a place in the order of all darts.
-pub fn dart_at(place: u8) -> Dart
-    ensures { result ≡ dart_at place }
-{
-    Dart {
-        crossing: place / 4 + 1,
-        slot: place % 4,
-    }
-}
-
-/// The place of a dart in this order.
-pub fn dart_place(dart: Dart) -> u8
-    requires crossing { dart.crossing ≤ CROSSINGS }
-    requires slot { dart.slot < 4 }
-    ensures { result ≡ dart_place dart }
-{
-    4 * dart.crossing.saturating_sub(1) + dart.slot
-}
 
 /// The arc of a dart.
 pub fn arc_of(crossings: &[Crossing], dart: Dart) -> u8
@@ -107,15 +88,7 @@ pub fn partner_at(crossings: &[Crossing], place: u8) -> u8
     requires crossings { length crossings.now ≤ CROSSINGS }
     requires place { place < 4 * length crossings.now }
     ensures place { result ≡ partner_at crossings.now place }
-    ensures below { result < 4 * CROSSINGS }
+    ensures below { result < 4 * length crossings.now }
 {
     dart_place(partner(crossings, dart_at(place)))
-}
-
-/// The place of the dart at the slot before, round the same crossing.
-pub fn turned(place: u8) -> u8
-    requires { place < 4 * CROSSINGS }
-    ensures { result ≡ turned place }
-{
-    4 * (place / 4) + (place % 4 + 3) % 4
 }

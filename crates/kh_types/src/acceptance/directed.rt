@@ -9,11 +9,11 @@ ghost use Rattle.kh_types.specs.Acceptance.{first_of, arc_range_at, arc_range_fa
 
 use crate::acceptance::arcs::arc_at;
 use crate::acceptance::components::{arcs_in, component_count, is_interval, next_in};
-use crate::acceptance::darts::{arc_of, dart_at, times};
+use crate::acceptance::darts::{arc_of, times};
 use crate::acceptance::faults::{fault_if, first_of};
 use crate::classes::{class_of, is_least};
 use crate::code::{Crossing, RawCode};
-use crate::dart::Dart;
+use crate::dart::{Dart, dart_at};
 use crate::fault::CodeFault;
 use crate::limits::{COMPONENTS, CROSSINGS};
 

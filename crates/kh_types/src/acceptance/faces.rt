@@ -6,9 +6,10 @@ ghost use Rattle.kh_types.specs.Darts.{partner_at};
 ghost use Rattle.kh_types.specs.Faces.{face_pair, piece_pair, faces_of, face_count, pieces_of, piece_count, planar_face_count};
 ghost use Rattle.kh_types.specs.Acceptance.{genus_fault};
 
-use crate::acceptance::darts::{partner_at, turned};
+use crate::acceptance::darts::partner_at;
 use crate::classes::{CLASS_MEMBERS, class_count, classes_of};
 use crate::code::Crossing;
+use crate::dart::turned;
 use crate::fault::CodeFault;
 use crate::limits::CROSSINGS;
 use arrayvec::ArrayVec;

@@ -6,10 +6,10 @@ ghost use Rattle.kh_types.specs.Code.{IsArc};
 ghost use Rattle.kh_types.specs.Darts.{IsDart};
 ghost use Rattle.kh_types.specs.Directions.{is_positive, is_head, head_of, tail_of};
 
-use crate::acceptance::darts::{arc_of, dart_at, find_dart};
+use crate::acceptance::darts::{arc_of, find_dart};
 use crate::acceptance::signs::is_positive;
 use crate::code::Crossing;
-use crate::dart::Dart;
+use crate::dart::{Dart, dart_at};
 use crate::limits::CROSSINGS;
 
 /// The head of an arc, where it enters a crossing.

@@ -12,7 +12,7 @@ type Set = u32;
 type Pairs = ArrayVec<(u32, u32), 64>;
 
 /// Whether crossings keep the rules. The limit on components and loops is left out: so few crossings do not come near it.
-pub fn accepts(crossings: &[Crossing]) -> bool {
+pub(crate) fn accepts(crossings: &[Crossing]) -> bool {
     let passes = passes_of(crossings);
     let ends = ends_of_arcs(crossings);
     stands_twice(crossings)
@@ -24,7 +24,7 @@ pub fn accepts(crossings: &[Crossing]) -> bool {
 }
 
 /// Each of the arcs 1 to 2n stands exactly twice, so no other number stands.
-pub fn stands_twice(crossings: &[Crossing]) -> bool {
+pub(crate) fn stands_twice(crossings: &[Crossing]) -> bool {
     (1..=arc_count(crossings)).all(|arc| {
         let times = (0..dart_count(crossings)).filter(|dart| arc_of(crossings, *dart) == arc);
         times.count() == 2

@@ -1,5 +1,5 @@
 use Rattle.kh_types.specs.Faces.{faces_of}
-use Rattle.face_walk.specs.Walks.{IsWalked}
+use Rattle.kh_types.specs.Walks.{IsWalked}
 use Rattle.face_walk.proofs.walk.faces_of.Given as goal
 
 abbrev pub invariant-places : goal.invariant-places

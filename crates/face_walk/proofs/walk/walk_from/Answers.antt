@@ -1,7 +1,7 @@
 use Rattle.std.proofs.Common.{◌≡◌, ◌≢◌, inl, inr, arith}
 use Rattle.std.proofs.lemmas.Bool.Decides.{nat_tests}
 use Rattle.face_walk.proofs.FaceCycles.{IsOnFace-first, IsOnFace-more, IsOnFace-last}
-use Rattle.face_walk.proofs.WalkLemmas.{unvisited-fewer}
+use Rattle.kh_types.proofs.WalkLemmas.{unvisited-fewer}
 use Rattle.face_walk.proofs.walk.walk_from.Goals as goal
 
 pub walk-init : goal.walk-init

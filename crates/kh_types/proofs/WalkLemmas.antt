@@ -10,7 +10,7 @@ use Rattle.std.proofs.lemmas.List.FromFn.{length-range_with_len}
 use Rattle.std.proofs.lemmas.List.Sums.{sum_by-set}
 use Rattle.kh_types.specs.Classes.{IsNamed}
 use Rattle.kh_types.proofs.JoinedClasses.{slice_index-range}
-use Rattle.face_walk.specs.Walks.{IsWalked}
+use Rattle.kh_types.specs.Walks.{IsWalked}
 
 -- f permutes the numbers below m, another function leads back, and these are the cycles of f, named by their least numbers: one
 -- step stays in the cycle, and what each step keeps is one on each cycle

@@ -1,4 +1,4 @@
--- How far the walks round the faces have come.
+-- How far walks round the cycles of a permutation have come.
 use Rattle.std.specs.Prelude.{◌≡◌, ◌<◌, ◌≤◌, ℕ, List, length, slice_index}
 
 -- all cycles whose least number is below p have been walked: their numbers have the classes of the cycles, and all others are
