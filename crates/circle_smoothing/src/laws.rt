@@ -1,3 +1,4 @@
 //! What an edge does to the circles, what the numbers of circles are, and known diagrams.
 
+pub mod edges;
 pub mod known;

@@ -5,7 +5,7 @@ ghost use Rattle.kh_types.specs.declared.classes.TheConstants.{CLASS_MEMBERS};
 ghost use Rattle.kh_types.specs.declared.limits.TheConstants.{CROSSINGS};
 
 use arrayvec::ArrayVec;
-use kh_types::{CLASS_MEMBERS, Dart, Diagram};
+use kh_types::{CLASS_MEMBERS, Diagram, dart_at};
 
 /// The arc of each dart, by places.
 pub fn arcs_of(diagram: &Diagram) -> ArrayVec<u8, CLASS_MEMBERS> {
@@ -20,7 +20,7 @@ pub fn arcs_of(diagram: &Diagram) -> ArrayVec<u8, CLASS_MEMBERS> {
 pub fn partners_of(diagram: &Diagram) -> ArrayVec<u8, CLASS_MEMBERS> {
     let mut partners = ArrayVec::new();
     for place in 0..4 * diagram.count() {
-        partners.push(dart_place(diagram.partner(dart_at(place))));
+        partners.push(diagram.partner_at(place));
     }
     partners
 }
@@ -41,20 +41,4 @@ fn place_of(list: &[u8], number: u8) -> usize {
 
 fn found(list: &[u8], number: u8) -> Option<usize> {
     list.iter().position(|x| *x == number)
-}
-
-/// The dart at a place in the order of all darts, by crossing, then by slot.
-fn dart_at(place: u8) -> Dart {
-    Dart {
-        crossing: place / 4 + 1,
-        slot: place % 4,
-    }
-}
-
-/// The place of a dart in this order.
-fn dart_place(dart: Dart) -> u8
-    requires crossing { dart.crossing ≤ CROSSINGS }
-    requires slot { dart.slot < 4 }
-{
-    4 * dart.crossing.saturating_sub(1) + dart.slot
 }
