@@ -3,3 +3,5 @@ pub mod CircleCycles
 pub mod Exchange
 pub mod EdgeBits
 pub mod EdgeCircles
+pub mod FilteredRanges
+pub mod EdgeNames

@@ -13,3 +13,11 @@ pub fn edges_join_or_part()
         → IsCrossing code.crossings crossing → bit state (place_of crossing) ≡ 0
         → JoinsOrParts code state crossing }
 {}
+
+/// Along an edge two circles become one, or one becomes two: with their names, the circles that the crossing touches, the number
+/// of circles, and what is on each circle before and after.
+pub fn edges_merge_or_split()
+    ensures { (code : Code) (state crossing : ℕ) → IsTrue (accepted code)
+        → IsCrossing code.crossings crossing → bit state (place_of crossing) ≡ 0
+        → MergesOrSplits code state crossing }
+{}
