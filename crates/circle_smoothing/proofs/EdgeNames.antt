@@ -153,7 +153,7 @@ in_order p q z is = grind (arith, nat_tests)
 both_in_order : (p q : ℕ) → ((p ≡ min p q) × (q ≡ max p q)) ⊎ ((p ≡ max p q) × (q ≡ min p q))
 both_in_order p q = grind (arith, nat_tests)
 
-becomes_least : (p q z : ℕ) → (z ≡ p) ⊎ (z ≡ q) → merged p q z ≡ min p q
+pub becomes_least : (p q z : ℕ) → (z ≡ p) ⊎ (z ≡ q) → merged p q z ≡ min p q
 becomes_least p q z is = grind (arith, nat_tests)
 
 greatest_becomes : (p q z : ℕ) → z ≡ max p q → merged p q z ≡ min p q
@@ -162,7 +162,7 @@ greatest_becomes p q z is = grind (arith, nat_tests)
 stays : (p q z : ℕ) → z ≢ max p q → merged p q z ≡ z
 stays p q z other = grind (arith, nat_tests)
 
-stays_least : (p q c x : ℕ) → p ≢ q → (x ≡ max p q → c ≡ x) → (x ≡ min p q → c ≡ x)
+pub stays_least : (p q c x : ℕ) → p ≢ q → (x ≡ max p q → c ≡ x) → (x ≡ min p q → c ≡ x)
     → nat_eq (merged p q c) x ≡ (nat_eq c x && not (nat_eq x (max p q)))
 stays_least p q c x apart own_greatest own_least = grind (arith, nat_tests)
 
@@ -248,25 +248,42 @@ two_become_one code before after crossing is is_crossing second fourth join =
       ];
     }
 
--- along an edge two circles become one, or one becomes two
+-- the circles of the arcs at the slots 0 and 2 of a crossing are two in the one state, and one in the other
+pub record IsJoin (code : Code) (before after crossing : ℕ) : Type 0 where
+  pub join : AreJoined (circles_of code before) (circles_of code after) (arc_at_slot code crossing 0) (arc_at_slot code crossing 2)
+  pub circles : TwoBecomeOne code before after crossing (min (circle_at code before crossing 0) (circle_at code before crossing 2))
+      (max (circle_at code before crossing 0) (circle_at code before crossing 2))
+
+-- along an edge this is so forwards, or backwards
+pub IsJoin-edge : (code : Code) (state crossing : ℕ) → IsTrue (accepted code) → IsCrossing code.crossings crossing
+    → bit state (place_of crossing) ≡ 0
+    → IsJoin code state (state_behind state crossing) crossing ⊎ IsJoin code (state_behind state crossing) state crossing
+IsJoin-edge code state crossing is is_crossing zero =
+    let behind = state_behind state crossing in
+    let one = bit-set_there state (place_of crossing) zero in
+    elim (joins_or_parts code state crossing is is_crossing zero) [
+      | inl join ↦ inl (record {
+        join = join;
+        circles = two_become_one code state behind crossing is is_crossing
+            (inl (circle_at-joined code state crossing 0 0 is is_crossing (omega arith) (omega arith) zero))
+            (inr (circle_at-joined code state crossing 2 0 is is_crossing (omega arith) (omega arith) zero)) join;
+      })
+      | inr part ↦ inr (record {
+        join = part;
+        circles = two_become_one code behind state crossing is is_crossing
+            (inr (circle_at-joined code behind crossing 2 1 is is_crossing (omega arith) (omega arith) one))
+            (inl (circle_at-joined code behind crossing 0 1 is is_crossing (omega arith) (omega arith) one)) part;
+      })
+    ]
+
+-- so two circles become one, or one becomes two
 pub merges_or_splits : (code : Code) (state crossing : ℕ) → IsTrue (accepted code) → IsCrossing code.crossings crossing
     → bit state (place_of crossing) ≡ 0 → MergesOrSplits code state crossing
 merges_or_splits code state crossing is is_crossing zero =
     let behind = state_behind state crossing in
-    let one = bit-set_there state (place_of crossing) zero in
-    elim (joins_or_parts code state crossing is is_crossing zero) [
-      | inl join ↦ (
-        min (circle_at code state crossing 0) (circle_at code state crossing 2),
-        max (circle_at code state crossing 0) (circle_at code state crossing 2),
-        inl (two_become_one code state behind crossing is is_crossing
-            (inl (circle_at-joined code state crossing 0 0 is is_crossing (omega arith) (omega arith) zero))
-            (inr (circle_at-joined code state crossing 2 0 is is_crossing (omega arith) (omega arith) zero)) join),
-      )
-      | inr part ↦ (
-        min (circle_at code behind crossing 0) (circle_at code behind crossing 2),
-        max (circle_at code behind crossing 0) (circle_at code behind crossing 2),
-        inr (two_become_one code behind state crossing is is_crossing
-            (inr (circle_at-joined code behind crossing 2 1 is is_crossing (omega arith) (omega arith) one))
-            (inl (circle_at-joined code behind crossing 0 1 is is_crossing (omega arith) (omega arith) one)) part),
-      )
+    let p = λ (s : ℕ). circle_at code s crossing 0 in
+    let q = λ (s : ℕ). circle_at code s crossing 2 in
+    elim (IsJoin-edge code state crossing is is_crossing zero) [
+      | inl forth ↦ (min (p state) (q state), max (p state) (q state), inl forth.circles)
+      | inr back ↦ (min (p behind) (q behind), max (p behind) (q behind), inr back.circles)
     ]

@@ -5,3 +5,5 @@ pub mod EdgeBits
 pub mod EdgeCircles
 pub mod FilteredRanges
 pub mod EdgeNames
+pub mod NumberLemmas
+pub mod EdgeNumbers
