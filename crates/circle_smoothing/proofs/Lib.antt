@@ -6,4 +6,5 @@ pub mod EdgeCircles
 pub mod FilteredRanges
 pub mod EdgeNames
 pub mod NumberLemmas
+pub mod ListedNumbers
 pub mod EdgeNumbers

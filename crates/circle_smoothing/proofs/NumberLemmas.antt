@@ -11,17 +11,62 @@ use Rattle.kh_types.specs.Classes.{is_least}
 use Rattle.kh_types.specs.Code.{Code, arc_count}
 use Rattle.kh_types.specs.Circles.{circles_of, circle_count, circle_names}
 use Rattle.kh_types.proofs.Ranges.{range_around}
-use Rattle.circle_smoothing.specs.CircleNumbers.{circle_number, number_of}
+use Rattle.circle_smoothing.specs.CircleLists.{names_to}
+use Rattle.circle_smoothing.specs.CircleNumbers.{number_of}
 use Rattle.circle_smoothing.specs.Edges.{IsName}
 use Rattle.circle_smoothing.proofs.CircleCycles.{IsNamed-circles}
 use Rattle.circle_smoothing.proofs.EdgeNames.{circle-positive}
 use Rattle.circle_smoothing.proofs.FilteredRanges.{position-behind}
 
--- the name of a circle in a state: its least arc, or the loop
-pub record IsCircle (code : Code) (state circle : ℕ) : Type 0 where
+-- a circle, which is named by its least number, among the numbers 1 to `most`
+pub record IsNameOf (circles : List ℕ) (most circle : ℕ) : Type 0 where
   pub positive : 1 ≤ circle
-  pub within : circle ≤ arc_count code.crossings + code.loops
-  pub own : slice_index (circles_of code state) circle ≡ circle
+  pub within : circle ≤ most
+  pub own : slice_index circles circle ≡ circle
+
+-- how many circles have a lesser name
+abbrev pub lesser_in : List ℕ → ℕ → ℕ
+lesser_in circles circle = length (names_to circles (circle - 1))
+
+-- the names up to a number, about one of them
+names-around : (circles : List ℕ) (circle last : ℕ) → IsNameOf circles last circle
+    → names_to circles last
+    ≡ names_to circles (circle - 1) ++ circle ∷ filter (is_least circles) (range_with_len (circle + 1) (last - (circle - 1 + 1)))
+names-around circles circle last is =
+    let p = is_least circles in
+    let front = range_with_len 1 (circle - 1) in
+    let back = range_with_len (circle + 1) (last - (circle - 1 + 1)) in
+    ap (λ xs. filter p xs)
+    (range_around 1 last (circle - 1) circle (omega (arith, is.positive, is.within)) (omega (arith, is.positive)))
+    ∙ filter-append p front (circle ∷ back)
+    ∙ ap (λ b. filter p front ++ cond b (circle ∷ filter p back) (filter p back)) (eq-eqb (slice_index circles circle) circle is.own)
+
+-- so they are as many as the lesser, and at least one more
+lesser-names : (circles : List ℕ) (circle last : ℕ) → IsNameOf circles last circle
+    → lesser_in circles circle < length (names_to circles last)
+lesser-names circles circle last is =
+    let back = filter (is_least circles) (range_with_len (circle + 1) (last - (circle - 1 + 1))) in
+    omega (
+      arith,
+      ap length (names-around circles circle last is),
+      length-append (names_to circles (circle - 1)) (circle ∷ back),
+    )
+
+-- the place of a circle among the names is how many have a lesser name
+pub position-counted : (circles : List ℕ) (most circle : ℕ) → IsNameOf circles most circle
+    → position_or_len (nat_eq circle) (names_to circles most) ≡ lesser_in circles circle
+position-counted circles most circle is =
+    ap (λ xs. position_or_len (nat_eq circle) xs) (names-around circles circle most is)
+    ∙ position-behind (is_least circles) 1 (circle - 1) circle
+    (filter (is_least circles) (range_with_len (circle + 1) (most - (circle - 1 + 1)))) (omega (arith, is.positive))
+
+-- the same of the circles of a state
+
+abbrev pub IsCircle : Code → ℕ → ℕ → Type 0
+IsCircle code state circle = IsNameOf (circles_of code state) (arc_count code.crossings + code.loops) circle
+
+abbrev pub lesser : Code → ℕ → ℕ → ℕ
+lesser code state circle = lesser_in (circles_of code state) circle
 
 pub IsCircle-of : (code : Code) (state name : ℕ) → IsTrue (accepted code) → IsName code name
     → IsCircle code state (slice_index (circles_of code state) name)
@@ -34,46 +79,9 @@ IsCircle-of code state name is is_name =
       own = named.own name below;
     }
 
--- how many circles have a lesser name
-abbrev pub lesser : Code → ℕ → ℕ → ℕ
-lesser code state circle = length (filter (is_least (circles_of code state)) (range_with_len 1 (circle - 1)))
-
--- the names up to a number, about one of them
-names-around : (code : Code) (state circle last : ℕ) → IsCircle code state circle → circle ≤ last
-    → filter (is_least (circles_of code state)) (range_with_len 1 last)
-    ≡ filter (is_least (circles_of code state)) (range_with_len 1 (circle - 1))
-    ++ circle ∷ filter (is_least (circles_of code state)) (range_with_len (circle + 1) (last - (circle - 1 + 1)))
-names-around code state circle last is within =
-    let p = is_least (circles_of code state) in
-    let front = range_with_len 1 (circle - 1) in
-    let back = range_with_len (circle + 1) (last - (circle - 1 + 1)) in
-    ap (λ xs. filter p xs)
-    (range_around 1 last (circle - 1) circle (omega (arith, is.positive, within)) (omega (arith, is.positive)))
-    ∙ filter-append p front (circle ∷ back)
-    ∙ ap (λ b. filter p front ++ cond b (circle ∷ filter p back) (filter p back))
-    (eq-eqb (slice_index (circles_of code state) circle) circle is.own)
-
--- so they are as many as the lesser, and at least one more
-lesser-names : (code : Code) (state circle last : ℕ) → IsCircle code state circle → circle ≤ last
-    → lesser code state circle < length (filter (is_least (circles_of code state)) (range_with_len 1 last))
-lesser-names code state circle last is within =
-    let p = is_least (circles_of code state) in
-    let back = filter p (range_with_len (circle + 1) (last - (circle - 1 + 1))) in
-    omega (
-      arith,
-      ap length (names-around code state circle last is within),
-      length-append (filter p (range_with_len 1 (circle - 1))) (circle ∷ back),
-    )
-
--- the number of a circle is how many have a lesser name
 pub number_of-counted : (code : Code) (state circle : ℕ) → IsCircle code state circle
     → number_of code state circle ≡ lesser code state circle
-number_of-counted code state circle is =
-    let most = arc_count code.crossings + code.loops in
-    let p = is_least (circles_of code state) in
-    ap (λ xs. position_or_len (nat_eq circle) xs) (names-around code state circle most is is.within)
-    ∙ position-behind p 1 (circle - 1) circle (filter p (range_with_len (circle + 1) (most - (circle - 1 + 1))))
-    (omega (arith, is.positive))
+number_of-counted code state circle = position-counted (circles_of code state) (arc_count code.crossings + code.loops) circle
 
 pub number_of-below : (code : Code) (state circle : ℕ) → IsCircle code state circle
     → number_of code state circle < circle_count code state
@@ -81,7 +89,7 @@ number_of-below code state circle is =
     omega (
       arith,
       number_of-counted code state circle is,
-      lesser-names code state circle (arc_count code.crossings + code.loops) is is.within,
+      lesser-names (circles_of code state) circle (arc_count code.crossings + code.loops) is,
     )
 
 -- the names have that of a circle at its number
@@ -89,11 +97,11 @@ pub circle_names-number_of : (code : Code) (state circle : ℕ) → IsCircle cod
     → slice_index (circle_names code state) (number_of code state circle) ≡ circle
 circle_names-number_of code state circle is =
     let most = arc_count code.crossings + code.loops in
-    let p = is_least (circles_of code state) in
-    let front = filter p (range_with_len 1 (circle - 1)) in
+    let circles = circles_of code state in
+    let front = names_to circles (circle - 1) in
     ap (λ n. slice_index (circle_names code state) n) (number_of-counted code state circle is)
-    ∙ ap (λ xs. slice_index xs (length front)) (names-around code state circle most is is.within)
-    ∙ get_or-append_seam front circle (filter p (range_with_len (circle + 1) (most - (circle - 1 + 1)))) 0
+    ∙ ap (λ xs. slice_index xs (length front)) (names-around circles circle most is)
+    ∙ get_or-append_seam front circle (filter (is_least circles) (range_with_len (circle + 1) (most - (circle - 1 + 1)))) 0
 
 -- numbers are in the order of names
 pub number_of-order : (code : Code) (state circle other : ℕ) → IsCircle code state circle → IsCircle code state other
@@ -103,7 +111,8 @@ number_of-order code state circle other is other_is order =
       arith,
       number_of-counted code state circle is,
       number_of-counted code state other other_is,
-      lesser-names code state circle (other - 1) is (omega (arith, order)),
+      lesser-names (circles_of code state) circle (other - 1)
+          (record { positive = is.positive; within = omega (arith, order); own = is.own }),
     )
 
 pub number_of-one : (code : Code) (state circle other : ℕ) → IsCircle code state circle → IsCircle code state other

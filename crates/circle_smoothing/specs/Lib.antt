@@ -1,4 +1,5 @@
 pub mod CircleNumbers
+pub mod CircleLists
 pub mod Edges
 pub mod GeneratorCounts
 pub mod Steps
