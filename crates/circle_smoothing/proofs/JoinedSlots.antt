@@ -187,3 +187,6 @@ respects-across g crossings state same =
     ap g (sym (arc_at-slot crossings k (joined_slot (bit state k) slot) (joined_slot-below (bit state k) slot slot_below)))
     ∙ ap (λ p. g (arc_at crossings p)) (sym (across-slot state k slot slot_below))
     ∙ same (4 * k + slot) (omega (arith, below, slot_below)) ∙ ap g (arc_at-slot crossings k slot slot_below))))
+
+-- darts across are darts
+pub ruleset places = (across-below)

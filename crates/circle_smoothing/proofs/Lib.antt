@@ -7,4 +7,6 @@ pub mod FilteredRanges
 pub mod EdgeNames
 pub mod NumberLemmas
 pub mod ListedNumbers
+pub mod TableLemmas
+pub mod CircleWalks
 pub mod EdgeNumbers

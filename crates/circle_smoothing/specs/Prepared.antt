@@ -1,6 +1,6 @@
 -- What a prepared diagram keeps.
-use Rattle.std.specs.Prelude.{◌≡◌, ◌≤◌, ◌<◌, ◌+◌, ℕ, List, length, map, slice_index, IsTrue}
-use Rattle.std.specs.List.{range_with_len}
+use Rattle.std.specs.Prelude.{◌≡◌, ◌≤◌, ◌<◌, ◌+◌, ℕ, List, length, map, nat_eq, slice_index, IsTrue}
+use Rattle.std.specs.List.{position_or_len, range_with_len}
 use Rattle.kh_types.specs.Acceptance.{accepted}
 use Rattle.kh_types.specs.Code.{Code, IsArc, arc_count}
 use Rattle.kh_types.specs.Darts.{arc_of, dart_at, dart_count, partner_at}
@@ -18,6 +18,10 @@ arcs_at crossings = map (arc_at crossings) (range_with_len 0 (dart_count crossin
 -- the places of the partners of all darts, in order
 abbrev pub partners_at : List (List ℕ) → List ℕ
 partners_at crossings = map (partner_at crossings) (range_with_len 0 (dart_count crossings))
+
+-- the first place of a number in a list; the list's length where it is not in it
+abbrev pub start_in : List ℕ → ℕ → ℕ
+start_in arcs arc = position_or_len (λ x. nat_eq x arc) arcs
 
 -- a list has the place of a dart on each arc, after an entry for the number 0
 pub record HasStarts (crossings : List (List ℕ)) (starts : List ℕ) : Type 0 where

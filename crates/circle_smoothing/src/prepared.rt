@@ -1,13 +1,16 @@
 //! A diagram prepared for walks along its circles.
 
-ghost use Rattle.std.specs.Prelude.{◌≡◌, ◌≢◌, ◌^◌, ◌<◌, ◌≤◌, length};
+ghost use Rattle.std.specs.Prelude.{◌≡◌, ◌≢◌, ◌^◌, ◌<◌, ◌≤◌, length, min, max, IsTrue};
+ghost use Rattle.kh_types.specs.Acceptance.{accepted};
 ghost use Rattle.kh_types.specs.Bits.{bit};
-ghost use Rattle.kh_types.specs.Code.{IsCrossing, place_of};
+ghost use Rattle.kh_types.specs.Code.{IsArc, IsCrossing, place_of};
 ghost use Rattle.kh_types.specs.Circles.{circle_count};
-ghost use Rattle.kh_types.specs.declared.limits.TheConstants.{CIRCLES};
+ghost use Rattle.kh_types.specs.Darts.{dart_count, partner_at};
+ghost use Rattle.kh_types.specs.declared.limits.TheConstants.{CIRCLES, CROSSINGS};
 ghost use Rattle.circle_smoothing.specs.Edges.{IsEdge};
+ghost use Rattle.circle_smoothing.specs.Prepared.{arc_at};
 
-use crate::change::Edge;
+use crate::change::{Edge, merge, split};
 use crate::numbered::Circles;
 use crate::numbering::numbers_of;
 use crate::tables::{arcs_of, partners_of, starts_of};
@@ -16,17 +19,13 @@ use arrayvec::ArrayVec;
 use kh_types::{CLASS_MEMBERS, Diagram, class_count};
 use std::marker::Model;
 
-/// A diagram with what walks along its circles look up: darts by their places, crossing first, then slot. It is made once for all
-/// states. Contracts see it as the diagram's `Code`.
+/// A diagram with what walks along its circles look up; it is made once for all states. Contracts see it as the diagram's `Code`.
 #[derive(Debug, Drop)]
 pub struct Smoothings {
     diagram: Diagram,
-    /// The arc of each dart.
-    pub(crate) arcs: ArrayVec<u8, CLASS_MEMBERS>,
-    /// The other dart of that arc.
-    pub(crate) partners: ArrayVec<u8, CLASS_MEMBERS>,
-    /// A dart on each arc.
-    pub(crate) starts: ArrayVec<u8, CLASS_MEMBERS>,
+    arcs: ArrayVec<u8, CLASS_MEMBERS>,
+    partners: ArrayVec<u8, CLASS_MEMBERS>,
+    starts: ArrayVec<u8, CLASS_MEMBERS>,
 }
 
 impl Model for Smoothings {
@@ -47,7 +46,7 @@ impl Smoothings {
         ensures { result ≡ diagram.now }
     {
         let arcs = arcs_of(diagram);
-        let starts = starts_of(&arcs, diagram.count());
+        let starts = starts_of(diagram, &arcs);
         Smoothings {
             diagram: *diagram,
             arcs,
@@ -62,12 +61,12 @@ impl Smoothings {
         ensures code { result.code ≡ self.now }
         ensures state { result.state ≡ state }
     {
-        let classes = circles_of(self, state);
+        let circles = circles_of(self, state);
         Circles {
             diagram: self.diagram,
             state,
-            numbers: numbers_of(&classes),
-            count: class_count(&classes) as u8 - 1,
+            numbers: numbers_of(&circles),
+            count: circle_count(&circles),
         }
     }
 
@@ -77,7 +76,7 @@ impl Smoothings {
         ensures count { result ≡ circle_count self.now state }
         ensures within { result ≤ CIRCLES }
     {
-        class_count(&circles_of(self, state)) as u8 - 1
+        circle_count(&circles_of(self, state))
     }
 
     /// What the edge at a crossing does that starts in a state in which the crossing has its 0-smoothing.
@@ -87,47 +86,56 @@ impl Smoothings {
         requires smoothing { bit state (place_of crossing) ≡ 0 }
         ensures { IsEdge self.now state crossing result }
     {
-        let first = self.arcs[4 * (crossing as usize - 1)];
-        let third = self.arcs[4 * (crossing as usize - 1) + 2];
+        let first = self.arc_at(4 * (crossing - 1));
+        let third = self.arc_at(4 * (crossing - 1) + 2);
         let before = self.circles(state);
         let behind = self.circles(state + (1 << (crossing - 1)));
-        if before.of_arc(first) != before.of_arc(third) {
-            merge(
-                before.of_arc(first),
-                before.of_arc(third),
-                behind.of_arc(first),
-            )
+        let (x, y) = (before.of_arc(first), before.of_arc(third));
+        if x != y {
+            merge(x, y, behind.of_arc(first))
         } else {
-            split(
-                before.of_arc(first),
-                behind.of_arc(first),
-                behind.of_arc(third),
-            )
+            split(x, behind.of_arc(first), behind.of_arc(third))
         }
     }
 
     /// The diagram.
     pub(crate) fn diagram(&self) -> &Diagram
-        ensures { result.now ≡ self.now }
+        ensures diagram { result.now ≡ self.now }
+        ensures few { length self.now.crossings ≤ CROSSINGS }
+        ensures accepted { IsTrue (accepted self.now) }
     {
         &self.diagram
     }
-}
 
-/// A merge of two circles.
-fn merge(x: u8, y: u8, to: u8) -> Edge {
-    Edge::Merge {
-        a: x.min(y),
-        b: x.max(y),
-        to,
+    /// The arc of the dart at a place.
+    pub(crate) fn arc_at(&self, place: u8) -> u8
+        requires { place < dart_count self.now.crossings }
+        ensures arc { result ≡ arc_at self.now.crossings place }
+        ensures within { IsArc self.now.crossings result }
+    {
+        self.arcs[place as usize]
+    }
+
+    /// The place of the other dart of the arc of the dart at a place.
+    pub(crate) fn partner_at(&self, place: u8) -> u8
+        requires { place < dart_count self.now.crossings }
+        ensures place { result ≡ partner_at self.now.crossings place }
+        ensures below { result < dart_count self.now.crossings }
+    {
+        self.partners[place as usize]
+    }
+
+    /// The place of a dart on an arc.
+    pub(crate) fn start_of(&self, arc: u8) -> u8
+        requires { IsArc self.now.crossings arc }
+        ensures below { result < dart_count self.now.crossings }
+        ensures on_arc { arc_at self.now.crossings result ≡ arc }
+    {
+        self.starts[arc as usize]
     }
 }
 
-/// A split into two circles.
-fn split(from: u8, x: u8, y: u8) -> Edge {
-    Edge::Split {
-        from,
-        a: x.min(y),
-        b: x.max(y),
-    }
+/// How many circles there are in a list that has the circle of each arc and each loop, after an entry for the number 0.
+fn circle_count(circles: &[u8]) -> u8 {
+    class_count(circles) as u8 - 1
 }
