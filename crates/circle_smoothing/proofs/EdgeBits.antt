@@ -1,6 +1,6 @@
 -- The bits of a number to which a power of two is added where it has a 0.
-use Rattle.std.proofs.Common.{◌≡◌, ◌≢◌, ℕ, ◌⊎◌, inl, inr, ◌+◌, ◌-◌, ◌*◌, ◌/◌, ◌%◌, ◌^◌, ◌<◌, ◌∙◌, sym, ap, arith}
-use Rattle.std.proofs.Math.Nat.{add-div_right, add-mul-div_right, div-div-eq-div-mul}
+use Rattle.std.proofs.Common.{◌≡◌, ◌≢◌, ℕ, ◌⊎◌, inl, inr, ◌+◌, ◌-◌, ◌*◌, ◌/◌, ◌%◌, ◌^◌, ◌<◌, ◌≤◌, ◌∙◌, sym, ap, arith}
+use Rattle.std.proofs.Math.Nat.{add-div_right, add-mul-div_right, div-div-eq-div-mul, div-lt_iff_lt-mul, lt-mul-div-succ, mul-le-mul_right}
 use Rattle.std.proofs.lemmas.Nat.{pow-add, pow_pos}
 use Rattle.kh_types.specs.Bits.{bit}
 
@@ -54,3 +54,24 @@ bit-set_other state place is_zero k other = elim (lower_or_higher k place other)
       let e : k ≡ place + (1 + (k - place - 1)) = omega (arith, higher) in
       ap (λ j. bit (state + 2 ^ place) j) e ∙ set-above state place (k - place - 1) is_zero ∙ ap (λ j. bit state j) (sym e)
 ]
+
+-- below a power of two it stays so
+pub set-within : (state place count : ℕ) → place < count → state < 2 ^ count → bit state place ≡ 0 → state + 2 ^ place < 2 ^ count
+set-within state place count within below is_zero =
+    let unit = 2 ^ place in
+    let quotient = state / unit in
+    let rest = count - place - 1 in
+    let half = 2 ^ rest in
+    let split : count ≡ rest + 1 + place = omega (arith, within) in
+    let power : 2 ^ count ≡ half * 2 * unit =
+    ap (λ n. 2 ^ n) split ∙ pow-add 2 (rest + 1) place ∙ ap (λ p. p * unit) (pow-add 2 rest 1) in
+    let few : quotient < half * 2 = (div-lt_iff_lt-mul (pow_pos place)).1 (omega (arith, below, power)) in
+    let two_more : quotient + 2 ≤ half * 2 = even_below quotient half is_zero few in
+    let whole = mul-le-mul_right unit two_more in
+    omega (arith, power, whole, lt-mul-div-succ state (pow_pos place), ring quotient unit)
+  where
+    even_below : (q half : ℕ) → q % 2 ≡ 0 → q < half * 2 → q + 2 ≤ half * 2
+    even_below q half even few = omega (arith, even, few)
+
+    ring : (q unit : ℕ) → unit * (q + 1) + unit ≡ (q + 2) * unit
+    ring q unit = omega arith

@@ -20,7 +20,7 @@ use Rattle.circle_smoothing.proofs.CircleCycles.{IsNamed-circles}
 use Rattle.circle_smoothing.proofs.EdgeNames.{IsArc-slot, IsJoin, IsJoin-edge, becomes_least, circle_at, stays_least}
 use Rattle.circle_smoothing.proofs.NumberLemmas.{IsCircle, IsCircle-max, IsCircle-min, IsCircle-of, lesser, number_of-counted, number_of-max, number_of-min, number_of-one, number_of-order}
 
-IsName-arc : (code : Code) (arc : ℕ) → IsArc code.crossings arc → IsName code arc
+pub IsName-arc : (code : Code) (arc : ℕ) → IsArc code.crossings arc → IsName code arc
 IsName-arc code arc is = record { positive = is.positive; within = omega (arith, is.within) }
 
 -- the circle of the arc at a slot
@@ -107,7 +107,7 @@ lesser-high code before after crossing x is is_crossing join above within =
 
 -- the numbers of the circles afterwards
 
-number-kept : (code : Code) (before after crossing : ℕ) → IsTrue (accepted code) → IsCrossing code.crossings crossing
+pub number-kept : (code : Code) (before after crossing : ℕ) → IsTrue (accepted code) → IsCrossing code.crossings crossing
     → IsJoin code before after crossing
     → number_of code after (kept_of code before crossing) ≡ number_of code before (kept_of code before crossing)
 number-kept code before after crossing is is_crossing join =

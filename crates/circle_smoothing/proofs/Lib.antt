@@ -9,4 +9,6 @@ pub mod NumberLemmas
 pub mod ListedNumbers
 pub mod TableLemmas
 pub mod CircleWalks
+pub mod KeptNumbers
+pub mod EdgeAnswers
 pub mod EdgeNumbers

@@ -57,3 +57,21 @@ fn next_count(circles: &[u8], count: u8, place: usize) -> u8
         count
     }
 }
+
+/// How many circles there are.
+pub fn count_of(circles: &[u8]) -> u8
+    requires { length circles.now ≤ CLASS_MEMBERS }
+    ensures { result ≡ length (names_to circles.now (length circles.now - 1)) }
+{
+    least_count(circles) as u8
+}
+
+fn least_count(circles: &[u8]) -> usize
+    requires { length circles.now ≤ CLASS_MEMBERS }
+    ensures count { result ≡ length (names_to circles.now (length circles.now - 1)) }
+    ensures within { result ≤ length circles.now }
+{
+    (1..circles.len())
+        .filter(|name| is_least(circles, *name as u8))
+        .count()
+}

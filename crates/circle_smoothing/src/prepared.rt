@@ -1,22 +1,22 @@
 //! A diagram prepared for walks along its circles.
 
-ghost use Rattle.std.specs.Prelude.{◌≡◌, ◌≢◌, ◌^◌, ◌<◌, ◌≤◌, length, min, max, IsTrue};
+ghost use Rattle.std.specs.Prelude.{◌≡◌, ◌^◌, ◌<◌, ◌≤◌, length, IsTrue};
 ghost use Rattle.kh_types.specs.Acceptance.{accepted};
 ghost use Rattle.kh_types.specs.Bits.{bit};
 ghost use Rattle.kh_types.specs.Code.{IsArc, IsCrossing, place_of};
 ghost use Rattle.kh_types.specs.Circles.{circle_count};
 ghost use Rattle.kh_types.specs.Darts.{dart_count, partner_at};
 ghost use Rattle.kh_types.specs.declared.limits.TheConstants.{CIRCLES, CROSSINGS};
-ghost use Rattle.circle_smoothing.specs.Edges.{IsEdge};
+ghost use Rattle.circle_smoothing.specs.Edges.{IsEdge, arc_at_slot, state_behind};
 ghost use Rattle.circle_smoothing.specs.Prepared.{arc_at};
 
 use crate::change::{Edge, merge, split};
 use crate::numbered::Circles;
-use crate::numbering::numbers_of;
+use crate::numbering::{count_of, numbers_of};
 use crate::tables::{arcs_of, partners_of, starts_of};
 use crate::walk::circles_of;
 use arrayvec::ArrayVec;
-use kh_types::{CLASS_MEMBERS, Diagram, class_count};
+use kh_types::{CLASS_MEMBERS, Diagram};
 use std::marker::Model;
 
 /// A diagram with what walks along its circles look up; it is made once for all states. Contracts see it as the diagram's `Code`.
@@ -66,7 +66,7 @@ impl Smoothings {
             diagram: self.diagram,
             state,
             numbers: numbers_of(&circles),
-            count: circle_count(&circles),
+            count: count_of(&circles),
         }
     }
 
@@ -76,7 +76,7 @@ impl Smoothings {
         ensures count { result ≡ circle_count self.now state }
         ensures within { result ≤ CIRCLES }
     {
-        circle_count(&circles_of(self, state))
+        count_of(&circles_of(self, state))
     }
 
     /// What the edge at a crossing does that starts in a state in which the crossing has its 0-smoothing.
@@ -86,16 +86,39 @@ impl Smoothings {
         requires smoothing { bit state (place_of crossing) ≡ 0 }
         ensures { IsEdge self.now state crossing result }
     {
-        let first = self.arc_at(4 * (crossing - 1));
-        let third = self.arc_at(4 * (crossing - 1) + 2);
+        let _ = &self.diagram;
         let before = self.circles(state);
-        let behind = self.circles(state + (1 << (crossing - 1)));
+        let behind = self.circles(self.state_behind(state, crossing));
+        let (first, third) = (self.arc_at_slot(crossing, 0), self.arc_at_slot(crossing, 2));
         let (x, y) = (before.of_arc(first), before.of_arc(third));
         if x != y {
             merge(x, y, behind.of_arc(first))
         } else {
             split(x, behind.of_arc(first), behind.of_arc(third))
         }
+    }
+
+    /// The state behind an edge.
+    fn state_behind(&self, state: u32, crossing: u8) -> u32
+        requires state { state < 2 ^ length self.now.crossings }
+        requires crossing { IsCrossing self.now.crossings crossing }
+        requires smoothing { bit state (place_of crossing) ≡ 0 }
+        ensures behind { result ≡ state_behind state crossing }
+        ensures within { result < 2 ^ length self.now.crossings }
+    {
+        let _ = &self.diagram;
+        state + (1 << (crossing - 1))
+    }
+
+    /// The arc at a slot of a crossing.
+    fn arc_at_slot(&self, crossing: u8, slot: u8) -> u8
+        requires crossing { IsCrossing self.now.crossings crossing }
+        requires slot { slot < 4 }
+        ensures arc { result ≡ arc_at_slot self.now crossing slot }
+        ensures within { IsArc self.now.crossings result }
+    {
+        let _ = &self.diagram;
+        self.arc_at(4 * (crossing - 1) + slot)
     }
 
     /// The diagram.
@@ -133,9 +156,4 @@ impl Smoothings {
     {
         self.starts[arc as usize]
     }
-}
-
-/// How many circles there are in a list that has the circle of each arc and each loop, after an entry for the number 0.
-fn circle_count(circles: &[u8]) -> u8 {
-    class_count(circles) as u8 - 1
 }

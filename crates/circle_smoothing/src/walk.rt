@@ -21,6 +21,8 @@ pub fn circles_of(smoothings: &Smoothings, state: u32) -> ArrayVec<u8, CLASS_MEM
     ensures circles { result.items ≡ circles_of smoothings.now state }
     ensures list { AreCircles result.items }
     ensures few { length result.items ≤ CLASS_MEMBERS }
+    ensures accepted { IsTrue (accepted smoothings.now) }
+    ensures small { length smoothings.now.crossings ≤ CROSSINGS }
 {
     let arcs = 2 * smoothings.diagram().crossings().len();
     let mut circles = classes_of(arcs + smoothings.diagram().loops() as usize + 1, &[]);
