@@ -10,15 +10,15 @@ pub fn worked_codes()
     ensures trefoil { code_of
         (Body.Bare (negsuc 0 ∷ pos 3 ∷ negsuc 1 ∷ pos 1 ∷ negsuc 2 ∷ pos 2 ∷ []))
         (negsuc 0 ∷ negsuc 0 ∷ negsuc 0 ∷ []) ≡ record {
-      crossings = (1 ∷ 4 ∷ 2 ∷ 5 ∷ []) ∷ (3 ∷ 6 ∷ 4 ∷ 1 ∷ []) ∷ (5 ∷ 2 ∷ 6 ∷ 3 ∷ []) ∷ [];
-      loops = 0;
-    } }
+          crossings = (1 ∷ 4 ∷ 2 ∷ 5 ∷ []) ∷ (3 ∷ 6 ∷ 4 ∷ 1 ∷ []) ∷ (5 ∷ 2 ∷ 6 ∷ 3 ∷ []) ∷ [];
+          loops = 0;
+        } }
     ensures turned { code_of
         (Body.Groups (negsuc 0 ∷ negsuc 1 ∷ []) ((pos 2 ∷ pos 1 ∷ []) ∷ [] ∷ []))
         (pos 1 ∷ negsuc 0 ∷ []) ≡ record {
-      crossings = (1 ∷ 4 ∷ 2 ∷ 3 ∷ []) ∷ (2 ∷ 4 ∷ 1 ∷ 3 ∷ []) ∷ [];
-      loops = 1;
-    } }
+          crossings = (1 ∷ 4 ∷ 2 ∷ 3 ∷ []) ∷ (2 ∷ 4 ∷ 1 ∷ 3 ∷ []) ∷ [];
+          loops = 1;
+        } }
     ensures printed { gauss_text (record {
       crossings = (1 ∷ 4 ∷ 2 ∷ 5 ∷ []) ∷ (3 ∷ 6 ∷ 4 ∷ 1 ∷ []) ∷ (5 ∷ 2 ∷ 6 ∷ 3 ∷ []) ∷ [];
       loops = 0;
