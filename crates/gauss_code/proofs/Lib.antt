@@ -1,2 +1,9 @@
 pub mod Intervals
 pub mod ComponentLabels
+pub mod PrintedTexts
+pub mod Bodies
+pub mod ArcLabels
+pub mod Turned
+pub mod ListedPasses
+pub mod GoodListings
+pub mod PrintedCodes

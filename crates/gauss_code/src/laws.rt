@@ -1,5 +1,7 @@
 //! What holds of the definitions that the contracts cite, beyond any one call.
 
+pub mod printing;
+
 ghost use Rattle.std.specs.Prelude.{◌≡◌, List, [], ◌∷◌, codes, pos, negsuc, neg_ℤ};
 ghost use Rattle.gauss_code.specs.Listings.{Body};
 ghost use Rattle.gauss_code.specs.Passes.{code_of};

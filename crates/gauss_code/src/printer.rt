@@ -1,11 +1,12 @@
 //! Prints the code of a diagram as a signed Gauss text.
 
-ghost use Rattle.std.specs.Prelude.{◌≡◌, ◌++◌, IfOk, OnOk, map, string_bytes};
+ghost use Rattle.std.specs.Prelude.{◌≡◌, ◌≤◌, ◌++◌, All, IfOk, Ok, OnOk, length, map, string_bytes};
 ghost use Rattle.std.specs.Fmt.{signed_decimal};
 ghost use Rattle.gauss_code.specs.Printing.{body_of_groups, body_text, gauss_text, group_text, listing_of, numbers_text};
+ghost use Rattle.gauss_code.specs.Reading.{IsReading};
 
 use crate::labels::{component_labels, signs_of};
-use kh_types::{Diagram, NoMemory};
+use kh_types::{Crossing, Diagram, LOOPS, NoMemory};
 use std::alloc::Global;
 
 /// The signed Gauss text of a diagram: its components in order, each from the pass that its least arc enters, its loops, and the
@@ -13,16 +14,43 @@ use std::alloc::Global;
 /// Source: Knot Atlas, "Gauss Codes"; the braces, the signs and the spaces are this project's rule.
 pub fn print_gauss(alloc: Global, diagram: &Diagram) -> Result<Vec<u8>, NoMemory>
     ensures text { IfOk result (λ text. text.items ≡ gauss_text diagram.now) }
+    ensures reads_back { diagram.now.loops ≤ LOOPS →
+        IfOk result (λ text. IsReading text.items (Ok diagram.now)) }
+{
+    look_at_slots(diagram.crossings());
+    let text = gauss_text(alloc, diagram)?;
+    Ok(text.into_bytes())
+}
+
+// The same as a string.
+fn gauss_text(alloc: Global, diagram: &Diagram) -> Result<String, NoMemory>
+    ensures { IfOk result (λ text. string_bytes text ≡ gauss_text diagram.now) }
 {
     let mut text = format!(in alloc; "GaussCode[")?;
     push_body(alloc, &mut text, diagram)?;
     text.push_str("] Signs[")?;
     push_numbers(alloc, &mut text, &signs_of(diagram))?;
     text.push_str("]")?;
-    Ok(text.into_bytes())
+    Ok(text)
 }
 
-// Adds the components and loops of a diagram: without braces if it is one component, and else each as a group.
+// Each crossing has four slots, which is known of one once it is looked at.
+fn look_at_slots(crossings: &[Crossing])
+    ensures { All (λ slots. length slots ≡ 4) crossings.now }
+{
+    for crossing in crossings {
+        look_at_last_slot(*crossing);
+    }
+}
+
+// A crossing has a last slot, and four in all.
+fn look_at_last_slot(crossing: Crossing)
+    ensures { length crossing ≡ 4 }
+{
+    let _ = crossing.0[3];
+}
+
+// Adds the components and loops of a diagram: each as a group, but one component alone without braces.
 fn push_body(alloc: Global, text: &mut String, diagram: &Diagram) -> Result<(), NoMemory>
     ensures { OnOk result (
         string_bytes text.new ≡ string_bytes text.old ++ body_text (listing_of diagram.now).body) }
@@ -39,8 +67,8 @@ fn push_body(alloc: Global, text: &mut String, diagram: &Diagram) -> Result<(), 
 
 // Adds groups, with a comma and a space between any two.
 fn push_groups(alloc: Global, text: &mut String, groups: &[Vec<i8>]) -> Result<(), NoMemory>
-    ensures { OnOk result (string_bytes text.new
-        ≡ string_bytes text.old ++ body_text (body_of_groups (map (λ group. group.items) groups.now))) }
+    ensures { OnOk result (string_bytes text.new ≡ string_bytes text.old
+        ++ body_text (body_of_groups (map (λ group. group.items) groups.now))) }
 {
     let Some((first, others)) = groups.split_first() else {
         return Ok(());

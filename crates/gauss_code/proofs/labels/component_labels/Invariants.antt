@@ -6,4 +6,5 @@ use Rattle.gauss_code.proofs.labels.component_labels.Given as goal
 -- the labels of the components so far
 abbrev pub invariant-loop-component : goal.invariant-loop-component
 invariant-loop-component l =
-    map (λ group. group.items) l.groups.items ≡ map (component_labels l.diagram.crossings) (take l.component (first_arcs l.diagram.crossings))
+    map (λ group. group.items) l.groups.items
+    ≡ map (component_labels l.diagram.crossings) (take l.component (first_arcs l.diagram.crossings))
