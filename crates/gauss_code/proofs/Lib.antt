@@ -1,9 +1,9 @@
-pub mod Intervals
+pub mod CutArcs
 pub mod ComponentLabels
 pub mod PrintedTexts
 pub mod Bodies
 pub mod ArcLabels
-pub mod Turned
+pub mod TwoArcComponents
 pub mod ListedPasses
 pub mod GoodListings
 pub mod PrintedCodes

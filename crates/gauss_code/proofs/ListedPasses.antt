@@ -15,8 +15,8 @@ use Rattle.gauss_code.specs.Passes.{Pass, all_passes, no_pass, pass_at, pass_of,
 use Rattle.gauss_code.specs.Printing.{component_labels, label_of, labels_of_code}
 use Rattle.gauss_code.proofs.ArcLabels.{IsOriented, label_of-once}
 use Rattle.gauss_code.proofs.Bodies.{HasLabel}
-use Rattle.gauss_code.proofs.Intervals.{Cut, Cut-first_arcs, IsFirst, component-in, end-within, size, size-positive}
-use Rattle.gauss_code.proofs.Turned.{find-first, turned-component}
+use Rattle.gauss_code.proofs.CutArcs.{Cut, Cut-first_arcs, IsFirst, component-in, end-within, size, size-positive}
+use Rattle.gauss_code.proofs.TwoArcComponents.{find-first, turned-component}
 
 -- the pass that an arc enters
 abbrev pub pass_on : List (List ℕ) → ℕ → Pass

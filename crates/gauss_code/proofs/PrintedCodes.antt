@@ -20,10 +20,10 @@ use Rattle.gauss_code.specs.Reading.{IsReading}
 use Rattle.gauss_code.proofs.ArcLabels.{IsOriented, label_of-names, label_of-under}
 use Rattle.gauss_code.proofs.Bodies.{groups_of-body_of, HasSmallNumbers-body_of, labels_of-body_of, loop_count-body_of}
 use Rattle.gauss_code.proofs.GoodListings.{half-arc_labels, no_fault, signs}
-use Rattle.gauss_code.proofs.Intervals.{Cut, Cut-first_arcs, end-within, size}
+use Rattle.gauss_code.proofs.CutArcs.{Cut, Cut-first_arcs, end-within, size}
 use Rattle.gauss_code.proofs.ListedPasses.{HasLabel-code, all_passes-code, labels-code, pass_of-label, pass_on}
 use Rattle.gauss_code.proofs.PrintedTexts.{AreSmall, IsSmall, Means-listing_text}
-use Rattle.gauss_code.proofs.Turned.{matched_false, matched_true}
+use Rattle.gauss_code.proofs.TwoArcComponents.{matched_false, matched_true}
 
 -- the numbers of the listing are small
 small-range : (label : ℕ → ℤ) (a n : ℕ) → ((x : ℕ) → a ≤ x → x < a + n → IsSmall (label x)) → AreSmall (map label (range_with_len a n))

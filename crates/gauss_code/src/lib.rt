@@ -1,7 +1,7 @@
 //! Reads and prints signed Gauss codes: a text lists the labels of its components and the signs of its crossings, and these are a code.
 #![tactic(auto)]
 
-mod labels;
+mod diagram_labels;
 pub mod laws;
 mod printer;
 mod reader;

@@ -18,7 +18,7 @@ use Rattle.kh_types.proofs.Heads.{IsPass-under, IsPass-over}
 use Rattle.gauss_code.specs.Passes.{is_over, turned}
 use Rattle.gauss_code.specs.Printing.{component_labels, label_of}
 use Rattle.gauss_code.proofs.ArcLabels.{HasEnds-arc, IsOriented}
-use Rattle.gauss_code.proofs.Intervals.{IsFirst, component-in, end-within, size}
+use Rattle.gauss_code.proofs.CutArcs.{IsFirst, component-in, end-within, size}
 
 -- the first number of a range that passes
 pub find-first : (p : ℕ → Bool) (a n k : ℕ) → a ≤ k → k < a + n → p k ≡ true → ((j : ℕ) → a ≤ j → j < k → p j ≡ false)

@@ -2,7 +2,7 @@
 use Rattle.std.proofs.Common.{◌∙◌, ◌++◌, [], ◌∷◌, ap, map, rules}
 use Rattle.std.proofs.lemmas.List.{map_push}
 use Rattle.gauss_code.proofs.ComponentLabels.{IsGiven, component_more, labels-within}
-use Rattle.gauss_code.proofs.labels.component_labels.Goals as goal
+use Rattle.gauss_code.proofs.diagram_labels.component_labels.Goals as goal
 
 pub labels_from-requires-clause-within : goal.labels_from-requires-clause-within
 labels_from-requires-clause-within c =

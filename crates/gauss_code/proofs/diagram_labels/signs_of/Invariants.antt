@@ -1,7 +1,7 @@
 use Rattle.std.proofs.Common.{◌≡◌, map}
 use Rattle.std.specs.List.{range_with_len}
 use Rattle.kh_types.specs.Directions.{sign_of}
-use Rattle.gauss_code.proofs.labels.signs_of.Given as goal
+use Rattle.gauss_code.proofs.diagram_labels.signs_of.Given as goal
 
 -- the signs of the crossings so far
 abbrev pub invariant-loop-before : goal.invariant-loop-before

@@ -1,7 +1,7 @@
 use Rattle.std.proofs.Common.{◌≡◌, map, take}
 use Rattle.kh_types.specs.Components.{first_arcs}
 use Rattle.gauss_code.specs.Printing.{component_labels}
-use Rattle.gauss_code.proofs.labels.component_labels.Given as goal
+use Rattle.gauss_code.proofs.diagram_labels.component_labels.Given as goal
 
 -- the labels of the components so far
 abbrev pub invariant-loop-component : goal.invariant-loop-component
