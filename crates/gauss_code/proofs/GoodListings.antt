@@ -1,17 +1,16 @@
 -- The listing of a code has no fault.
-use Rattle.std.proofs.Common.{◌≡◌, inl, inr, ℕ, ◌+◌, ◌/◌, ◌<◌, ◌≤◌, ◌∙◌, ℤ, pos, neg_ℤ, nat_abs, List, [], ◌∷◌, length, map, take, refl, sym, ap, arith, Bool, true, false, not, ◌&&◌, ◌||◌}
+use Rattle.std.proofs.Common.{◌≡◌, ℕ, ◌+◌, ◌/◌, ◌<◌, ◌≤◌, ◌∙◌, ℤ, pos, neg_ℤ, nat_abs, List, length, map, take, refl, sym, ap, arith, Bool, true, false, not, ◌&&◌, ◌||◌}
 use Rattle.std.specs.Prelude.{Option, None, nat_eq, nat_lt, slice_index, if◌then◌else◌}
 use Rattle.std.specs.List.{list_any, range_with_len}
 use Rattle.std.specs.Option.{option_map, option_or}
 use Rattle.std.specs.Ordering.{int_eq}
-use Rattle.std.proofs.lemmas.Bool.{cases_Bool, eq-eqb, le-ltb}
-use Rattle.std.proofs.lemmas.Bool.Decides.{nat_tests, Decides-int_eq}
+use Rattle.std.proofs.lemmas.Bool.{eq-eqb, le-ltb}
+use Rattle.std.proofs.lemmas.Bool.Decides.{nat_tests}
 use Rattle.std.proofs.lemmas.List.FromFn.{get_or-map-range_with_len, length-map-range_with_len, take-map-range_with_len}
 use Rattle.kh_types.specs.Code.{arc_count, arcs, crossing_numbers, IsArc}
 use Rattle.kh_types.specs.Directions.{is_positive, sign_of}
 use Rattle.kh_types.specs.declared.limits.TheConstants.{CROSSINGS, LOOPS}
 use Rattle.kh_types.proofs.Lists.{find-none}
-use Rattle.kh_types.proofs.RangeCounts.{list_any-one}
 use Rattle.gauss_code.specs.declared.stop.GaussStop.{GaussStop}
 use Rattle.gauss_code.specs.declared.stop.GaussStop.TheVariants.{CrossingLimit, LoopLimit, Label, NoSigns, SignCount}
 use Rattle.gauss_code.specs.Listings.{Body, labels_of, crossing_count, loop_count}
@@ -20,6 +19,7 @@ use Rattle.gauss_code.specs.Faults.{fault_if, first_fault}
 use Rattle.gauss_code.specs.Printing.{label_of}
 use Rattle.gauss_code.proofs.ArcLabels.{IsOriented, label_of-names, label_of-once}
 use Rattle.gauss_code.proofs.PrintedTexts.{listing_with}
+use Rattle.gauss_code.proofs.Searches.{list_any-map, list_any-none, other_int}
 
 -- the labels of all arcs, and the signs of all crossings
 abbrev pub arc_labels : List (List ℕ) → List ℤ
@@ -30,22 +30,6 @@ signs crossings = map (sign_of crossings) (crossing_numbers crossings)
 
 pub half-arc_labels : (crossings : List (List ℕ)) → length (arc_labels crossings) / 2 ≡ length crossings
 half-arc_labels crossings = omega (arith, length-map-range_with_len (label_of crossings) 1 (arc_count crossings))
-
--- a test of the image of a range that none passes
-list_any-map : (p : ℤ → Bool) (f : ℕ → ℤ) (xs : List ℕ) → list_any p (map f xs) ≡ list_any (λ x. p (f x)) xs
-list_any-map p f [] = refl
-list_any-map p f (x ∷ xs) = ap (λ b. p (f x) || b) (list_any-map p f xs)
-
-list_any-none : (p : ℕ → Bool) (a n : ℕ) → ((x : ℕ) → a ≤ x → x < a + n → p x ≡ false) → list_any p (range_with_len a n) ≡ false
-list_any-none p a n fails = elim (cases_Bool (list_any p (range_with_len a n))) [
-  | inr none ↦ none
-  | inl some ↦
-      let one = list_any-one p a n some in
-      absurd (apart (p one.0) (fails one.0 one.1 one.2) one.3)
-]
-  where
-    apart : (b : Bool) → b ≡ false → b ≡ true → ⊥
-    apart b fail pass = cc
 
 -- a label of an arc is not bad
 good_label : (crossings : List (List ℕ)) → IsOriented crossings → (at : ℕ) → at < arc_count crossings
@@ -72,9 +56,6 @@ good_label crossings oriented at below =
   where
     in_range : (x n : ℕ) → 1 ≤ x → x ≤ n → (nat_eq x 0 || nat_lt n x) ≡ false
     in_range x n positive within = grind (arith, nat_tests)
-
-    other_int : (x y : ℤ) → (x ≡ y → ⊥) → int_eq x y ≡ false
-    other_int x y differ = grind (arith, Decides-int_eq)
 
 no_bad_label : (crossings : List (List ℕ)) → IsOriented crossings → bad_label (arc_labels crossings) ≡ None
 no_bad_label crossings oriented =

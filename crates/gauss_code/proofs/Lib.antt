@@ -1,3 +1,4 @@
+pub mod Searches
 pub mod CutArcs
 pub mod ComponentLabels
 pub mod PrintedTexts

@@ -1,10 +1,10 @@
 -- The passes that the listing of a code stands for: one for each arc, that on which the arc enters a crossing.
-use Rattle.std.proofs.Common.{◌≡◌, ℕ, zero, suc, ◌+◌, ◌-◌, ◌<◌, ◌≤◌, ◌∙◌, ℤ, List, [], ◌∷◌, ◌++◌, get_or, length, map, pos, refl, sym, ap, arith, true, false}
+use Rattle.std.proofs.Common.{◌≡◌, ℕ, zero, suc, ◌+◌, ◌-◌, ◌<◌, ◌≤◌, ◌∙◌, ℤ, List, [], ◌∷◌, ◌++◌, get_or, length, map, pos, refl, sym, ap, arith}
 use Rattle.std.specs.Prelude.{nat_eq, replicate, if◌then◌else◌, unwrap_or}
 use Rattle.std.specs.List.{AllByRecursion, flat_map, range_with_len}
 use Rattle.std.specs.Option.{option_map}
 use Rattle.std.specs.Ordering.{int_eq}
-use Rattle.std.proofs.lemmas.Bool.Decides.{nat_tests, Decides-int_eq}
+use Rattle.std.proofs.lemmas.Bool.Decides.{nat_tests}
 use Rattle.std.proofs.lemmas.List.{map-append}
 use Rattle.std.proofs.lemmas.List.FromFn.{get_or-map-range_with_len, length-map-range_with_len}
 use Rattle.kh_types.specs.Code.{arc_count, arcs, IsArc}
@@ -16,7 +16,8 @@ use Rattle.gauss_code.specs.Printing.{component_labels, label_of, labels_of_code
 use Rattle.gauss_code.proofs.ArcLabels.{IsOriented, label_of-once}
 use Rattle.gauss_code.proofs.Bodies.{HasLabel}
 use Rattle.gauss_code.proofs.CutArcs.{Cut, Cut-first_arcs, IsFirst, component-in, end-within, size, size-positive}
-use Rattle.gauss_code.proofs.TwoArcComponents.{find-first, turned-component}
+use Rattle.gauss_code.proofs.Searches.{find-first, other_int, same_int}
+use Rattle.gauss_code.proofs.TwoArcComponents.{turned-component}
 
 -- the pass that an arc enters
 abbrev pub pass_on : List (List ℕ) → ℕ → Pass
@@ -162,9 +163,3 @@ pass_of-label crossings oriented arc label is has =
     let earlier_is : IsArc crossings earlier = record { positive = from; within = omega (arith, before, is.within) } in
     let one = label_of-once crossings oriented earlier arc earlier_is is (same ∙ sym has) in
     omega (arith, one, before)))))
-  where
-    same_int : (x y : ℤ) → x ≡ y → int_eq x y ≡ true
-    same_int x y same = grind (arith, Decides-int_eq)
-
-    other_int : (x y : ℤ) → (x ≡ y → ⊥) → int_eq x y ≡ false
-    other_int x y differ = grind (arith, Decides-int_eq)

@@ -23,7 +23,7 @@ use Rattle.gauss_code.proofs.GoodListings.{half-arc_labels, no_fault, signs}
 use Rattle.gauss_code.proofs.CutArcs.{Cut, Cut-first_arcs, end-within, size}
 use Rattle.gauss_code.proofs.ListedPasses.{HasLabel-code, all_passes-code, labels-code, pass_of-label, pass_on}
 use Rattle.gauss_code.proofs.PrintedTexts.{AreSmall, IsSmall, Means-listing_text}
-use Rattle.gauss_code.proofs.TwoArcComponents.{matched_false, matched_true}
+use Rattle.gauss_code.proofs.Searches.{matched_false, matched_true}
 
 -- the numbers of the listing are small
 small-range : (label : ℕ → ℤ) (a n : ℕ) → ((x : ℕ) → a ≤ x → x < a + n → IsSmall (label x)) → AreSmall (map label (range_with_len a n))
@@ -69,7 +69,7 @@ four_slots (i ∷ j ∷ k ∷ l ∷ m ∷ slots) is = absurd (omega (arith, is))
 abbrev listed : List (List ℕ) → List Pass
 listed crossings = map (pass_on crossings) (arcs crossings)
 
--- they lie between its two passes
+-- they are those between its two passes
 between : (crossings : List (List ℕ)) → IsOriented crossings → (crossing : ℕ) → IsCrossing crossings crossing
     → slots_between (pass_of (listed crossings) (neg_ℤ (pos crossing))) (pass_of (listed crossings) (pos crossing))
     (sign_of crossings crossing)

@@ -1,8 +1,8 @@
 -- The least arc of a component of two arcs that is over at both its crossings enters the first listed of them, so that such a
 -- component begins with its lesser label.
-use Rattle.std.proofs.Common.{◌≡◌, ◌≢◌, ◌⊎◌, inl, inr, ℕ, zero, suc, ◌+◌, ◌<◌, ◌≤◌, ◌∙◌, ℤ, pos, neg_ℤ, List, [], ◌∷◌, map, refl, sym, ap, arith, Bool, true, false, ◌&&◌}
-use Rattle.std.specs.Prelude.{None, Some, cond, int_lt, nat_eq, nat_lt, if◌then◌else◌, MatchBool}
-use Rattle.std.specs.List.{find, range_with_len}
+use Rattle.std.proofs.Common.{◌≡◌, ◌⊎◌, inl, inr, ℕ, zero, suc, ◌+◌, ◌<◌, ◌≤◌, ◌∙◌, ℤ, pos, neg_ℤ, List, [], ◌∷◌, map, refl, sym, ap, arith, Bool, true, false, ◌&&◌}
+use Rattle.std.specs.Prelude.{None, Some, int_lt, nat_eq, nat_lt, if◌then◌else◌}
+use Rattle.std.specs.List.{range_with_len}
 use Rattle.std.proofs.lemmas.Bool.{and_parts, cases_Bool, eq-eqb}
 use Rattle.std.proofs.lemmas.Bool.Decides.{nat_tests}
 use Rattle.std.proofs.lemmas.Int.{ints}
@@ -19,33 +19,7 @@ use Rattle.gauss_code.specs.Passes.{is_over, turned}
 use Rattle.gauss_code.specs.Printing.{component_labels, label_of}
 use Rattle.gauss_code.proofs.ArcLabels.{HasEnds-arc, IsOriented}
 use Rattle.gauss_code.proofs.CutArcs.{IsFirst, component-in, end-within, size}
-
--- the first number of a range that passes
-pub find-first : (p : ℕ → Bool) (a n k : ℕ) → a ≤ k → k < a + n → p k ≡ true → ((j : ℕ) → a ≤ j → j < k → p j ≡ false)
-    → find p (range_with_len a n) ≡ Some k
-find-first p a zero k from below passes fails = absurd (omega (arith, from, below))
-find-first p a (suc n) k from below passes fails = elim (cases_Bool (p a)) [
-  | inl here ↦
-      let same : a ≡ k = only a k (p a) here from (λ before. fails a (omega arith) before) in
-      ap (λ b. cond b (Some a) (find p (range_with_len (a + 1) n))) here ∙ ap Some same
-  | inr not_here ↦
-      let differ : a ≢ k = λ same. apart (p a) not_here (ap p same ∙ passes) in
-      ap (λ b. cond b (Some a) (find p (range_with_len (a + 1) n))) not_here
-      ∙ find-first p (a + 1) n k (omega (arith, from, differ)) (omega (arith, below)) passes
-      (λ j j_from before. fails j (omega (arith, j_from)) before)
-]
-  where
-    apart : (b : Bool) → b ≡ false → b ≡ true → ⊥
-    apart b fail pass = cc
-
-    only : (x y : ℕ) (b : Bool) → b ≡ true → x ≤ y → (x < y → b ≡ false) → x ≡ y
-    only x y true pass from fail = grind arith
-    only x y false pass from fail = absurd (cc)
-
--- an arc of a component of two arcs
-record IsOneOfTwo (crossings : List (List ℕ)) (first arc : ℕ) : Type 0 where
-  is : IsArc crossings arc
-  one : (arc ≡ first) ⊎ (arc ≡ first + 1)
+use Rattle.gauss_code.proofs.Searches.{find-first, matched_false, matched_true, test_fails}
 
 -- a component of two arcs that is over at both, by the heads of its two arcs
 record IsOverBoth (crossings : List (List ℕ)) (first : ℕ) : Type 0 where
@@ -83,9 +57,6 @@ head_of_two crossings first crossing slot both arc is same at = elim (one_of_two
       )
 ]
 
-test_fails : (x y : ℕ) → (x ≡ y → ⊥) → nat_eq x y ≡ false
-test_fails x y differ = grind (arith, nat_tests)
-
 -- it passes under nowhere
 no_under : (crossings : List (List ℕ)) (first : ℕ) → IsOverBoth crossings first
     → first_under crossings (components_of crossings) first ≡ None
@@ -102,14 +73,6 @@ no_under crossings first both =
     absurd (cc)))
 
 -- where it passes over, it enters one of its two crossings
-pub matched_true : (b : Bool) (P Q : Type 0) → MatchBool b P Q → b ≡ true → P
-matched_true true P Q is holds = is
-matched_true false P Q is holds = absurd (cc)
-
-pub matched_false : (b : Bool) (P Q : Type 0) → MatchBool b P Q → b ≡ false → Q
-matched_false true P Q is fails = absurd (cc)
-matched_false false P Q is fails = is
-
 over_crossing : (crossings : List (List ℕ)) (first crossing : ℕ) → IsOverBoth crossings first → IsCrossing crossings crossing
     → component crossings (arc_in (slots_of crossings crossing) 1) ≡ first → (head_of crossings (first + 1)).crossing ≤ crossing
 over_crossing crossings first crossing both is same =

@@ -20,7 +20,7 @@ pub fn print_gauss(alloc: Global, diagram: &Diagram) -> Result<Vec<u8>, NoMemory
     ensures reads_back { diagram.now.loops ≤ LOOPS →
         IfOk result (λ text. IsReading text.items (Ok diagram.now)) }
 {
-    look_at_slots(diagram.crossings());
+    read_crossings(diagram.crossings());
     let text = gauss_text(alloc, diagram)?;
     Ok(text.into_bytes())
 }
@@ -37,20 +37,13 @@ fn gauss_text(alloc: Global, diagram: &Diagram) -> Result<String, NoMemory>
     Ok(text)
 }
 
-// Each crossing has four slots, which is known of one once it is looked at.
-fn look_at_slots(crossings: &[Crossing])
+// Each crossing has four slots by its type, which is known of one once it is read.
+fn read_crossings(crossings: &[Crossing])
     ensures { All (λ slots. length slots ≡ 4) crossings.now }
 {
     for crossing in crossings {
-        look_at_last_slot(*crossing);
+        let _slots: [u8; 4] = crossing.0;
     }
-}
-
-// A crossing has a last slot, and four in all.
-fn look_at_last_slot(crossing: Crossing)
-    ensures { length crossing ≡ 4 }
-{
-    let _ = crossing.0[3];
 }
 
 // Adds the components and loops of a diagram: each as a group, but one component alone without braces.

@@ -1,5 +1,5 @@
 use Rattle.std.proofs.Common.{◌≡◌, ℕ, ◌<◌, [], get_or, length}
-use Rattle.gauss_code.proofs.printer.look_at_slots.Given as goal
+use Rattle.gauss_code.proofs.printer.read_crossings.Given as goal
 
 -- each crossing so far has four slots
 abbrev pub invariant-loop-crossing : goal.invariant-loop-crossing
