@@ -2,6 +2,7 @@
 
 pub mod directed;
 pub mod reading;
+pub mod printing;
 
 ghost use Rattle.std.specs.Prelude.{◌≡◌, List, [], ◌∷◌, codes, pos, negsuc, neg_ℤ};
 ghost use Rattle.gauss_code.specs.Listings.{Body};

@@ -3,6 +3,7 @@
 
 mod faults;
 mod labels;
+mod diagram_labels;
 pub mod laws;
 mod listing;
 mod machine;
