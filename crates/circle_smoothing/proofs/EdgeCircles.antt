@@ -1,7 +1,6 @@
 -- Along an edge two images of the permutation are exchanged, those of the two arcs that come to the crossing: so their circles are
 -- joined, or one circle is parted.
 use Rattle.std.proofs.Common.{◌≡◌, ◌≢◌, ℕ, ◌⊎◌, inl, inr, ◌+◌, ◌-◌, ◌*◌, ◌/◌, ◌%◌, ◌<◌, ◌∙◌, List, refl, sym, ap, subst, length, arith, IsTrue}
-use Rattle.std.proofs.lemmas.Bool.{cases_eq}
 use Rattle.kh_types.specs.Acceptance.{accepted}
 use Rattle.kh_types.specs.Bits.{bit}
 use Rattle.kh_types.specs.Code.{Code, IsCrossing, arc_count, place_of}
@@ -12,7 +11,7 @@ use Rattle.kh_types.proofs.AcceptedLemmas.{HasArcsTwice-accepted}
 use Rattle.kh_types.proofs.DartColours.{IsColoured-accepted}
 use Rattle.circle_smoothing.specs.Edges.{AreJoined, JoinsOrParts, arc_at_slot, state_behind}
 use Rattle.circle_smoothing.specs.Prepared.{arc_at}
-use Rattle.circle_smoothing.specs.Steps.{across, joined_slot}
+use Rattle.circle_smoothing.specs.Steps.{joined_slot}
 use Rattle.circle_smoothing.proofs.CircleCycles.{AreCycles-circles, IsSided-sided, arc-at_place, arc_or_not, follower, follower-arc, follower-other, follower-place, one_place, sided}
 use Rattle.circle_smoothing.proofs.EdgeBits.{bit-set_other, bit-set_there}
 use Rattle.circle_smoothing.proofs.Exchange.{AreJoined-exchanged, IsExchanged}

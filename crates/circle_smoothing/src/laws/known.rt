@@ -31,10 +31,13 @@ pub fn known_counts()
 {}
 
 /// The numbers of the circles of arcs: in the trefoil's state of 0-smoothings, of arcs 1 and 4, 2 and 5, 3 and 6; in that of
-/// 1-smoothings, of the odd arcs and the even. Behind the arcs come the loops.
+/// 1-smoothings, of the odd arcs and the even. Behind the arcs come the loops. The edge at the first crossing merges the circles 0
+/// and 1, and the circle 2 becomes the circle 1.
 pub fn known_numbers()
     ensures zeros { map (circle_number trefoil 0) (range_with_len 1 6) ≡ 0 ∷ 1 ∷ 2 ∷ 0 ∷ 1 ∷ 2 ∷ [] }
     ensures ones { map (circle_number trefoil 7) (range_with_len 1 6) ≡ 0 ∷ 1 ∷ 0 ∷ 1 ∷ 0 ∷ 1 ∷ [] }
+    ensures merged { map (circle_number trefoil 1) (range_with_len 1 6)
+        ≡ 0 ∷ 0 ∷ 1 ∷ 0 ∷ 0 ∷ 1 ∷ [] }
     ensures loops { map (circle_number (record curl { loops = 2 }) 0) (range_with_len 1 4)
         ≡ 0 ∷ 1 ∷ 2 ∷ 3 ∷ [] }
 {}
