@@ -1,0 +1,3 @@
+pub mod CoefficientLemmas
+pub mod CircleLemmas
+pub mod StateSumLemmas
