@@ -1,3 +1,5 @@
 pub mod CoefficientLemmas
 pub mod CircleLemmas
 pub mod StateSumLemmas
+pub mod TriangleLemmas
+pub mod TermLemmas

@@ -3,5 +3,7 @@
 
 mod laurent;
 pub mod laws;
+mod terms;
+mod triangle;
 
 pub use laurent::Laurent;
