@@ -5,7 +5,7 @@ use Rattle.std.specs.List.{range_with_len, filter}
 use Rattle.std.specs.Ordering.{int_eq}
 use Rattle.std.proofs.lemmas.Int.{ints}
 use Rattle.std.proofs.lemmas.Simd.{map-map}
-use Rattle.std.proofs.lemmas.List.FromFn.{get_or-map-range_with_len}
+use Rattle.std.proofs.lemmas.List.FromFn.{get_or-map-range_with_len, fill_by_all}
 use Rattle.kh_types.specs.Table.{from_minus, IsWithin}
 use Rattle.kh_types.specs.StateSum.{Term, terms, terms_text, polynomial_text}
 use Rattle.kh_types.specs.declared.limits.TheConstants.{EXPONENT}
@@ -43,6 +43,18 @@ element_at-map f n i within =
 pub coefficient_in-coefficients_of : (polynomial : ℤ → ℤ) (exponent : ℤ) → IsWithin EXPONENT exponent
     → coefficient_in (coefficients_of polynomial) exponent ≡ polynomial exponent
 coefficient_in-coefficients_of polynomial exponent within = element_at-map polynomial EXPONENT exponent within
+
+-- a list with the value of each exponent at its place
+filled : (f : ℤ → ℤ) (n : ℕ) (xs : List ℤ) → length xs ≡ 2 * n + 1
+    → ((k : ℕ) → k < 2 * n + 1 → get_or xs k (pos 0) ≡ f (pos k -ℤ pos n)) → xs ≡ map f (from_minus n)
+filled f n xs size each =
+    fill_by_all (λ k. f (pos k -ℤ pos n)) xs (2 * n + 1) (pos 0) size each
+    ∙ sym (map-map f (λ k. pos k -ℤ pos n) (range_with_len 0 (2 * n + 1)))
+
+pub coefficients_of-filled : (polynomial : ℤ → ℤ) (coefficients : List ℤ) → length coefficients ≡ 2 * EXPONENT + 1
+    → ((place : ℕ) → place < 2 * EXPONENT + 1 → get_or coefficients place (pos 0) ≡ polynomial (pos place -ℤ pos EXPONENT))
+    → coefficients ≡ coefficients_of polynomial
+coefficients_of-filled polynomial coefficients = filled polynomial EXPONENT coefficients
 
 -- the terms with exponents up to a size
 abbrev terms_within : ℕ → (ℤ → ℤ) → List Term

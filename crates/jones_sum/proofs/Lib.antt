@@ -3,3 +3,4 @@ pub mod CircleLemmas
 pub mod StateSumLemmas
 pub mod TriangleLemmas
 pub mod TermLemmas
+pub mod KindLemmas
