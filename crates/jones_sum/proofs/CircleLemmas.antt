@@ -102,9 +102,9 @@ none_from k exponent (pos above) is other =
     elim (cases_lt 0 (above % 2)) [
       | inl odd ↦ circle_coefficient-odd k half exponent (omega (arith, ints, is))
       | inr even ↦ elim (cases_lt k half) [
-          | inl past ↦ circle_coefficient-above k (half + half - k - k - 1) exponent (omega (arith, ints, is))
-          | inr within ↦ absurd (other half (omega (arith, within)) (omega (arith, ints, is)))
-        ]
+        | inl past ↦ circle_coefficient-above k (half + half - k - k - 1) exponent (omega (arith, ints, is))
+        | inr within ↦ absurd (other half (omega (arith, within)) (omega (arith, ints, is)))
+      ]
     ]
 
 pub circle_coefficient-none : (k : ℕ) (exponent : ℤ) → ((chosen : ℕ) → chosen ≤ k → exponent ≢ pos (2 * chosen) -ℤ pos k)

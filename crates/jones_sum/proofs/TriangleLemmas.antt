@@ -56,4 +56,5 @@ binomial_at-within place below =
     binomial-within (place / (CIRCLES + 1)) (place % (CIRCLES + 1)) (omega arith)
 
 pub ruleset steps = (binomial_at-first_column, binomial_at-first_row, binomial_at-later, binomial_at-within)
+
 pub ruleset known = (binomial-past, binomial_at-place, binomial-within)

@@ -1,6 +1,6 @@
 //! Laurent polynomials.
 
-ghost use Rattle.std.specs.Prelude.{◌≡◌, ◌<◌, pos, neg_ℤ, ◌+ℤ◌, ◌≤ℤ◌};
+ghost use Rattle.std.specs.Prelude.{◌≡◌, ◌<◌, pos, neg_ℤ, ◌+ℤ◌, ◌-ℤ◌, ◌≤ℤ◌};
 ghost use Rattle.kh_types.specs.declared.limits.TheConstants.{EXPONENT};
 ghost use Rattle.kh_types.specs.Table.{IsWithin};
 ghost use Rattle.jones_sum.specs.Coefficients.{coefficient_in};
@@ -10,7 +10,7 @@ use kh_types::EXPONENT;
 use std::marker::Model;
 
 /// The number of coefficients.
-pub(crate) const COEFFICIENTS: usize = 2 * EXPONENT + 1;
+pub const COEFFICIENTS: usize = 2 * EXPONENT + 1;
 
 /// A Laurent polynomial in q with integer coefficients, whose exponents are from -EXPONENT to EXPONENT. Contracts see it as the
 /// list of its coefficients, ascending by exponent.
@@ -48,4 +48,13 @@ fn place_of(exponent: i16) -> usize
     ensures within { result < COEFFICIENTS }
 {
     (exponent + EXPONENT as i16) as usize
+}
+
+/// The exponent of the coefficient at a place, counted from 0: the first is that of -EXPONENT.
+pub fn exponent_at(place: usize) -> i16
+    requires { place < COEFFICIENTS }
+    ensures exponent { result ≡ pos place -ℤ pos EXPONENT }
+    ensures within { IsWithin EXPONENT result }
+{
+    place as i16 - EXPONENT as i16
 }

@@ -6,7 +6,9 @@ mod laurent;
 pub mod laws;
 mod summed;
 mod terms;
+#[cfg(test)]
+mod tests;
 mod triangle;
 
-pub use laurent::Laurent;
+pub use laurent::{COEFFICIENTS, Laurent, exponent_at};
 pub use summed::jones;

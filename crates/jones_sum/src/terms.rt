@@ -48,11 +48,7 @@ pub fn term(triangle: &Triangle, signs: Signs, kind: usize, place: usize) -> i64
     let raised = place + circles + 2 * minus;
     let lowered = EXPONENT + ones + plus;
     let size = ways(triangle, circles, raised, lowered) as i64;
-    if (ones + minus) % 2 == 0 {
-        size
-    } else {
-        -size
-    }
+    if (ones + minus) % 2 == 0 { size } else { -size }
 }
 
 /// In how many ways the circles, each of which gives q or q^-1, give the exponent that is raised and lowered from -circles.

@@ -6,15 +6,10 @@ use Rattle.std.specs.Ordering.{int_eq}
 use Rattle.std.proofs.lemmas.List.{append-nil}
 use Rattle.std.proofs.lemmas.Grind.{flat_map-append}
 use Rattle.kh_types.specs.declared.limits.TheConstants.{EXPONENT}
-use Rattle.kh_types.specs.Table.{from_minus, IsWithin}
+use Rattle.kh_types.specs.Table.{from_minus}
 use Rattle.kh_types.specs.StateSum.{Term, term_text, terms, terms_text, polynomial_text}
-use Rattle.kh_types.proofs.QuantumDegrees.{IsWithin-place}
 use Rattle.kh_types.proofs.Ranges.{map_from_zero}
 use Rattle.table_text.specs.Terms.{line_of, text_at, text_to}
-
--- the exponent at a place
-pub within : (place : ℕ) (exponent : ℤ) → place ≤ 2 * EXPONENT → exponent ≡ pos place -ℤ pos EXPONENT → IsWithin EXPONENT exponent
-within place exponent below is = IsWithin-place EXPONENT place exponent (omega arith) is
 
 -- no exponent, and one exponent more
 

@@ -1,14 +1,15 @@
 //! The Jones line.
 
-ghost use Rattle.std.specs.Prelude.{◌≡◌, ◌+◌, ◌*◌, ◌≤◌, ◌++◌, pos, ◌-ℤ◌, string_bytes, IfOk, OnOk};
+ghost use Rattle.std.specs.Prelude.{◌≡◌, ◌++◌, string_bytes, IfOk, OnOk};
 ghost use Rattle.kh_types.specs.declared.limits.TheConstants.{EXPONENT};
 ghost use Rattle.kh_types.specs.StateSum.{polynomial_text};
 ghost use Rattle.kh_types.specs.Table.{IsWithin};
 ghost use Rattle.jones_sum.specs.Coefficients.{coefficient_in};
+ghost use Rattle.jones_sum.specs.declared.laurent.TheConstants.{COEFFICIENTS};
 ghost use Rattle.table_text.specs.Terms.{line_of, text_at, text_to};
 
-use jones_sum::Laurent;
-use kh_types::{EXPONENT, NoMemory};
+use jones_sum::{COEFFICIENTS, Laurent, exponent_at};
+use kh_types::NoMemory;
 use std::alloc::Global;
 
 /// The Jones line: `jones`, then for each exponent with a coefficient that is not 0, ascending, a space and `C*q^E`, then a line
@@ -37,22 +38,13 @@ fn line_of(alloc: Global, terms: &str) -> Result<String, NoMemory>
 #[tactic(auto, using(crate::proofs::TermLemmas::texts))]
 fn terms_of(alloc: Global, polynomial: &Laurent) -> Result<String, NoMemory>
     ensures { IfOk result (λ text.
-        string_bytes text ≡ text_to (coefficient_in polynomial.now) (2 * EXPONENT + 1)) }
+        string_bytes text ≡ text_to (coefficient_in polynomial.now) COEFFICIENTS) }
 {
     let mut text = String::new(alloc);
-    'places: for place in 0..2 * EXPONENT + 1 {
+    'places: for place in 0..COEFFICIENTS {
         push_term(alloc, &mut text, polynomial, exponent_at(place))?;
     }
     Ok(text)
-}
-
-/// The exponent at a place, counted from 0, of those from -EXPONENT on.
-fn exponent_at(place: usize) -> i16
-    requires { place ≤ 2 * EXPONENT }
-    ensures exponent { result ≡ pos place -ℤ pos EXPONENT }
-    ensures within { IsWithin EXPONENT result }
-{
-    place as i16 - EXPONENT as i16
 }
 
 /// Adds the term of an exponent where its coefficient is not 0.
