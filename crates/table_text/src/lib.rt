@@ -1,0 +1,6 @@
+//! The printed texts of a diagram's invariants: so far the Jones line.
+#![tactic(auto)]
+
+mod jones_line;
+
+pub use jones_line::print_jones;
