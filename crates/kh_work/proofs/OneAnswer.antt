@@ -16,7 +16,7 @@ use Rattle.json_code.specs.declared.stop.JsonStop.{JsonStop}
 use Rattle.json_code.specs.declared.stop.JsonStop.TheVariants as json_stops
 use Rattle.json_code.proofs.Readings as json_readings
 use Rattle.kh_work.specs.declared.command.Task.{Task}
-use Rattle.kh_work.specs.declared.command.Task.TheVariants.{Homology, Convert}
+use Rattle.kh_work.specs.declared.command.Task.TheVariants.{Homology, Convert, Check}
 use Rattle.kh_work.specs.declared.command.Command.{Command}
 use Rattle.kh_work.specs.Replies.{Reply}
 use Rattle.kh_work.specs.Commands.{command_of}
@@ -24,6 +24,7 @@ use Rattle.kh_work.specs.Refusals.{refused, refused_with, refused_with_both, too
 use Rattle.kh_work.specs.Inputs.{is_json, IsPdRead, IsJsonRead, IsReadAs, IsCodeRead, IsFaulty, IsDiagramRead}
 use Rattle.kh_work.specs.Homology.{homology_reply}
 use Rattle.kh_work.specs.Convert.{convert_reply}
+use Rattle.kh_work.specs.Check.{check_reply}
 use Rattle.kh_work.specs.Answer.{IsTaskReply, IsReplyTo, IsCommandReply, IsAnswerOf, IsAnswer}
 
 -- PD texts
@@ -179,11 +180,13 @@ IsDiagramRead-one bytes (Err a) (Err b) is_a is_b = ap Err (refused_reply bytes 
 IsTaskReply-some : (task : Task) (command : Command) (code : Code) → (reply : Reply) × IsTaskReply task command code reply
 IsTaskReply-some Homology command code = (homology_reply command.field code, refl)
 IsTaskReply-some Convert command code = (convert_reply code, refl)
+IsTaskReply-some Check command code = (check_reply code, refl)
 
 IsTaskReply-one : (task : Task) (command : Command) (code : Code) (a b : Reply) → IsTaskReply task command code a
     → IsTaskReply task command code b → a ≡ b
 IsTaskReply-one Homology command code a b is_a is_b = is_a ∙ sym is_b
 IsTaskReply-one Convert command code a b is_a is_b = is_a ∙ sym is_b
+IsTaskReply-one Check command code a b is_a is_b = is_a ∙ sym is_b
 
 IsReplyTo-some : (command : Command) (outcome : Result Code Reply) → (reply : Reply) × IsReplyTo command outcome reply
 IsReplyTo-some command (Ok code) = IsTaskReply-some command.task command code

@@ -12,6 +12,8 @@ pub enum Task {
     Homology,
     /// Write the diagram in another form.
     Convert,
+    /// Write how many crossings, components and faces the diagram has.
+    Check,
 }
 
 /// A field, by its number of elements.
@@ -73,6 +75,7 @@ fn task_of(name: &str) -> Option<Task>
     match name {
         "homology" => Some(Task::Homology),
         "convert" => Some(Task::Convert),
+        "check" => Some(Task::Check),
         _ => None,
     }
 }

@@ -1,9 +1,11 @@
 //! What no clause says: that runs answer at all where there is memory, and what the definitions come to on known links.
 
+mod counted;
 mod known;
 mod rows;
 
 use crate::{Status, run};
+use counted::COUNTED;
 use kh_io::{MemSink, MemSource};
 use kh_types::Words;
 use known::KNOWN;
@@ -46,6 +48,20 @@ fn known_links_have_their_tables(rt: HostRuntime) -> Result<(), Fail> {
             known.text.as_bytes(),
             Status::Done,
             table.as_str(),
+        )?;
+    }
+    Ok(())
+}
+
+#[test]
+fn diagrams_are_counted(rt: HostRuntime) -> Result<(), Fail> {
+    for counted in &COUNTED {
+        expect_answer(
+            &rt,
+            &["check"],
+            counted.text.as_bytes(),
+            Status::Done,
+            counted.line,
         )?;
     }
     Ok(())

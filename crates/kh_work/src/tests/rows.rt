@@ -14,7 +14,7 @@ pub struct Row {
 }
 
 /// The rows.
-pub const ROWS: [Row; 39] = [
+pub const ROWS: [Row; 42] = [
     Row {
         words: &["homology", "--field", "3"],
         input: TREFOIL,
@@ -62,6 +62,24 @@ pub const ROWS: [Row; 39] = [
         input: "[]",
         status: Status::Done,
         output: "PD[]\n",
+    },
+    Row {
+        words: &["check", "--field", "3"],
+        input: "[[1,4,2,5],[3,6,4,1],[5,2,6,3]]",
+        status: Status::Done,
+        output: "accepted crossings 3 plus 0 minus 3 components 1 pieces 1 faces 5 loops 0\n",
+    },
+    Row {
+        words: &["check"],
+        input: "PD[X[1,5,2,4], X[3,6,4,1], X[5,2,6,3]]",
+        status: Status::CodeRefused,
+        output: "refused genus faces 3 wanted 5\n",
+    },
+    Row {
+        words: &["check", "check"],
+        input: TREFOIL,
+        status: Status::Usage,
+        output: "usage: kh COMMAND [OPTIONS]\n",
     },
     Row {
         words: &["homology"],
