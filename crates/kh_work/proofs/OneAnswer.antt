@@ -21,7 +21,9 @@ use Rattle.kh_work.specs.declared.command.Command.{Command}
 use Rattle.kh_work.specs.Replies.{Reply}
 use Rattle.kh_work.specs.Commands.{command_of}
 use Rattle.kh_work.specs.Refusals.{refused, refused_with, refused_with_both, too_many_crossings, too_many_loops, IsPdRefusal, IsJsonRefusal, fault_refusal, usage, too_many_bytes}
-use Rattle.kh_work.specs.Inputs.{is_json, IsPdRead, IsJsonRead, IsReadAs, IsCodeRead, IsFaulty, IsDiagramRead}
+use Rattle.kh_work.specs.declared.input.InputForm.{InputForm}
+use Rattle.kh_work.specs.declared.input.InputForm.TheVariants as forms
+use Rattle.kh_work.specs.Inputs.{input_form, IsPdRead, IsJsonRead, IsReadAs, IsCodeRead, IsFaulty, IsDiagramRead}
 use Rattle.kh_work.specs.Homology.{homology_reply}
 use Rattle.kh_work.specs.Convert.{convert_reply}
 use Rattle.kh_work.specs.Check.{check_reply}
@@ -113,13 +115,13 @@ IsJsonRead-one bytes (Err a) (Err b) is_a is_b =
 
 -- codes and diagrams
 
-IsReadAs-some : (as_json : Bool) (bytes : List ℕ) → (outcome : Result Code Reply) × IsReadAs as_json bytes outcome
-IsReadAs-some true bytes = IsJsonRead-some bytes
-IsReadAs-some false bytes = IsPdRead-some bytes
+IsReadAs-some : (form : InputForm) (bytes : List ℕ) → (outcome : Result Code Reply) × IsReadAs form bytes outcome
+IsReadAs-some forms.Pd bytes = IsPdRead-some bytes
+IsReadAs-some forms.Json bytes = IsJsonRead-some bytes
 
-IsReadAs-one : (as_json : Bool) (bytes : List ℕ) (a b : Result Code Reply) → IsReadAs as_json bytes a → IsReadAs as_json bytes b → a ≡ b
-IsReadAs-one true bytes a b is_a is_b = IsJsonRead-one bytes a b is_a is_b
-IsReadAs-one false bytes a b is_a is_b = IsPdRead-one bytes a b is_a is_b
+IsReadAs-one : (form : InputForm) (bytes : List ℕ) (a b : Result Code Reply) → IsReadAs form bytes a → IsReadAs form bytes b → a ≡ b
+IsReadAs-one forms.Pd bytes a b is_a is_b = IsPdRead-one bytes a b is_a is_b
+IsReadAs-one forms.Json bytes a b is_a is_b = IsJsonRead-one bytes a b is_a is_b
 
 IsDiagramRead-code : (bytes : List ℕ) (code : Code) (fault : Option CodeFault) → IsCodeRead bytes (Ok code) → first_fault code ≡ fault
     → (outcome : Result Code Reply) × IsDiagramRead bytes outcome
@@ -134,11 +136,11 @@ IsDiagramRead-outcome bytes (Err reply) read = (Err reply, inl read)
 
 IsDiagramRead-some : (bytes : List ℕ) → (outcome : Result Code Reply) × IsDiagramRead bytes outcome
 IsDiagramRead-some bytes =
-    let code = IsReadAs-some (is_json bytes) bytes in
+    let code = IsReadAs-some (input_form bytes) bytes in
     IsDiagramRead-outcome bytes code.0 code.1
 
 IsCodeRead-one : (bytes : List ℕ) (a b : Result Code Reply) → IsCodeRead bytes a → IsCodeRead bytes b → a ≡ b
-IsCodeRead-one bytes = IsReadAs-one (is_json bytes) bytes
+IsCodeRead-one bytes = IsReadAs-one (input_form bytes) bytes
 
 faulty_code : (bytes : List ℕ) (code : Code) (reply : Reply) → IsCodeRead bytes (Ok code) → first_fault code ≡ None → IsFaulty bytes reply → ⊥
 faulty_code bytes code reply read none faulty =

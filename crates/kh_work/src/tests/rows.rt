@@ -14,7 +14,7 @@ pub struct Row {
 }
 
 /// The rows.
-pub const ROWS: [Row; 42] = [
+pub const ROWS: [Row; 46] = [
     Row {
         words: &["homology", "--field", "3"],
         input: TREFOIL,
@@ -132,8 +132,32 @@ pub const ROWS: [Row; 42] = [
     Row {
         words: &["homology"],
         input: " [[1,1,2,2]]",
+        status: Status::Done,
+        output: "field 2\nj -1 i 0 dim 1\nj 1 i 0 dim 1\n",
+    },
+    Row {
+        words: &["convert"],
+        input: "\r\n\t [[1,1,2,2]] ",
+        status: Status::Done,
+        output: "PD[X[1, 1, 2, 2]]\n",
+    },
+    Row {
+        words: &["convert"],
+        input: "\n [[1,1,2,2],",
         status: Status::CodeRefused,
-        output: "refused text at 1\n",
+        output: "refused json\n",
+    },
+    Row {
+        words: &["convert"],
+        input: "\t\n \r",
+        status: Status::CodeRefused,
+        output: "refused text at 4\n",
+    },
+    Row {
+        words: &["convert"],
+        input: "\u{c}[[1,1,2,2]]",
+        status: Status::CodeRefused,
+        output: "refused text at 0\n",
     },
     Row {
         words: &["homology"],
