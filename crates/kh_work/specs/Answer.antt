@@ -17,7 +17,7 @@ use Rattle.kh_work.specs.Check.{check_reply}
 -- the reply of a task to the code of a diagram
 abbrev pub IsTaskReply : Task → Command → Code → Reply → Type 0
 IsTaskReply Homology command code reply = reply ≡ homology_reply command.field code
-IsTaskReply Convert command code reply = reply ≡ convert_reply code
+IsTaskReply Convert command code reply = reply ≡ convert_reply command.to code
 IsTaskReply Check command code reply = reply ≡ check_reply code
 
 -- the reply of a command to what its input was read as

@@ -6,7 +6,7 @@ use Rattle.kh_work.specs.declared.command.Task.TheVariants.{Homology, Convert, C
 use Rattle.kh_work.specs.declared.command.Field.{Field}
 use Rattle.kh_work.specs.declared.command.Field.TheVariants.{Two, Three, Five, Seven}
 use Rattle.kh_work.specs.declared.command.Form.{Form}
-use Rattle.kh_work.specs.declared.command.Form.TheVariants.{Pd}
+use Rattle.kh_work.specs.declared.command.Form.TheVariants.{Pd, Gauss}
 use Rattle.kh_work.specs.declared.command.Options.{Options}
 use Rattle.kh_work.specs.declared.command.Command.{Command}
 
@@ -33,7 +33,8 @@ size_of Seven = 7
 
 -- the form of a value
 abbrev pub form_of : List ℕ → Option Form
-form_of value = if bytes_eq value (codes "pd") then Some Pd else None
+form_of value =
+    if bytes_eq value (codes "pd") then Some Pd else if bytes_eq value (codes "gauss") then Some Gauss else None
 
 -- no option is given
 abbrev pub no_options : Options

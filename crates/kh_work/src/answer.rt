@@ -99,7 +99,7 @@ fn reply_to_diagram(alloc: Global, command: Command, diagram: &Diagram) -> Resul
 {
     match command.task {
         Task::Homology => reply_to_homology(alloc, command.field, diagram),
-        Task::Convert => reply_to_convert(alloc, diagram),
+        Task::Convert => reply_to_convert(alloc, command.to, diagram),
         Task::Check => reply_to_check(alloc, diagram),
     }
 }

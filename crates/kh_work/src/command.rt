@@ -34,6 +34,8 @@ pub enum Field {
 pub enum Form {
     /// A planar diagram text (Knot Atlas, "Planar Diagrams").
     Pd,
+    /// A signed Gauss text (Knot Atlas, "Gauss Codes").
+    Gauss,
 }
 
 /// The options that words give, each at most once.
@@ -157,6 +159,7 @@ fn form_of(value: &str) -> Option<Form>
 {
     match value {
         "pd" => Some(Form::Pd),
+        "gauss" => Some(Form::Gauss),
         _ => None,
     }
 }

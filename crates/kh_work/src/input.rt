@@ -2,11 +2,12 @@
 
 ghost use Rattle.std.specs.Prelude.{◌≡◌, ◌≤◌, length, IfOk, IfErr, Ok, Err};
 ghost use Rattle.kh_work.specs.Replies.{Reply};
-ghost use Rattle.kh_work.specs.Inputs.{first_byte, input_form, IsPdRead, IsJsonRead, IsCodeRead, IsDiagramRead};
+ghost use Rattle.kh_work.specs.Inputs.{first_byte, input_form, IsPdRead, IsGaussRead, IsJsonRead, IsCodeRead, IsDiagramRead};
 ghost use Rattle.kh_work.specs.InputStops.{StopsWith};
 
-use crate::refusals::{fault_refusal, json_refusal, pd_refusal};
+use crate::refusals::{fault_refusal, gauss_refusal, json_refusal, pd_refusal};
 use crate::reply::Reply;
+use gauss_code::read_gauss;
 use json_code::read_json;
 use kh_lex::is_blank;
 use kh_types::{Diagram, INPUT_BYTES, NoMemory, RawCode};
@@ -18,6 +19,8 @@ use std::alloc::Global;
 pub enum InputForm {
     /// A planar diagram text.
     Pd,
+    /// A signed Gauss text.
+    Gauss,
     /// A JSON text.
     Json,
 }
@@ -62,6 +65,7 @@ fn read_code(alloc: Global, bytes: &[u8]) -> Result<RawCode, InputStop>
 {
     match input_form(bytes) {
         InputForm::Pd => read_pd_code(alloc, bytes),
+        InputForm::Gauss => read_gauss_code(alloc, bytes),
         InputForm::Json => read_json_code(alloc, bytes),
     }
 }
@@ -72,6 +76,7 @@ fn input_form(bytes: &[u8]) -> InputForm
 {
     match first_byte(bytes) {
         Some(b'[') => InputForm::Json,
+        Some(b'G') => InputForm::Gauss,
         _ => InputForm::Pd,
     }
 }
@@ -92,6 +97,18 @@ fn read_json_code(alloc: Global, bytes: &[u8]) -> Result<RawCode, InputStop>
     match read_json(alloc, bytes) {
         Ok(raw) => Ok(raw),
         Err(stop) => Err(InputStop::Refused(json_refusal(alloc, stop)?)),
+    }
+}
+
+// The code of a signed Gauss text.
+fn read_gauss_code(alloc: Global, bytes: &[u8]) -> Result<RawCode, InputStop>
+    requires { length bytes.now ≤ INPUT_BYTES }
+    ensures code { IfOk result (λ code. IsGaussRead bytes.now (Ok code)) }
+    ensures refused { IfErr result (StopsWith (λ reply. IsGaussRead bytes.now (Err reply))) }
+{
+    match read_gauss(alloc, bytes) {
+        Ok(raw) => Ok(raw),
+        Err(stop) => Err(InputStop::Refused(gauss_refusal(alloc, stop)?)),
     }
 }
 
