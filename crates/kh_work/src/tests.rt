@@ -1,9 +1,13 @@
 //! What no clause says: that runs answer at all where there is memory, and what the definitions come to on known links.
 
+mod bad;
+mod counted;
 mod known;
 mod rows;
 
 use crate::{Status, run};
+use bad::BAD;
+use counted::COUNTED;
 use kh_io::{MemSink, MemSource};
 use kh_types::Words;
 use known::KNOWN;
@@ -46,6 +50,34 @@ fn known_links_have_their_tables(rt: HostRuntime) -> Result<(), Fail> {
             known.text.as_bytes(),
             Status::Done,
             table.as_str(),
+        )?;
+    }
+    Ok(())
+}
+
+#[test]
+fn diagrams_are_counted(rt: HostRuntime) -> Result<(), Fail> {
+    for counted in &COUNTED {
+        expect_answer(
+            &rt,
+            &["check"],
+            counted.text.as_bytes(),
+            Status::Done,
+            counted.line,
+        )?;
+    }
+    Ok(())
+}
+
+#[test]
+fn bad_codes_are_refused(rt: HostRuntime) -> Result<(), Fail> {
+    for bad in &BAD {
+        expect_answer(
+            &rt,
+            &["check"],
+            bad.text.as_bytes(),
+            Status::CodeRefused,
+            bad.line,
         )?;
     }
     Ok(())
