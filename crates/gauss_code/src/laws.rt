@@ -1,11 +1,12 @@
 //! What holds of the definitions that the contracts cite, beyond any one call.
 
+pub mod directed;
+pub mod reading;
+
 ghost use Rattle.std.specs.Prelude.{◌≡◌, List, [], ◌∷◌, codes, pos, negsuc, neg_ℤ};
 ghost use Rattle.gauss_code.specs.Listings.{Body};
 ghost use Rattle.gauss_code.specs.Passes.{code_of};
 ghost use Rattle.gauss_code.specs.Printing.{gauss_text};
-
-pub mod reading;
 
 /// What some labels and signs stand for, and how some codes are printed.
 pub fn worked_codes()
