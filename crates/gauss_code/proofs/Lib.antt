@@ -6,8 +6,8 @@ mod FewNumbers
 mod PlaceLemmas
 pub mod ReadingLemmas
 mod Sums
-pub mod Labels
-mod Passes
+pub mod LabelCounts
+mod ComponentPasses
 mod ArcCounts
 mod Found
 mod CrossingPasses

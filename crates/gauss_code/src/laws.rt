@@ -1,8 +1,8 @@
 //! What holds of the definitions that the contracts cite, beyond any one call.
 
 pub mod directed;
-pub mod reading;
 pub mod printing;
+pub mod reading;
 
 ghost use Rattle.std.specs.Prelude.{◌≡◌, List, [], ◌∷◌, codes, pos, negsuc, neg_ℤ};
 ghost use Rattle.gauss_code.specs.Listings.{Body};
