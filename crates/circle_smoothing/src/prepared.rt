@@ -19,7 +19,8 @@ use arrayvec::ArrayVec;
 use kh_types::{CLASS_MEMBERS, Diagram};
 use std::marker::Model;
 
-/// A diagram with what walks along its circles look up; it is made once for all states. Contracts see it as the diagram's `Code`.
+/// A diagram with what walks along its circles look up; it is made once for all states. Contracts
+/// see it as the diagram's `Code`.
 #[derive(Debug, Drop)]
 pub struct Smoothings {
     diagram: Diagram,
@@ -79,7 +80,8 @@ impl Smoothings {
         count_of(&circles_of(self, state))
     }
 
-    /// What the edge at a crossing does that starts in a state in which the crossing has its 0-smoothing.
+    /// What the edge at a crossing does that starts in a state in which the crossing has its
+    /// 0-smoothing.
     pub fn edge(&self, state: u32, crossing: u8) -> Edge
         requires state { state < 2 ^ length self.now.crossings }
         requires crossing { IsCrossing self.now.crossings crossing }

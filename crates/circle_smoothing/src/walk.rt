@@ -15,8 +15,8 @@ use crate::prepared::Smoothings;
 use arrayvec::ArrayVec;
 use kh_types::{CLASS_MEMBERS, classes_of, is_least};
 
-/// The circle of each arc and each loop in a state, by the least of them on it, after an entry for the number 0. Each circle is
-/// walked once, from its least arc.
+/// The circle of each arc and each loop in a state, by the least of them on it, after an entry for
+/// the number 0. Each circle is walked once, from its least arc.
 pub fn circles_of(smoothings: &Smoothings, state: u32) -> ArrayVec<u8, CLASS_MEMBERS>
     ensures circles { result.items ≡ circles_of smoothings.now state }
     ensures list { AreCircles result.items }
@@ -64,7 +64,8 @@ fn walk_from(smoothings: &Smoothings, state: u32, circles: &mut [u8], least: u8)
     }
 }
 
-/// The place of the dart that follows on a circle: across the smoothing, and on to the other end of the arc.
+/// The place of the dart that follows on a circle: across the smoothing, and on to the other end of
+/// the arc.
 #[tactic(auto, using(crate::proofs::JoinedSlots::places))]
 fn place_after(smoothings: &Smoothings, state: u32, place: u8) -> u8
     requires few { length smoothings.now.crossings ≤ CROSSINGS }
