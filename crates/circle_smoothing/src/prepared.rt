@@ -24,8 +24,10 @@ use std::marker::Model;
 #[derive(Debug, Drop)]
 pub struct Smoothings {
     diagram: Diagram,
+    // The arc of each dart, and the other dart of that arc, by places.
     arcs: ArrayVec<u8, CLASS_MEMBERS>,
     partners: ArrayVec<u8, CLASS_MEMBERS>,
+    // The place of a dart on each arc.
     starts: ArrayVec<u8, CLASS_MEMBERS>,
 }
 

@@ -1,4 +1,9 @@
 //! Walks along the circles of a state.
+//!
+//! A walk goes from a dart across the smoothing of its crossing, and on to the other end of the arc
+//! there. A checkerboard gives each arc one dart of either colour, and a smoothing joins darts of
+//! different colours. So a walk stays on darts of one colour; it meets each arc of its circle once,
+//! and then is back where it began. The walk itself need not know the colours.
 
 ghost use Rattle.std.specs.Prelude.{◌≡◌, ◌+◌, ◌*◌, ◌<◌, ◌≤◌, length, slice_index, IsTrue};
 ghost use Rattle.kh_types.specs.Acceptance.{accepted};
