@@ -12,8 +12,8 @@ use Rattle.kh_types.specs.Code.{Code, IsArc, IsCrossing, arc_count, place_of}
 use Rattle.kh_types.specs.Circles.{circles_of}
 use Rattle.kh_types.proofs.ClassLemmas.{slice_index-joined}
 use Rattle.kh_types.proofs.Lists.{HasMore-filter_range, filter-range_agree, length-HasMore}
-use Rattle.circle_smoothing.specs.CircleNumbers.{number_of}
-use Rattle.circle_smoothing.specs.Edges.{AreRenumbered, HaveMerged, IsEdge, IsName, Renumbers, arc_at_slot, renumbered, state_behind}
+use Rattle.circle_smoothing.specs.CircleNumbers.{IsName, number_of}
+use Rattle.circle_smoothing.specs.Edges.{AreRenumbered, HaveMerged, IsEdge, Renumbers, arc_at_slot, renumbered, state_behind}
 use Rattle.circle_smoothing.specs.declared.change.Edge.{Edge}
 use Rattle.circle_smoothing.specs.declared.change.Edge.TheVariants.{Merge, Split}
 use Rattle.circle_smoothing.proofs.CircleCycles.{IsNamed-circles}

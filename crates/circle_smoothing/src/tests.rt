@@ -8,10 +8,11 @@ use kh_types::{Crossing, Diagram, RawCode, bit};
 use std::process::Abort;
 use std::test::Fail;
 
-/// The slots of each crossing and the number of loops; the number of circles of each state; the circles of the arcs in the first
-/// state, in the last, and in the one whose number is half of the number of states; merges and splits, each by its state and its
-/// crossing, with their circles; the generators. They were found by a Python program that was written for this test: it unites
-/// sets of arcs.
+/// The slots of each crossing and the number of loops; the number of circles of each state; the
+/// circles of the arcs in the first state, in the last, and in the one whose number is half of the
+/// number of states; merges and splits, each by its state and its crossing, with their circles; the
+/// generators. They were found by a Python program that was written for this test: it unites sets
+/// of arcs.
 struct Row {
     crossings: &'static [[u8; 4]],
     loops: u8,
