@@ -19,7 +19,7 @@ use Rattle.kh_types.specs.StateSum.{int_sum, term_of, state_term, state_sum}
 use Rattle.kh_types.proofs.CircleBound.{circle_count-within}
 use Rattle.kh_types.proofs.Lists.{enumerate_from-push}
 use Rattle.kh_types.proofs.Ranges.{map_from_zero}
-use Rattle.jones_sum.specs.Kinds.{kind_of, ones_of, circles_of, state_kind, counted_sum, state_kind_sum, kind_term}
+use Rattle.jones_sum.specs.Kinds.{kind_of, ones_of, circles_of, state_kind, counted_sum, kind_term}
 
 pub int_sum-push : (xs : List ℤ) (x : ℤ) → int_sum (xs ++ x ∷ []) ≡ int_sum xs +ℤ x
 int_sum-push [] x = omega (arith, ints)
@@ -90,6 +90,10 @@ unsigned_abs-add a b = omega (arith, ints)
 pub times_within : (count most : ℕ) (term : ℤ) → unsigned_abs term ≤ most → unsigned_abs (pos count *ℤ term) ≤ count * most
 times_within count most term within =
     let bound = mul-le-mul_left count within in omega (arith, unsigned_abs-mul (pos count) term, bound)
+
+-- the sum of a value of the kinds of the first states
+abbrev pub state_kind_sum : Code → (ℕ → ℤ) → ℕ → ℤ
+state_kind_sum code value count = int_sum (map (λ state. value (state_kind code state)) (range_with_len 0 count))
 
 -- one state more
 pub state_kind_sum-more : (code : Code) (value : ℕ → ℤ) (state : ℕ)

@@ -2,7 +2,8 @@
 use Rattle.std.specs.Prelude.{ℕ, zero, suc, ◌+◌, ◌/◌, ◌%◌}
 use Rattle.kh_types.specs.declared.limits.TheConstants.{CIRCLES}
 
--- in how many ways some of n things can be chosen: some of the others with the last, or without it (Pascal's triangle)
+-- in how many ways so many of n things can be chosen: one fewer of the others with the last, or as many of the others without it
+-- (Pascal's triangle)
 abbrev pub binomial : ℕ → ℕ → ℕ
 binomial n zero = 1
 binomial zero (suc chosen) = 0

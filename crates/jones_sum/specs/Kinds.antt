@@ -1,6 +1,6 @@
 -- Kinds of states: states that have equally many ones and equally many circles have the same term.
 use Rattle.std.specs.Prelude.{ℕ, ◌+◌, ◌*◌, ◌/◌, ◌%◌, ℤ, pos, ◌*ℤ◌, List, map}
-use Rattle.std.specs.List.{enumerate_from, range_with_len}
+use Rattle.std.specs.List.{enumerate_from}
 use Rattle.kh_types.specs.declared.limits.TheConstants.{CIRCLES}
 use Rattle.kh_types.specs.Code.{Code}
 use Rattle.kh_types.specs.Circles.{circle_count}
@@ -26,10 +26,6 @@ state_kind code state = kind_of (one_count code state) (circle_count code state)
 -- the sum of a value of each kind, taken as often as the kind is counted
 abbrev pub counted_sum : (ℕ → ℤ) → List ℕ → ℤ
 counted_sum value counts = int_sum (map (λ kind. pos kind.1 *ℤ value kind.0) (enumerate_from 0 counts))
-
--- the sum of a value of the kinds of the first states
-abbrev pub state_kind_sum : Code → (ℕ → ℤ) → ℕ → ℤ
-state_kind_sum code value count = int_sum (map (λ state. value (state_kind code state)) (range_with_len 0 count))
 
 -- what a state of a kind adds to the coefficient of q ^ e
 abbrev pub kind_term : ℕ → ℕ → ℤ → ℕ → ℤ

@@ -13,7 +13,8 @@ use crate::triangle::COLUMNS;
 use circle_smoothing::Smoothings;
 use kh_types::{Diagram, ones};
 
-/// The number of states of each kind. So the state sum is the sum of the terms of the kinds, each as often as it is counted.
+/// The number of states of each kind. So the state sum is the sum of the terms of all kinds, each as
+/// often as it is counted.
 pub fn state_counts(diagram: &Diagram) -> [u32; KINDS]
     ensures sums { (exponent : ℤ) → counted_sum (kind_term
         (plus_count diagram.now.crossings) (minus_count diagram.now.crossings) exponent) result

@@ -12,19 +12,22 @@ use std::marker::Model;
 /// The number of coefficients.
 pub const COEFFICIENTS: usize = 2 * EXPONENT + 1;
 
-/// A Laurent polynomial in q with integer coefficients, whose exponents are from -EXPONENT to EXPONENT. Contracts see it as the
-/// list of its coefficients, ascending by exponent.
+/// A Laurent polynomial in q with integer coefficients, whose exponents are from -EXPONENT to
+/// EXPONENT. Contracts see it as the list of its coefficients, ascending by exponent.
 #[derive(Clone, Copy, Debug, PartialEq, Eq)]
 pub struct Laurent {
     pub(crate) coefficients: [i64; COEFFICIENTS],
 }
 
 impl Model for Laurent {
-    ghost use Rattle.std.specs.Prelude.{ℤ, List};
+    ghost use Rattle.std.specs.Prelude.{◌≡◌, ℤ, List, length};
+    ghost use Rattle.jones_sum.specs.declared.laurent.TheConstants.{COEFFICIENTS};
 
     ghost Value = { List ℤ };
 
     ghost view = { λ polynomial. polynomial.coefficients };
+
+    ghost invariant = { λ polynomial. length polynomial.coefficients ≡ COEFFICIENTS };
 
     ghost inverse = { λ coefficients. record { coefficients = coefficients } };
 }

@@ -1,4 +1,5 @@
-//! Laws of the definitions: each is the contract of a function that does nothing, proved with the crate.
+//! Laws of the definitions: each is the contract of a function that does nothing, proved with the
+//! crate.
 
 ghost use Rattle.std.specs.Prelude.{◌≡◌, ◌≢◌, ℕ, ◌*◌, ◌≤◌, ℤ, pos, ◌-ℤ◌, length, IsTrue};
 ghost use Rattle.kh_types.specs.declared.limits.TheConstants.{CROSSINGS, EXPONENT};
@@ -9,8 +10,9 @@ ghost use Rattle.kh_types.specs.StateSum.{circle_coefficient, state_sum, polynom
 ghost use Rattle.jones_sum.specs.Coefficients.{coefficients_of, coefficient_in};
 ghost use Rattle.jones_sum.specs.Binomials.{binomial};
 
-/// The coefficients of (q + q^-1)^k are the binomial coefficients, at the exponents -k, -k + 2 and so on up to k: a circle for
-/// each that gives q. Those of other exponents are 0.
+/// The coefficients of (q + q^-1)^k at the exponents -k, -k + 2 and so on are binomial coefficients:
+/// in how many ways circles can be chosen of k, to give q where the others give q^-1. Those of all
+/// other exponents are 0.
 pub fn circles_give_binomial_coefficients()
     ensures ways { (k chosen : ℕ)
         → circle_coefficient k (pos (2 * chosen) -ℤ pos k) ≡ binomial k chosen }
@@ -19,15 +21,15 @@ pub fn circles_give_binomial_coefficients()
         → circle_coefficient k exponent ≡ 0 }
 {}
 
-/// The state sum of an accepted code within the limits has no other exponents than those of a `Laurent`.
+/// The state sum of an accepted code within the limits has no exponents but those of a `Laurent`.
 pub fn state_sums_are_within_the_exponents()
     ensures { (code : Code) (exponent : ℤ) → IsTrue (accepted code)
         → length code.crossings ≤ CROSSINGS → ¬ IsWithin EXPONENT exponent
         → state_sum code exponent ≡ pos 0 }
 {}
 
-/// A polynomial within the exponents is told by its coefficients: each is the polynomial's value at its exponent, and the Jones
-/// line of two polynomials with the same values there is the same.
+/// The list of a polynomial's coefficients tells each of them within the exponents, and the Jones
+/// line, which is the same of two polynomials that agree there.
 pub fn coefficients_tell_the_polynomial()
     ensures value { (polynomial : ℤ → ℤ) (exponent : ℤ) → IsWithin EXPONENT exponent
         → coefficient_in (coefficients_of polynomial) exponent ≡ polynomial exponent }

@@ -51,7 +51,8 @@ pub fn term(triangle: &Triangle, signs: Signs, kind: usize, place: usize) -> i64
     if (ones + minus) % 2 == 0 { size } else { -size }
 }
 
-/// In how many ways the circles, each of which gives q or q^-1, give the exponent that is raised and lowered from -circles.
+/// In how many ways circles, each of which gives q or q^-1, give the exponent
+/// raised - lowered - circles.
 #[tactic(auto, using(crate::proofs::TermLemmas::ways))]
 fn ways(triangle: &Triangle, circles: usize, raised: usize, lowered: usize) -> u64
     requires { circles ≤ CIRCLES }
@@ -59,11 +60,8 @@ fn ways(triangle: &Triangle, circles: usize, raised: usize, lowered: usize) -> u
         → result ≡ circle_coefficient circles exponent }
     ensures within { result ≤ 2 ^ CIRCLES }
 {
-    if raised < lowered {
-        0
-    } else if (raised - lowered) % 2 == 1 {
-        0
-    } else {
-        triangle.ways(circles, (raised - lowered) / 2)
+    match raised.checked_sub(lowered) {
+        Some(twice) if twice % 2 == 0 => triangle.ways(circles, twice / 2),
+        _ => 0,
     }
 }

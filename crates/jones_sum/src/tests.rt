@@ -5,8 +5,8 @@ use arrayvec::ArrayVec;
 use kh_types::{Crossing, Diagram, RawCode};
 use std::test::Fail;
 
-/// A link with its Jones polynomial V in t, as the tables have it: the lowest exponent of t^(1/2), and the coefficients from there
-/// on, each at an exponent of t one higher.
+/// A link with its Jones polynomial V in t, as the tables have it: the lowest exponent of t^(1/2),
+/// and the coefficients from there on, each at an exponent of t one higher.
 struct Row {
     name: &'static str,
     crossings: &'static [[u8; 4]],
@@ -15,9 +15,9 @@ struct Row {
     coefficients: &'static [i64],
 }
 
-/// Codes and polynomials of the knots and links with a name such as 5_2 or L6a4 are those of the Knot Atlas, its Rolfsen knot table
-/// and its Thistlethwaite link table; of the Whitehead link MathWorld has the polynomial. A mirror image has that with 1/t for t, and
-/// a loop apart multiplies V by -t^(1/2) - t^(-1/2).
+/// The polynomials of knots and links with a name such as 5_2 or L6a4 are those of the Knot Atlas, its
+/// Rolfsen knot table and its Thistlethwaite link table; that of the Whitehead link is Wikipedia's. A
+/// mirror image has that with 1/t for t, and a loop apart multiplies V by -t^(1/2) - t^(-1/2).
 const ROWS: &[Row] = &[
     Row {
         name: "the unknot",
@@ -174,8 +174,9 @@ const ROWS: &[Row] = &[
     },
 ];
 
-/// The polynomial here is q + q^-1 times V with t^(1/2) = -q: of the unknot V is 1. By hand, of the Hopf link V is
-/// -t^(-1/2) - t^(-5/2), that is q^-1 + q^-5, and the product is q^-6 + q^-4 + q^-2 + 1.
+/// The polynomial here is q + q^-1 times V with t^(1/2) = -q. By hand: the unknot has V = 1, so q + q^-1;
+/// the unlink of two components V = -t^(1/2) - t^(-1/2), that is q + q^-1, so q^2 + 2 + q^-2; the Hopf
+/// link V = -t^(-1/2) - t^(-5/2), that is q^-1 + q^-5, so 1 + q^-2 + q^-4 + q^-6.
 #[test]
 fn known_links_have_the_polynomials_of_the_tables(rt: HostRuntime) -> Result<(), Fail> {
     for row in ROWS {

@@ -15,14 +15,14 @@ const PLACES: usize = COLUMNS * COLUMNS;
 /// The binomial coefficients of up to CIRCLES things: in how many ways some of them can be chosen.
 #[derive(Drop)]
 pub struct Triangle {
-    // a row for each number of things, a column for each number that is chosen
+    // A row for each number of things, a column for each number that is chosen.
     ways: [u64; PLACES],
     ghost full: { (place : ℕ) → place < PLACES → slice_index ways place ≡ binomial_at place },
 }
 
 impl Triangle {
     /// The triangle.
-    pub fn new() -> Triangle {
+    pub(crate) fn new() -> Triangle {
         let mut ways = [0; PLACES];
         'places: for place in 0..PLACES {
             ways[place] = ways_at(&ways, place);

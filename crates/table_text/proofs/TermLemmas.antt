@@ -9,7 +9,11 @@ use Rattle.kh_types.specs.declared.limits.TheConstants.{EXPONENT}
 use Rattle.kh_types.specs.Table.{from_minus}
 use Rattle.kh_types.specs.StateSum.{Term, term_text, terms, terms_text, polynomial_text}
 use Rattle.kh_types.proofs.Ranges.{map_from_zero}
-use Rattle.table_text.specs.Terms.{line_of, text_at, text_to}
+use Rattle.table_text.specs.Terms.{line_of, text_at}
+
+-- the texts of the terms of the exponents from -EXPONENT on, as many as a count says
+unfoldable pub text_to : (ℤ → ℤ) → ℕ → List ℕ
+text_to polynomial count = flat_map (text_at polynomial) (map (λ place. pos place -ℤ pos EXPONENT) (range_with_len 0 count))
 
 -- no exponent, and one exponent more
 
@@ -48,14 +52,14 @@ shown_text polynomial (exponent ∷ exponents) =
     (filter (λ term. not (int_eq term.coefficient (pos 0))) (map (term_at polynomial) exponents))
     ∙ ap (λ (text : List ℕ). text_at polynomial exponent ++ text) (shown_text polynomial exponents)
 
-text_to-terms : (polynomial : ℤ → ℤ) → flat_map term_text (terms polynomial) ≡ text_to polynomial (2 * EXPONENT + 1)
+pub text_to-terms : (polynomial : ℤ → ℤ) → text_to polynomial (2 * EXPONENT + 1) ≡ flat_map term_text (terms polynomial)
 unfolding text_to
-text_to-terms polynomial = shown_text polynomial (from_minus EXPONENT)
+text_to-terms polynomial = sym (shown_text polynomial (from_minus EXPONENT))
 
 -- the line of terms
-line_of-terms : (all : List Term) → line_of (flat_map term_text all) ≡ codes "jones" ++ (terms_text all ++ codes "\n")
-line_of-terms [] = refl
-line_of-terms (term ∷ all) = refl
+line_of-all : (all : List Term) → line_of (flat_map term_text all) ≡ codes "jones" ++ (terms_text all ++ codes "\n")
+line_of-all [] = refl
+line_of-all (term ∷ all) = refl
 
-pub line_of-text_to : (polynomial : ℤ → ℤ) → line_of (text_to polynomial (2 * EXPONENT + 1)) ≡ polynomial_text polynomial
-line_of-text_to polynomial = ap line_of (sym (text_to-terms polynomial)) ∙ line_of-terms (terms polynomial)
+pub line_of-terms : (polynomial : ℤ → ℤ) → line_of (flat_map term_text (terms polynomial)) ≡ polynomial_text polynomial
+line_of-terms polynomial = line_of-all (terms polynomial)

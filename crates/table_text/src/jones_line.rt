@@ -1,19 +1,19 @@
 //! The Jones line.
 
 ghost use Rattle.std.specs.Prelude.{◌≡◌, ◌++◌, string_bytes, IfOk, OnOk};
+ghost use Rattle.std.specs.List.{flat_map};
 ghost use Rattle.kh_types.specs.declared.limits.TheConstants.{EXPONENT};
-ghost use Rattle.kh_types.specs.StateSum.{polynomial_text};
+ghost use Rattle.kh_types.specs.StateSum.{polynomial_text, term_text, terms};
 ghost use Rattle.kh_types.specs.Table.{IsWithin};
 ghost use Rattle.jones_sum.specs.Coefficients.{coefficient_in};
-ghost use Rattle.jones_sum.specs.declared.laurent.TheConstants.{COEFFICIENTS};
-ghost use Rattle.table_text.specs.Terms.{line_of, text_at, text_to};
+ghost use Rattle.table_text.specs.Terms.{line_of, text_at};
 
 use jones_sum::{COEFFICIENTS, Laurent, exponent_at};
 use kh_types::NoMemory;
 use std::alloc::Global;
 
-/// The Jones line: `jones`, then for each exponent with a coefficient that is not 0, ascending, a space and `C*q^E`, then a line
-/// feed. The zero polynomial is `jones 0`. Source: this project's rule.
+/// The Jones line: `jones`, then for each exponent with a coefficient that is not 0, ascending, a
+/// space and `C*q^E`, then a line feed; the zero polynomial is `jones 0`. Source: this project's rule.
 pub fn print_jones(alloc: Global, polynomial: &Laurent) -> Result<Vec<u8>, NoMemory>
     ensures text { IfOk result (λ text.
         text.items ≡ polynomial_text (coefficient_in polynomial.now)) }
@@ -38,7 +38,7 @@ fn line_of(alloc: Global, terms: &str) -> Result<String, NoMemory>
 #[tactic(auto, using(crate::proofs::TermLemmas::texts))]
 fn terms_of(alloc: Global, polynomial: &Laurent) -> Result<String, NoMemory>
     ensures { IfOk result (λ text.
-        string_bytes text ≡ text_to (coefficient_in polynomial.now) COEFFICIENTS) }
+        string_bytes text ≡ flat_map term_text (terms (coefficient_in polynomial.now))) }
 {
     let mut text = String::new(alloc);
     'places: for place in 0..COEFFICIENTS {

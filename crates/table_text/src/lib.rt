@@ -2,5 +2,7 @@
 #![tactic(auto)]
 
 mod jones_line;
+#[cfg(test)]
+mod tests;
 
 pub use jones_line::print_jones;

@@ -3,8 +3,8 @@ use Rattle.std.proofs.Math.ListN.{length-set}
 use Rattle.kh_types.specs.Code.{Code}
 use Rattle.kh_types.specs.Directions.{plus_count, minus_count}
 use Rattle.kh_types.proofs.AcceptedLemmas.{IsAccepted-is}
-use Rattle.jones_sum.specs.Kinds.{state_kind, kind_term, state_kind_sum}
-use Rattle.jones_sum.proofs.KindLemmas.{counted_sum-none, counts_more, sum-one_more, states-all, state_kind_sum-state_sum}
+use Rattle.jones_sum.specs.Kinds.{state_kind, kind_term}
+use Rattle.jones_sum.proofs.KindLemmas.{counted_sum-none, counts_more, sum-one_more, states-all, state_kind_sum, state_kind_sum-state_sum}
 use Rattle.jones_sum.proofs.kinds.state_counts.Goals as goal
 
 pub states-init : goal.states-init

@@ -2,7 +2,7 @@ use Rattle.std.proofs.Common.{◌≡◌, ℕ, ◌<◌, get_or, length, pos, ◌-
 use Rattle.kh_types.specs.declared.limits.TheConstants.{EXPONENT}
 use Rattle.kh_types.specs.StateSum.{state_sum}
 use Rattle.jones_sum.specs.declared.laurent.TheConstants.{COEFFICIENTS}
-use Rattle.jones_sum.proofs.summed.jones.Given as goal
+use Rattle.jones_sum.proofs.finding.jones.Given as goal
 
 abbrev pub invariant-places : goal.invariant-places
 invariant-places l =

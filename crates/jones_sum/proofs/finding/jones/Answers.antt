@@ -1,7 +1,7 @@
 use Rattle.std.proofs.Common.{◌<◌, ℕ, arith}
 use Rattle.kh_types.specs.StateSum.{state_sum}
 use Rattle.jones_sum.proofs.CoefficientLemmas.{coefficients_of-filled}
-use Rattle.jones_sum.proofs.summed.jones.Goals as goal
+use Rattle.jones_sum.proofs.finding.jones.Goals as goal
 
 pub returns : goal.returns
 returns c =

@@ -15,8 +15,9 @@ use crate::terms::{KINDS, Signs, term};
 use crate::triangle::Triangle;
 use kh_types::Diagram;
 
-/// The unnormalised Jones polynomial of a diagram: the sum over its states of (-1)^(r - n-) q^(r + n+ - 2n-) (q + q^-1)^circles,
-/// where r is the number of crossings with their 1-smoothing. Source: Bar-Natan 2002, section 2.
+/// The unnormalised Jones polynomial of a diagram: the sum over its states of
+/// (-1)^(r - n-) q^(r + n+ - 2n-) (q + q^-1)^circles, where r is the number of crossings with their
+/// 1-smoothing. Source: Bar-Natan 2002, section 2.
 pub fn jones(diagram: &Diagram) -> Laurent
     ensures { result ≡ coefficients_of (state_sum diagram.now) }
 {
@@ -30,7 +31,8 @@ pub fn jones(diagram: &Diagram) -> Laurent
     Laurent { coefficients }
 }
 
-/// The coefficient at a place: the sum of the terms of all kinds, each as often as there are states of the kind.
+/// The coefficient at a place: the sum of the terms of all kinds, each as often as there are states
+/// of the kind.
 fn coefficient(counts: &[u32], triangle: &Triangle, signs: Signs, place: usize) -> i64
     requires kinds { length counts.now ≡ KINDS }
     requires states { sum counts.now ≤ 2 ^ CROSSINGS }

@@ -4,7 +4,7 @@ use Rattle.std.proofs.lemmas.Int.{ints}
 use Rattle.std.proofs.lemmas.List.Sums.{sum_by_more, sum_by_more_le}
 use Rattle.jones_sum.specs.Kinds.{counted_sum, kind_term}
 use Rattle.jones_sum.proofs.KindLemmas.{counted_sum-more, unsigned_abs-add}
-use Rattle.jones_sum.proofs.summed.coefficient.Goals as goal
+use Rattle.jones_sum.proofs.finding.coefficient.Goals as goal
 
 pub kinds-preserved : goal.kinds-preserved
 kinds-preserved c =

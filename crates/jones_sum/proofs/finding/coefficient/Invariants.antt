@@ -3,7 +3,7 @@ use Rattle.std.specs.Prelude.{unsigned_abs}
 use Rattle.std.specs.List.{sum}
 use Rattle.kh_types.specs.declared.limits.TheConstants.{CIRCLES, EXPONENT}
 use Rattle.jones_sum.specs.Kinds.{counted_sum, kind_term}
-use Rattle.jones_sum.proofs.summed.coefficient.Given as goal
+use Rattle.jones_sum.proofs.finding.coefficient.Given as goal
 
 abbrev pub invariant-kinds : goal.invariant-kinds
 invariant-kinds l =

@@ -2,7 +2,7 @@ use Rattle.std.proofs.Common.{◌≡◌, ◌≤◌, ◌*◌, ◌^◌, ◌∙◌,
 use Rattle.std.specs.Prelude.{unsigned_abs, FitsSigned}
 use Rattle.std.proofs.lemmas.Int.{ints, to_z-of_z, fits_signed_mul}
 use Rattle.jones_sum.proofs.KindLemmas.{times_within}
-use Rattle.jones_sum.proofs.summed.times.Goals as goal
+use Rattle.jones_sum.proofs.finding.times.Goals as goal
 
 pub returns-clause-within : goal.returns-clause-within
 returns-clause-within c =
