@@ -2,3 +2,4 @@ pub mod CommandLemmas
 pub mod AnswerLemmas
 pub mod TextReadings
 pub mod OneAnswer
+pub mod JonesLemmas

@@ -7,7 +7,7 @@ use Rattle.kh_types.specs.Code.{Code}
 use Rattle.kh_types.specs.Acceptance.{first_fault}
 use Rattle.kh_types.specs.declared.fault.CodeFault.{CodeFault}
 use Rattle.kh_work.specs.declared.command.Task.{Task}
-use Rattle.kh_work.specs.declared.command.Task.TheVariants.{Homology, Convert, Check}
+use Rattle.kh_work.specs.declared.command.Task.TheVariants.{Homology, Convert, Check, Jones}
 use Rattle.kh_work.specs.declared.command.Command.{Command}
 use Rattle.kh_work.specs.Replies.{Reply}
 use Rattle.kh_work.specs.Commands.{command_of}
@@ -17,6 +17,7 @@ use Rattle.kh_work.proofs.TextReadings.{IsReadAs-some, IsCodeRead-one}
 use Rattle.kh_work.specs.Homology.{homology_reply}
 use Rattle.kh_work.specs.Convert.{convert_reply}
 use Rattle.kh_work.specs.Check.{check_reply}
+use Rattle.kh_work.specs.Jones.{jones_reply}
 use Rattle.kh_work.specs.Answer.{IsTaskReply, IsReplyTo, IsCommandReply, IsAnswerOf, IsAnswer}
 
 -- codes and diagrams
@@ -78,12 +79,14 @@ IsTaskReply-some : (task : Task) (command : Command) (code : Code) → (reply : 
 IsTaskReply-some Homology command code = (homology_reply command.field code, refl)
 IsTaskReply-some Convert command code = (convert_reply command.to code, refl)
 IsTaskReply-some Check command code = (check_reply code, refl)
+IsTaskReply-some Jones command code = (jones_reply code, refl)
 
 IsTaskReply-one : (task : Task) (command : Command) (code : Code) (a b : Reply) → IsTaskReply task command code a
     → IsTaskReply task command code b → a ≡ b
 IsTaskReply-one Homology command code a b is_a is_b = is_a ∙ sym is_b
 IsTaskReply-one Convert command code a b is_a is_b = is_a ∙ sym is_b
 IsTaskReply-one Check command code a b is_a is_b = is_a ∙ sym is_b
+IsTaskReply-one Jones command code a b is_a is_b = is_a ∙ sym is_b
 
 IsReplyTo-some : (command : Command) (outcome : Result Code Reply) → (reply : Reply) × IsReplyTo command outcome reply
 IsReplyTo-some command (Ok code) = IsTaskReply-some command.task command code

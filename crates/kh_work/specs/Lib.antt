@@ -4,6 +4,7 @@ pub mod Commands
 pub mod Refusals
 pub mod Inputs
 pub mod InputStops
+pub mod Jones
 pub mod Homology
 pub mod Convert
 pub mod Check

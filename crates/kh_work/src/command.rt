@@ -14,6 +14,8 @@ pub enum Task {
     Convert,
     /// Write how many crossings, components and faces the diagram has.
     Check,
+    /// Write the unnormalised Jones polynomial.
+    Jones,
 }
 
 /// A field, by its number of elements.
@@ -78,6 +80,7 @@ fn task_of(name: &str) -> Option<Task>
         "homology" => Some(Task::Homology),
         "convert" => Some(Task::Convert),
         "check" => Some(Task::Check),
+        "jones" => Some(Task::Jones),
         _ => None,
     }
 }
