@@ -1,6 +1,6 @@
 -- Walks along the circles of a state: from a dart across the smoothing and on to the other end of the arc, so always on darts of one
 -- colour, of which each arc has one.
-use Rattle.std.proofs.Common.{◌≡◌, ◌≢◌, ℕ, zero, suc, ◌⊎◌, inl, inr, ◌+◌, ◌-◌, ◌*◌, ◌%◌, ◌<◌, ◌≤◌, ◌∙◌, List, refl, sym, ap, subst, length, arith, IsTrue, not}
+use Rattle.std.proofs.Common.{◌≡◌, ◌≢◌, ℕ, zero, suc, inl, inr, ◌+◌, ◌-◌, ◌*◌, ◌<◌, ◌∙◌, List, refl, sym, ap, subst, length, arith, IsTrue, not}
 use Rattle.std.specs.Prelude.{nat_eq, slice_index}
 use Rattle.std.specs.List.{count_by, range_with_len}
 use Rattle.std.proofs.Math.ListN.{set}
@@ -15,11 +15,11 @@ use Rattle.kh_types.specs.Walks.{IsWalked}
 use Rattle.kh_types.proofs.AcceptedLemmas.{HasArcsTwice-accepted}
 use Rattle.kh_types.proofs.DartColours.{IsColoured-accepted}
 use Rattle.kh_types.proofs.DartPairs.{IsOtherPlace-partner_at}
-use Rattle.kh_types.proofs.WalkLemmas.{AreCycles, IsOnWalk, IsOnWalk-first, IsOnWalk-more, IsWalked-more, IsWalked-none, IsWalked-skip, unvisited-fewer, walked-all}
+use Rattle.kh_types.proofs.WalkLemmas.{IsOnWalk, IsOnWalk-first, IsOnWalk-more, IsWalked-more, IsWalked-none, IsWalked-skip, unvisited-fewer, walked-all}
 use Rattle.circle_smoothing.specs.CircleLists.{AreCircles}
 use Rattle.circle_smoothing.specs.Prepared.{arc_at}
 use Rattle.circle_smoothing.specs.Steps.{across, circle_step}
-use Rattle.circle_smoothing.proofs.CircleCycles.{AreCycles-circles, IsNamed-circles, arc-at_place, follower, follower-other, follower-place, one_place}
+use Rattle.circle_smoothing.proofs.CircleCycles.{AreCycles-circles, IsNamed-circles, follower, follower-other, follower-place, one_place}
 use Rattle.circle_smoothing.proofs.EdgeNames.{circle-positive}
 use Rattle.circle_smoothing.proofs.JoinedSlots.{across-below, across-colour, place_colour}
 

@@ -1,7 +1,6 @@
 -- Along an edge two images of the permutation are exchanged, those of the two arcs that come to the crossing: so their circles are
 -- joined, or one circle is parted.
 use Rattle.std.proofs.Common.{◌≡◌, ◌≢◌, ℕ, ◌⊎◌, inl, inr, ◌+◌, ◌-◌, ◌*◌, ◌/◌, ◌%◌, ◌<◌, ◌∙◌, List, refl, sym, ap, subst, length, arith, IsTrue}
-use Rattle.std.proofs.lemmas.Bool.{cases_eq}
 use Rattle.kh_types.specs.Acceptance.{accepted}
 use Rattle.kh_types.specs.Bits.{bit}
 use Rattle.kh_types.specs.Code.{Code, IsCrossing, arc_count, place_of}
@@ -12,7 +11,7 @@ use Rattle.kh_types.proofs.AcceptedLemmas.{HasArcsTwice-accepted}
 use Rattle.kh_types.proofs.DartColours.{IsColoured-accepted}
 use Rattle.circle_smoothing.specs.Edges.{AreJoined, JoinsOrParts, arc_at_slot, state_behind}
 use Rattle.circle_smoothing.specs.Prepared.{arc_at}
-use Rattle.circle_smoothing.specs.Steps.{across, joined_slot}
+use Rattle.circle_smoothing.specs.Steps.{joined_slot}
 use Rattle.circle_smoothing.proofs.CircleCycles.{AreCycles-circles, IsSided-sided, arc-at_place, arc_or_not, follower, follower-arc, follower-other, follower-place, one_place, sided}
 use Rattle.circle_smoothing.proofs.EdgeBits.{bit-set_other, bit-set_there}
 use Rattle.circle_smoothing.proofs.Exchange.{AreJoined-exchanged, IsExchanged}
@@ -108,7 +107,8 @@ AreJoined-edge code tail head k is below zero one agree =
     AreJoined-exchanged m (follower crossings choice tail side) (follower crossings choice tail other)
     (follower crossings choice head side) (follower crossings choice head other) (circles_of code tail) (circles_of code head)
     (arc_at crossings (4 * k + 0)) (arc_at crossings (4 * k + 2)) (AreCycles-circles code choice tail side other is coloured sum)
-    (AreCycles-circles code choice head side other is coloured sum) (IsExchanged-edge code choice tail head k is coloured below zero one agree)
+    (AreCycles-circles code choice head side other is coloured sum)
+    (IsExchanged-edge code choice tail head k is coloured below zero one agree)
     (omega (arith, first_is.within)) (omega (arith, third_is.within))
     (λ same. absurd (omega (
       arith,
@@ -125,9 +125,10 @@ joins_or_parts code state crossing is is_crossing zero =
     let tail = circles_of code state in
     let head = circles_of code (state_behind state crossing) in
     let below : k < length code.crossings = omega (arith, is_crossing.positive, is_crossing.within) in
+    let second = arc_at code.crossings (4 * k + 2) in
     subst (λ (y : ℕ). AreJoined tail head (arc_at_slot code crossing 0) y ⊎ AreJoined head tail (arc_at_slot code crossing 0) y)
     (arc_at-slot code.crossings k 2 (omega arith))
-    (subst (λ (x : ℕ). AreJoined tail head x (arc_at code.crossings (4 * k + 2)) ⊎ AreJoined head tail x (arc_at code.crossings (4 * k + 2)))
+    (subst (λ (x : ℕ). AreJoined tail head x second ⊎ AreJoined head tail x second)
     (arc_at-slot code.crossings k 0 (omega arith))
     (AreJoined-edge code state (state_behind state crossing) k is below zero (bit-set_there state k zero)
     (bit-set_other state k zero)))

@@ -1,5 +1,5 @@
 -- Two circles become one along an edge, forwards or backwards: their names, and the circles that the crossing touches.
-use Rattle.std.proofs.Common.{◌≡◌, ◌≢◌, ℕ, ◌⊎◌, inl, inr, ◌+◌, ◌-◌, ◌*◌, ◌<◌, ◌≤◌, ◌∙◌, List, [], ◌∷◌, refl, sym, ap, subst, length, get_or, arith, Bool, true, false, ◌&&◌, not, IsTrue}
+use Rattle.std.proofs.Common.{◌≡◌, ◌≢◌, ℕ, ◌⊎◌, inl, inr, ◌+◌, ◌*◌, ◌<◌, ◌≤◌, ◌∙◌, [], ◌∷◌, refl, sym, ap, subst, length, arith, Bool, true, false, ◌&&◌, not, IsTrue}
 use Rattle.std.specs.Prelude.{nat_eq, ◌||◌, min, max, slice_index}
 use Rattle.std.specs.List.{filter}
 use Rattle.std.proofs.lemmas.Bool.{eq-eqb}
@@ -69,7 +69,8 @@ circle-positive code state x is from below =
     (respects-across (λ z. min z 1) crossings state
     (λ place place_below.
     both_positive (arc_at crossings (across state place)) (arc_at crossings place)
-    (positive (across state place) (across-below (length crossings) state place place_below)).positive (positive place place_below).positive))
+    (positive (across state place) (across-below (length crossings) state place place_below)).positive
+    (positive place place_below).positive))
     (smoothings-below code state is) class x (omega (arith, named.least x below, below)) below (named.own x below) in
     omega (arith, same, from)
   where
@@ -171,8 +172,10 @@ below_or_past x n = grind arith
 
 -- the circles of the arcs at the slots 0 and 2 have become one
 two_become_one : (code : Code) (before after crossing : ℕ) → IsTrue (accepted code) → IsCrossing code.crossings crossing
-    → (circle_at code before crossing 1 ≡ circle_at code before crossing 0) ⊎ (circle_at code before crossing 1 ≡ circle_at code before crossing 2)
-    → (circle_at code before crossing 3 ≡ circle_at code before crossing 0) ⊎ (circle_at code before crossing 3 ≡ circle_at code before crossing 2)
+    → (circle_at code before crossing 1 ≡ circle_at code before crossing 0)
+    ⊎ (circle_at code before crossing 1 ≡ circle_at code before crossing 2)
+    → (circle_at code before crossing 3 ≡ circle_at code before crossing 0)
+    ⊎ (circle_at code before crossing 3 ≡ circle_at code before crossing 2)
     → AreJoined (circles_of code before) (circles_of code after) (arc_at_slot code crossing 0) (arc_at_slot code crossing 2)
     → TwoBecomeOne code before after crossing (min (circle_at code before crossing 0) (circle_at code before crossing 2))
     (max (circle_at code before crossing 0) (circle_at code before crossing 2))
@@ -207,7 +210,8 @@ two_become_one code before after crossing is is_crossing second fourth join =
     let now : (x : ℕ) → x < n → slice_index afterwards x ≡ merged p q (slice_index circles x) =
     λ x x_below. ap (λ cs. slice_index cs x) join.one ∙ slice_index-joined circles (first, third) x (omega (arith, is_n, x_below)) in
     let after_length : length afterwards ≡ n = ap length join.one ∙ length-joined circles (first, third) ∙ is_n in
-    let more = HasMore-names n 1 most circles (first, third) named (omega arith) first_below third_below join.apart (omega (arith, kept_from, order)) in
+    let more = HasMore-names n 1 most circles (first, third) named (omega arith) first_below third_below join.apart
+    (omega (arith, kept_from, order)) in
     record {
       order = order;
       touched_before = touched-two code before crossing kept gone

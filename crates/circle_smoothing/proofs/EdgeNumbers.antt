@@ -1,7 +1,7 @@
 -- The numbers of circles along an edge: the two that become one keep the lesser number, and the numbers above the greater go down by
 -- one.
-use Rattle.std.proofs.Common.{◌≡◌, ◌≢◌, ℕ, ◌⊎◌, inl, inr, ◌+◌, ◌-◌, ◌<◌, ◌≤◌, ◌∙◌, List, [], ◌∷◌, refl, sym, ap, subst, length, map, arith, Bool, true, false, ◌&&◌, not, IsTrue}
-use Rattle.std.specs.Prelude.{nat_eq, nat_lt, min, max, slice_index}
+use Rattle.std.proofs.Common.{◌≡◌, ◌≢◌, ℕ, ◌⊎◌, inl, inr, ◌+◌, ◌-◌, ◌<◌, ◌≤◌, ◌∙◌, [], ◌∷◌, refl, sym, ap, subst, length, map, arith, Bool, true, false, ◌&&◌, not, IsTrue}
+use Rattle.std.specs.Prelude.{nat_eq, min, max, slice_index}
 use Rattle.std.specs.List.{filter, range_with_len}
 use Rattle.std.proofs.lemmas.Bool.{cases_eq, eq-eqb}
 use Rattle.std.proofs.lemmas.Bool.Decides.{nat_tests}
@@ -12,13 +12,13 @@ use Rattle.kh_types.specs.Code.{Code, IsArc, IsCrossing, arc_count, place_of}
 use Rattle.kh_types.specs.Circles.{circles_of}
 use Rattle.kh_types.proofs.ClassLemmas.{slice_index-joined}
 use Rattle.kh_types.proofs.Lists.{HasMore-filter_range, filter-range_agree, length-HasMore}
-use Rattle.circle_smoothing.specs.CircleNumbers.{circle_number, number_of}
-use Rattle.circle_smoothing.specs.Edges.{AreRenumbered, HaveMerged, IsEdge, IsName, Renumbers, arc_at_slot, renumbered, state_behind, touched_numbers}
+use Rattle.circle_smoothing.specs.CircleNumbers.{IsName, number_of}
+use Rattle.circle_smoothing.specs.Edges.{AreRenumbered, HaveMerged, IsEdge, Renumbers, arc_at_slot, renumbered, state_behind}
 use Rattle.circle_smoothing.specs.declared.change.Edge.{Edge}
 use Rattle.circle_smoothing.specs.declared.change.Edge.TheVariants.{Merge, Split}
 use Rattle.circle_smoothing.proofs.CircleCycles.{IsNamed-circles}
-use Rattle.circle_smoothing.proofs.EdgeNames.{IsArc-slot, IsJoin, IsJoin-edge, becomes_least, circle_at, stays_least}
-use Rattle.circle_smoothing.proofs.NumberLemmas.{IsCircle, IsCircle-max, IsCircle-min, IsCircle-of, lesser, number_of-counted, number_of-max, number_of-min, number_of-one, number_of-order}
+use Rattle.circle_smoothing.proofs.EdgeNames.{IsArc-slot, IsJoin, IsJoin-edge, circle_at, stays_least}
+use Rattle.circle_smoothing.proofs.NumberLemmas.{IsCircle, IsCircle-max, IsCircle-min, IsCircle-of, lesser, number_of-counted, number_of-order}
 
 pub IsName-arc : (code : Code) (arc : ℕ) → IsArc code.crossings arc → IsName code arc
 IsName-arc code arc is = record { positive = is.positive; within = omega (arith, is.within) }

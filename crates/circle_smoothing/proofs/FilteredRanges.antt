@@ -37,7 +37,8 @@ filter-two p a n k g from order below k_passes g_passes fails =
     (λ j j_from j_below. fails j j_from (omega (arith, j_below, order, below)) (omega (arith, j_below)) (omega (arith, j_below, order)))
     ∙ ap (λ xs. k ∷ xs)
     (filter-one p (k + 1) (n - (k - a + 1)) g (omega (arith, order)) (omega (arith, from, order, below)) g_passes
-    (λ j j_from j_below other. fails j (omega (arith, from, j_from)) (omega (arith, j_below, from, order, below)) (omega (arith, j_from)) other))
+    (λ j j_from j_below other.
+    fails j (omega (arith, from, j_from)) (omega (arith, j_below, from, order, below)) (omega (arith, j_from)) other))
 
 -- what passes two tests, one after the other
 filter-both : (a b : Bool) (x : ℕ) (rest both : List ℕ) (p : ℕ → Bool) → p x ≡ b → filter p rest ≡ both

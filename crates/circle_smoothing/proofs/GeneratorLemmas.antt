@@ -1,12 +1,11 @@
 -- The number of generators, state by state.
-use Rattle.std.proofs.Common.{◌≡◌, ℕ, ◌+◌, ◌^◌, ◌≤◌, ◌∙◌, List, [], ◌∷◌, refl, ap, ap₂, length, map, arith}
+use Rattle.std.proofs.Common.{◌≡◌, ℕ, ◌+◌, ◌∙◌, ap, length, arith}
 use Rattle.std.specs.List.{range_with_len, sum_by}
 use Rattle.std.proofs.lemmas.List.{length-map}
 use Rattle.std.proofs.lemmas.List.Concat.{length-flat_map}
 use Rattle.std.proofs.lemmas.List.FromFn.{length-range_with_len}
 use Rattle.std.proofs.Math.Path.{fun_ext}
 use Rattle.kh_types.specs.Code.{Code}
-use Rattle.kh_types.specs.Circles.{circle_count}
 use Rattle.kh_types.specs.Generators.{generator_of, generators, generators_of, states}
 use Rattle.kh_types.proofs.Ranges.{sum_by-range_more}
 use Rattle.circle_smoothing.specs.GeneratorCounts.{generator_count, label_count}

@@ -1,5 +1,6 @@
 pub mod JoinedSlots
 pub mod CircleCycles
+pub mod Ways
 pub mod Exchange
 pub mod EdgeBits
 pub mod EdgeCircles

@@ -12,8 +12,7 @@ use Rattle.kh_types.specs.Code.{Code, arc_count}
 use Rattle.kh_types.specs.Circles.{circles_of, circle_count, circle_names}
 use Rattle.kh_types.proofs.Ranges.{range_around}
 use Rattle.circle_smoothing.specs.CircleLists.{names_to}
-use Rattle.circle_smoothing.specs.CircleNumbers.{number_of}
-use Rattle.circle_smoothing.specs.Edges.{IsName}
+use Rattle.circle_smoothing.specs.CircleNumbers.{IsName, number_of}
 use Rattle.circle_smoothing.proofs.CircleCycles.{IsNamed-circles}
 use Rattle.circle_smoothing.proofs.EdgeNames.{circle-positive}
 use Rattle.circle_smoothing.proofs.FilteredRanges.{position-behind}

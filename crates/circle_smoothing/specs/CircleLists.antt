@@ -1,5 +1,5 @@
 -- The circles of a state as a list, which has the circle of each arc and each loop, and their numbers as a list.
-use Rattle.std.specs.Prelude.{◌≡◌, ◌-◌, ◌<◌, ◌≤◌, ℕ, List, ◌∷◌, length, map, nat_eq, slice_index}
+use Rattle.std.specs.Prelude.{◌-◌, ◌<◌, ◌≤◌, ℕ, List, ◌∷◌, length, map, nat_eq, slice_index}
 use Rattle.std.specs.List.{filter, position_or_len, range_with_len}
 use Rattle.kh_types.specs.Classes.{IsNamed, is_least}
 

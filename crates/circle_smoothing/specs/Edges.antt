@@ -1,11 +1,11 @@
 -- What an edge of the cube does to circles.
-use Rattle.std.specs.Prelude.{◌≡◌, ◌≢◌, ◌⊎◌, ℕ, ◌+◌, ◌-◌, ◌^◌, ◌<◌, ◌≤◌, List, [], ◌∷◌, map, Bool, not, nat_eq, nat_lt, slice_index, if◌then◌else◌}
+use Rattle.std.specs.Prelude.{◌≡◌, ◌≢◌, ◌⊎◌, ℕ, ◌+◌, ◌-◌, ◌^◌, ◌<◌, List, [], ◌∷◌, map, Bool, not, nat_eq, nat_lt, slice_index, if◌then◌else◌}
 use Rattle.std.specs.List.{filter}
-use Rattle.kh_types.specs.Code.{Code, arc_count, arc_in, place_of, slots_of}
+use Rattle.kh_types.specs.Code.{Code, arc_in, place_of, slots_of}
 use Rattle.kh_types.specs.Classes.{joined}
 use Rattle.kh_types.specs.Circles.{circles_of, circle_of, circle_names, circle_count}
 use Rattle.kh_types.specs.Differential.{touched}
-use Rattle.circle_smoothing.specs.CircleNumbers.{number_of, circle_number}
+use Rattle.circle_smoothing.specs.CircleNumbers.{IsName, number_of, circle_number}
 use Rattle.circle_smoothing.specs.declared.change.Edge.{Edge}
 use Rattle.circle_smoothing.specs.declared.change.Edge.TheVariants.{Merge, Split}
 
@@ -75,11 +75,6 @@ MergesOrSplits code state crossing =
 -- the number of a circle after the circles a and b have become one, a below b: b has become a, and the numbers above b are one less
 abbrev pub renumbered : ℕ → ℕ → ℕ → ℕ
 renumbered a b number = if nat_eq number b then a else if nat_lt b number then number - 1 else number
-
--- a number is one of an arc or of a loop
-pub record IsName (code : Code) (name : ℕ) : Type 0 where
-  pub positive : 1 ≤ name
-  pub within : name ≤ arc_count code.crossings + code.loops
 
 -- from one state to another the circles a and b have become one: each arc and each loop is on the circle that its number says
 abbrev pub AreRenumbered : Code → ℕ → ℕ → ℕ → ℕ → Type 0

@@ -3,8 +3,9 @@
 ghost use Rattle.std.specs.Prelude.{◌≡◌, min, max};
 ghost use Rattle.circle_smoothing.specs.declared.change.Edge.TheVariants.{Merge, Split};
 
-/// What becomes of the circles along an edge, which goes from the 0-smoothing of a crossing to its 1-smoothing. Circles are given
-/// by their numbers in the state before the edge, or behind it, and `a` is below `b`. Source: Bar-Natan 2002, section 3.
+/// What becomes of the circles along an edge, which goes from the 0-smoothing of a crossing to its
+/// 1-smoothing. Circles are given by their numbers in the state before the edge, or behind it, and
+/// `a` is below `b`. Source: Bar-Natan 2002, section 3.
 #[derive(Clone, Copy, Debug, PartialEq, Eq)]
 pub enum Edge {
     /// The circles `a` and `b` before the edge become the circle `to` behind it.

@@ -11,8 +11,8 @@ use crate::numbered::Circles;
 use crate::prepared::Smoothings;
 use kh_types::Diagram;
 
-/// The circles of a state: a number below 2^n for n crossings, whose bit at a crossing's place is 1 where the crossing has its
-/// 1-smoothing. Source: Bar-Natan 2002, section 2.
+/// The circles of a state: a number below 2^n for n crossings, whose bit at a crossing's place is 1
+/// where the crossing has its 1-smoothing. Source: Bar-Natan 2002, section 2.
 pub fn circles(diagram: &Diagram, state: u32) -> Circles
     requires { state < 2 ^ length diagram.now.crossings }
     ensures code { result.code ≡ diagram.now }
@@ -21,8 +21,8 @@ pub fn circles(diagram: &Diagram, state: u32) -> Circles
     Smoothings::new(diagram).circles(state)
 }
 
-/// What the edge of the cube at a crossing does that starts in a state in which the crossing has its 0-smoothing.
-/// Source: Bar-Natan 2002, section 3.
+/// What the edge of the cube at a crossing does that starts in a state in which the crossing has
+/// its 0-smoothing. Source: Bar-Natan 2002, section 3.
 pub fn edge(diagram: &Diagram, state: u32, crossing: u8) -> Edge
     requires state { state < 2 ^ length diagram.now.crossings }
     requires crossing { IsCrossing diagram.now.crossings crossing }

@@ -1,4 +1,5 @@
-//! The circles of the states of a diagram, what an edge of the cube does to them, and the number of generators.
+//! The circles of the states of a diagram, what an edge of the cube does to them, and the number of
+//! generators.
 #![tactic(auto)]
 
 mod change;

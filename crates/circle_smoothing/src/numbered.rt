@@ -10,8 +10,9 @@ use arrayvec::ArrayVec;
 use kh_types::{CLASS_MEMBERS, Diagram};
 use std::marker::Model;
 
-/// The circles of a state of a diagram, numbered from 0 by their least arcs; loops follow. Contracts see them as the diagram's
-/// `Code` with the state, a `Resolution`. Source: Bar-Natan 2002, section 2; the numbers are this project's rule.
+/// The circles of a state of a diagram, numbered from 0 by their least arcs; loops follow.
+/// Contracts see them as the diagram's `Code` with the state, a `Resolution`. Source: Bar-Natan
+/// 2002, section 2; the numbers are this project's rule.
 #[derive(Debug, Drop)]
 pub struct Circles {
     pub(crate) diagram: Diagram,

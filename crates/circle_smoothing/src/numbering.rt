@@ -7,8 +7,8 @@ ghost use Rattle.circle_smoothing.specs.CircleLists.{AreCircles, names_to, numbe
 use arrayvec::ArrayVec;
 use kh_types::{CLASS_MEMBERS, class_of, is_least};
 
-/// The number of the circle of each arc and loop, after an entry for the number 0. The least name of a circle has the next number,
-/// and each other name that of the least.
+/// The number of the circle of each arc and loop, after an entry for the number 0. The least name
+/// of a circle has the next number, and each other name that of the least.
 #[tactic(auto, using(crate::proofs::ListedNumbers::all_numbers))]
 pub fn numbers_of(circles: &[u8]) -> ArrayVec<u8, CLASS_MEMBERS>
     requires circles { AreCircles circles.now }
@@ -25,7 +25,8 @@ pub fn numbers_of(circles: &[u8]) -> ArrayVec<u8, CLASS_MEMBERS>
     numbers
 }
 
-/// The number of the circle of the name behind a place, where the numbers up to that place are given, and how many they are.
+/// The number of the circle of the name behind a place, where the numbers up to that place are
+/// given, and how many they are.
 #[tactic(auto, using(crate::proofs::ListedNumbers::next_number))]
 fn next_number(circles: &[u8], numbers: &[u8], count: u8, place: usize) -> u8
     requires circles { AreCircles circles.now }

@@ -19,12 +19,15 @@ use arrayvec::ArrayVec;
 use kh_types::{CLASS_MEMBERS, Diagram};
 use std::marker::Model;
 
-/// A diagram with what walks along its circles look up; it is made once for all states. Contracts see it as the diagram's `Code`.
+/// A diagram with what walks along its circles look up; it is made once for all states. Contracts
+/// see it as the diagram's `Code`.
 #[derive(Debug, Drop)]
 pub struct Smoothings {
     diagram: Diagram,
+    // The arc of each dart, and the other dart of that arc, by places.
     arcs: ArrayVec<u8, CLASS_MEMBERS>,
     partners: ArrayVec<u8, CLASS_MEMBERS>,
+    // The place of a dart on each arc.
     starts: ArrayVec<u8, CLASS_MEMBERS>,
 }
 
@@ -79,7 +82,8 @@ impl Smoothings {
         count_of(&circles_of(self, state))
     }
 
-    /// What the edge at a crossing does that starts in a state in which the crossing has its 0-smoothing.
+    /// What the edge at a crossing does that starts in a state in which the crossing has its
+    /// 0-smoothing.
     pub fn edge(&self, state: u32, crossing: u8) -> Edge
         requires state { state < 2 ^ length self.now.crossings }
         requires crossing { IsCrossing self.now.crossings crossing }

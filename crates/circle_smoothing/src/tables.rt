@@ -37,7 +37,8 @@ pub fn partners_of(diagram: &Diagram) -> ArrayVec<u8, CLASS_MEMBERS>
     partners
 }
 
-/// The first dart on each arc, after an entry for the number 0, where the arc of each dart is given.
+/// The first dart on each arc, after an entry for the number 0, where the arc of each dart is
+/// given.
 #[tactic(auto, using(crate::proofs::TableLemmas::tables))]
 pub fn starts_of(diagram: &Diagram, arcs: &[u8]) -> ArrayVec<u8, CLASS_MEMBERS>
     requires { arcs.now ≡ arcs_at diagram.now.crossings }

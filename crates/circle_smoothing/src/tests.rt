@@ -1,14 +1,18 @@
 //! What known diagrams come to.
 
-use crate::{Edge, circles, edge, generator_count};
+ghost use Rattle.std.specs.Prelude.{◌≡◌};
+
+use crate::{Circles, Edge, circles, edge, generator_count};
 use arrayvec::ArrayVec;
-use kh_types::{Crossing, Diagram, RawCode};
+use kh_types::{Crossing, Diagram, RawCode, bit};
+use std::process::Abort;
 use std::test::Fail;
 
-/// The slots of each crossing and the number of loops; the number of circles of each state; the circles of the arcs in the first
-/// state, in the last, and in the one whose number is half of the number of states; merges and splits, each by its state and its
-/// crossing, with their circles; the generators. They were found by a Python program that was written for this test: it unites
-/// sets of arcs.
+/// The slots of each crossing and the number of loops; the number of circles of each state; the
+/// circles of the arcs in the first state, in the last, and in the one whose number is half of the
+/// number of states; merges and splits, each by its state and its crossing, with their circles; the
+/// generators. They were found by a Python program that was written for this test: it unites sets
+/// of arcs.
 struct Row {
     crossings: &'static [[u8; 4]],
     loops: u8,
@@ -131,39 +135,67 @@ const ROWS: &[Row] = &[
 fn known_diagrams_have_these_circles_and_edges(rt: HostRuntime) -> Result<(), Fail> {
     for row in ROWS {
         let diagram = diagram_of(row.crossings, row.loops)?;
-        let states = 1u32 << diagram.count();
-        for state in 0..states {
-            assert_eq!(rt;
-                row.counts.get(state as usize),
-                Some(&circles(&diagram, state).count())
-            );
-        }
-        for (at, state) in [0, states - 1, states / 2].iter().enumerate() {
-            let circles = circles(&diagram, *state);
-            for arc in 1..=2 * diagram.count() {
-                let circle = circles.of_arc(arc);
-                assert_eq!(rt; row.arcs[at].get(arc as usize - 1), Some(&circle));
-            }
-        }
-        for (state, crossing, [a, b, to]) in row.merges {
-            let merge = Edge::Merge {
-                a: *a,
-                b: *b,
-                to: *to,
-            };
-            assert_eq!(rt; edge(&diagram, *state, *crossing), merge);
-        }
-        for (state, crossing, [from, a, b]) in row.splits {
-            let split = Edge::Split {
-                from: *from,
-                a: *a,
-                b: *b,
-            };
-            assert_eq!(rt; edge(&diagram, *state, *crossing), split);
-        }
+        has_circles(&rt, &diagram, row);
+        has_edges(&rt, &diagram, row);
         assert_eq!(rt; generator_count(&diagram), row.generators);
     }
     Ok(())
+}
+
+// The states of a diagram have so many circles, and the arcs are on these.
+fn has_circles(rt: &impl Abort, diagram: &Diagram, row: &Row) {
+    let states = 1u32 << diagram.count();
+    for state in 0..states {
+        let count = circles(diagram, state).count();
+        assert_eq!(rt; row.counts.get(state as usize), Some(&count));
+    }
+    has_numbers(rt, &circles(diagram, 0), diagram, row.arcs[0]);
+    has_numbers(rt, &circles(diagram, states - 1), diagram, row.arcs[1]);
+    has_numbers(rt, &circles(diagram, states / 2), diagram, row.arcs[2]);
+}
+
+// Each arc is on the circle with this number.
+fn has_numbers(rt: &impl Abort, circles: &Circles, diagram: &Diagram, numbers: &[u8])
+    requires { circles.now.code ≡ diagram.now }
+{
+    for arc in 1..=2 * diagram.count() {
+        let circle = circles.of_arc(arc);
+        assert!(rt; circle < circles.count());
+        assert_eq!(rt; numbers.get(arc as usize - 1), Some(&circle));
+    }
+}
+
+// A diagram has these merges and splits.
+fn has_edges(rt: &impl Abort, diagram: &Diagram, row: &Row) {
+    for (state, crossing, [a, b, to]) in row.merges {
+        let merge = Edge::Merge {
+            a: *a,
+            b: *b,
+            to: *to,
+        };
+        assert_eq!(rt; edge_at(diagram, *state, *crossing), Some(merge));
+    }
+    for (state, crossing, [from, a, b]) in row.splits {
+        let split = Edge::Split {
+            from: *from,
+            a: *a,
+            b: *b,
+        };
+        assert_eq!(rt; edge_at(diagram, *state, *crossing), Some(split));
+    }
+}
+
+// The edge at a crossing, if there is one.
+fn edge_at(diagram: &Diagram, state: u32, crossing: u8) -> Option<Edge> {
+    if state < 1 << diagram.count()
+        && 1 <= crossing
+        && crossing <= diagram.count()
+        && bit(u64::from(state), crossing as usize - 1) == 0
+    {
+        Some(edge(diagram, state, crossing))
+    } else {
+        None
+    }
 }
 
 fn diagram_of(arcs: &[[u8; 4]], loops: u8) -> Result<Diagram, Fail> {

@@ -1,4 +1,9 @@
 //! Walks along the circles of a state.
+//!
+//! A walk goes from a dart across the smoothing of its crossing, and on to the other end of the arc
+//! there. A checkerboard gives each arc one dart of either colour, and a smoothing joins darts of
+//! different colours. So a walk stays on darts of one colour; it meets each arc of its circle once,
+//! and then is back where it began. The walk itself need not know the colours.
 
 ghost use Rattle.std.specs.Prelude.{◌≡◌, ◌+◌, ◌*◌, ◌<◌, ◌≤◌, length, slice_index, IsTrue};
 ghost use Rattle.kh_types.specs.Acceptance.{accepted};
@@ -15,8 +20,8 @@ use crate::prepared::Smoothings;
 use arrayvec::ArrayVec;
 use kh_types::{CLASS_MEMBERS, classes_of, is_least};
 
-/// The circle of each arc and each loop in a state, by the least of them on it, after an entry for the number 0. Each circle is
-/// walked once, from its least arc.
+/// The circle of each arc and each loop in a state, by the least of them on it, after an entry for
+/// the number 0. Each circle is walked once, from its least arc.
 pub fn circles_of(smoothings: &Smoothings, state: u32) -> ArrayVec<u8, CLASS_MEMBERS>
     ensures circles { result.items ≡ circles_of smoothings.now state }
     ensures list { AreCircles result.items }
@@ -64,7 +69,8 @@ fn walk_from(smoothings: &Smoothings, state: u32, circles: &mut [u8], least: u8)
     }
 }
 
-/// The place of the dart that follows on a circle: across the smoothing, and on to the other end of the arc.
+/// The place of the dart that follows on a circle: across the smoothing, and on to the other end of
+/// the arc.
 #[tactic(auto, using(crate::proofs::JoinedSlots::places))]
 fn place_after(smoothings: &Smoothings, state: u32, place: u8) -> u8
     requires few { length smoothings.now.crossings ≤ CROSSINGS }

@@ -10,8 +10,8 @@ use Rattle.kh_types.specs.Accepted.{IsDirected, IsInterval}
 use Rattle.gauss_code.specs.Labels.{bad_label}
 use Rattle.gauss_code.specs.Passes.{Pass, all_passes}
 use Rattle.gauss_code.proofs.Sums.{value_if, sum_by-range_alike, sum_by-plus}
-use Rattle.gauss_code.proofs.Labels.{under_at, under_at-is}
-use Rattle.gauss_code.proofs.Passes.{all_labels, label_from, IsPassOf, IsPassOf-all}
+use Rattle.gauss_code.proofs.LabelCounts.{under_at, under_at-is}
+use Rattle.gauss_code.proofs.ComponentPasses.{all_labels, label_from, IsPassOf, IsPassOf-all}
 use Rattle.gauss_code.proofs.ArcCounts.{enters_on, leaves_on, sum-enters, sum-leaves}
 use Rattle.gauss_code.proofs.CrossingPasses.{crossings_in, under_pass, over_pass, under-holds, over-holds, label-under, sum-crossings}
 use Rattle.gauss_code.proofs.TextCrossings.{crossings_of, length-crossings, arc_count-crossings, HasSlots, HasSlots-at, HasSlots-of}

@@ -1,17 +1,15 @@
 -- A text has no more labels, loops or signs than symbols.
-use Rattle.std.proofs.Common.{◌≡◌, ℕ, ◌+◌, ◌≤◌, List, [], ◌∷◌, ◌++◌, length, Option, None, Some, unwrap_or, ap, arith, sym, ◌∙◌, length-append, ℤ}
-use Rattle.std.specs.List.{count_by, flat_map}
+use Rattle.std.proofs.Common.{◌≡◌, ℕ, ◌+◌, ◌≤◌, List, [], ◌∷◌, length, Option, None, Some, unwrap_or, ap, arith, sym, ◌∙◌, length-append, ℤ}
+use Rattle.std.specs.List.{flat_map}
 use Rattle.std.proofs.lemmas.List.{length-map}
 use Rattle.std.proofs.lemmas.List.Sums.{count_by-le-length}
 use Rattle.kh_types.specs.declared.limits.TheConstants.{INPUT_BYTES}
-use Rattle.kh_lex.specs.declared.symbol.Symbol.{Symbol}
 use Rattle.kh_lex.specs.declared.symbol.Symbol.TheVariants.{RightBrace, RightBracket}
 use Rattle.kh_lex.specs.declared.token.Token.{Token}
 use Rattle.kh_lex.specs.Symbols.{symbol_of, symbols_of}
-use Rattle.gauss_code.specs.Faults.{signs_of}
 use Rattle.gauss_code.specs.Grammar.{body_symbols, group_symbols, next_group, next_number, numbers_symbols, signs_symbols, spelled}
 use Rattle.gauss_code.specs.Held.{HasFewNumbers}
-use Rattle.gauss_code.specs.Listings.{Body, Listing, groups_of, is_loop, labels_of, loop_count}
+use Rattle.gauss_code.specs.Listings.{Body, Listing, is_loop, labels_of, loop_count}
 
 -- each number is a symbol
 next_numbers-length : (numbers : List ℤ) → length numbers ≤ length (flat_map next_number numbers)

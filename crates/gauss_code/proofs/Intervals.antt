@@ -8,7 +8,7 @@ use Rattle.kh_types.specs.Components.{components_of, component_of, arcs_in}
 use Rattle.kh_types.specs.Accepted.{IsInterval}
 use Rattle.gauss_code.specs.Labels.{bad_label}
 use Rattle.gauss_code.proofs.Sums.{value_if}
-use Rattle.gauss_code.proofs.Passes.{all_labels, length-labels_more, start_from, start-here, start-later, start-from_first, start-le, IsStart-arc, then_if}
+use Rattle.gauss_code.proofs.ComponentPasses.{all_labels, length-labels_more, start_from, start-here, start-later, start-from_first, start-le, IsStart-arc, then_if}
 use Rattle.gauss_code.proofs.TextCrossings.{crossings_of}
 use Rattle.gauss_code.proofs.TextComponents.{start_of, component-is}
 

@@ -6,8 +6,8 @@ mod FewNumbers
 mod PlaceLemmas
 pub mod ReadingLemmas
 mod Sums
-pub mod Labels
-mod Passes
+pub mod LabelCounts
+mod ComponentPasses
 mod ArcCounts
 mod Found
 mod CrossingPasses
@@ -22,3 +22,13 @@ mod SignRules
 mod OverPasses
 mod TextSigns
 mod SingleArcs
+pub mod Searches
+pub mod CutArcs
+pub mod ComponentLabels
+pub mod PrintedTexts
+pub mod Bodies
+pub mod ArcLabels
+pub mod TwoArcComponents
+pub mod ListedPasses
+pub mod GoodListings
+pub mod PrintedCodes

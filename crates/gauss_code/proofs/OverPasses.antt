@@ -13,8 +13,8 @@ use Rattle.kh_types.proofs.DirectedPasses.{is_positive-under}
 use Rattle.gauss_code.specs.Labels.{number_at, bad_label}
 use Rattle.gauss_code.specs.Passes.{Pass}
 use Rattle.gauss_code.proofs.SignRules.{Goes, Goes-between, large-rule, by_next, by_under, other_arc, not_back, find-first, under-over}
-use Rattle.gauss_code.proofs.Labels.{over_at}
-use Rattle.gauss_code.proofs.Passes.{all_labels, label_from, IsPassOf, IsPassOf-all}
+use Rattle.gauss_code.proofs.LabelCounts.{over_at}
+use Rattle.gauss_code.proofs.ComponentPasses.{all_labels, label_from, IsPassOf, IsPassOf-all}
 use Rattle.gauss_code.proofs.CrossingPasses.{crossings_in, under_pass, over_pass, over-holds, label-over}
 use Rattle.gauss_code.proofs.TextCrossings.{crossings_of, slots-at}
 use Rattle.gauss_code.proofs.TextComponents.{next-passes}

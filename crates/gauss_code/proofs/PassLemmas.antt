@@ -1,12 +1,11 @@
 -- How loops compute labels, passes and crossings.
-use Rattle.std.proofs.Common.{◌≡◌, ℕ, ◌+◌, ◌<◌, ◌≤◌, ◌&&◌, Bool, true, false, cond, List, [], ◌∷◌, ◌++◌, length, map, drop, get_or, ap, refl, sym, ◌∙◌, arith, append_assoc, length-append, ℤ, int_lt}
+use Rattle.std.proofs.Common.{◌≡◌, ℕ, ◌+◌, ◌<◌, ◌&&◌, Bool, true, false, cond, List, [], ◌∷◌, ◌++◌, length, map, drop, get_or, ap, refl, sym, ◌∙◌, arith, append_assoc, length-append, ℤ, int_lt}
 use Rattle.std.specs.Global.{Vec}
-use Rattle.std.specs.List.{flat_map, range_with_len}
-use Rattle.std.proofs.lemmas.List.{append-nil, at_drop_more, length-map}
-use Rattle.std.proofs.lemmas.List.FromFn.{length-range_with_len, length-map-range_with_len}
+use Rattle.std.specs.List.{range_with_len}
+use Rattle.std.proofs.lemmas.List.{at_drop_more}
+use Rattle.std.proofs.lemmas.List.FromFn.{length-map-range_with_len}
 use Rattle.kh_types.proofs.Ranges.{map_from_zero, range_steps}
-use Rattle.gauss_code.specs.Held.{body_held, labels_held, numbers_of}
-use Rattle.gauss_code.specs.Listings.{groups_of, labels_of}
+use Rattle.gauss_code.specs.Held.{labels_held, numbers_of}
 use Rattle.gauss_code.specs.Passes.{Pass, all_passes, is_over, pass_at, passes_from, turned}
 
 -- turning keeps the number of labels

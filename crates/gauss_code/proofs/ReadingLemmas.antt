@@ -1,5 +1,5 @@
 -- Each text has a reading, and one only.
-use Rattle.std.proofs.Common.{◌≡◌, ℕ, ◌+◌, length, nat_eq, not, slice_index, ℤ, Bool, true, false, cond, inl, inr, List, Result, Ok, Err, Option, None, Some, IfSome, refl, sym, ◌∙◌, ap, subst, arith}
+use Rattle.std.proofs.Common.{◌≡◌, ℕ, ◌+◌, length, nat_eq, not, slice_index, ℤ, Bool, true, false, inl, inr, List, Result, Ok, Err, Option, None, Some, IfSome, refl, sym, ◌∙◌, ap, subst, arith}
 use Rattle.std.specs.Option.{option_map, option_or}
 use Rattle.kh_types.specs.Code.{Code}
 use Rattle.kh_lex.specs.declared.stop.LexStop.{LexStop}
@@ -15,17 +15,26 @@ use Rattle.kh_lex.proofs.GrammarLemmas.{LeavesGrammar-means, LeavesGrammar-one, 
 use Rattle.kh_lex.proofs.MachineLemmas.{IsOutcome, outcome, outcome_from_start}
 use Rattle.gauss_code.specs.declared.stop.GaussStop.{GaussStop}
 use Rattle.gauss_code.specs.declared.stop.GaussStop.TheVariants.{Text, Number, CrossingLimit, LoopLimit, Label, NoSigns, SignCount, NoMemory}
-use Rattle.gauss_code.specs.Coding.{coded, coded_unless}
-use Rattle.gauss_code.specs.Faults.{crossing_limit, fault_if, first_fault, label_fault, loop_limit, no_signs, sign_count, sign_fault, signs_of}
+use Rattle.gauss_code.specs.Faults.{crossing_limit, fault_if, first_fault, label_fault, loop_limit, no_signs, sign_count, signs_of}
 use Rattle.gauss_code.specs.Grammar.{IsText, Lists, number_places, spelled}
 use Rattle.gauss_code.specs.Labels.{bad_label, bad_sign}
 use Rattle.gauss_code.specs.Listings.{Body, Listing, crossing_count, labels_of}
 use Rattle.gauss_code.specs.Machine.{Progress, advanced, is_end, listing_read, start}
+use Rattle.gauss_code.specs.Passes.{code_of}
 use Rattle.gauss_code.specs.Reading.{HasFault, IsReading}
 use Rattle.gauss_code.specs.Stops.{stop_of}
 use Rattle.gauss_code.proofs.MachineReads.{reads_grammar}
 use Rattle.gauss_code.proofs.SoFar.{run-done}
 use Rattle.gauss_code.proofs.Spellings.{end_of, listing_read-spelled, run-spelled}
+
+-- a fault, or else the code of a listing
+abbrev pub coded_unless : Option GaussStop → Listing → Result Code GaussStop
+coded_unless None listing = Ok (code_of listing.body (signs_of listing))
+coded_unless (Some fault) listing = Err fault
+
+-- the code of a listing, or its first fault
+abbrev pub coded : Listing → List ℕ → Result Code GaussStop
+coded listing places = coded_unless (first_fault listing places) listing
 
 -- one listing has a spelling
 spelled-one : (a b : Listing) → spelled a ≡ spelled b → a ≡ b

@@ -6,7 +6,7 @@ use Rattle.std.proofs.lemmas.Bool.{cases_lt}
 use Rattle.std.proofs.lemmas.Bool.Decides.{nat_tests}
 use Rattle.kh_types.specs.Directions.{HasNoSingleArcs}
 use Rattle.gauss_code.specs.Labels.{bad_label}
-use Rattle.gauss_code.proofs.Passes.{all_labels, length-labels_more, start_from, start-here, start-later, after_arc}
+use Rattle.gauss_code.proofs.ComponentPasses.{all_labels, length-labels_more, start_from, start-here, start-later, after_arc}
 use Rattle.gauss_code.proofs.TextCrossings.{crossings_of, arc_count-crossings}
 use Rattle.gauss_code.proofs.TextComponents.{start_of, next-is}
 

@@ -3,10 +3,9 @@ use Rattle.std.proofs.Common.{◌≡◌, List, [], ◌∷◌, ◌++◌, Option, 
 use Rattle.std.specs.List.{flat_map}
 use Rattle.std.proofs.lemmas.List.{append-nil}
 use Rattle.kh_lex.specs.declared.symbol.Symbol.{Symbol}
-use Rattle.kh_lex.specs.declared.symbol.Symbol.TheVariants.{Signs, LeftBracket, RightBracket, RightBrace}
+use Rattle.kh_lex.specs.declared.symbol.Symbol.TheVariants.{RightBracket, RightBrace}
 use Rattle.kh_lex.specs.Machine.{run}
-use Rattle.gauss_code.specs.declared.machine.State.{State}
-use Rattle.gauss_code.specs.declared.machine.State.TheVariants.{Open, BareNumber, GroupOpen, GroupNumber, GroupEnd, BodyEnd, SignsOpen, SignNumber, Done}
+use Rattle.gauss_code.specs.declared.machine.State.TheVariants.{Open, BareNumber, GroupOpen, GroupNumber, GroupEnd, BodyEnd, SignNumber, Done}
 use Rattle.gauss_code.specs.Listings.{Body, Listing}
 use Rattle.gauss_code.specs.Grammar.{body_symbols, next_group, next_number, numbers_symbols, signs_symbols, spelled}
 use Rattle.gauss_code.specs.Machine.{Progress, advanced, is_end, listing_read, progress_at, start}

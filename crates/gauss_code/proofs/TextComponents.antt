@@ -11,7 +11,7 @@ use Rattle.kh_types.proofs.ClassLemmas.{classes-together, classes-finest}
 use Rattle.kh_types.proofs.JoinedClasses.{IsNamed-classes_of}
 use Rattle.gauss_code.specs.Labels.{bad_label}
 use Rattle.gauss_code.specs.Passes.{Pass, all_passes}
-use Rattle.gauss_code.proofs.Passes.{all_labels, after_arc, after_arc-inside, start_from, start-le, start-past, IsStart-arc, IsPassOf, IsPassOf-all, All-weaker}
+use Rattle.gauss_code.proofs.ComponentPasses.{all_labels, after_arc, after_arc-inside, start_from, start-le, start-past, IsStart-arc, IsPassOf, IsPassOf-all, All-weaker}
 use Rattle.gauss_code.proofs.CrossingPasses.{entering, enters-entering, entering-holds}
 use Rattle.gauss_code.proofs.TextCrossings.{crossings_of, arc_count-crossings, pairs-of_passes, passes-of_pairs}
 

@@ -9,8 +9,8 @@ use Rattle.kh_types.specs.Components.{passes_of}
 use Rattle.kh_types.proofs.PassPairs.{passes-all}
 use Rattle.gauss_code.specs.Labels.{number_at, bad_label}
 use Rattle.gauss_code.specs.Passes.{Pass, all_passes, slots_between, slots_at}
-use Rattle.gauss_code.proofs.Labels.{length-labels}
-use Rattle.gauss_code.proofs.Passes.{all_labels}
+use Rattle.gauss_code.proofs.LabelCounts.{length-labels}
+use Rattle.gauss_code.proofs.ComponentPasses.{all_labels}
 use Rattle.gauss_code.proofs.CrossingPasses.{crossings_in, under_pass, over_pass, under-holds, over-holds, all-passes_hold}
 
 -- the crossings of some components and signs

@@ -12,8 +12,8 @@ use Rattle.kh_types.proofs.DirectedPasses.{is_positive-order}
 use Rattle.gauss_code.specs.Labels.{number_at}
 use Rattle.gauss_code.specs.Passes.{Pass, is_over}
 use Rattle.gauss_code.proofs.SignRules.{by_order, find-first, over-same}
-use Rattle.gauss_code.proofs.Labels.{over_at, find-none_at}
-use Rattle.gauss_code.proofs.Passes.{all_labels, start_from, start-past, label_from}
+use Rattle.gauss_code.proofs.LabelCounts.{over_at, find-none_at}
+use Rattle.gauss_code.proofs.ComponentPasses.{all_labels, start_from, start-past, label_from}
 use Rattle.gauss_code.proofs.CrossingPasses.{crossings_in, under_pass, over_pass, all-passes_hold, entering, enters-entering, entering-holds}
 use Rattle.gauss_code.proofs.TextCrossings.{crossings_of, length-crossings, arc_count-crossings, HasSlots-of}
 use Rattle.gauss_code.proofs.TextComponents.{component-is}

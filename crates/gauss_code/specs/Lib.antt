@@ -6,6 +6,5 @@ pub mod Passes
 pub mod Faults
 pub mod Held
 pub mod Machine
-pub mod Coding
 pub mod Reading
 pub mod Printing

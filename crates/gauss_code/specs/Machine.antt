@@ -1,6 +1,5 @@
 -- The machine that reads the grammar in one pass, as the way of the code.
-use Rattle.std.specs.Prelude.{ℕ, Bool, true, false, List, [], ◌∷◌, ◌++◌, map, Option, None, Some, ℤ}
-use Rattle.std.specs.Global.{Vec}
+use Rattle.std.specs.Prelude.{ℕ, Bool, true, false, List, [], ◌∷◌, ◌++◌, Option, None, Some, ℤ}
 use Rattle.std.specs.Option.{option_map}
 use Rattle.kh_lex.specs.declared.symbol.Symbol.{Symbol}
 use Rattle.kh_lex.specs.declared.symbol.Symbol.TheVariants.{GaussCode, Signs, Number, LeftBracket, RightBracket, LeftBrace, RightBrace, Comma}

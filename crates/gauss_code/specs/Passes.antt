@@ -3,7 +3,7 @@ use Rattle.std.specs.Prelude.{ℕ, ◌+◌, List, [], ◌∷◌, ◌++◌, lengt
 use Rattle.std.specs.List.{find, range_with_len}
 use Rattle.std.specs.Ordering.{int_eq}
 use Rattle.kh_types.specs.Code.{Code}
-use Rattle.gauss_code.specs.Listings.{Body, Listing, groups_of, crossing_count, loop_count}
+use Rattle.gauss_code.specs.Listings.{Body, groups_of, crossing_count, loop_count}
 use Rattle.gauss_code.specs.Labels.{number_at}
 
 -- a pass of a component at a crossing: its label is the number of the crossing where it passes over, and minus the number where

@@ -1,5 +1,5 @@
 -- The signed Gauss text of a code in print (Knot Atlas, "Gauss Codes"; the braces, the signs and the spaces are this project's rule).
-use Rattle.std.specs.Prelude.{ℕ, ◌&&◌, List, [], ◌∷◌, ◌++◌, map, replicate, length, nat_eq, nat_le, if◌then◌else◌, codes, ℤ, pos, neg_ℤ, Some, unwrap_or}
+use Rattle.std.specs.Prelude.{ℕ, ◌&&◌, List, [], ◌∷◌, ◌++◌, map, replicate, length, nat_eq, if◌then◌else◌, codes, ℤ, pos, neg_ℤ, Some}
 use Rattle.std.specs.Fmt.{signed_decimal}
 use Rattle.std.specs.List.{flat_map, range_with_len}
 use Rattle.kh_types.specs.Code.{Code, crossing_numbers}

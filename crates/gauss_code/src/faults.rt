@@ -1,13 +1,12 @@
 //! What is wrong with a text that the grammar has.
 
-ghost use Rattle.std.specs.Prelude.{◌≡◌, ◌≤◌, length, Option, Some, None};
-ghost use Rattle.kh_types.specs.declared.limits.TheConstants.{CROSSINGS, INPUT_BYTES, LOOPS};
+ghost use Rattle.std.specs.Prelude.{◌≡◌, ◌≤◌, length, slice_index};
 ghost use Rattle.std.specs.Option.{option_or};
+ghost use Rattle.kh_types.specs.declared.limits.TheConstants.{CROSSINGS, INPUT_BYTES};
 ghost use Rattle.gauss_code.specs.Faults.{crossing_limit, first_fault, label_fault, loop_limit, no_signs, sign_count, sign_fault};
 ghost use Rattle.gauss_code.specs.Grammar.{is_number, number_places};
 ghost use Rattle.gauss_code.specs.Held.{HasFewNumbers};
 ghost use Rattle.gauss_code.specs.Listings.{crossing_count, labels_of, loop_count};
-ghost use Rattle.std.specs.Prelude.{slice_index};
 
 use crate::labels::{bad_label, bad_sign};
 use crate::listing::{Body, Listing};

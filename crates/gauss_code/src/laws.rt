@@ -1,6 +1,7 @@
 //! What holds of the definitions that the contracts cite, beyond any one call.
 
 pub mod directed;
+pub mod printing;
 pub mod reading;
 
 ghost use Rattle.std.specs.Prelude.{◌≡◌, List, [], ◌∷◌, codes, pos, negsuc, neg_ℤ};

@@ -1,14 +1,13 @@
 //! What a signed Gauss text lists, in memory.
 
-ghost use Rattle.std.specs.Prelude.{◌≡◌, ◌≤◌, ◌+◌, ◌++◌, [], length, IfSome, OnOk, Option, Some, None};
-ghost use Rattle.std.specs.Option.{option_map};
+ghost use Rattle.std.specs.Prelude.{◌≡◌, ◌≤◌, ◌+◌, ◌++◌, [], length, OnOk};
+ghost use Rattle.kh_types.specs.declared.limits.TheConstants.{INPUT_BYTES};
 ghost use Rattle.gauss_code.specs.declared.listing.TheConstants.{LABELS};
 ghost use Rattle.gauss_code.specs.Faults.{signs_of};
 ghost use Rattle.gauss_code.specs.Listings.{crossing_count, groups_of, labels_of, loop_count};
 ghost use Rattle.gauss_code.specs.Held.{body_held, labels_held};
 ghost use Rattle.gauss_code.specs.Machine.{ended, with_group};
 ghost use Rattle.gauss_code.specs.Passes.{all_passes};
-ghost use Rattle.kh_types.specs.declared.limits.TheConstants.{INPUT_BYTES};
 
 use crate::passes::{Pass, push_all_passes, push_passes};
 use arrayvec::ArrayVec;

@@ -17,9 +17,9 @@ use kh_lex::tokens;
 use kh_types::{CROSSINGS, Crossing, INPUT_BYTES, LOOPS, RawCode};
 use std::alloc::Global;
 
-/// Reads a signed Gauss text. A positive label is the number of a crossing that is passed over, a negative one minus that of a
-/// crossing that is passed under; the arcs are numbered in the order of the text.
-/// Source: Knot Atlas, "Gauss Codes"; the groups, the loops, the signs and the limits are this project's rule.
+/// Reads a signed Gauss text. A positive label is the number of a crossing that is passed over, a
+/// negative one minus that of a crossing that is passed under; the arcs are numbered in the order
+/// of the text. Source: Knot Atlas, "Gauss Codes"; all else is this project's rule.
 pub fn read_gauss(alloc: Global, text: &[u8]) -> Result<RawCode, GaussStop>
     requires { length text.now ≤ INPUT_BYTES }
     ensures reads { result ≢ Err GaussStop.NoMemory → IsReading text.now result }

@@ -7,62 +7,65 @@ use kh_types::{Crossing, Diagram, INPUT_BYTES};
 use std::alloc::Global;
 use std::test::Fail;
 
+const TREFOIL: [Crossing; 3] = [
+    Crossing([1, 4, 2, 5]),
+    Crossing([3, 6, 4, 1]),
+    Crossing([5, 2, 6, 3]),
+];
+
+const TWO_COMPONENTS: [Crossing; 2] = [Crossing([1, 4, 2, 3]), Crossing([2, 4, 1, 3])];
+
+const UNDER_FIRST: [Crossing; 1] = [Crossing([1, 1, 2, 2])];
+
+const OVER_FIRST: [Crossing; 1] = [Crossing([2, 2, 1, 1])];
+
+const NEGATIVE: [Crossing; 1] = [Crossing([2, 1, 1, 2])];
+
 // What some texts stand for: the crossings, and the number of loops. The trefoil is that of the
 // Knot Atlas page "3_1"; the other rows are worked by hand.
 #[test]
-fn reads_codes(rt: HostRuntime) -> Result<(), Fail> {
-    let trefoil = [
-        Crossing([1, 4, 2, 5]),
-        Crossing([3, 6, 4, 1]),
-        Crossing([5, 2, 6, 3]),
-    ];
-    let hopf = [Crossing([1, 4, 2, 3]), Crossing([2, 4, 1, 3])];
+fn reads_crossings(rt: HostRuntime) -> Result<(), Fail> {
+    let trefoil = TREFOIL.as_slice();
+    let two = TWO_COMPONENTS.as_slice();
     let rows = [
         (
             "GaussCode[-1, 3, -2, 1, -3, 2] Signs[-1, -1, -1]",
-            trefoil.as_slice(),
+            trefoil,
             0,
         ),
         (
             "GaussCode [ {-1,3,-2,1,-3,2} , {} ]\r\n\tSigns[-1,-1,-1]\n",
-            trefoil.as_slice(),
+            trefoil,
             1,
         ),
-        (
-            "GaussCode[{-1, -2}, {1, 2}] Signs[1, -1]",
-            hopf.as_slice(),
-            0,
-        ),
-        (
-            "GaussCode[{-1, -2}, {2, 1}] Signs[1, -1]",
-            hopf.as_slice(),
-            0,
-        ),
-        (
-            "GaussCode[-01, 001]Signs[01]",
-            [Crossing([1, 1, 2, 2])].as_slice(),
-            0,
-        ),
-        (
-            "GaussCode[1, -1]Signs[1]",
-            [Crossing([2, 2, 1, 1])].as_slice(),
-            0,
-        ),
-        (
-            "GaussCode[1, -1]Signs[-1]",
-            [Crossing([2, 1, 1, 2])].as_slice(),
-            0,
-        ),
-        ("GaussCode[]", [].as_slice(), 0),
-        ("GaussCode[]Signs[]", [].as_slice(), 0),
-        ("GaussCode[{}]", [].as_slice(), 1),
-        ("GaussCode[{},{},{},{},{},{},{},{}]", [].as_slice(), 8),
+        ("GaussCode[{-1, -2}, {1, 2}] Signs[1, -1]", two, 0),
+        ("GaussCode[{-1, -2}, {2, 1}] Signs[1, -1]", two, 0),
+        ("GaussCode[{},{-1,-2},{},{2,1}]Signs[1,-1]", two, 2),
+        ("GaussCode[-01, 001]Signs[01]", UNDER_FIRST.as_slice(), 0),
+        ("GaussCode[1, -1]Signs[1]", OVER_FIRST.as_slice(), 0),
+        ("GaussCode[1, -1]Signs[-1]", NEGATIVE.as_slice(), 0),
     ];
     for (text, crossings, loops) in rows {
         let code = read_gauss(rt.alloc(), text.as_bytes())?;
         assert_eq!(rt; code.crossings.as_slice(), crossings, "at {text}");
         assert_eq!(rt; code.loops, loops, "at {text}");
         assert!(rt; Diagram::try_new(&code).is_ok(), "at {text}");
+    }
+    Ok(())
+}
+
+#[test]
+fn reads_loops_alone(rt: HostRuntime) -> Result<(), Fail> {
+    let rows = [
+        ("GaussCode[]", 0),
+        ("GaussCode[]Signs[]", 0),
+        ("GaussCode[{}]", 1),
+        ("GaussCode[{},{},{},{},{},{},{},{}] Signs[]", 8),
+    ];
+    for (text, loops) in rows {
+        let code = read_gauss(rt.alloc(), text.as_bytes())?;
+        assert!(rt; code.crossings.is_empty(), "at {text}");
+        assert_eq!(rt; code.loops, loops, "at {text}");
     }
     Ok(())
 }

@@ -5,7 +5,7 @@ use Rattle.std.specs.Io.KnownBytes.{Consumes, IsAtEnd}
 use Rattle.kh_io.proofs.KnownBytes.{Consumes-length}
 use Rattle.kh_types.specs.declared.limits.TheConstants.{INPUT_BYTES}
 use Rattle.kh_types.specs.Code.{Code}
-use Rattle.std.specs.Prelude.{Bool, false, is_none, nat_lt, IsTrue}
+use Rattle.std.specs.Prelude.{false, is_none, nat_lt, IsTrue}
 use Rattle.std.proofs.lemmas.Grind.{common_steps}
 use Rattle.kh_types.specs.Acceptance.{accepted, first_fault}
 use Rattle.kh_types.specs.Table.{table, table_text}

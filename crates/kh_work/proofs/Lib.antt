@@ -1,3 +1,4 @@
 pub mod CommandLemmas
 pub mod AnswerLemmas
+pub mod TextReadings
 pub mod OneAnswer

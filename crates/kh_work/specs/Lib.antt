@@ -6,6 +6,7 @@ pub mod Inputs
 pub mod InputStops
 pub mod Homology
 pub mod Convert
+pub mod Check
 pub mod Answer
 pub mod Told
 pub mod Runs

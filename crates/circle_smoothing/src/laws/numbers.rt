@@ -5,12 +5,13 @@ ghost use Rattle.kh_types.specs.Code.{Code, IsCrossing, place_of};
 ghost use Rattle.kh_types.specs.Bits.{bit};
 ghost use Rattle.kh_types.specs.Acceptance.{accepted};
 ghost use Rattle.kh_types.specs.Circles.{circles_of, circle_of, circle_names, circle_count};
-ghost use Rattle.circle_smoothing.specs.CircleNumbers.{circle_number};
-ghost use Rattle.circle_smoothing.specs.Edges.{IsEdge, IsName, Renumbers};
+ghost use Rattle.circle_smoothing.specs.CircleNumbers.{IsName, circle_number};
+ghost use Rattle.circle_smoothing.specs.Edges.{IsEdge, Renumbers};
 ghost use Rattle.circle_smoothing.specs.declared.change.Edge.{Edge};
 
-/// The circle of an arc or a loop stands among the circles at its number, which is below their number. Two of them have one
-/// number exactly where they are on one circle, and a circle with a lesser least arc has a lesser number.
+/// The circle of an arc or a loop stands among the circles at its number, which is below their
+/// number. Two of them have one number exactly where they are on one circle, and a circle with a
+/// lesser least arc has a lesser number.
 pub fn circle_numbers_are_places()
     ensures place { (code : Code) (state name : ℕ) → IsTrue (accepted code) → IsName code name
         → slice_index (circle_names code state) (circle_number code state name)
@@ -27,9 +28,10 @@ pub fn circle_numbers_are_places()
         → circle_number code state name < circle_number code state other }
 {}
 
-/// In a merge of two circles, `a` below `b`, their circle keeps the number `a`, and each number above `b` moves down by one; all
-/// other circles keep theirs. In a split this is so backwards: the circle keeps its number as `a`, the other comes in at `b`, and
-/// the numbers from there on move up.
+/// In a merge of two circles, `a` below `b`, their circle keeps the number `a`, and each number
+/// above `b` moves down by one; all other circles keep theirs. In a split this is so backwards: the
+/// circle keeps its number as `a`, the other comes in at `b`, and the numbers from there on move
+/// up.
 pub fn edges_renumber_circles()
     ensures { (code : Code) (state crossing : ℕ) (change : Edge) → IsTrue (accepted code)
         → IsCrossing code.crossings crossing → bit state (place_of crossing) ≡ 0

@@ -1,6 +1,5 @@
-use Rattle.std.proofs.Common.{◌≡◌, ◌+◌, ◌*◌, ◌≤◌, ap, arith, length}
+use Rattle.std.proofs.Common.{◌≡◌, ◌+◌, ◌*◌, ◌≤◌, arith, length}
 use Rattle.std.specs.List.{range_with_len}
-use Rattle.kh_types.specs.Circles.{circles_of}
 use Rattle.kh_types.specs.Code.{arc_count}
 use Rattle.kh_types.specs.declared.limits.TheConstants.{COMPONENTS}
 use Rattle.circle_smoothing.proofs.CircleCycles.{IsNamed-circles}

@@ -1,4 +1,4 @@
-use Rattle.std.proofs.Common.{◌+◌, ◌≡◌, ◌*◌, length}
+use Rattle.std.proofs.Common.{◌+◌}
 use Rattle.kh_types.specs.Circles.{circles_of}
 use Rattle.kh_types.specs.Walks.{IsWalked}
 use Rattle.circle_smoothing.proofs.walk.circles_of.Given as goal

@@ -1,5 +1,4 @@
 use Rattle.std.proofs.Common.{take}
-use Rattle.gauss_code.specs.Machine.{progress_at}
 use Rattle.gauss_code.proofs.MachineReads.{LeadsTo}
 use Rattle.gauss_code.proofs.machine.listing_of.Given as goal
 

@@ -1,4 +1,4 @@
-use Rattle.std.proofs.Common.{◌≡◌, List, ap, arith, sym, ◌∙◌}
+use Rattle.std.proofs.Common.{◌≡◌, ap, arith, sym, ◌∙◌}
 use Rattle.kh_lex.specs.Symbols.{symbols_of}
 use Rattle.gauss_code.specs.Faults.{first_fault}
 use Rattle.gauss_code.specs.Grammar.{number_places, spelled}

@@ -1,6 +1,4 @@
-use Rattle.std.proofs.Common.{◌≡◌, ◌≤◌, IsTrue, arith, length, sym}
-use Rattle.kh_types.specs.Acceptance.{accepted}
-use Rattle.kh_types.specs.Circles.{circle_count}
+use Rattle.std.proofs.Common.{arith}
 use Rattle.circle_smoothing.proofs.KeptNumbers.{count-within}
 use Rattle.circle_smoothing.proofs.numbered.Circles.count.Goals as goal
 

@@ -1,5 +1,5 @@
 use Rattle.std.proofs.Common.{◌≡◌, ◌∙◌, arith}
-use Rattle.kh_types.specs.Circles.{circle_count, circles_of}
+use Rattle.kh_types.specs.Circles.{circles_of}
 use Rattle.circle_smoothing.proofs.KeptNumbers.{count-listed, count-within}
 use Rattle.circle_smoothing.proofs.prepared.Smoothings.count.Goals as goal
 
