@@ -1,5 +1,5 @@
 -- Sums over states, kind by kind.
-use Rattle.std.proofs.Common.{◌≡◌, ℕ, zero, suc, ◌+◌, ◌-◌, ◌*◌, ◌/◌, ◌%◌, ◌^◌, ◌<◌, ◌≤◌, ◌∙◌, List, [], ◌∷◌, ◌++◌, map, length, get_or, take, ap, sym, refl, arith, ℤ, pos, negsuc, neg_ℤ, ◌+ℤ◌, ◌-ℤ◌, ◌*ℤ◌}
+use Rattle.std.proofs.Common.{◌≡◌, ℕ, zero, suc, ◌+◌, ◌*◌, ◌%◌, ◌^◌, ◌<◌, ◌≤◌, ◌∙◌, List, [], ◌∷◌, ◌++◌, map, length, get_or, take, ap, sym, refl, arith, ℤ, pos, ◌+ℤ◌, ◌*ℤ◌}
 use Rattle.std.specs.Prelude.{replicate, unsigned_abs}
 use Rattle.std.specs.List.{enumerate_from, range_with_len, sum}
 use Rattle.std.proofs.Math.IntN.{suc_ℤ-*ℤ, zero-*ℤ, +ℤ_assoc}
@@ -9,7 +9,7 @@ use Rattle.std.proofs.Math.Pow.{pow_mono}
 use Rattle.std.proofs.lemmas.Int.{ints, unsigned_abs-mul}
 use Rattle.std.proofs.lemmas.List.Sums.{sum_by-set}
 use Rattle.std.proofs.lemmas.List.{map-append, take_more, length-take}
-use Rattle.kh_types.specs.declared.limits.TheConstants.{CROSSINGS, CIRCLES, EXPONENT}
+use Rattle.kh_types.specs.declared.limits.TheConstants.{CROSSINGS, CIRCLES}
 use Rattle.kh_types.specs.Code.{Code}
 use Rattle.kh_types.specs.Accepted.{IsAccepted}
 use Rattle.kh_types.specs.Circles.{circle_count}

@@ -1,5 +1,5 @@
 -- The state sum has no coefficients outside of the exponents.
-use Rattle.std.proofs.Common.{◌≡◌, ℕ, zero, suc, ◌+◌, ◌-◌, ◌*◌, ◌<◌, ◌≤◌, ◌∙◌, List, [], ◌∷◌, map, length, ap, sym, refl, arith, ℤ, pos, negsuc, neg_ℤ, ◌+ℤ◌, ◌-ℤ◌, Bool, true, false, cond}
+use Rattle.std.proofs.Common.{◌≡◌, ℕ, suc, ◌+◌, ◌-◌, ◌*◌, ◌≤◌, ◌∙◌, List, [], ◌∷◌, map, length, ap, refl, arith, ℤ, pos, negsuc, neg_ℤ, ◌+ℤ◌, ◌-ℤ◌, Bool, true, false, cond}
 use Rattle.std.specs.Prelude.{nat_eq, ◌%◌}
 use Rattle.std.proofs.lemmas.Int.{ints}
 use Rattle.kh_types.specs.declared.limits.TheConstants.{CROSSINGS, EXPONENT}
@@ -8,7 +8,7 @@ use Rattle.kh_types.specs.Accepted.{IsAccepted}
 use Rattle.kh_types.specs.Circles.{circle_count}
 use Rattle.kh_types.specs.Directions.{plus_count, minus_count}
 use Rattle.kh_types.specs.Generators.{one_count, states}
-use Rattle.kh_types.specs.StateSum.{int_sum, signed_by, signed_by_parity, circle_coefficient, term_of, state_term, state_sum}
+use Rattle.kh_types.specs.StateSum.{int_sum, signed_by, circle_coefficient, term_of, state_term, state_sum}
 use Rattle.kh_types.specs.Table.{IsWithin}
 use Rattle.kh_types.proofs.CircleBound.{circle_count-within}
 use Rattle.kh_types.proofs.QuantumDegrees.{IsWithin-place, one_count-le, plus_count-le}

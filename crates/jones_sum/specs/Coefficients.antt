@@ -1,5 +1,5 @@
 -- Polynomials as lists of coefficients.
-use Rattle.std.specs.Prelude.{ℕ, ℤ, pos, negsuc, ◌+ℤ◌, List, map, slice_index_or}
+use Rattle.std.specs.Prelude.{ℤ, pos, negsuc, ◌+ℤ◌, List, map, slice_index_or}
 use Rattle.kh_types.specs.Table.{from_minus}
 use Rattle.kh_types.specs.declared.limits.TheConstants.{EXPONENT}
 

@@ -1,5 +1,5 @@
 -- The terms of a polynomial, exponent by exponent.
-use Rattle.std.proofs.Common.{◌≡◌, ℕ, zero, suc, ◌+◌, ◌*◌, ◌<◌, ◌≤◌, ◌∙◌, List, [], ◌∷◌, ◌++◌, map, ap, sym, refl, arith, ℤ, pos, ◌-ℤ◌, Bool, true, false, cond, codes}
+use Rattle.std.proofs.Common.{◌≡◌, ℕ, ◌+◌, ◌*◌, ◌∙◌, List, [], ◌∷◌, ◌++◌, map, ap, sym, refl, ℤ, pos, ◌-ℤ◌, Bool, true, false, cond, codes}
 use Rattle.std.specs.Prelude.{not}
 use Rattle.std.specs.List.{range_with_len, filter, flat_map}
 use Rattle.std.specs.Ordering.{int_eq}

@@ -1,4 +1,4 @@
-use Rattle.std.proofs.Common.{◌≡◌, ◌≤◌, ◌*◌, ◌^◌, ℤ, pos, ◌-ℤ◌, take}
+use Rattle.std.proofs.Common.{◌≡◌, ◌≤◌, ◌*◌, ◌^◌, pos, ◌-ℤ◌, take}
 use Rattle.std.specs.Prelude.{unsigned_abs}
 use Rattle.std.specs.List.{sum}
 use Rattle.kh_types.specs.declared.limits.TheConstants.{CIRCLES, EXPONENT}

@@ -1,4 +1,4 @@
-use Rattle.std.proofs.Common.{◌<◌, ℕ, arith}
+use Rattle.std.proofs.Common.{arith}
 use Rattle.kh_types.specs.StateSum.{state_sum}
 use Rattle.jones_sum.proofs.CoefficientLemmas.{coefficients_of-filled}
 use Rattle.jones_sum.proofs.finding.jones.Goals as goal
