@@ -20,7 +20,7 @@ use Rattle.kh_work.specs.Replies.{Reply, reply_of}
 use Rattle.kh_work.specs.Commands.{command_of, size_of}
 use Rattle.kh_work.specs.Refusals.{usage, too_many_bytes}
 use Rattle.kh_work.specs.Inputs.{IsCodeRead, IsDiagramRead}
-use Rattle.kh_work.specs.Homology.{homology_reply}
+use Rattle.kh_work.specs.Homology.{homology_reply, homology_text}
 use Rattle.kh_work.specs.Jones.{jones_line}
 use Rattle.kh_work.specs.Answer.{IsTaskReply, IsCommandReply, IsAnswerOf, IsAnswer}
 use Rattle.kh_work.specs.Told.{IsKnownAnswer, IsKnownReply, IsReadOut}
@@ -98,6 +98,7 @@ first_fault-accepted code is_accepted = none-from_test (first_fault code) is_acc
 
 homology_reply-table : (field : Field) (code : Code) → length code.crossings ≤ HOMOLOGY_CROSSINGS
     → reply_of Done (table_text (table (size_of field) code) ++ jones_line code) ≡ homology_reply field code
+unfolding homology_text
 homology_reply-table field code few =
     let short : nat_lt HOMOLOGY_CROSSINGS (length code.crossings) ≡ false = grind (arith, common_steps) in
     rw short refl

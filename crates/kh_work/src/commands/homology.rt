@@ -3,7 +3,7 @@
 ghost use Rattle.std.specs.Prelude.{◌≡◌, string_bytes, IfOk};
 ghost use Rattle.kh_types.specs.Table.{table, table_text};
 ghost use Rattle.kh_work.specs.Commands.{size_of};
-ghost use Rattle.kh_work.specs.Homology.{homology_reply};
+ghost use Rattle.kh_work.specs.Homology.{homology_reply, homology_text};
 
 use crate::command::Field;
 use crate::commands::jones::jones_line;
@@ -23,12 +23,20 @@ pub fn reply_to_homology(alloc: Global, field: Field, diagram: &Diagram) -> Resu
     if usize::from(diagram.count()) > HOMOLOGY_CROSSINGS {
         return too_many_for_homology(alloc, diagram.count());
     }
-    let mut text = table_text_over(alloc, field, diagram)?.into_bytes();
-    text.extend_from_slice(&jones_line(alloc, diagram)?)?;
     Ok(Reply {
         status: Status::Done,
-        text,
+        text: homology_text(alloc, field, diagram)?,
     })
+}
+
+/// The text of the homology table over a field, and the Jones line behind it.
+#[tactic(auto, unfolding(crate::specs::Homology::homology_text))]
+fn homology_text(alloc: Global, field: Field, diagram: &Diagram) -> Result<Vec<u8>, NoMemory>
+    ensures { IfOk result (λ text. text.items ≡ homology_text field diagram.now) }
+{
+    let mut text = table_text_over(alloc, field, diagram)?.into_bytes();
+    text.extend_from_slice(&jones_line(alloc, diagram)?)?;
+    Ok(text)
 }
 
 /// The text of the homology table over a field.
