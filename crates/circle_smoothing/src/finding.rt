@@ -1,8 +1,9 @@
 //! The circles of a state, the edges and the generators of a diagram.
 
-ghost use Rattle.std.specs.Prelude.{◌≡◌, ◌^◌, ◌<◌, ◌≤◌, length};
+ghost use Rattle.std.specs.Prelude.{◌≡◌, ◌+◌, ◌^◌, ◌<◌, ◌≤◌, length};
 ghost use Rattle.kh_types.specs.Bits.{bit};
 ghost use Rattle.kh_types.specs.Code.{IsCrossing, place_of};
+ghost use Rattle.kh_types.specs.declared.limits.TheConstants.{CIRCLES, CROSSINGS};
 ghost use Rattle.circle_smoothing.specs.Edges.{IsEdge};
 ghost use Rattle.circle_smoothing.specs.GeneratorCounts.{generator_count, label_count};
 
@@ -37,7 +38,7 @@ pub fn edge(diagram: &Diagram, state: u32, crossing: u8) -> Edge
 #[tactic(auto, using(crate::proofs::GeneratorLemmas::state_steps))]
 pub fn generator_count(diagram: &Diagram) -> u64
     ensures count { result ≡ generator_count diagram.now }
-    ensures within { result ≤ 2 ^ 56 }
+    ensures within { result ≤ 2 ^ (CROSSINGS + CIRCLES) }
 {
     let smoothings = Smoothings::new(diagram);
     let mut total = 0;
@@ -50,7 +51,7 @@ pub fn generator_count(diagram: &Diagram) -> u64
 /// How many states there are.
 fn state_count(diagram: &Diagram) -> u32
     ensures count { result ≡ 2 ^ length diagram.now.crossings }
-    ensures within { result ≤ 2 ^ 16 }
+    ensures within { result ≤ 2 ^ CROSSINGS }
 {
     1 << diagram.count()
 }
@@ -59,7 +60,7 @@ fn state_count(diagram: &Diagram) -> u32
 fn label_count(smoothings: &Smoothings, state: u32) -> u64
     requires { state < 2 ^ length smoothings.now.crossings }
     ensures count { result ≡ label_count smoothings.now state }
-    ensures within { result ≤ 2 ^ 40 }
+    ensures within { result ≤ 2 ^ CIRCLES }
 {
     1 << smoothings.count(state)
 }

@@ -90,6 +90,7 @@ impl Smoothings {
         requires smoothing { bit state (place_of crossing) ≡ 0 }
         ensures { IsEdge self.now state crossing result }
     {
+        // (the size of the diagram, by its type)
         let _ = &self.diagram;
         let before = self.circles(state);
         let behind = self.circles(self.state_behind(state, crossing));
@@ -110,6 +111,7 @@ impl Smoothings {
         ensures behind { result ≡ state_behind state crossing }
         ensures within { result < 2 ^ length self.now.crossings }
     {
+        // (the size of the diagram, by its type)
         let _ = &self.diagram;
         state + (1 << (crossing - 1))
     }
@@ -121,6 +123,7 @@ impl Smoothings {
         ensures arc { result ≡ arc_at_slot self.now crossing slot }
         ensures within { IsArc self.now.crossings result }
     {
+        // (the size of the diagram, by its type)
         let _ = &self.diagram;
         self.arc_at(4 * (crossing - 1) + slot)
     }

@@ -70,50 +70,51 @@ fn reads_loops_alone(rt: HostRuntime) -> Result<(), Fail> {
     Ok(())
 }
 
+const NO_TEXTS: [(&str, u32); 39] = [
+    ("", 0),
+    ("  ", 2),
+    ("G", 0),
+    ("GPD[]", 0),
+    ("PD[]", 0),
+    ("gausscode[]", 0),
+    ("GaussCodes[]", 0),
+    ("GaussCode", 9),
+    ("GaussCode{}", 9),
+    ("GaussCode[", 10),
+    ("GaussCode[[]]", 10),
+    ("GaussCode[,]", 10),
+    ("GaussCode[1,]", 12),
+    ("GaussCode[1 -1]", 12),
+    ("GaussCode[1,{}]", 12),
+    ("GaussCode[{}1]", 12),
+    ("GaussCode[{},1]", 13),
+    ("GaussCode[{},]", 13),
+    ("GaussCode[{1,}]", 13),
+    ("GaussCode[{{}}]", 11),
+    ("GaussCode[{1]", 12),
+    ("GaussCode[{}", 12),
+    ("GaussCode[]]", 11),
+    ("GaussCode[],", 11),
+    ("GaussCode[] Sign[]", 12),
+    ("GaussCode[]Signs", 16),
+    ("GaussCode[]Signs{}", 16),
+    ("GaussCode[]Signs[,]", 17),
+    ("GaussCode[]Signs[1,]", 19),
+    ("GaussCode[]Signs[{}]", 17),
+    ("GaussCode[]Signs[]]", 18),
+    ("GaussCode[]Signs[]Signs[]", 18),
+    ("GaussCode[+1,-1]", 10),
+    ("GaussCode[1,- 1]", 12),
+    ("GaussCode[1,--1]", 12),
+    ("\u{feff}GaussCode[]", 0),
+    ("GaussCode[]\u{c}", 11),
+    ("GaussCode[];", 11),
+    ("? 70000", 0),
+];
+
 #[test]
 fn refuses_other_texts_at_their_places(rt: HostRuntime) {
-    let rows = [
-        ("", 0),
-        ("  ", 2),
-        ("G", 0),
-        ("GPD[]", 0),
-        ("PD[]", 0),
-        ("gausscode[]", 0),
-        ("GaussCodes[]", 0),
-        ("GaussCode", 9),
-        ("GaussCode{}", 9),
-        ("GaussCode[", 10),
-        ("GaussCode[[]]", 10),
-        ("GaussCode[,]", 10),
-        ("GaussCode[1,]", 12),
-        ("GaussCode[1 -1]", 12),
-        ("GaussCode[1,{}]", 12),
-        ("GaussCode[{}1]", 12),
-        ("GaussCode[{},1]", 13),
-        ("GaussCode[{},]", 13),
-        ("GaussCode[{1,}]", 13),
-        ("GaussCode[{{}}]", 11),
-        ("GaussCode[{1]", 12),
-        ("GaussCode[{}", 12),
-        ("GaussCode[]]", 11),
-        ("GaussCode[],", 11),
-        ("GaussCode[] Sign[]", 12),
-        ("GaussCode[]Signs", 16),
-        ("GaussCode[]Signs{}", 16),
-        ("GaussCode[]Signs[,]", 17),
-        ("GaussCode[]Signs[1,]", 19),
-        ("GaussCode[]Signs[{}]", 17),
-        ("GaussCode[]Signs[]]", 18),
-        ("GaussCode[]Signs[]Signs[]", 18),
-        ("GaussCode[+1,-1]", 10),
-        ("GaussCode[1,- 1]", 12),
-        ("GaussCode[1,--1]", 12),
-        ("\u{feff}GaussCode[]", 0),
-        ("GaussCode[]\u{c}", 11),
-        ("GaussCode[];", 11),
-        ("? 70000", 0),
-    ];
-    for (text, place) in rows {
+    for (text, place) in NO_TEXTS {
         let stop = stop_of(rt.alloc(), text.as_bytes());
         assert_eq!(rt; stop, Some(GaussStop::Text { place }), "at {text}");
     }
@@ -128,51 +129,52 @@ fn stop_of(alloc: Global, text: &[u8]) -> Option<GaussStop> {
     }
 }
 
+const FIRST_FAULTS: [(&str, GaussStop); 18] = [
+    ("GaussCode]70000", GaussStop::Number { place: 10 }),
+    ("GaussCode[0,-65536]", GaussStop::Number { place: 12 }),
+    ("GaussCode[0,", GaussStop::Text { place: 12 }),
+    ("GaussCode[1]", GaussStop::Label { place: 10 }),
+    ("GaussCode[0]", GaussStop::Label { place: 10 }),
+    ("GaussCode[1,-1,1]Signs[1]", GaussStop::Label { place: 15 }),
+    ("GaussCode[1,1]Signs[1]", GaussStop::Label { place: 12 }),
+    ("GaussCode[1,2]Signs[1]", GaussStop::Label { place: 12 }),
+    ("GaussCode[{}, {-2} , {1}]", GaussStop::Label { place: 15 }),
+    ("GaussCode[1,-257]Signs[1]", GaussStop::Label { place: 12 }),
+    ("GaussCode[1,-1]", GaussStop::NoSigns),
+    ("GaussCode[{1,-1},{}]", GaussStop::NoSigns),
+    (
+        "GaussCode[]Signs[1]",
+        GaussStop::SignCount {
+            found: 1,
+            wanted: 0,
+        },
+    ),
+    (
+        "GaussCode[1,-1]Signs[]",
+        GaussStop::SignCount {
+            found: 0,
+            wanted: 1,
+        },
+    ),
+    (
+        "GaussCode[{}]Signs[2,2]",
+        GaussStop::SignCount {
+            found: 2,
+            wanted: 0,
+        },
+    ),
+    ("GaussCode[1,-1]Signs[0]", GaussStop::Label { place: 21 }),
+    ("GaussCode[1,-1]Signs[ -2]", GaussStop::Label { place: 22 }),
+    (
+        "GaussCode[1,2,-1,-2]Signs[1,257]",
+        GaussStop::Label { place: 28 },
+    ),
+];
+
 // Each fault before the ones that the text has besides.
 #[test]
 fn names_the_first_fault(rt: HostRuntime) {
-    let rows = [
-        ("GaussCode]70000", GaussStop::Number { place: 10 }),
-        ("GaussCode[0,-65536]", GaussStop::Number { place: 12 }),
-        ("GaussCode[0,", GaussStop::Text { place: 12 }),
-        ("GaussCode[1]", GaussStop::Label { place: 10 }),
-        ("GaussCode[0]", GaussStop::Label { place: 10 }),
-        ("GaussCode[1,-1,1]Signs[1]", GaussStop::Label { place: 15 }),
-        ("GaussCode[1,1]Signs[1]", GaussStop::Label { place: 12 }),
-        ("GaussCode[1,2]Signs[1]", GaussStop::Label { place: 12 }),
-        ("GaussCode[{}, {-2} , {1}]", GaussStop::Label { place: 15 }),
-        ("GaussCode[1,-257]Signs[1]", GaussStop::Label { place: 12 }),
-        ("GaussCode[1,-1]", GaussStop::NoSigns),
-        ("GaussCode[{1,-1},{}]", GaussStop::NoSigns),
-        (
-            "GaussCode[]Signs[1]",
-            GaussStop::SignCount {
-                found: 1,
-                wanted: 0,
-            },
-        ),
-        (
-            "GaussCode[1,-1]Signs[]",
-            GaussStop::SignCount {
-                found: 0,
-                wanted: 1,
-            },
-        ),
-        (
-            "GaussCode[{}]Signs[2,2]",
-            GaussStop::SignCount {
-                found: 2,
-                wanted: 0,
-            },
-        ),
-        ("GaussCode[1,-1]Signs[0]", GaussStop::Label { place: 21 }),
-        ("GaussCode[1,-1]Signs[ -2]", GaussStop::Label { place: 22 }),
-        (
-            "GaussCode[1,2,-1,-2]Signs[1,257]",
-            GaussStop::Label { place: 28 },
-        ),
-    ];
-    for (text, wanted) in rows {
+    for (text, wanted) in FIRST_FAULTS {
         let stop = stop_of(rt.alloc(), text.as_bytes());
         assert_eq!(rt; stop, Some(wanted), "at {text}");
     }

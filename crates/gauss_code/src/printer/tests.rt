@@ -5,6 +5,15 @@ use arrayvec::ArrayVec;
 use kh_types::{Crossing, Diagram, RawCode};
 use std::test::Fail;
 
+const BORROMEAN_RINGS: [[u8; 4]; 6] = [
+    [6, 1, 7, 2],
+    [12, 8, 9, 7],
+    [4, 12, 1, 11],
+    [10, 5, 11, 6],
+    [8, 4, 5, 3],
+    [2, 9, 3, 10],
+];
+
 /// The trefoil (3_1), the figure eight knot (4_1), the Hopf link (L2a1) and the Borromean rings (L6a4) as the Knot Atlas lists
 /// their PD codes and Gauss codes; the signs, and the other rows, are worked by hand: curls, a circle that lies over another, and
 /// loops.
@@ -12,14 +21,6 @@ use std::test::Fail;
 fn prints_known_diagrams(rt: HostRuntime) -> Result<(), Fail> {
     let trefoil = [[1, 4, 2, 5], [3, 6, 4, 1], [5, 2, 6, 3]];
     let eight = [[4, 2, 5, 1], [8, 6, 1, 5], [6, 3, 7, 4], [2, 7, 3, 8]];
-    let borromean = [
-        [6, 1, 7, 2],
-        [12, 8, 9, 7],
-        [4, 12, 1, 11],
-        [10, 5, 11, 6],
-        [8, 4, 5, 3],
-        [2, 9, 3, 10],
-    ];
     for (crossings, loops, wanted) in [
         (
             trefoil.as_slice(),
@@ -37,7 +38,7 @@ fn prints_known_diagrams(rt: HostRuntime) -> Result<(), Fail> {
             "GaussCode[{1, -2}, {2, -1}] Signs[-1, -1]",
         ),
         (
-            &borromean,
+            &BORROMEAN_RINGS,
             0,
             "GaussCode[{1, -6, 5, -3}, {4, -1, 2, -5}, {6, -4, 3, -2}] Signs[-1, 1, 1, -1, 1, -1]",
         ),
