@@ -1,0 +1,5 @@
+pub mod Merges
+pub mod SquareTables
+pub mod Sums
+pub mod Marks
+pub mod LabelNumbers
