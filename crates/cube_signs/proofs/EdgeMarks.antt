@@ -69,7 +69,7 @@ grown false code crossing marked =
     (arc_at_slot code crossing 0 ∷ marked) ∷ (arc_at_slot code crossing 2 ∷ marked) ∷ []
 
 -- a merge keeps the marks
-marked-merge : (code : Code) (two one : Generator) (crossing : ℕ) (marked : List ℕ) → IsMerge code two.state one.state crossing
+pub marked-merge : (code : Code) (two one : Generator) (crossing : ℕ) (marked : List ℕ) → IsMerge code two.state one.state crossing
     → IsMarked code two marked → IsChange true code two one crossing → IsMarked code one marked
 marked-merge code two one crossing marked merge marks change =
     record {

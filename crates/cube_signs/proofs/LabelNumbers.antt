@@ -21,13 +21,13 @@ use Rattle.cube_signs.proofs.Merges.{circle_in}
 use Rattle.cube_signs.proofs.Sums.{sum_by-places, sum_by-range_alike, sum_by-single}
 
 -- the numbers of a range that pass a test stand there once: each is found at its own place
-from-filter : (p : ℕ → Bool) (a n i : ℕ) → i < length (filter p (range_with_len a n))
-    → (a ≤ get_or (filter p (range_with_len a n)) i 0) × (get_or (filter p (range_with_len a n)) i 0 < a + n)
-from-filter p a n i within =
+from-filter : (p : ℕ → Bool) (a n i d : ℕ) → i < length (filter p (range_with_len a n))
+    → (a ≤ get_or (filter p (range_with_len a n)) i d) × (get_or (filter p (range_with_len a n)) i d < a + n)
+from-filter p a n i d within =
     All-filter p (λ x. (a ≤ x) × (x < a + n)) (range_with_len a n)
-    (λ k d below.
+    (λ k e below.
     let k_below : k < n = omega (arith, below, length-range_with_len a n) in
-    let is = get_or-range_with_len a n k d k_below in (omega arith, omega arith)) i 0 within
+    let is = get_or-range_with_len a n k e k_below in (omega arith, omega arith)) i d within
 
 abbrev place_in : List ℕ → ℕ → ℕ
 place_in xs x = position_or_len (nat_eq x) xs
@@ -36,7 +36,7 @@ place-filter : (p : ℕ → Bool) (a n i : ℕ) → i < length (filter p (range_
     → place_in (filter p (range_with_len a n)) (get_or (filter p (range_with_len a n)) i 0) ≡ i
 place-filter p a zero i within = absurd (omega arith)
 place-filter p a (suc n) i within =
-    step (p a) (filter p (range_with_len (a + 1) n)) (λ k k_within. (from-filter p (a + 1) n k k_within).0)
+    step (p a) (filter p (range_with_len (a + 1) n)) (λ k k_within. (from-filter p (a + 1) n k 0 k_within).0)
     (place-filter p (a + 1) n) i within
   where
     step : (b : Bool) (rest : List ℕ) → ((k : ℕ) → k < length rest → a + 1 ≤ get_or rest k 0)
@@ -54,10 +54,13 @@ place-filter p a (suc n) i within =
 abbrev pub name_at : Code → ℕ → ℕ → ℕ
 name_at code state i = get_or (circle_names code state) i 0
 
-pub IsName-name_at : (code : Code) (state i : ℕ) → i < circle_count code state → IsName code (name_at code state i)
-IsName-name_at code state i within =
-    let at = from-filter (is_least (circles_of code state)) 1 (arc_count code.crossings + code.loops) i within in
+pub IsName-names : (code : Code) (state : ℕ) → All (IsName code) (circle_names code state)
+IsName-names code state i d within =
+    let at = from-filter (is_least (circles_of code state)) 1 (arc_count code.crossings + code.loops) i d within in
     record { positive = at.0; within = omega (arith, at.1) }
+
+pub IsName-name_at : (code : Code) (state i : ℕ) → i < circle_count code state → IsName code (name_at code state i)
+IsName-name_at code state i within = IsName-names code state i 0 within
 
 pub circle-name_at : (code : Code) (state i : ℕ) → i < circle_count code state
     → circle_in code state (name_at code state i) ≡ name_at code state i

@@ -5,3 +5,6 @@ pub mod Marks
 pub mod LabelNumbers
 pub mod EdgeMarks
 pub mod TouchedCircles
+pub mod MarkedLabels
+pub mod Paths
+pub mod Signs
