@@ -8,3 +8,5 @@ pub mod TouchedCircles
 pub mod MarkedLabels
 pub mod Paths
 pub mod Signs
+pub mod Pairs
+pub mod Products
