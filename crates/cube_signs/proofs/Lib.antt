@@ -10,3 +10,7 @@ pub mod Paths
 pub mod Signs
 pub mod Pairs
 pub mod Products
+pub mod Degrees
+pub mod Matrices
+pub mod BlockDegrees
+pub mod BlockComplexes
