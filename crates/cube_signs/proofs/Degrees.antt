@@ -17,7 +17,7 @@ use Rattle.kh_types.specs.Differential.{coefficient, coefficient_at, edge_sign}
 use Rattle.kh_types.specs.Directions.{minus_count, plus_count}
 use Rattle.kh_types.specs.Generators.{Generator, generators, generators_at, has_degrees, homological_degree, one_count, quantum_degree}
 use Rattle.circle_smoothing.specs.Edges.{state_behind}
-use Rattle.cube_signs.specs.Squares.{IsNext}
+use Rattle.cube_signs.specs.NextDegrees.{IsNext}
 use Rattle.cube_signs.proofs.Merges.{IsSwitch, switch-edge}
 use Rattle.cube_signs.proofs.Sums.{sum_by-alike, sum_by-filter, sum_by-none}
 use Rattle.cube_signs.proofs.Marks.{one_if}

@@ -1,8 +1,7 @@
 -- Squares of the cube: the circles along two crossings that are switched in the one order and in the other.
-use Rattle.std.specs.Prelude.{◌≡◌, ◌⊎◌, ℕ, pos, ◌+ℤ◌, Bool, true, false}
+use Rattle.std.specs.Prelude.{◌≡◌, ◌⊎◌, ℕ, Bool, true, false}
 use Rattle.kh_types.specs.Code.{Code}
 use Rattle.kh_types.specs.Circles.{circles_of, circle_of}
-use Rattle.kh_types.specs.Generators.{Generator, homological_degree, quantum_degree}
 use Rattle.circle_smoothing.specs.Edges.{AreJoined, arc_at_slot, state_behind}
 
 -- from one state to another two circles are merged at a crossing: those of the arcs at its slots 0 and 2, the ends of its under pass
@@ -23,8 +22,9 @@ circle_at_slot code state crossing slot = circle_of (circles_of code state) (arc
 -- the under passes of two crossings end on the same two circles
 abbrev pub EndOnTwo : Code → ℕ → ℕ → ℕ → Type 0
 EndOnTwo code state a b =
-    ((circle_at_slot code state a 0 ≡ circle_at_slot code state b 0) × (circle_at_slot code state a 2 ≡ circle_at_slot code state b 2))
-    ⊎ ((circle_at_slot code state a 0 ≡ circle_at_slot code state b 2) × (circle_at_slot code state a 2 ≡ circle_at_slot code state b 0))
+    let of_a = circle_at_slot code state a in
+    let of_b = circle_at_slot code state b in
+    ((of_a 0 ≡ of_b 0) × (of_a 2 ≡ of_b 2)) ⊎ ((of_a 0 ≡ of_b 2) × (of_a 2 ≡ of_b 0))
 
 -- the under passes of two crossings end on one circle
 pub record EndOnOne (code : Code) (state a b : ℕ) : Type 0 where
@@ -51,8 +51,3 @@ pub record IsSquare (code : Code) (state a b : ℕ) : Type 0 where
   pub first_b : Switches b_first code state (state_behind state b) b
   pub then_a : Switches a_second code (state_behind state b) (state_behind (state_behind state a) b) a
   pub table : IsTable code (state_behind (state_behind state a) b) a b a_first b_second b_first a_second
-
--- a generator of the next homological degree and the same quantum degree
-pub record IsNext (code : Code) (tail head : Generator) : Type 0 where
-  pub homological : homological_degree code head ≡ homological_degree code tail +ℤ pos 1
-  pub quantum : quantum_degree code head ≡ quantum_degree code tail

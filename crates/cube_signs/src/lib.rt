@@ -1,4 +1,4 @@
-//! The differential of the cube: its signs, and the law that it squares to zero.
+//! The signs of the cube's edges, and the law that the differential squares to zero.
 #![tactic(auto)]
 
 pub mod laws;
