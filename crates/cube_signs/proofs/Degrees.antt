@@ -151,8 +151,11 @@ coefficient-below p code tail head above =
     sum_by-small (coefficient_at p code tail head) 1 (length code.crossings) p (omega arith)
     (λ crossing. elim (edge_or_zero p code tail head crossing) [
       | inr none ↦ omega arith
-      | inl step ↦ omega (arith, coefficient_at-edge p code tail head crossing step,
-          small p (ones (place_of crossing) tail.state) (fits code tail head crossing) above)
+      | inl step ↦ omega (
+        arith,
+        coefficient_at-edge p code tail head crossing step,
+        small p (ones (place_of crossing) tail.state) (fits code tail head crossing) above,
+      )
     ])
     (λ first second from less. elim (edge_or_zero p code tail head first) [
       | inr none ↦ inl none

@@ -116,24 +116,30 @@ hits-elsewhere code state mark marked arc other =
     ∙ ap (λ b. one_if b + hits code state marked arc) (ne_eqb (circle_in code state mark) (circle_in code state arc) other)
     ∙ omega arith
 
-IsEnd-first : (code : Code) (before after crossing : ℕ) → IsMerge code before after crossing
+pub IsEnd-first : (code : Code) (before after crossing : ℕ) → IsMerge code before after crossing
     → IsEnd code before crossing (arc_at_slot code crossing 0)
 IsEnd-first code before after crossing merge =
     let x = arc_at_slot code crossing 0 in
     record {
       off = λ arc marked off. hits-elsewhere code before x marked arc (λ same. off.first (sym same));
-      sum = λ marked. omega (arith, hits-there code before x marked x refl,
-          hits-elsewhere code before x marked (arc_at_slot code crossing 2) merge.join.apart);
+      sum = λ marked. omega (
+        arith,
+        hits-there code before x marked x refl,
+        hits-elsewhere code before x marked (arc_at_slot code crossing 2) merge.join.apart,
+      );
     }
 
-IsEnd-third : (code : Code) (before after crossing : ℕ) → IsMerge code before after crossing
+pub IsEnd-third : (code : Code) (before after crossing : ℕ) → IsMerge code before after crossing
     → IsEnd code before crossing (arc_at_slot code crossing 2)
 IsEnd-third code before after crossing merge =
     let y = arc_at_slot code crossing 2 in
     record {
       off = λ arc marked off. hits-elsewhere code before y marked arc (λ same. off.third (sym same));
-      sum = λ marked. omega (arith, hits-there code before y marked y refl,
-          hits-elsewhere code before y marked (arc_at_slot code crossing 0) (λ same. merge.join.apart (sym same)));
+      sum = λ marked. omega (
+        arith,
+        hits-there code before y marked y refl,
+        hits-elsewhere code before y marked (arc_at_slot code crossing 0) (λ same. merge.join.apart (sym same)),
+      );
     }
 
 -- a split with one mark more
@@ -147,8 +153,14 @@ change-split code two one crossing mark marked merge end marks next =
         at = λ arc name off. sym (next.at arc name) ∙ end.off arc marked off
             ∙ sym (hits-off code two.state one.state crossing marked arc merge off) ∙ marks.at arc name;
       },
-      omega (arith, next.at x merge.first, next.at y merge.third, end.sum marked, marks.at x merge.first,
-          hits-on code two.state one.state crossing marked x merge (inl refl)),
+      omega (
+        arith,
+        next.at x merge.first,
+        next.at y merge.third,
+        end.sum marked,
+        marks.at x merge.first,
+        hits-on code two.state one.state crossing marked x merge (inl refl),
+      ),
     )
 
 marked-split : (code : Code) (two one : Generator) (crossing mark : ℕ) (marked : List ℕ) → IsMerge code two.state one.state crossing
@@ -237,67 +249,3 @@ edge-marks false code tail head crossing marked fits merge marks decides =
     (λ passes. decides.1 (change-split code head tail crossing y marked merge
     (IsEnd-third code head.state tail.state crossing merge) marks (third.0 passes)))
     (λ passes too. not-both code head tail.state crossing marked merge (first.0 passes) (third.0 too))
-
--- marks that give labels behind an edge were at most one on each circle before it
-
-hits-merge_le : (code : Code) (one : Generator) (before crossing : ℕ) (marked : List ℕ) → IsMerge code before one.state crossing
-    → IsMarked code one marked → (arc : ℕ) → IsName code arc → hits code before marked arc ≤ 1
-hits-merge_le code one before crossing marked merge marks arc name =
-    let x = arc_at_slot code crossing 0 in
-    let y = arc_at_slot code crossing 2 in
-    elim (on_or_off code before crossing arc) [
-      | inl on ↦
-          let least : (hits code before marked arc ≡ hits code before marked x) ⊎ (hits code before marked arc ≡ hits code before marked y) =
-          elim on [ inl on_x ↦ inl (hits-circle code before marked arc x on_x) | inr on_y ↦ inr (hits-circle code before marked arc y on_y) ] in
-          omega (arith, least, hits-on code before one.state crossing marked arc merge on, marks.at arc name, label_of-le code one arc)
-      | inr off ↦
-          omega (arith, hits-off code before one.state crossing marked arc merge off, marks.at arc name, label_of-le code one arc)
-    ]
-
-hits-split_le : (code : Code) (two : Generator) (before crossing mark : ℕ) (marked : List ℕ) → IsMerge code two.state before crossing
-    → IsEnd code two.state crossing mark → IsMarked code two (mark ∷ marked) → (arc : ℕ) → IsName code arc
-    → hits code before marked arc ≤ 1
-hits-split_le code two before crossing mark marked merge end marks arc name =
-    let x = arc_at_slot code crossing 0 in
-    let y = arc_at_slot code crossing 2 in
-    elim (on_or_off code two.state crossing arc) [
-      | inl on ↦
-          omega (
-            arith,
-            hits-on code two.state before crossing marked arc merge on,
-            end.sum marked,
-            marks.at x merge.first,
-            marks.at y merge.third,
-            label_of-le code two x,
-            label_of-le code two y,
-          )
-      | inr off ↦
-          omega (
-            arith,
-            hits-off code two.state before crossing marked arc merge off,
-            end.off arc marked off,
-            marks.at arc name,
-            label_of-le code two arc,
-          )
-    ]
-
-pub hits-grown_le : (merges : Bool) (code : Code) (before crossing : ℕ) (head : Generator) (marked : List ℕ)
-    → IsSwitch merges code before head.state crossing
-    → (sum_by (λ list. one_if (is_marked code head list)) (grown merges code crossing marked) ≡ 0)
-    ⊎ ((arc : ℕ) → IsName code arc → hits code before marked arc ≤ 1)
-hits-grown_le true code before crossing head marked merge = elim (cases_Bool (is_marked code head marked)) [
-  | inl gives ↦ inr (hits-merge_le code head before crossing marked merge ((is_marked-decides code head marked).0 gives))
-  | inr fails ↦ inl (omega (arith, ap one_if fails))
-]
-hits-grown_le false code before crossing head marked merge =
-    let x = arc_at_slot code crossing 0 in
-    let y = arc_at_slot code crossing 2 in
-    elim (cases_Bool (is_marked code head (x ∷ marked))) [
-      | inl gives ↦ inr (hits-split_le code head before crossing x marked merge
-          (IsEnd-first code head.state before crossing merge) ((is_marked-decides code head (x ∷ marked)).0 gives))
-      | inr not_first ↦ elim (cases_Bool (is_marked code head (y ∷ marked))) [
-        | inl gives ↦ inr (hits-split_le code head before crossing y marked merge
-            (IsEnd-third code head.state before crossing merge) ((is_marked-decides code head (y ∷ marked)).0 gives))
-        | inr not_third ↦ inl (omega (arith, ap one_if not_first, ap one_if not_third))
-      ]
-    ]

@@ -4,6 +4,7 @@ pub mod Sums
 pub mod Marks
 pub mod LabelNumbers
 pub mod EdgeMarks
+pub mod MarkBounds
 pub mod TouchedCircles
 pub mod MarkedLabels
 pub mod Paths

@@ -43,12 +43,15 @@ IsMerge-join code before after crossing is is_crossing join =
       third = IsName-arc code (arc_at_slot code crossing 2) (IsArc-slot code crossing 2 is is_crossing (omega arith));
       join = join.join;
       one = λ arc. elim (cases_eq (circle_in code before arc) (max p q)) [
-        | inl gone ↦ join.circles.one arc gone ∙ sym (ap (λ b. cond b (min p q) (circle_in code before arc)) (eq-eqb (circle_in code before arc) (max p q) gone))
+        | inl gone ↦ join.circles.one arc gone ∙ sym (goes p q (circle_in code before arc) gone)
         | inr other ↦ join.circles.others arc other ∙ sym (stays p q (circle_in code before arc) other)
       ];
       circles = join.circles;
     }
   where
+    goes : (p q c : ℕ) → c ≡ max p q → merged p q c ≡ min p q
+    goes p q c gone = grind (arith, nat_tests)
+
     stays : (p q c : ℕ) → c ≢ max p q → merged p q c ≡ c
     stays p q c other = grind (arith, nat_tests)
 

@@ -16,7 +16,8 @@ use Rattle.cube_signs.proofs.SquareTables.{HasEdges}
 use Rattle.cube_signs.proofs.Sums.{sum_by-alike, sum_by-none, sum_by-single, sum_by-times, sum_by-turned}
 use Rattle.cube_signs.proofs.Marks.{hits, hits-circle, hits-exchanged, hits-moved, one_if}
 use Rattle.cube_signs.proofs.LabelNumbers.{label-exists, label-once}
-use Rattle.cube_signs.proofs.EdgeMarks.{IsMarked, edge-marks, grown, hits-grown_le, is_marked, is_marked-decides}
+use Rattle.cube_signs.proofs.EdgeMarks.{IsMarked, edge-marks, grown, is_marked, is_marked-decides}
+use Rattle.cube_signs.proofs.MarkBounds.{hits-grown_le}
 use Rattle.cube_signs.proofs.TouchedCircles.{fits, fits-decides}
 use Rattle.cube_signs.proofs.MarkedLabels.{IsMarked-marked_by, marked_by}
 

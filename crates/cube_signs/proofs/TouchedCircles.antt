@@ -54,9 +54,9 @@ two_in x k g (suc zero, below, is) = inr (sym is)
 two_in x k g (suc (suc i), below, is) = absurd (omega arith)
 
 -- the circles that become one are touched, before and after
-touched-on : (code : Code) (before after crossing arc : ℕ) → IsOn code before crossing arc
+touched-on : (code : Code) (before crossing arc : ℕ) → IsOn code before crossing arc
     → is_touched code before crossing (circle_in code before arc) ≡ true
-touched-on code before after crossing arc on = elim on [
+touched-on code before crossing arc on = elim on [
   | inl first ↦ is_touched-slot code before crossing 0 (circle_in code before arc) (omega arith) (sym first)
   | inr third ↦ is_touched-slot code before crossing 2 (circle_in code before arc) (omega arith) (sym third)
 ]
@@ -207,7 +207,16 @@ changes_lists code tail head before after =
 abbrev pub fits : Code → Generator → Generator → ℕ → Bool
 fits code tail head crossing = keeps_labels code tail head crossing && changes_labels code tail head crossing
 
--- they do exactly where a merge, or a split, does so to labels
+-- they do where both tests say so
+both-decide : (code : Code) (tail head : Generator) (two crossing m n : ℕ)
+    → Decides (keeps_labels code tail head crossing) (SameOff code tail head two crossing)
+    → changes_labels code tail head crossing ≡ nat_eq m n
+    → Decides (fits code tail head crossing) (SameOff code tail head two crossing × (m ≡ n))
+both-decide code tail head two crossing m n kept sum =
+    Decides-and (keeps_labels code tail head crossing) (changes_labels code tail head crossing) kept
+    (Decides-at (changes_labels code tail head crossing) (nat_eq m n) sum (Decides-eqb m n))
+
+-- that is exactly where a merge, or a split, does so to labels
 pub fits-decides : (merges : Bool) (code : Code) (tail head : Generator) (crossing : ℕ) → IsTrue (accepted code)
     → IsSwitch merges code tail.state head.state crossing
     → Decides (fits code tail head crossing) (IsChange merges code tail head crossing)
@@ -217,20 +226,17 @@ fits-decides true code tail head crossing is merge =
     let tail_of = label_of code tail in
     let head_of = label_of code head in
     let kept = keeps-decides code tail head tail.state crossing is (record {
-      on = touched-on code tail.state head.state crossing;
+      on = touched-on code tail.state crossing;
       off = λ arc. touched-off code tail.state head.state crossing arc is merge;
       together = λ arc other off same. merge.one arc ∙ ap (merged p q) same ∙ sym (merge.one other);
     }) in
-    let sum : changes_labels code tail head crossing ≡ nat_eq (label_at code head crossing 0) (label_at code tail crossing 0 + label_at code tail crossing 2) =
-    ap₂ (changes_lists code tail head) merge.circles.touched_before merge.circles.touched_after
+    let sum = ap₂ (changes_lists code tail head) merge.circles.touched_before merge.circles.touched_after
     ∙ merge_table (tail_of (min p q)) (tail_of (max p q)) (head_of (min p q)) (label_of-le code tail (min p q))
     (label_of-le code tail (max p q)) (label_of-le code head (min p q))
     ∙ ap₂ nat_eq (label-one code tail.state crossing head is merge) (labels-two code tail head.state crossing is merge) in
     Decides-like (fits code tail head crossing) (λ both. (record { at = both.0 }, both.1)) (λ change. (change.0.at, change.1))
-    (Decides-and (keeps_labels code tail head crossing) (changes_labels code tail head crossing) kept
-    (Decides-at (changes_labels code tail head crossing)
-    (nat_eq (label_at code head crossing 0) (label_at code tail crossing 0 + label_at code tail crossing 2)) sum
-    (Decides-eqb (label_at code head crossing 0) (label_at code tail crossing 0 + label_at code tail crossing 2))))
+    (both-decide code tail head tail.state crossing (label_at code head crossing 0)
+    (label_at code tail crossing 0 + label_at code tail crossing 2) kept sum)
 fits-decides false code tail head crossing is merge =
     let p = circle_at_slot code head.state crossing 0 in
     let q = circle_at_slot code head.state crossing 2 in
@@ -243,18 +249,16 @@ fits-decides false code tail head crossing is merge =
           still_together p q (circle_in code head.state arc) (circle_in code head.state other) off.first off.third
           (sym (merge.one arc) ∙ same ∙ merge.one other);
     }) in
-    let sum : changes_labels code tail head crossing ≡ nat_eq (label_at code head crossing 0 + label_at code head crossing 2) (label_at code tail crossing 0 + 1) =
-    ap₂ (changes_lists code tail head) merge.circles.touched_after merge.circles.touched_before
+    let sum = ap₂ (changes_lists code tail head) merge.circles.touched_after merge.circles.touched_before
     ∙ split_table (tail_of (min p q)) (head_of (min p q)) (head_of (max p q)) (label_of-le code tail (min p q))
     (label_of-le code head (min p q)) (label_of-le code head (max p q))
-    ∙ ap₂ (λ m n. nat_eq m (n + 1)) (labels-two code head tail.state crossing is merge) (label-one code head.state crossing tail is merge) in
+    ∙ ap₂ (λ m n. nat_eq m (n + 1)) (labels-two code head tail.state crossing is merge)
+    (label-one code head.state crossing tail is merge) in
     Decides-like (fits code tail head crossing)
     (λ both. (record { at = λ arc name off. sym (both.0 arc name off) }, both.1))
     (λ change. (λ arc name off. sym (change.0.at arc name off), change.1))
-    (Decides-and (keeps_labels code tail head crossing) (changes_labels code tail head crossing) kept
-    (Decides-at (changes_labels code tail head crossing)
-    (nat_eq (label_at code head crossing 0 + label_at code head crossing 2) (label_at code tail crossing 0 + 1)) sum
-    (Decides-eqb (label_at code head crossing 0 + label_at code head crossing 2) (label_at code tail crossing 0 + 1))))
+    (both-decide code tail head head.state crossing (label_at code head crossing 0 + label_at code head crossing 2)
+    (label_at code tail crossing 0 + 1) kept sum)
   where
     still_together : (p q c d : ℕ) → c ≢ p → c ≢ q → merged p q c ≡ merged p q d → c ≡ d
     still_together p q c d not_p not_q same = grind (arith, nat_tests)

@@ -8,8 +8,8 @@ ghost use Rattle.kh_types.specs.Differential.{differential};
 ghost use Rattle.kh_types.specs.Generators.{generators_at};
 ghost use Rattle.kh_types.specs.History.{block};
 
-/// At each degree, also outside of those that it lists, a block has a place, alive, for each generator, and the entries of the
-/// differential out of them.
+/// At each degree, also outside of those that it lists, a block has a place, alive, for each
+/// generator, and the entries of the differential out of them.
 pub fn blocks_have_all_generators()
     ensures places { (p : ℕ) (code : Code) (j i : ℤ)
         → (degree_of (block p code j) i).alive ≡ map (λ generator. true) (generators_at code i j) }

@@ -14,7 +14,8 @@ pub fn coefficients_lead_to_the_next_degree()
         → coefficient p code tail head ≢ 0 → IsNext code tail head }
 {}
 
-/// The products of two coefficients from one generator to another, summed over all generators between, are 0 modulo p.
+/// The products of two coefficients from one generator to another, summed over all generators
+/// between, are 0 modulo p.
 pub fn coefficients_square_to_zero()
     ensures { (p : ℕ) (code : Code) (tail head : Generator) → 0 < p → IsTrue (accepted code)
         → sum_by (λ middle. coefficient p code middle head * coefficient p code tail middle)

@@ -8,9 +8,10 @@ ghost use Rattle.kh_types.specs.Differential.{edge_sign};
 ghost use Rattle.circle_smoothing.specs.Edges.{state_behind};
 ghost use Rattle.cube_signs.specs.Squares.{IsSquare};
 
-/// Two crossings are switched in the one order and in the other. Each merges two circles or splits one, and either each does the
-/// same in both orders; or both merge where they are switched first and split where they are second, and split the one circle
-/// into the same two; or both split first and merge second, and touch one circle in the end.
+/// Two crossings are switched in the one order and in the other. Each merges two circles or splits
+/// one, and either each does the same in both orders; or both merge where they are switched first
+/// and split where they are second, and split the one circle into the same two; or both split first
+/// and merge second, and touch one circle in the end.
 pub fn squares_of_the_cube()
     ensures { (code : Code) (state a b : ℕ) → IsTrue (accepted code)
         → IsCrossing code.crossings a → IsCrossing code.crossings b → a ≢ b
