@@ -1,5 +1,5 @@
 -- A coefficient other than 0 leads from the degrees i and j to i + 1 and j, and is less than p.
-use Rattle.std.proofs.Common.{◌≡◌, ◌≢◌, ℕ, zero, suc, ◌+◌, ◌-◌, ◌*◌, ◌%◌, ◌^◌, ◌<◌, ◌≤◌, ◌∙◌, ◌⊎◌, inl, inr, ℤ, pos, ◌+ℤ◌, ◌-ℤ◌, List, length, refl, sym, ap, subst, arith, Bool, true, false, cond, ◌&&◌, IsTrue}
+use Rattle.std.proofs.Common.{◌≡◌, ◌≢◌, ℕ, zero, suc, ◌+◌, ◌-◌, ◌*◌, ◌%◌, ◌<◌, ◌≤◌, ◌∙◌, ◌⊎◌, inl, inr, ℤ, pos, ◌+ℤ◌, ◌-ℤ◌, length, sym, ap, subst, arith, Bool, true, false, cond, IsTrue}
 use Rattle.std.specs.Prelude.{nat_eq}
 use Rattle.std.specs.List.{sum_by, range_with_len}
 use Rattle.std.specs.Ordering.{int_eq}
@@ -7,7 +7,6 @@ use Rattle.std.proofs.lemmas.Bool.{and_from, and_parts, cases_Bool, cases_eq}
 use Rattle.std.proofs.lemmas.Bool.Decides.{nat_tests, Decides-int_eq}
 use Rattle.std.proofs.lemmas.Int.{ints}
 use Rattle.std.proofs.lemmas.List.Sums.{sum_by-cons}
-use Rattle.std.proofs.Math.Nat.{zero-mod}
 use Rattle.std.proofs.Math.Pow.{pow-lt}
 use Rattle.kh_types.specs.Acceptance.{accepted}
 use Rattle.kh_types.specs.Bits.{ones}
@@ -16,7 +15,6 @@ use Rattle.kh_types.specs.Circles.{circle_count}
 use Rattle.kh_types.specs.Differential.{coefficient, coefficient_at, edge_sign}
 use Rattle.kh_types.specs.Directions.{minus_count, plus_count}
 use Rattle.kh_types.specs.Generators.{Generator, generators, generators_at, has_degrees, homological_degree, one_count, quantum_degree}
-use Rattle.circle_smoothing.specs.Edges.{state_behind}
 use Rattle.cube_signs.specs.NextDegrees.{IsNext}
 use Rattle.cube_signs.proofs.Merges.{IsSwitch, switch-edge}
 use Rattle.cube_signs.proofs.Sums.{sum_by-alike, sum_by-filter, sum_by-none}
@@ -24,8 +22,8 @@ use Rattle.cube_signs.proofs.Marks.{one_if}
 use Rattle.cube_signs.proofs.MarkedLabels.{labels-lower}
 use Rattle.cube_signs.proofs.TouchedCircles.{fits, fits-decides}
 use Rattle.cube_signs.proofs.Signs.{ones-set_below}
-use Rattle.cube_signs.proofs.Pairs.{IsStep, coefficient_at-edge, edge_or_zero, times-zero, zero-times}
-use Rattle.cube_signs.proofs.Products.{product_sum, product_sum-zero}
+use Rattle.cube_signs.proofs.Pairs.{IsStep, coefficient_at-edge, edge_or_zero, times-zero}
+use Rattle.cube_signs.proofs.Products.{product_sum-zero}
 
 -- the label degree falls by one, and the number of 1-smoothings rises by one
 quantum_same : (circles labels next_circles next_labels before after plus minus : ℕ)

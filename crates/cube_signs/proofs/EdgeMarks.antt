@@ -3,8 +3,8 @@ use Rattle.std.proofs.Common.{◌≡◌, ◌≢◌, ℕ, ◌+◌, ◌≤◌, ◌
 use Rattle.std.specs.Prelude.{nat_eq}
 use Rattle.std.specs.Bool.{Decides}
 use Rattle.std.specs.List.{list_all, sum_by}
-use Rattle.std.proofs.lemmas.Bool.{cases_Bool, eqb-true, eq-eqb, ne_eqb}
-use Rattle.std.proofs.lemmas.Bool.Decides.{same_from_decides, nat_tests}
+use Rattle.std.proofs.lemmas.Bool.{eqb-true, eq-eqb, ne_eqb}
+use Rattle.std.proofs.lemmas.Bool.Decides.{same_from_decides}
 use Rattle.kh_types.specs.Bits.{bit}
 use Rattle.kh_types.specs.Code.{Code, arc_count, arcs_and_loops}
 use Rattle.kh_types.specs.Differential.{label_of}
@@ -13,9 +13,8 @@ use Rattle.kh_types.proofs.QuantumDegrees.{bit-le}
 use Rattle.kh_types.proofs.RangeCounts.{list_all-at, list_all-each}
 use Rattle.circle_smoothing.specs.CircleNumbers.{circle_number, number_of}
 use Rattle.circle_smoothing.specs.Edges.{IsName, arc_at_slot}
-use Rattle.cube_signs.specs.Squares.{circle_at_slot}
 use Rattle.cube_signs.proofs.Merges.{IsMerge, IsSwitch, circle_in}
-use Rattle.cube_signs.proofs.SquareTables.{IsOn, circle-on}
+use Rattle.cube_signs.proofs.SquareKinds.{circle-on}
 use Rattle.cube_signs.proofs.Marks.{IsOff, hits, hits-circle, hits-cons, hits-off, hits-on, on_or_off, one_if}
 
 -- a label is 0 or 1, and one for all arcs of a circle

@@ -1,6 +1,6 @@
 -- The numbers below 2 to the number of circles are the labels of circles, each once.
-use Rattle.std.proofs.Common.{◌≡◌, ◌≢◌, ℕ, zero, suc, ◌+◌, ◌*◌, ◌/◌, ◌%◌, ◌^◌, ◌<◌, ◌≤◌, ◌∙◌, List, [], ◌∷◌, length, get_or, map, sym, ap, subst, refl, arith, Bool, true, false, cond, not, IsTrue}
-use Rattle.std.specs.Prelude.{nat_eq, slice_index}
+use Rattle.std.proofs.Common.{◌≡◌, ◌≢◌, ℕ, zero, suc, ◌+◌, ◌*◌, ◌/◌, ◌^◌, ◌<◌, ◌≤◌, ◌∙◌, List, [], ◌∷◌, length, get_or, map, sym, ap, subst, refl, arith, Bool, true, false, cond, not, IsTrue}
+use Rattle.std.specs.Prelude.{nat_eq}
 use Rattle.std.specs.List.{All, filter, range_with_len, position_or_len, sum_by}
 use Rattle.std.proofs.lemmas.Bool.{eqb-true, eq-eqb, ne_eqb}
 use Rattle.std.proofs.lemmas.List.{get_or-map, length-map}

@@ -1,5 +1,5 @@
 pub mod Merges
-pub mod SquareTables
+pub mod SquareKinds
 pub mod Sums
 pub mod Marks
 pub mod LabelNumbers

@@ -1,6 +1,6 @@
 -- Marked arcs: how many are on the circle of an arc, and how an edge changes this. A list of arcs stands for the product of one
 -- variable for each of them, in a ring where the arcs of one circle have one variable, whose square is 0.
-use Rattle.std.proofs.Common.{◌≡◌, ◌≢◌, ℕ, ◌+◌, ◌∙◌, ◌⊎◌, inl, inr, List, [], ◌∷◌, sym, ap, refl, arith, Bool, true, false, cond}
+use Rattle.std.proofs.Common.{◌≡◌, ◌≢◌, ℕ, ◌+◌, ◌∙◌, ◌⊎◌, inl, inr, List, ◌∷◌, sym, ap, refl, arith, Bool, cond}
 use Rattle.std.specs.Prelude.{nat_eq}
 use Rattle.std.specs.List.{count_by, sum_by}
 use Rattle.std.proofs.Math.Path.{fun_ext}
@@ -12,7 +12,7 @@ use Rattle.kh_types.specs.Code.{Code}
 use Rattle.circle_smoothing.specs.Edges.{arc_at_slot}
 use Rattle.cube_signs.specs.Squares.{circle_at_slot}
 use Rattle.cube_signs.proofs.Merges.{IsMerge, circle_in}
-use Rattle.cube_signs.proofs.SquareTables.{IsOn, circle-on}
+use Rattle.cube_signs.proofs.SquareKinds.{IsOn, circle-on}
 use Rattle.cube_signs.proofs.Sums.{sum_by-plus}
 
 -- 1 where a test passes, else 0

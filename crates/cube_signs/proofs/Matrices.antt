@@ -1,5 +1,5 @@
 -- The entries of the differentials, and of the product of neighbouring ones.
-use Rattle.std.proofs.Common.{◌≡◌, ℕ, ◌+◌, ◌*◌, ◌%◌, ◌<◌, ◌≤◌, ◌∙◌, inl, inr, ℤ, pos, ◌+ℤ◌, List, [], length, get_or, map, sym, ap, ap₂, arith, true, IsTrue}
+use Rattle.std.proofs.Common.{◌≡◌, ℕ, ◌*◌, ◌%◌, ◌<◌, ◌≤◌, ◌∙◌, inl, inr, ℤ, pos, ◌+ℤ◌, List, [], length, get_or, map, sym, ap, ap₂, arith, IsTrue}
 use Rattle.std.specs.Prelude.{slice_index_or}
 use Rattle.std.specs.List.{sum_by, range_with_len}
 use Rattle.std.proofs.lemmas.Bool.{cases_lt}

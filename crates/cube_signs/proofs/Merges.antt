@@ -1,17 +1,17 @@
 -- Two circles become one: which arcs come together, and which stay apart.
-use Rattle.std.proofs.Common.{◌≡◌, ◌≢◌, ℕ, ◌⊎◌, inl, inr, ◌∙◌, sym, ap, arith, Bool, true, false, cond, IsTrue}
+use Rattle.std.proofs.Common.{◌≡◌, ◌≢◌, ℕ, inl, inr, ◌∙◌, sym, arith, Bool, true, false, IsTrue}
 use Rattle.std.specs.Prelude.{min, max, slice_index}
-use Rattle.std.proofs.lemmas.Bool.{cases_eq, eq-eqb}
+use Rattle.std.proofs.lemmas.Bool.{cases_eq}
 use Rattle.std.proofs.lemmas.Bool.Decides.{nat_tests}
 use Rattle.kh_types.specs.Acceptance.{accepted}
 use Rattle.kh_types.specs.Bits.{bit}
 use Rattle.kh_types.specs.Classes.{merged}
 use Rattle.kh_types.specs.Code.{Code, IsCrossing, place_of}
-use Rattle.kh_types.specs.Circles.{circles_of, circle_count}
+use Rattle.kh_types.specs.Circles.{circles_of}
 use Rattle.circle_smoothing.specs.Edges.{IsName, TwoBecomeOne, arc_at_slot, state_behind}
 use Rattle.circle_smoothing.proofs.EdgeNames.{IsArc-slot, IsJoin, IsJoin-edge}
 use Rattle.circle_smoothing.proofs.EdgeNumbers.{IsName-arc}
-use Rattle.cube_signs.specs.Squares.{Merges, Switches, circle_at_slot}
+use Rattle.cube_signs.specs.Squares.{Merges, circle_at_slot}
 
 -- the circle of an arc or a loop in a state
 abbrev pub circle_in : Code → ℕ → ℕ → ℕ

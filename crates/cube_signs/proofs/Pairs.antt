@@ -1,5 +1,5 @@
 -- The sum over the middle generators along one crossing and then another, and with the two exchanged.
-use Rattle.std.proofs.Common.{◌≡◌, ◌≢◌, ℕ, ◌+◌, ◌*◌, ◌%◌, ◌^◌, ◌<◌, ◌≤◌, ◌∙◌, ◌⊎◌, inl, inr, List, length, refl, sym, ap, ap₂, arith, Bool, true, false, cond, ◌&&◌, IsTrue}
+use Rattle.std.proofs.Common.{◌≡◌, ◌≢◌, ℕ, ◌+◌, ◌*◌, ◌%◌, ◌^◌, ◌<◌, ◌≤◌, ◌∙◌, ◌⊎◌, inl, inr, length, refl, sym, ap, ap₂, arith, Bool, true, false, cond, ◌&&◌, IsTrue}
 use Rattle.std.specs.Prelude.{nat_eq}
 use Rattle.std.specs.Bool.{Decides}
 use Rattle.std.specs.List.{sum_by, range_with_len}
@@ -15,7 +15,7 @@ use Rattle.kh_types.specs.Differential.{coefficient_at, edge_sign, is_edge}
 use Rattle.kh_types.specs.Generators.{Generator, generator_of, generators, generators_of, states}
 use Rattle.circle_smoothing.specs.Edges.{state_behind}
 use Rattle.circle_smoothing.proofs.EdgeBits.{bit-set_other, bit-set_there, set-within}
-use Rattle.cube_signs.proofs.SquareTables.{HasEdges, edges-square}
+use Rattle.cube_signs.proofs.SquareKinds.{edges-square}
 use Rattle.cube_signs.proofs.Sums.{sum_by-alike, sum_by-flat_map, sum_by-map, sum_by-none, sum_by-single, sum_by-times, sum_by-zeros}
 use Rattle.cube_signs.proofs.Marks.{one_if}
 use Rattle.cube_signs.proofs.TouchedCircles.{fits}

@@ -1,18 +1,17 @@
 -- How many labels of a middle state lie between two generators, along one crossing and then another: by marks, and as many in the
 -- other order.
-use Rattle.std.proofs.Common.{◌≡◌, ℕ, ◌+◌, ◌*◌, ◌^◌, ◌<◌, ◌≤◌, ◌∙◌, ◌⊎◌, inl, inr, List, ◌∷◌, refl, sym, ap, ap₂, subst, arith, Bool, true, false, IsTrue}
+use Rattle.std.proofs.Common.{◌≡◌, ℕ, ◌*◌, ◌^◌, ◌≤◌, ◌∙◌, ◌⊎◌, inl, inr, List, ◌∷◌, sym, ap, ap₂, subst, arith, Bool, true, false, IsTrue}
 use Rattle.std.specs.List.{sum_by, range_with_len}
 use Rattle.std.proofs.lemmas.Bool.{cases_Bool}
 use Rattle.std.proofs.lemmas.Bool.Decides.{same_from_decides}
 use Rattle.kh_types.specs.Acceptance.{accepted}
 use Rattle.kh_types.specs.Code.{Code}
 use Rattle.kh_types.specs.Circles.{circle_count}
-use Rattle.kh_types.specs.Differential.{label_of}
 use Rattle.kh_types.specs.Generators.{Generator, generator_of}
 use Rattle.circle_smoothing.specs.Edges.{IsName, arc_at_slot, state_behind}
-use Rattle.cube_signs.specs.Squares.{EndOnOne, EndOnTwo, IsTable}
+use Rattle.cube_signs.specs.Squares.{EndOnOne, EndOnTwo, IsKind}
 use Rattle.cube_signs.proofs.Merges.{IsSwitch, circle_in}
-use Rattle.cube_signs.proofs.SquareTables.{HasEdges}
+use Rattle.cube_signs.proofs.SquareKinds.{HasEdges}
 use Rattle.cube_signs.proofs.Sums.{sum_by-alike, sum_by-none, sum_by-single, sum_by-times, sum_by-turned}
 use Rattle.cube_signs.proofs.Marks.{hits, hits-circle, hits-exchanged, hits-moved, one_if}
 use Rattle.cube_signs.proofs.LabelNumbers.{label-exists, label-once}
@@ -135,12 +134,12 @@ ways-one code head a b marked end =
 
 -- the two ways round a square lead to the same marks
 ways-turned : (a_first b_second b_first a_second : Bool) (code : Code) (head : Generator) (a b : ℕ) (marked : List ℕ)
-    → IsTable code head.state a b a_first b_second b_first a_second
+    → IsKind code head.state a b a_first b_second b_first a_second
     → ways a_first b_second code head a b marked ≡ ways b_first a_second code head b a marked
-ways-turned a_first b_second b_first a_second code head a b marked table =
+ways-turned a_first b_second b_first a_second code head a b marked kind =
     let forth = λ (first second : Bool). ways first second code head a b marked in
     let back = λ (first second : Bool). ways first second code head b a marked in
-    elim table [
+    elim kind [
       | inl same ↦ ap₂ forth same.0 (sym same.1) ∙ ways-same a_second b_first code head a b marked
       | inr (inl is) ↦ ap₂ forth is.0 is.2 ∙ ways-two code head a b marked is.4 ∙ sym (ap₂ back is.1 is.3)
       | inr (inr is) ↦ ap₂ forth is.0 is.2 ∙ ways-one code head a b marked is.4 ∙ sym (ap₂ back is.1 is.3)
@@ -157,5 +156,5 @@ path_count-turned code tail head a b is edges is_head =
     let then_a = subst (λ (s : ℕ). IsSwitch edges.a_second code by_b s a) (sym is_head) edges.then_a in
     path_count-ways edges.a_first edges.b_second code tail head by_a a b is edges.first_a then_b
     ∙ ways-turned edges.a_first edges.b_second edges.b_first edges.a_second code head a b (marked_by code tail)
-    (subst (λ (s : ℕ). IsTable code s a b edges.a_first edges.b_second edges.b_first edges.a_second) (sym is_head) edges.table)
+    (subst (λ (s : ℕ). IsKind code s a b edges.a_first edges.b_second edges.b_first edges.a_second) (sym is_head) edges.kind)
     ∙ sym (path_count-ways edges.b_first edges.a_second code tail head by_b b a is edges.first_b then_a)

@@ -1,8 +1,8 @@
 -- The tests of an edge coefficient say what a merge or a split does to labels.
-use Rattle.std.proofs.Common.{◌≡◌, ◌≢◌, ℕ, zero, suc, ◌+◌, ◌<◌, ◌≤◌, ◌∙◌, ◌⊎◌, inl, inr, List, [], ◌∷◌, length, map, get_or, refl, sym, ap, ap₂, subst, arith, Bool, true, false, cond, ◌&&◌, ◌||◌, IsTrue}
+use Rattle.std.proofs.Common.{◌≡◌, ◌≢◌, ℕ, zero, suc, ◌+◌, ◌<◌, ◌≤◌, ◌∙◌, ◌⊎◌, inl, inr, List, [], ◌∷◌, map, sym, ap, ap₂, subst, arith, Bool, true, false, ◌&&◌, ◌||◌, IsTrue}
 use Rattle.std.specs.Prelude.{nat_eq, min, max}
 use Rattle.std.specs.Bool.{Decides}
-use Rattle.std.specs.List.{All, Contains, filter, list_all}
+use Rattle.std.specs.List.{Contains}
 use Rattle.std.proofs.lemmas.Bool.{eqb-true, eq-eqb, or_cases, or_left, or_right, false_from_ne_true}
 use Rattle.std.proofs.lemmas.Bool.Decides.{nat_tests, Decides-and, Decides-at, Decides-eqb, Decides-like}
 use Rattle.std.proofs.lemmas.List.{get_or_default}
@@ -10,11 +10,11 @@ use Rattle.std.proofs.lemmas.List.Elements.{All-from_get_or}
 use Rattle.std.proofs.lemmas.List.Sums.{AllPass-from_list_all, list_all-from_AllPass}
 use Rattle.kh_types.specs.Acceptance.{accepted}
 use Rattle.kh_types.specs.Classes.{merged}
-use Rattle.kh_types.specs.Code.{Code, arc_in, slots_of}
+use Rattle.kh_types.specs.Code.{Code}
 use Rattle.kh_types.specs.Circles.{circle_names}
 use Rattle.kh_types.specs.Differential.{label_of, is_touched, touched, is_merge, is_split, keeps_labels, changes_labels}
 use Rattle.kh_types.specs.Generators.{Generator}
-use Rattle.kh_types.proofs.JoinedClasses.{min-fixed, max-fixed}
+use Rattle.kh_types.proofs.JoinedClasses.{min-fixed}
 use Rattle.kh_types.proofs.Lists.{Contains-filter}
 use Rattle.kh_types.proofs.RangeCounts.{list_any-at}
 use Rattle.circle_smoothing.specs.CircleNumbers.{number_of}
@@ -22,10 +22,10 @@ use Rattle.circle_smoothing.specs.Edges.{IsName, arc_at_slot}
 use Rattle.circle_smoothing.proofs.NumberLemmas.{IsCircle, IsCircle-of, circle_names-number_of, number_of-below}
 use Rattle.cube_signs.specs.Squares.{circle_at_slot}
 use Rattle.cube_signs.proofs.Merges.{IsMerge, IsSwitch, circle_in}
-use Rattle.cube_signs.proofs.SquareTables.{IsOn, circle-on}
+use Rattle.cube_signs.proofs.SquareKinds.{IsOn, circle-on}
 use Rattle.cube_signs.proofs.Marks.{IsOff, on_or_off}
 use Rattle.cube_signs.proofs.LabelNumbers.{IsName-name_at, circle-name_at, name_at}
-use Rattle.cube_signs.proofs.EdgeMarks.{IsChange, IsSameOff, label_at, label_of-circle, label_of-le}
+use Rattle.cube_signs.proofs.EdgeMarks.{IsChange, label_at, label_of-circle, label_of-le}
 
 -- the circle of an arc at a slot is touched
 is_touched-slot : (code : Code) (state crossing slot circle : ℕ) → slot < 4 → circle_at_slot code state crossing slot ≡ circle

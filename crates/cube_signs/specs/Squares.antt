@@ -32,10 +32,10 @@ pub record EndOnOne (code : Code) (state a b : ℕ) : Type 0 where
   pub second : circle_at_slot code state b 0 ≡ circle_at_slot code state b 2
   pub one : circle_at_slot code state a 0 ≡ circle_at_slot code state b 0
 
--- which of the four edges of a square merge: each crossing does the same in both orders; or both merge first and split second, and
--- they split the one circle into the same two; or both split first and merge second, and there is one circle in the end
-abbrev pub IsTable : Code → ℕ → ℕ → ℕ → Bool → Bool → Bool → Bool → Type 0
-IsTable code last a b a_first b_second b_first a_second =
+-- the kinds of squares, by which of the four edges merge: each crossing does the same in both orders; or both merge first and split
+-- second, and they split the one circle into the same two; or both split first and merge second, and touch one circle in the end
+abbrev pub IsKind : Code → ℕ → ℕ → ℕ → Bool → Bool → Bool → Bool → Type 0
+IsKind code last a b a_first b_second b_first a_second =
     ((a_first ≡ a_second) × (b_first ≡ b_second))
     ⊎ ((a_first ≡ true) × (b_first ≡ true) × (b_second ≡ false) × (a_second ≡ false) × EndOnTwo code last a b)
     ⊎ ((a_first ≡ false) × (b_first ≡ false) × (b_second ≡ true) × (a_second ≡ true) × EndOnOne code last a b)
@@ -50,4 +50,4 @@ pub record IsSquare (code : Code) (state a b : ℕ) : Type 0 where
   pub then_b : Switches b_second code (state_behind state a) (state_behind (state_behind state a) b) b
   pub first_b : Switches b_first code state (state_behind state b) b
   pub then_a : Switches a_second code (state_behind state b) (state_behind (state_behind state a) b) a
-  pub table : IsTable code (state_behind (state_behind state a) b) a b a_first b_second b_first a_second
+  pub kind : IsKind code (state_behind (state_behind state a) b) a b a_first b_second b_first a_second

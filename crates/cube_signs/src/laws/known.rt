@@ -10,10 +10,9 @@ ghost use Rattle.kh_types.specs.WorkedCodes.{two_curls, over_circle, hopf_link};
 ghost use Rattle.kh_types.specs.declared.fault.CodeFault.TheVariants.{Checkerboard};
 ghost use Rattle.cube_signs.specs.VirtualCodes.{changed_virtual_trefoil};
 
-/// All rows of the table of squares occur, by the numbers of circles without a 1-smoothing, with
-/// each of the two, and with both: two curls merge circles in either order; the crossings of the
-/// Hopf link merge first and split second; and those of a circle that lies over another split first
-/// and merge second.
+/// All kinds of squares occur, by the numbers of circles without a 1-smoothing, with each of the
+/// two, and with both: two curls merge circles in either order; the crossings of the Hopf link merge
+/// first and split second; and those of a circle that lies over another split first and merge second.
 pub fn known_squares()
     ensures same { map (circle_count two_curls) (states two_curls) ≡ 4 ∷ 3 ∷ 3 ∷ 2 ∷ [] }
     ensures merge_first { map (circle_count hopf_link) (states hopf_link) ≡ 2 ∷ 1 ∷ 1 ∷ 2 ∷ [] }

@@ -1,5 +1,5 @@
--- The table of a square: which of its four edges merge, and where the under passes end.
-use Rattle.std.proofs.Common.{◌≡◌, ◌≢◌, ℕ, ◌⊎◌, inl, inr, ◌+◌, ◌<◌, ◌∙◌, refl, sym, ap, subst, arith, Bool, true, false, cond, IsTrue}
+-- The kinds of squares: which of the four edges merge, and where the under passes end.
+use Rattle.std.proofs.Common.{◌≡◌, ◌≢◌, ℕ, ◌⊎◌, inl, inr, ◌+◌, ◌∙◌, refl, sym, ap, subst, arith, Bool, true, false, cond, IsTrue}
 use Rattle.std.proofs.lemmas.Bool.Decides.{nat_tests}
 use Rattle.kh_types.specs.Acceptance.{accepted}
 use Rattle.kh_types.specs.Bits.{bit}
@@ -9,7 +9,7 @@ use Rattle.kh_types.specs.Circles.{circle_count}
 use Rattle.kh_types.proofs.ClassLemmas.{merged-both}
 use Rattle.circle_smoothing.specs.Edges.{arc_at_slot, state_behind}
 use Rattle.circle_smoothing.proofs.EdgeBits.{bit-set_other}
-use Rattle.cube_signs.specs.Squares.{Switches, EndOnTwo, EndOnOne, IsTable, IsSquare, circle_at_slot}
+use Rattle.cube_signs.specs.Squares.{Switches, EndOnTwo, EndOnOne, IsKind, IsSquare, circle_at_slot}
 use Rattle.cube_signs.proofs.Merges.{IsMerge, IsSwitch, circle_in, switch-edge}
 
 -- an arc is on one of the two circles that become one
@@ -54,11 +54,11 @@ count-switch true code before after crossing merge = omega (arith, merge.circles
 count-switch false code before after crossing merge = omega (arith, merge.circles.count)
 
 -- so the ways round a square have as many merges
-rows : (a b c d : Bool) (m n k l : ℕ) → n + cond a 1 0 ≡ m + cond a 0 1 → l + cond b 1 0 ≡ n + cond b 0 1
+kinds : (a b c d : Bool) (m n k l : ℕ) → n + cond a 1 0 ≡ m + cond a 0 1 → l + cond b 1 0 ≡ n + cond b 0 1
     → k + cond c 1 0 ≡ m + cond c 0 1 → l + cond d 1 0 ≡ k + cond d 0 1
     → ((a ≡ d) × (b ≡ c))
     ⊎ (((a ≡ true) × (c ≡ true) × (b ≡ false) × (d ≡ false)) ⊎ ((a ≡ false) × (c ≡ false) × (b ≡ true) × (d ≡ true)))
-rows a b c d m n k l first second third fourth = grind arith
+kinds a b c d m n k l first second third fourth = grind arith
 
 -- both crossings merge where they are first and split where they are second: the same circle splits into the same two
 split-same : (code : Code) (base by_a by_b last a b : ℕ) → IsMerge code base by_b b → IsMerge code last by_b a
@@ -80,14 +80,14 @@ merge-same code base by_a by_b last a b first_a then_b then_a =
           [ inl straight ↦ inl (sym straight.0) | inr crossed ↦ inr (sym crossed.1) ]);
     }
 
--- the table
-pub table-square : (a_first b_second b_first a_second : Bool) (code : Code) (base by_a by_b last a b : ℕ)
+-- the kind of a square
+pub kind-square : (a_first b_second b_first a_second : Bool) (code : Code) (base by_a by_b last a b : ℕ)
     → IsSwitch a_first code base by_a a → IsSwitch b_second code by_a last b
     → IsSwitch b_first code base by_b b → IsSwitch a_second code by_b last a
-    → IsTable code last a b a_first b_second b_first a_second
-table-square a_first b_second b_first a_second code base by_a by_b last a b first_a then_b first_b then_a =
+    → IsKind code last a b a_first b_second b_first a_second
+kind-square a_first b_second b_first a_second code base by_a by_b last a b first_a then_b first_b then_a =
     let Of : ℕ → ℕ → ℕ → Bool → Type 0 = λ before after crossing merges. IsSwitch merges code before after crossing in
-    elim (rows a_first b_second b_first a_second (circle_count code base) (circle_count code by_a) (circle_count code by_b)
+    elim (kinds a_first b_second b_first a_second (circle_count code base) (circle_count code by_a) (circle_count code by_b)
     (circle_count code last) (count-switch a_first code base by_a a first_a) (count-switch b_second code by_a last b then_b)
     (count-switch b_first code base by_b b first_b) (count-switch a_second code by_b last a then_a)) [
       | inl same ↦ inl (same.0, sym same.1)
@@ -109,7 +109,7 @@ table-square a_first b_second b_first a_second code base by_a by_b last a b firs
       ))
     ]
 
--- the four edges of the square at a state and two crossings, and its table
+-- the four edges of the square at a state and two crossings, and its kind
 pub record HasEdges (code : Code) (state a b : ℕ) : Type 0 where
   pub a_first : Bool
   pub b_second : Bool
@@ -119,7 +119,7 @@ pub record HasEdges (code : Code) (state a b : ℕ) : Type 0 where
   pub then_b : IsSwitch b_second code (state_behind state a) (state_behind (state_behind state a) b) b
   pub first_b : IsSwitch b_first code state (state_behind state b) b
   pub then_a : IsSwitch a_second code (state_behind state b) (state_behind (state_behind state a) b) a
-  pub table : IsTable code (state_behind (state_behind state a) b) a b a_first b_second b_first a_second
+  pub kind : IsKind code (state_behind (state_behind state a) b) a b a_first b_second b_first a_second
 
 pub edges-square : (code : Code) (state a b : ℕ) → IsTrue (accepted code) → IsCrossing code.crossings a → IsCrossing code.crossings b
     → a ≢ b → bit state (place_of a) ≡ 0 → bit state (place_of b) ≡ 0 → HasEdges code state a b
@@ -145,7 +145,7 @@ edges-square code state a b is is_a is_b differ zero_a zero_b =
       then_b = then_b.1;
       first_b = first_b.1;
       then_a = then_a_there;
-      table = table-square first_a.0 then_b.0 first_b.0 then_a.0 code state by_a by_b (state_behind by_a b) a b first_a.1 then_b.1
+      kind = kind-square first_a.0 then_b.0 first_b.0 then_a.0 code state by_a by_b (state_behind by_a b) a b first_a.1 then_b.1
           first_b.1 then_a_there;
     }
 
@@ -169,5 +169,5 @@ squares code state a b is is_a is_b differ zero_a zero_b =
       then_b = switches edges.b_second code by_a (state_behind by_a b) b edges.then_b;
       first_b = switches edges.b_first code state by_b b edges.first_b;
       then_a = switches edges.a_second code by_b (state_behind by_a b) a edges.then_a;
-      table = edges.table;
+      kind = edges.kind;
     }
