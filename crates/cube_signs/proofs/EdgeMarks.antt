@@ -11,8 +11,8 @@ use Rattle.kh_types.specs.Differential.{label_of}
 use Rattle.kh_types.specs.Generators.{Generator}
 use Rattle.kh_types.proofs.QuantumDegrees.{bit-le}
 use Rattle.kh_types.proofs.RangeCounts.{list_all-at, list_all-each}
-use Rattle.circle_smoothing.specs.CircleNumbers.{circle_number, number_of}
-use Rattle.circle_smoothing.specs.Edges.{IsName, arc_at_slot}
+use Rattle.circle_smoothing.specs.CircleNumbers.{IsName, circle_number, number_of}
+use Rattle.circle_smoothing.specs.Edges.{arc_at_slot}
 use Rattle.cube_signs.proofs.Merges.{IsMerge, IsSwitch, circle_in}
 use Rattle.cube_signs.proofs.SquareKinds.{circle-on}
 use Rattle.cube_signs.proofs.Marks.{IsOff, hits, hits-circle, hits-cons, hits-off, hits-on, on_or_off, one_if}

@@ -14,8 +14,7 @@ use Rattle.kh_types.specs.Code.{Code, arc_count, arcs_and_loops}
 use Rattle.kh_types.specs.Circles.{circles_of, circle_count, circle_names}
 use Rattle.kh_types.specs.Differential.{label_of}
 use Rattle.kh_types.specs.Generators.{Generator, generator_of}
-use Rattle.circle_smoothing.specs.CircleNumbers.{number_of}
-use Rattle.circle_smoothing.specs.Edges.{IsName}
+use Rattle.circle_smoothing.specs.CircleNumbers.{IsName, number_of}
 use Rattle.circle_smoothing.proofs.NumberLemmas.{IsCircle, IsCircle-of, circle_names-number_of, number_of-below}
 use Rattle.cube_signs.proofs.Merges.{circle_in}
 use Rattle.cube_signs.proofs.Sums.{sum_by-places, sum_by-range_alike, sum_by-single}

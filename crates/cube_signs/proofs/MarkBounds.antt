@@ -4,7 +4,8 @@ use Rattle.std.specs.List.{sum_by}
 use Rattle.std.proofs.lemmas.Bool.{cases_Bool}
 use Rattle.kh_types.specs.Code.{Code}
 use Rattle.kh_types.specs.Generators.{Generator}
-use Rattle.circle_smoothing.specs.Edges.{IsName, arc_at_slot}
+use Rattle.circle_smoothing.specs.CircleNumbers.{IsName}
+use Rattle.circle_smoothing.specs.Edges.{arc_at_slot}
 use Rattle.cube_signs.proofs.Merges.{IsMerge, IsSwitch}
 use Rattle.cube_signs.proofs.Marks.{hits, hits-circle, hits-off, hits-on, on_or_off, one_if}
 use Rattle.cube_signs.proofs.EdgeMarks.{IsEnd, IsEnd-first, IsEnd-third, IsMarked, grown, is_marked, is_marked-decides, label_of-le}

@@ -10,7 +10,8 @@ use Rattle.kh_types.specs.Code.{Code}
 use Rattle.kh_types.specs.Circles.{circle_count, circle_names}
 use Rattle.kh_types.specs.Differential.{label_of}
 use Rattle.kh_types.specs.Generators.{Generator}
-use Rattle.circle_smoothing.specs.Edges.{IsName, arc_at_slot}
+use Rattle.circle_smoothing.specs.CircleNumbers.{IsName}
+use Rattle.circle_smoothing.specs.Edges.{arc_at_slot}
 use Rattle.circle_smoothing.proofs.NumberLemmas.{IsCircle-of}
 use Rattle.cube_signs.proofs.Merges.{IsSwitch, circle_in}
 use Rattle.cube_signs.proofs.Sums.{sum_by-alike, sum_by-filter, sum_by-places, sum_by-plus, sum_by-range_alike, sum_by-zeros}

@@ -8,7 +8,8 @@ use Rattle.kh_types.specs.Bits.{bit}
 use Rattle.kh_types.specs.Classes.{merged}
 use Rattle.kh_types.specs.Code.{Code, IsCrossing, place_of}
 use Rattle.kh_types.specs.Circles.{circles_of}
-use Rattle.circle_smoothing.specs.Edges.{IsName, TwoBecomeOne, arc_at_slot, state_behind}
+use Rattle.circle_smoothing.specs.CircleNumbers.{IsName}
+use Rattle.circle_smoothing.specs.Edges.{TwoBecomeOne, arc_at_slot, state_behind}
 use Rattle.circle_smoothing.proofs.EdgeNames.{IsArc-slot, IsJoin, IsJoin-edge}
 use Rattle.circle_smoothing.proofs.EdgeNumbers.{IsName-arc}
 use Rattle.cube_signs.specs.Squares.{Merges, circle_at_slot}

@@ -8,7 +8,8 @@ use Rattle.kh_types.specs.Acceptance.{accepted}
 use Rattle.kh_types.specs.Code.{Code}
 use Rattle.kh_types.specs.Circles.{circle_count}
 use Rattle.kh_types.specs.Generators.{Generator, generator_of}
-use Rattle.circle_smoothing.specs.Edges.{IsName, arc_at_slot, state_behind}
+use Rattle.circle_smoothing.specs.CircleNumbers.{IsName}
+use Rattle.circle_smoothing.specs.Edges.{arc_at_slot, state_behind}
 use Rattle.cube_signs.specs.Squares.{EndOnOne, EndOnTwo, IsKind}
 use Rattle.cube_signs.proofs.Merges.{IsSwitch, circle_in}
 use Rattle.cube_signs.proofs.SquareKinds.{HasEdges}

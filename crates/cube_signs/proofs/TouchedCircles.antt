@@ -17,8 +17,8 @@ use Rattle.kh_types.specs.Generators.{Generator}
 use Rattle.kh_types.proofs.JoinedClasses.{min-fixed}
 use Rattle.kh_types.proofs.Lists.{Contains-filter}
 use Rattle.kh_types.proofs.RangeCounts.{list_any-at}
-use Rattle.circle_smoothing.specs.CircleNumbers.{number_of}
-use Rattle.circle_smoothing.specs.Edges.{IsName, arc_at_slot}
+use Rattle.circle_smoothing.specs.CircleNumbers.{IsName, number_of}
+use Rattle.circle_smoothing.specs.Edges.{arc_at_slot}
 use Rattle.circle_smoothing.proofs.NumberLemmas.{IsCircle, IsCircle-of, circle_names-number_of, number_of-below}
 use Rattle.cube_signs.specs.Squares.{circle_at_slot}
 use Rattle.cube_signs.proofs.Merges.{IsMerge, IsSwitch, circle_in}
