@@ -69,7 +69,7 @@ some-test : {X : Type 0} (xs : List X) → 0 < length xs → not (is_empty xs) �
 some-test [] some = absurd (omega arith)
 some-test (x ∷ xs) some = refl
 
-abbrev first_degree : Code → ℤ → ℤ
+abbrev pub first_degree : Code → ℤ → ℤ
 first_degree code j = first_or_zero (homological_degrees code j)
 
 first-is : (is : List ℤ) (d : ℤ) → 0 < length is → first_or_zero is ≡ get_or is 0 d
@@ -92,7 +92,7 @@ degree-placed code j k d within =
     at.0 ∙ get_or-from_minus n (start_of (has_generators code j) (from_minus n) + k) d (omega (arith, at.1, length-from_minus n))
 
 -- degrees are neighbouring integers
-degree-at : (code : Code) (j : ℤ) (k : ℕ) (d : ℤ) → k < length (homological_degrees code j)
+pub degree-at : (code : Code) (j : ℤ) (k : ℕ) (d : ℤ) → k < length (homological_degrees code j)
     → get_or (homological_degrees code j) k d ≡ first_degree code j +ℤ pos k
 degree-at code j k d within =
     let some : 0 < length (homological_degrees code j) = omega arith in
@@ -102,7 +102,7 @@ degree-at code j k d within =
     degree-placed code j k d within ∙ omega (arith, ints)
 
 -- a degree with a generator is one of them
-degree-found : (code : Code) (i j : ℤ) → 0 < length (generators_at code i j)
+pub degree-found : (code : Code) (i j : ℤ) → 0 < length (generators_at code i j)
     → (k : ℕ) × (k < length (homological_degrees code j)) × (first_degree code j +ℤ pos k ≡ i)
 degree-found code i j some =
     let n = length code.crossings in
