@@ -4,17 +4,19 @@
     bench/jones.py [RUNS] [OTHER WORDS..]
 
 OTHER WORDS.. is a program that goes through all states of the diagram whose planar diagram text it reads, with its words; without it the
-times of `kh` stand alone. Runs of the two are alternated. For each diagram it prints the least user times, their ratio and the greatest
-memory of `kh`, and at the end by how much a crossing more multiplies its time. Build the program first, by `./kh`. The gate does not
-run it.
+times of `kh` stand alone. Runs of the two are alternated. For each diagram it prints the mean user times, their ratio, and whether `kh`
+gets by with an address space of 8 MB; and at the end by how much a crossing more multiplies its time. The system counts user time in
+ticks, so the mean of many runs is taken. Build the program first, by `./kh`. The gate does not run it.
 """
 import os
+import resource
 import subprocess
 import sys
 import tempfile
 
 TOP = os.path.dirname(os.path.dirname(os.path.abspath(__file__)))
 PROGRAM = [os.path.join(TOP, "crates", "kh_main", "out", "kh_main"), "jones"]
+MEMORY = 8 * 1024 * 1024
 
 # Name, strands, and letters: letter k is a crossing of the strands k and k + 1, negative where the letter is.
 BRAIDS = [
@@ -65,35 +67,36 @@ def planar_diagram(strands, letters):
     return "PD[" + ",".join(items) + "]"
 
 
-def run(words, text):
-    """The user time of a run in seconds, and the most memory in megabytes."""
+def run(words, text, memory=resource.RLIM_INFINITY):
+    """The user time of a run in seconds, and its status."""
     with tempfile.TemporaryFile() as given:
         given.write(text.encode())
         given.seek(0)
-        program = subprocess.Popen(words, stdin=given, stdout=subprocess.DEVNULL)
+        program = subprocess.Popen(
+            words,
+            stdin=given,
+            stdout=subprocess.DEVNULL,
+            preexec_fn=(lambda: resource.setrlimit(resource.RLIMIT_AS, (memory, memory))) if memory >= 0 else None,
+        )
         _, status, used = os.wait4(program.pid, 0)
         program.returncode = os.waitstatus_to_exitcode(status)
-    if program.returncode != 0:
-        sys.exit(f"{' '.join(words)} ended with {program.returncode}")
-    return used.ru_utime, used.ru_maxrss / 1024
+    return used.ru_utime, program.returncode
 
 
 def main(runs, other):
     times = []
     for name, strands, letters in BRAIDS:
         text = planar_diagram(strands, letters)
-        mine, others, memory = [], [], 0
+        mine = others = 0
         for _ in range(runs):
-            seconds, megabytes = run(PROGRAM, text)
-            mine.append(seconds)
-            memory = max(memory, megabytes)
-            if other:
-                others.append(run(other, text)[0])
-        times.append(min(mine))
-        beside = f", other {min(others) * 1000:.1f} ms, ratio {min(mine) / min(others):.2f}" if other else ""
-        print(f"{name}: {min(mine) * 1000:.1f} ms{beside}, {memory:.1f} MB")
+            mine += run(PROGRAM, text)[0]
+            others += run(other, text)[0] if other else 0
+        times.append(mine)
+        beside = f", other {others / runs * 1000:.1f} ms, ratio {mine / others:.2f}" if other else ""
+        memory = "8 MB are enough" if run(PROGRAM, text, MEMORY)[1] == 0 else "8 MB are not enough"
+        print(f"{name}: {mine / runs * 1000:.1f} ms{beside}, {memory}")
     print(f"from 12 to 16 crossings each multiplies the time by {(times[4] / times[0]) ** 0.25:.2f}")
 
 
 if __name__ == "__main__":
-    main(int(sys.argv[1]) if len(sys.argv) > 1 else 10, sys.argv[2:])
+    main(int(sys.argv[1]) if len(sys.argv) > 1 else 40, sys.argv[2:])

@@ -1,4 +1,15 @@
+pub mod RangeImages
+pub mod Cycles
+pub mod Paths
+pub mod CutCycles
+pub mod Exchanges
+pub mod OpenFaces
 pub mod NumberLemmas
 pub mod FaceLemmas
 pub mod FaceCycles
 pub mod LengthLemmas
+pub mod AddedArcs
+pub mod BareCrossings
+pub mod PlanarArcs
+pub mod PartArcs
+pub mod FewFaces

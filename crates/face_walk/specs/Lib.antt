@@ -1,3 +1,5 @@
+pub mod AddedArcs
 pub mod ClassNumbers
 pub mod FaceNumbers
 pub mod Numbered
+pub mod Permutations

@@ -48,8 +48,8 @@ fn byte_at(text: &[u8], place: usize) -> u8
     text.get(place).copied().unwrap_or(0)
 }
 
-// Whether a byte is a space, a tab, a carriage return or a line feed.
-fn is_blank(byte: u8) -> bool
+/// Whether a byte is blank: a space, a tab, a carriage return or a line feed. Source: this project's rule.
+pub fn is_blank(byte: u8) -> bool
     ensures { result ≡ is_blank byte }
 {
     byte == b' ' || byte == b'\t' || byte == b'\r' || byte == b'\n'

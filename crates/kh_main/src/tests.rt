@@ -17,6 +17,7 @@ j -7 i -2 dim 1
 j -5 i -2 dim 1
 j -3 i 0 dim 1
 j -1 i 0 dim 1
+jones -1*q^-9 1*q^-5 1*q^-3 1*q^-1
 ";
 
 const USAGE: &str = "usage: kh COMMAND [OPTIONS]\n";

@@ -97,7 +97,7 @@ IsNamed-classes_of n pairs below = IsNamed-fold n (range_with_len 0 n) pairs bel
 -- which numbers are together determines the classes
 
 -- classes that join whatever others join have names at most as great
-named-le : (n : ℕ) (fine coarse : List ℕ) → IsNamed n fine → IsNamed n coarse
+pub named-le : (n : ℕ) (fine coarse : List ℕ) → IsNamed n fine → IsNamed n coarse
     → ((x y : ℕ) → x < n → y < n → slice_index fine x ≡ slice_index fine y → slice_index coarse x ≡ slice_index coarse y)
     → (x : ℕ) → x < n → slice_index coarse x ≤ slice_index fine x
 named-le n fine coarse fine_named coarse_named joins x below =

@@ -1,11 +1,11 @@
 -- From what an input was read as to the answer, step by step.
-use Rattle.std.proofs.Common.{◌≡◌, ◌≤◌, ◌<◌, ℕ, List, length, IfOk, IfSome, inl, inr, refl, sym, subst, Result, Ok, Err, None, Some, arith}
+use Rattle.std.proofs.Common.{◌≡◌, ◌≤◌, ◌<◌, ◌++◌, ℕ, List, length, IfOk, IfSome, inl, inr, refl, sym, subst, Result, Ok, Err, None, Some, arith}
 use Rattle.std.specs.declared.option.Option.{Option}
 use Rattle.std.specs.Io.KnownBytes.{Consumes, IsAtEnd}
 use Rattle.kh_io.proofs.KnownBytes.{Consumes-length}
 use Rattle.kh_types.specs.declared.limits.TheConstants.{INPUT_BYTES}
 use Rattle.kh_types.specs.Code.{Code}
-use Rattle.std.specs.Prelude.{Bool, false, is_none, nat_lt, IsTrue}
+use Rattle.std.specs.Prelude.{false, is_none, nat_lt, IsTrue}
 use Rattle.std.proofs.lemmas.Grind.{common_steps}
 use Rattle.kh_types.specs.Acceptance.{accepted, first_fault}
 use Rattle.kh_types.specs.Table.{table, table_text}
@@ -13,14 +13,15 @@ use Rattle.kh_types.specs.declared.fault.CodeFault.{CodeFault}
 use Rattle.kh_work.specs.declared.limits.TheConstants.{HOMOLOGY_CROSSINGS}
 use Rattle.kh_work.specs.declared.status.Status.TheVariants.{Done}
 use Rattle.kh_work.specs.declared.command.Task.{Task}
-use Rattle.kh_work.specs.declared.command.Task.TheVariants.{Homology}
+use Rattle.kh_work.specs.declared.command.Task.TheVariants.{Homology, Jones}
 use Rattle.kh_work.specs.declared.command.Field.{Field}
 use Rattle.kh_work.specs.declared.command.Command.{Command}
 use Rattle.kh_work.specs.Replies.{Reply, reply_of}
 use Rattle.kh_work.specs.Commands.{command_of, size_of}
 use Rattle.kh_work.specs.Refusals.{usage, too_many_bytes}
 use Rattle.kh_work.specs.Inputs.{IsCodeRead, IsDiagramRead}
-use Rattle.kh_work.specs.Homology.{homology_reply}
+use Rattle.kh_work.specs.Homology.{homology_reply, homology_text}
+use Rattle.kh_work.specs.Jones.{jones_line}
 use Rattle.kh_work.specs.Answer.{IsTaskReply, IsCommandReply, IsAnswerOf, IsAnswer}
 use Rattle.kh_work.specs.Told.{IsKnownAnswer, IsKnownReply, IsReadOut}
 
@@ -96,18 +97,19 @@ unfolding accepted
 first_fault-accepted code is_accepted = none-from_test (first_fault code) is_accepted
 
 homology_reply-table : (field : Field) (code : Code) → length code.crossings ≤ HOMOLOGY_CROSSINGS
-    → reply_of Done (table_text (table (size_of field) code)) ≡ homology_reply field code
+    → reply_of Done (table_text (table (size_of field) code) ++ jones_line code) ≡ homology_reply field code
+unfolding homology_text
 homology_reply-table field code few =
     let short : nat_lt HOMOLOGY_CROSSINGS (length code.crossings) ≡ false = grind (arith, common_steps) in
     rw short refl
 
--- the code of an accepted diagram is answered by its table
+-- the code of an accepted diagram is answered by its table and its Jones line
 pub IsAnswer-table : (words : List (List ℕ)) (bytes : List ℕ) (command : Command) (code : Code) → command_of words ≡ Some command
     → command.task ≡ Homology → length bytes ≤ INPUT_BYTES → IsCodeRead bytes (Ok code) → IsTrue (accepted code)
     → length code.crossings ≤ HOMOLOGY_CROSSINGS
-    → IsAnswer words bytes (reply_of Done (table_text (table (size_of command.field) code)))
+    → IsAnswer words bytes (reply_of Done (table_text (table (size_of command.field) code) ++ jones_line code))
 IsAnswer-table words bytes command code is_command is_homology few_bytes read is_accepted few =
-    let reply : Reply = reply_of Done (table_text (table (size_of command.field) code)) in
+    let reply : Reply = reply_of Done (table_text (table (size_of command.field) code) ++ jones_line code) in
     let P : Task → Type 0 = λ task. IsTaskReply task command code reply in
     answer-command words bytes command reply is_command
     (inr (record {
@@ -115,4 +117,18 @@ IsAnswer-table words bytes command code is_command is_homology few_bytes read is
       outcome = Ok code;
       read = (read, first_fault-accepted code is_accepted);
       answered = subst P (sym is_homology) (homology_reply-table command.field code few);
+    }))
+
+-- and by its Jones line alone
+pub IsAnswer-jones : (words : List (List ℕ)) (bytes : List ℕ) (command : Command) (code : Code) → command_of words ≡ Some command
+    → command.task ≡ Jones → length bytes ≤ INPUT_BYTES → IsCodeRead bytes (Ok code) → IsTrue (accepted code)
+    → IsAnswer words bytes (reply_of Done (jones_line code))
+IsAnswer-jones words bytes command code is_command is_jones few_bytes read is_accepted =
+    let P : Task → Type 0 = λ task. IsTaskReply task command code (reply_of Done (jones_line code)) in
+    answer-command words bytes command (reply_of Done (jones_line code)) is_command
+    (inr (record {
+      few = few_bytes;
+      outcome = Ok code;
+      read = (read, first_fault-accepted code is_accepted);
+      answered = subst P (sym is_jones) refl;
     }))

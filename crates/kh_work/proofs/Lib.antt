@@ -1,3 +1,5 @@
 pub mod CommandLemmas
 pub mod AnswerLemmas
+pub mod TextReadings
 pub mod OneAnswer
+pub mod JonesLemmas

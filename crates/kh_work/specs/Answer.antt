@@ -4,7 +4,7 @@ use Rattle.std.specs.Prelude.{◌≡◌, ◌⊎◌, ℕ, ◌<◌, ◌≤◌, Lis
 use Rattle.kh_types.specs.declared.limits.TheConstants.{INPUT_BYTES}
 use Rattle.kh_types.specs.Code.{Code}
 use Rattle.kh_work.specs.declared.command.Task.{Task}
-use Rattle.kh_work.specs.declared.command.Task.TheVariants.{Homology, Convert}
+use Rattle.kh_work.specs.declared.command.Task.TheVariants.{Homology, Convert, Check, Jones}
 use Rattle.kh_work.specs.declared.command.Command.{Command}
 use Rattle.kh_work.specs.Replies.{Reply}
 use Rattle.kh_work.specs.Commands.{command_of}
@@ -12,11 +12,15 @@ use Rattle.kh_work.specs.Refusals.{usage, too_many_bytes}
 use Rattle.kh_work.specs.Inputs.{IsDiagramRead}
 use Rattle.kh_work.specs.Homology.{homology_reply}
 use Rattle.kh_work.specs.Convert.{convert_reply}
+use Rattle.kh_work.specs.Check.{check_reply}
+use Rattle.kh_work.specs.Jones.{jones_reply}
 
 -- the reply of a task to the code of a diagram
 abbrev pub IsTaskReply : Task → Command → Code → Reply → Type 0
 IsTaskReply Homology command code reply = reply ≡ homology_reply command.field code
-IsTaskReply Convert command code reply = reply ≡ convert_reply code
+IsTaskReply Convert command code reply = reply ≡ convert_reply command.to code
+IsTaskReply Check command code reply = reply ≡ check_reply code
+IsTaskReply Jones command code reply = reply ≡ jones_reply code
 
 -- the reply of a command to what its input was read as
 abbrev pub IsReplyTo : Command → Result Code Reply → Reply → Type 0

@@ -2,18 +2,22 @@
 use Rattle.std.specs.Prelude.{ℕ, List, [], ◌∷◌, codes, is_some, if◌then◌else◌, Option, Some, None, option_map, option_and_then, unwrap_or}
 use Rattle.std.specs.Str.{bytes_eq}
 use Rattle.kh_work.specs.declared.command.Task.{Task}
-use Rattle.kh_work.specs.declared.command.Task.TheVariants.{Homology, Convert}
+use Rattle.kh_work.specs.declared.command.Task.TheVariants.{Homology, Convert, Check, Jones}
 use Rattle.kh_work.specs.declared.command.Field.{Field}
 use Rattle.kh_work.specs.declared.command.Field.TheVariants.{Two, Three, Five, Seven}
 use Rattle.kh_work.specs.declared.command.Form.{Form}
-use Rattle.kh_work.specs.declared.command.Form.TheVariants.{Pd}
+use Rattle.kh_work.specs.declared.command.Form.TheVariants.{Pd, Gauss}
 use Rattle.kh_work.specs.declared.command.Options.{Options}
 use Rattle.kh_work.specs.declared.command.Command.{Command}
 
 -- the task of a name
 abbrev pub task_of : List ℕ → Option Task
 task_of name =
-    if bytes_eq name (codes "homology") then Some Homology else if bytes_eq name (codes "convert") then Some Convert else None
+    if bytes_eq name (codes "homology") then Some Homology
+    else if bytes_eq name (codes "convert") then Some Convert
+    else if bytes_eq name (codes "check") then Some Check
+    else if bytes_eq name (codes "jones") then Some Jones
+    else None
 
 -- the field of a value
 abbrev pub field_of : List ℕ → Option Field
@@ -30,7 +34,8 @@ size_of Seven = 7
 
 -- the form of a value
 abbrev pub form_of : List ℕ → Option Form
-form_of value = if bytes_eq value (codes "pd") then Some Pd else None
+form_of value =
+    if bytes_eq value (codes "pd") then Some Pd else if bytes_eq value (codes "gauss") then Some Gauss else None
 
 -- no option is given
 abbrev pub no_options : Options

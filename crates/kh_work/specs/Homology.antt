@@ -1,5 +1,5 @@
 -- The reply of the command `homology` to a diagram.
-use Rattle.std.specs.Prelude.{length, nat_lt, if◌then◌else◌}
+use Rattle.std.specs.Prelude.{ℕ, List, ◌++◌, length, nat_lt, if◌then◌else◌}
 use Rattle.kh_types.specs.Code.{Code}
 use Rattle.kh_types.specs.Table.{table, table_text}
 use Rattle.kh_work.specs.declared.limits.TheConstants.{HOMOLOGY_CROSSINGS}
@@ -8,9 +8,14 @@ use Rattle.kh_work.specs.declared.command.Field.{Field}
 use Rattle.kh_work.specs.Commands.{size_of}
 use Rattle.kh_work.specs.Replies.{Reply, reply_of}
 use Rattle.kh_work.specs.Refusals.{too_many_for_homology}
+use Rattle.kh_work.specs.Jones.{jones_line}
 
--- the text of the homology table over a field, where there are few enough crossings
+-- the text of the homology table over a field, and the Jones line behind it
+unfoldable pub homology_text : Field → Code → List ℕ
+homology_text field code = table_text (table (size_of field) code) ++ jones_line code
+
+-- this text, where there are few enough crossings
 abbrev pub homology_reply : Field → Code → Reply
 homology_reply field code =
     if nat_lt HOMOLOGY_CROSSINGS (length code.crossings) then too_many_for_homology (length code.crossings)
-    else reply_of Done (table_text (table (size_of field) code))
+    else reply_of Done (homology_text field code)

@@ -4,8 +4,10 @@ pub mod Commands
 pub mod Refusals
 pub mod Inputs
 pub mod InputStops
+pub mod Jones
 pub mod Homology
 pub mod Convert
+pub mod Check
 pub mod Answer
 pub mod Told
 pub mod Runs

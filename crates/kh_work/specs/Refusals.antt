@@ -6,6 +6,8 @@ use Rattle.kh_types.specs.declared.fault.CodeFault.{CodeFault}
 use Rattle.kh_types.specs.declared.fault.CodeFault.TheVariants as faults
 use Rattle.pd_code.specs.declared.stop.PdStop.{PdStop}
 use Rattle.pd_code.specs.declared.stop.PdStop.TheVariants as pd
+use Rattle.gauss_code.specs.declared.stop.GaussStop.{GaussStop}
+use Rattle.gauss_code.specs.declared.stop.GaussStop.TheVariants as gauss
 use Rattle.json_code.specs.declared.stop.JsonStop.{JsonStop}
 use Rattle.json_code.specs.declared.stop.JsonStop.TheVariants as json
 use Rattle.kh_work.specs.declared.limits.TheConstants.{HOMOLOGY_CROSSINGS}
@@ -57,6 +59,17 @@ IsPdRefusal (pd.Number place) reply = reply ≡ refused_with (codes "number at "
 IsPdRefusal (pd.CrossingLimit count) reply = reply ≡ too_many_crossings count
 IsPdRefusal (pd.LoopLimit count) reply = reply ≡ too_many_loops count
 IsPdRefusal pd.NoMemory reply = ⊥
+
+-- a signed Gauss text is refused for this stop with this reply
+abbrev pub IsGaussRefusal : GaussStop → Reply → Type 0
+IsGaussRefusal (gauss.Text place) reply = reply ≡ refused_with (codes "text at ") place
+IsGaussRefusal (gauss.Number place) reply = reply ≡ refused_with (codes "number at ") place
+IsGaussRefusal (gauss.CrossingLimit count) reply = reply ≡ too_many_crossings count
+IsGaussRefusal (gauss.LoopLimit count) reply = reply ≡ too_many_loops count
+IsGaussRefusal (gauss.Label place) reply = reply ≡ refused_with (codes "label at ") place
+IsGaussRefusal gauss.NoSigns reply = reply ≡ refused (codes "no signs")
+IsGaussRefusal (gauss.SignCount found wanted) reply = reply ≡ refused_with_both (codes "signs ") found (codes " wanted ") wanted
+IsGaussRefusal gauss.NoMemory reply = ⊥
 
 -- a JSON text is refused for this stop with this reply
 abbrev pub IsJsonRefusal : JsonStop → Reply → Type 0

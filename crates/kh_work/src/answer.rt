@@ -9,7 +9,7 @@ ghost use Rattle.kh_work.specs.Statuses.{IsWhole};
 ghost use Rattle.kh_work.specs.Told.{IsKnownAnswer, IsKnownReply, IsTaken, IsReadOut};
 
 use crate::command::{Command, Task, command_of};
-use crate::commands::{reply_to_convert, reply_to_homology};
+use crate::commands::{reply_to_check, reply_to_convert, reply_to_homology, reply_to_jones};
 use crate::input::{InputStop, read_diagram};
 use crate::refusals::{too_many_bytes, usage};
 use crate::reply::Reply;
@@ -99,6 +99,8 @@ fn reply_to_diagram(alloc: Global, command: Command, diagram: &Diagram) -> Resul
 {
     match command.task {
         Task::Homology => reply_to_homology(alloc, command.field, diagram),
-        Task::Convert => reply_to_convert(alloc, diagram),
+        Task::Convert => reply_to_convert(alloc, command.to, diagram),
+        Task::Check => reply_to_check(alloc, diagram),
+        Task::Jones => reply_to_jones(alloc, diagram),
     }
 }

@@ -12,6 +12,10 @@ pub enum Task {
     Homology,
     /// Write the diagram in another form.
     Convert,
+    /// Write how many crossings, components and faces the diagram has.
+    Check,
+    /// Write the unnormalised Jones polynomial.
+    Jones,
 }
 
 /// A field, by its number of elements.
@@ -32,6 +36,8 @@ pub enum Field {
 pub enum Form {
     /// A planar diagram text (Knot Atlas, "Planar Diagrams").
     Pd,
+    /// A signed Gauss text (Knot Atlas, "Gauss Codes").
+    Gauss,
 }
 
 /// The options that words give, each at most once.
@@ -73,6 +79,8 @@ fn task_of(name: &str) -> Option<Task>
     match name {
         "homology" => Some(Task::Homology),
         "convert" => Some(Task::Convert),
+        "check" => Some(Task::Check),
+        "jones" => Some(Task::Jones),
         _ => None,
     }
 }
@@ -154,6 +162,7 @@ fn form_of(value: &str) -> Option<Form>
 {
     match value {
         "pd" => Some(Form::Pd),
+        "gauss" => Some(Form::Gauss),
         _ => None,
     }
 }

@@ -1,7 +1,11 @@
 //! The commands, each from a diagram to its reply.
 
+mod check;
 mod convert;
 mod homology;
+mod jones;
 
+pub use check::reply_to_check;
 pub use convert::reply_to_convert;
 pub use homology::reply_to_homology;
+pub use jones::reply_to_jones;

@@ -1,8 +1,9 @@
 //! Laws of the definitions: each is the contract of a function that does nothing.
 
-ghost use Rattle.std.specs.Prelude.{◌≡◌, ◌≤◌, ℕ, List, length, IsTrue, Ok, Some};
+ghost use Rattle.std.specs.Prelude.{◌≡◌, ◌≤◌, ◌++◌, ℕ, List, length, IsTrue, Ok, Some};
 ghost use Rattle.kh_types.specs.Code.{Code};
 ghost use Rattle.kh_types.specs.Acceptance.{accepted};
+ghost use Rattle.kh_types.specs.StateSum.{polynomial_text, state_sum};
 ghost use Rattle.kh_types.specs.Table.{table, table_text};
 ghost use Rattle.kh_types.specs.declared.limits.TheConstants.{INPUT_BYTES};
 ghost use Rattle.kh_work.specs.declared.command.Command.{Command};
@@ -12,6 +13,7 @@ ghost use Rattle.kh_work.specs.declared.limits.TheConstants.{HOMOLOGY_CROSSINGS}
 ghost use Rattle.kh_work.specs.Replies.{Reply, reply_of};
 ghost use Rattle.kh_work.specs.Commands.{command_of, size_of};
 ghost use Rattle.kh_work.specs.Inputs.{IsCodeRead};
+ghost use Rattle.kh_work.specs.Jones.{jones_line};
 ghost use Rattle.kh_work.specs.Answer.{IsAnswer};
 
 /// To all words and all bytes there is exactly one answer.
@@ -23,14 +25,24 @@ pub fn one_answer()
 {}
 
 /// Words that give the command `homology`, and bytes that are the text of the code of an accepted diagram within the limits, are
-/// answered by its homology table over the field that the words name.
+/// answered by its homology table over the field that the words name, and by the Jones line of its state sum.
 pub fn accepted_diagrams_are_answered_by_their_table()
     ensures { (words : List (List ℕ)) (bytes : List ℕ) (command : Command) (code : Code)
         → command_of words ≡ Some command → command.task ≡ Task.Homology
         → length bytes ≤ INPUT_BYTES → IsCodeRead bytes (Ok code) → IsTrue (accepted code)
         → length code.crossings ≤ HOMOLOGY_CROSSINGS
         → IsAnswer words bytes (reply_of Status.Done
-        (table_text (table (size_of command.field) code))) }
+        (table_text (table (size_of command.field) code) ++ jones_line code)) }
+{}
+
+/// Words that give the command `jones`, and bytes that are the text of the code of an accepted diagram, are answered by the Jones
+/// line of its state sum.
+pub fn accepted_diagrams_are_answered_by_their_polynomial()
+    ensures line { (code : Code) → jones_line code ≡ polynomial_text (state_sum code) }
+    ensures answer { (words : List (List ℕ)) (bytes : List ℕ) (command : Command) (code : Code)
+        → command_of words ≡ Some command → command.task ≡ Task.Jones
+        → length bytes ≤ INPUT_BYTES → IsCodeRead bytes (Ok code) → IsTrue (accepted code)
+        → IsAnswer words bytes (reply_of Status.Done (jones_line code)) }
 {}
 
 /// The numbers of the limits of commands.

@@ -14,7 +14,10 @@ mod status;
 mod tests;
 mod top;
 
-pub use laws::{accepted_diagrams_are_answered_by_their_table, limits_of_commands, one_answer};
+pub use laws::{
+    accepted_diagrams_are_answered_by_their_polynomial,
+    accepted_diagrams_are_answered_by_their_table, limits_of_commands, one_answer,
+};
 pub use limits::HOMOLOGY_CROSSINGS;
 pub use status::Status;
 pub use top::run;

@@ -1,11 +1,12 @@
 //! Every line of a refusal or a limit.
 
-ghost use Rattle.std.specs.Prelude.{◌≡◌, IfOk, string_bytes};
-ghost use Rattle.kh_work.specs.Refusals.{usage, too_many_bytes, too_many_crossings, too_many_loops, too_many_for_homology, IsPdRefusal, IsJsonRefusal, fault_refusal};
+ghost use Rattle.std.specs.Prelude.{◌≡◌, IfOk, codes, string_bytes};
+ghost use Rattle.kh_work.specs.Refusals.{usage, too_many_bytes, too_many_crossings, too_many_loops, too_many_for_homology, refused_with, IsPdRefusal, IsGaussRefusal, IsJsonRefusal, fault_refusal};
 
 use crate::limits::HOMOLOGY_CROSSINGS;
 use crate::reply::{Reply, fixed_reply, reply_with};
 use crate::status::Status;
+use gauss_code::GaussStop;
 use json_code::JsonStop;
 use kh_types::{COMPONENTS, CROSSINGS, CodeFault, INPUT_BYTES, LOOPS, NoMemory};
 use pd_code::PdStop;
@@ -51,22 +52,54 @@ pub fn too_many_for_homology(alloc: Global, count: u8) -> Result<Reply, NoMemory
     Ok(reply_with(Status::Limit, line))
 }
 
+/// The reply to a text that goes on as no text does.
+fn refused_text(alloc: Global, place: u32) -> Result<Reply, NoMemory>
+    ensures { IfOk result (λ reply. reply ≡ refused_with (codes "text at ") place) }
+{
+    let line = format!(in alloc; "refused text at {place}\n")?;
+    Ok(reply_with(Status::CodeRefused, line))
+}
+
+/// The reply to a text with a number that is too large.
+fn refused_number(alloc: Global, place: u32) -> Result<Reply, NoMemory>
+    ensures { IfOk result (λ reply. reply ≡ refused_with (codes "number at ") place) }
+{
+    let line = format!(in alloc; "refused number at {place}\n")?;
+    Ok(reply_with(Status::CodeRefused, line))
+}
+
 /// The reply to a PD text that is read as no code.
 pub fn pd_refusal(alloc: Global, stop: PdStop) -> Result<Reply, NoMemory>
     ensures { IfOk result (λ reply. IsPdRefusal stop reply) }
 {
     match stop {
-        PdStop::Text { place } => {
-            let line = format!(in alloc; "refused text at {place}\n")?;
-            Ok(reply_with(Status::CodeRefused, line))
-        }
-        PdStop::Number { place } => {
-            let line = format!(in alloc; "refused number at {place}\n")?;
-            Ok(reply_with(Status::CodeRefused, line))
-        }
+        PdStop::Text { place } => refused_text(alloc, place),
+        PdStop::Number { place } => refused_number(alloc, place),
         PdStop::CrossingLimit { count } => too_many_crossings(alloc, count),
         PdStop::LoopLimit { count } => too_many_loops(alloc, count),
         PdStop::NoMemory => Err(NoMemory),
+    }
+}
+
+/// The reply to a signed Gauss text that is read as no code.
+pub fn gauss_refusal(alloc: Global, stop: GaussStop) -> Result<Reply, NoMemory>
+    ensures { IfOk result (λ reply. IsGaussRefusal stop reply) }
+{
+    match stop {
+        GaussStop::Text { place } => refused_text(alloc, place),
+        GaussStop::Number { place } => refused_number(alloc, place),
+        GaussStop::CrossingLimit { count } => too_many_crossings(alloc, count),
+        GaussStop::LoopLimit { count } => too_many_loops(alloc, count),
+        GaussStop::Label { place } => {
+            let line = format!(in alloc; "refused label at {place}\n")?;
+            Ok(reply_with(Status::CodeRefused, line))
+        }
+        GaussStop::NoSigns => fixed_reply(alloc, Status::CodeRefused, "refused no signs\n"),
+        GaussStop::SignCount { found, wanted } => {
+            let line = format!(in alloc; "refused signs {found} wanted {wanted}\n")?;
+            Ok(reply_with(Status::CodeRefused, line))
+        }
+        GaussStop::NoMemory => Err(NoMemory),
     }
 }
 

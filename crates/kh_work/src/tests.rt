@@ -1,9 +1,13 @@
 //! What no clause says: that runs answer at all where there is memory, and what the definitions come to on known links.
 
+mod bad;
+mod counted;
 mod known;
 mod rows;
 
 use crate::{Status, run};
+use bad::BAD;
+use counted::COUNTED;
 use kh_io::{MemSink, MemSource};
 use kh_types::Words;
 use known::KNOWN;
@@ -19,6 +23,19 @@ fn words_of(rt: &impl AllocGlobal, words: &[&str]) -> Result<Words, Fail> {
     Ok(list)
 }
 
+// Runs some words on an input, and gives the status and what is written.
+fn answer_to<R: Abort + AllocGlobal>(
+    rt: &R,
+    words: &[&str],
+    input: &[u8],
+) -> Result<(Status, MemSink), Fail> {
+    let words = words_of(rt, words)?;
+    let mut source = MemSource::new(rt.alloc(), input, 7, &[])?;
+    let mut sink = MemSink::new(rt.alloc(), 4_096, 5, &[])?;
+    let status = run(rt.alloc(), &words, &mut source, &mut sink);
+    Ok((status, sink))
+}
+
 // Runs some words on an input, and compares the status and what is written.
 fn expect_answer<R: Abort + AllocGlobal>(
     rt: &R,
@@ -27,10 +44,7 @@ fn expect_answer<R: Abort + AllocGlobal>(
     status: Status,
     output: &str,
 ) -> Result<(), Fail> {
-    let words = words_of(rt, words)?;
-    let mut source = MemSource::new(rt.alloc(), input, 7, &[])?;
-    let mut sink = MemSink::new(rt.alloc(), 4_096, 5, &[])?;
-    let ended = run(rt.alloc(), &words, &mut source, &mut sink);
+    let (ended, sink) = answer_to(rt, words, input)?;
     assert_eq!(rt; sink.bytes(), output.as_bytes(), "{output}");
     assert_eq!(rt; ended, status, "{output}");
     Ok(())
@@ -46,6 +60,59 @@ fn known_links_have_their_tables(rt: HostRuntime) -> Result<(), Fail> {
             known.text.as_bytes(),
             Status::Done,
             table.as_str(),
+        )?;
+    }
+    Ok(())
+}
+
+#[test]
+fn diagrams_are_counted(rt: HostRuntime) -> Result<(), Fail> {
+    for counted in &COUNTED {
+        for input in [counted.text, counted.gauss] {
+            expect_answer(
+                &rt,
+                &["check"],
+                input.as_bytes(),
+                Status::Done,
+                counted.line,
+            )?;
+        }
+    }
+    Ok(())
+}
+
+#[test]
+fn diagrams_go_to_gauss_and_back(rt: HostRuntime) -> Result<(), Fail> {
+    for counted in &COUNTED {
+        let (text, gauss) = (counted.text.as_bytes(), counted.gauss.as_bytes());
+        expect_answer(
+            &rt,
+            &["convert", "--to", "gauss"],
+            text,
+            Status::Done,
+            counted.gauss,
+        )?;
+        let (_, printed) = answer_to(&rt, &["convert"], text)?;
+        let (_, back) = answer_to(&rt, &["convert"], gauss)?;
+        assert_eq!(&rt; back.bytes(), printed.bytes(), "{}", counted.text);
+        let (ended, table) = answer_to(&rt, &["homology"], text)?;
+        let (ended_back, table_back) = answer_to(&rt, &["homology"], back.bytes())?;
+        assert_eq!(&rt; ended_back, ended, "{}", counted.text);
+        assert_eq!(&rt; table_back.bytes(), table.bytes(), "{}", counted.text);
+        expect_answer(&rt, &["check"], back.bytes(), Status::Done, counted.line)?;
+    }
+    Ok(())
+}
+
+#[test]
+fn bad_codes_are_refused(rt: HostRuntime) -> Result<(), Fail> {
+    for bad in &BAD {
+        expect_answer(
+            &rt,
+            &["check"],
+            bad.text.as_bytes(),
+            Status::CodeRefused,
+            bad.line,
         )?;
     }
     Ok(())

@@ -6,6 +6,30 @@ use kh_types::{Crossing, Diagram, RawCode};
 use std::process::Abort;
 use std::test::Fail;
 
+const BORROMEAN_RINGS: [[u8; 4]; 6] = [
+    [6, 1, 7, 2],
+    [12, 8, 9, 7],
+    [4, 12, 1, 11],
+    [10, 5, 11, 6],
+    [8, 4, 5, 3],
+    [2, 9, 3, 10],
+];
+
+const ARCS_OF_THE_RINGS: [(u8, u8); 12] = [
+    (0, 2),
+    (0, 3),
+    (0, 4),
+    (0, 1),
+    (1, 6),
+    (1, 7),
+    (1, 8),
+    (1, 5),
+    (2, 10),
+    (2, 11),
+    (2, 12),
+    (2, 9),
+];
+
 /// Of each component its first arc and its length, and of each arc the number of its component and the arc that follows, worked
 /// by hand from the codes: two curls, and from the Knot Atlas the Hopf link (L2a1), the trefoil (3_1) and the Borromean rings
 /// (L6a4). Two loops are added to each, which are not counted.
@@ -29,29 +53,9 @@ fn known_diagrams_have_their_components(rt: HostRuntime) -> Result<(), Fail> {
             &[(0, 2), (0, 3), (0, 4), (0, 5), (0, 6), (0, 1)],
         ),
         (
-            &[
-                [6, 1, 7, 2],
-                [12, 8, 9, 7],
-                [4, 12, 1, 11],
-                [10, 5, 11, 6],
-                [8, 4, 5, 3],
-                [2, 9, 3, 10],
-            ],
+            &BORROMEAN_RINGS,
             &[(1, 4), (5, 4), (9, 4)],
-            &[
-                (0, 2),
-                (0, 3),
-                (0, 4),
-                (0, 1),
-                (1, 6),
-                (1, 7),
-                (1, 8),
-                (1, 5),
-                (2, 10),
-                (2, 11),
-                (2, 12),
-                (2, 9),
-            ],
+            &ARCS_OF_THE_RINGS,
         ),
     ] {
         has_components(&rt, crossings, wanted, arcs)?;

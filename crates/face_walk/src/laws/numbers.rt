@@ -3,7 +3,7 @@
 ghost use Rattle.std.specs.Prelude.{◌≡◌, ◌<◌, ◌↔◌, ℕ, List, IsTrue, slice_index, length};
 ghost use Rattle.std.specs.List.{range_with_len, sum_by};
 ghost use Rattle.kh_types.specs.Code.{Code};
-ghost use Rattle.kh_types.specs.Faces.{face_count};
+ghost use Rattle.kh_types.specs.Faces.{face_count, faces_of, pieces_of};
 ghost use Rattle.kh_types.specs.Classes.{IsNamed};
 ghost use Rattle.kh_types.specs.Darts.{dart_at, dart_count, face_step, partner_at};
 ghost use Rattle.kh_types.specs.Acceptance.{accepted};
@@ -32,6 +32,16 @@ pub fn class_numbers_are_places()
         → x < length classes → y < length classes
         → (class_number classes x ≡ class_number classes y)
         ↔ (slice_index classes x ≡ slice_index classes y) }
+{}
+
+/// In an accepted code the classes of darts that are its faces are named by their least darts, and those of crossings that are its
+/// pieces by their least crossings. So two darts have one number exactly where they are in one face, and two crossings where they are
+/// in one piece.
+pub fn faces_and_pieces_are_named_by_their_least()
+    ensures faces { (code : Code) → IsTrue (accepted code)
+        → IsNamed (dart_count code.crossings) (faces_of code.crossings) }
+    ensures pieces { (code : Code) → IsTrue (accepted code)
+        → IsNamed (length code.crossings) (pieces_of code.crossings) }
 {}
 
 /// In an accepted code the dart that follows a dart in its face has the same face.

@@ -14,42 +14,84 @@ pub struct Row {
 }
 
 /// The rows.
-pub const ROWS: [Row; 39] = [
+pub const ROWS: [Row; 63] = [
+    Row {
+        words: &["jones"],
+        input: TREFOIL,
+        status: Status::Done,
+        output: "jones -1*q^-9 1*q^-5 1*q^-3 1*q^-1\n",
+    },
+    Row {
+        words: &["jones", "--field", "7"],
+        input: "GaussCode[-1, 3, -2, 1, -3, 2] Signs[-1, -1, -1]",
+        status: Status::Done,
+        output: "jones -1*q^-9 1*q^-5 1*q^-3 1*q^-1\n",
+    },
+    Row {
+        words: &["jones"],
+        input: "PD[X[5,2,6,1], X[3,3,4,2], X[4,5,1,6]]",
+        status: Status::Done,
+        output: "jones 1*q^0 1*q^2 1*q^4 1*q^6\n",
+    },
+    Row {
+        words: &["jones"],
+        input: "PD[X[6,3,5,2], X[4,2,1,1], X[3,6,4,5]]",
+        status: Status::Done,
+        output: "jones 1*q^0 1*q^2 1*q^4 1*q^6\n",
+    },
+    Row {
+        words: &["jones"],
+        input: "PD[X[1,1,2,2], X[3,3,4,4], X[5,5,6,6], X[7,7,8,8], X[9,9,10,10], X[11,11,12,12], X[13,13,14,14], X[15,15,16,16], X[17,17,18,18], X[19,19,20,20], X[21,21,22,22], X[23,23,24,24], X[25,25,26,26], X[27,27,28,28], X[29,29,30,30], X[31,31,32,32]]",
+        status: Status::Done,
+        output: "jones 1*q^-16 16*q^-14 120*q^-12 560*q^-10 1820*q^-8 4368*q^-6 8008*q^-4 11440*q^-2 12870*q^0 11440*q^2 8008*q^4 4368*q^6 1820*q^8 560*q^10 120*q^12 16*q^14 1*q^16\n",
+    },
+    Row {
+        words: &["jones"],
+        input: "PD[Loop[1], Loop[2], Loop[3], Loop[4], Loop[5], Loop[6], Loop[7], Loop[8]]",
+        status: Status::Done,
+        output: "jones 1*q^-8 8*q^-6 28*q^-4 56*q^-2 70*q^0 56*q^2 28*q^4 8*q^6 1*q^8\n",
+    },
+    Row {
+        words: &["jones"],
+        input: "PD[X[1,2,1,2]]",
+        status: Status::CodeRefused,
+        output: "refused checkerboard at arc 1\n",
+    },
     Row {
         words: &["homology", "--field", "3"],
         input: TREFOIL,
         status: Status::Done,
-        output: "field 3\nj -9 i -3 dim 1\nj -5 i -2 dim 1\nj -3 i 0 dim 1\nj -1 i 0 dim 1\n",
+        output: "field 3\nj -9 i -3 dim 1\nj -5 i -2 dim 1\nj -3 i 0 dim 1\nj -1 i 0 dim 1\njones -1*q^-9 1*q^-5 1*q^-3 1*q^-1\n",
     },
     Row {
         words: &["homology", "--field", "5"],
         input: TREFOIL,
         status: Status::Done,
-        output: "field 5\nj -9 i -3 dim 1\nj -5 i -2 dim 1\nj -3 i 0 dim 1\nj -1 i 0 dim 1\n",
+        output: "field 5\nj -9 i -3 dim 1\nj -5 i -2 dim 1\nj -3 i 0 dim 1\nj -1 i 0 dim 1\njones -1*q^-9 1*q^-5 1*q^-3 1*q^-1\n",
     },
     Row {
         words: &["homology", "--field", "7"],
         input: TREFOIL,
         status: Status::Done,
-        output: "field 7\nj -9 i -3 dim 1\nj -5 i -2 dim 1\nj -3 i 0 dim 1\nj -1 i 0 dim 1\n",
+        output: "field 7\nj -9 i -3 dim 1\nj -5 i -2 dim 1\nj -3 i 0 dim 1\nj -1 i 0 dim 1\njones -1*q^-9 1*q^-5 1*q^-3 1*q^-1\n",
     },
     Row {
         words: &["homology", "--to", "pd", "--field", "2"],
         input: TREFOIL,
         status: Status::Done,
-        output: "field 2\nj -9 i -3 dim 1\nj -7 i -3 dim 1\nj -7 i -2 dim 1\nj -5 i -2 dim 1\nj -3 i 0 dim 1\nj -1 i 0 dim 1\n",
+        output: "field 2\nj -9 i -3 dim 1\nj -7 i -3 dim 1\nj -7 i -2 dim 1\nj -5 i -2 dim 1\nj -3 i 0 dim 1\nj -1 i 0 dim 1\njones -1*q^-9 1*q^-5 1*q^-3 1*q^-1\n",
     },
     Row {
         words: &["homology"],
         input: "[[1,4,2,5],[3,6,4,1],[5,2,6,3]]",
         status: Status::Done,
-        output: "field 2\nj -9 i -3 dim 1\nj -7 i -3 dim 1\nj -7 i -2 dim 1\nj -5 i -2 dim 1\nj -3 i 0 dim 1\nj -1 i 0 dim 1\n",
+        output: "field 2\nj -9 i -3 dim 1\nj -7 i -3 dim 1\nj -7 i -2 dim 1\nj -5 i -2 dim 1\nj -3 i 0 dim 1\nj -1 i 0 dim 1\njones -1*q^-9 1*q^-5 1*q^-3 1*q^-1\n",
     },
     Row {
         words: &["homology"],
         input: "PD[Loop[1], Loop[2]]",
         status: Status::Done,
-        output: "field 2\nj -2 i 0 dim 1\nj 0 i 0 dim 2\nj 2 i 0 dim 1\n",
+        output: "field 2\nj -2 i 0 dim 1\nj 0 i 0 dim 2\nj 2 i 0 dim 1\njones 1*q^-2 2*q^0 1*q^2\n",
     },
     Row {
         words: &["convert"],
@@ -62,6 +104,24 @@ pub const ROWS: [Row; 39] = [
         input: "[]",
         status: Status::Done,
         output: "PD[]\n",
+    },
+    Row {
+        words: &["check", "--field", "3"],
+        input: "[[1,4,2,5],[3,6,4,1],[5,2,6,3]]",
+        status: Status::Done,
+        output: "accepted crossings 3 plus 0 minus 3 components 1 pieces 1 faces 5 loops 0\n",
+    },
+    Row {
+        words: &["check"],
+        input: "PD[X[1,5,2,4], X[3,6,4,1], X[5,2,6,3]]",
+        status: Status::CodeRefused,
+        output: "refused genus faces 3 wanted 5\n",
+    },
+    Row {
+        words: &["check", "check"],
+        input: TREFOIL,
+        status: Status::Usage,
+        output: "usage: kh COMMAND [OPTIONS]\n",
     },
     Row {
         words: &["homology"],
@@ -86,6 +146,66 @@ pub const ROWS: [Row; 39] = [
         input: "[0,0,0,0,0,0,0,0,0,0,0,0,0,0,0,0,0]",
         status: Status::Limit,
         output: "limit crossings 17 of 16\n",
+    },
+    Row {
+        words: &["homology"],
+        input: "GaussCode[-1, 3, -2, 1, -3, 2] Signs[-1, -1, -1]",
+        status: Status::Done,
+        output: "field 2\nj -9 i -3 dim 1\nj -7 i -3 dim 1\nj -7 i -2 dim 1\nj -5 i -2 dim 1\nj -3 i 0 dim 1\nj -1 i 0 dim 1\njones -1*q^-9 1*q^-5 1*q^-3 1*q^-1\n",
+    },
+    Row {
+        words: &["convert"],
+        input: "\r\n GaussCode[{-1,-2},{2,1},{}]\tSigns[1,-1]",
+        status: Status::Done,
+        output: "PD[X[1, 4, 2, 3], X[2, 4, 1, 3], Loop[5]]\n",
+    },
+    Row {
+        words: &["check"],
+        input: "GaussCode[]",
+        status: Status::Done,
+        output: "accepted crossings 0 plus 0 minus 0 components 0 pieces 0 faces 0 loops 0\n",
+    },
+    Row {
+        words: &["homology"],
+        input: "GaussCode[-1, 3, -2, 1",
+        status: Status::CodeRefused,
+        output: "refused text at 22\n",
+    },
+    Row {
+        words: &["homology"],
+        input: "G",
+        status: Status::CodeRefused,
+        output: "refused text at 0\n",
+    },
+    Row {
+        words: &["homology"],
+        input: " Gauss[]",
+        status: Status::CodeRefused,
+        output: "refused text at 1\n",
+    },
+    Row {
+        words: &["homology"],
+        input: "GaussCode[65536]",
+        status: Status::CodeRefused,
+        output: "refused number at 10\n",
+    },
+    Row {
+        words: &["homology"],
+        input: "GaussCode[-1, 3, -2, 1, -3, 2]",
+        status: Status::CodeRefused,
+        output: "refused no signs\n",
+    },
+    Row {
+        words: &["homology"],
+        input: "GaussCode[1, -1, 2, -2, 3, -3, 4, -4, 5, -5, 6, -6, 7, -7, 8, -8, 9, -9, 10, -10, 11, -11, 12, -12, 13, -13, 14, -14, 15, -15, 16, -16, 17, -17]",
+        status: Status::Limit,
+        output: "limit crossings 17 of 16\n",
+    },
+    Row {
+        words: &["homology"],
+        input: "GaussCode[{}, {}, {}, {}, {}, {}, {}, {}, {}]",
+        status: Status::Limit,
+        output: "limit loops 9 of 8\n",
     },
     Row {
         words: &["homology"],
@@ -114,8 +234,32 @@ pub const ROWS: [Row; 39] = [
     Row {
         words: &["homology"],
         input: " [[1,1,2,2]]",
+        status: Status::Done,
+        output: "field 2\nj -1 i 0 dim 1\nj 1 i 0 dim 1\njones 1*q^-1 1*q^1\n",
+    },
+    Row {
+        words: &["convert"],
+        input: "\r\n\t [[1,1,2,2]] ",
+        status: Status::Done,
+        output: "PD[X[1, 1, 2, 2]]\n",
+    },
+    Row {
+        words: &["convert"],
+        input: "\n [[1,1,2,2],",
         status: Status::CodeRefused,
-        output: "refused text at 1\n",
+        output: "refused json\n",
+    },
+    Row {
+        words: &["convert"],
+        input: "\t\n \r",
+        status: Status::CodeRefused,
+        output: "refused text at 4\n",
+    },
+    Row {
+        words: &["convert"],
+        input: "\u{c}[[1,1,2,2]]",
+        status: Status::CodeRefused,
+        output: "refused text at 0\n",
     },
     Row {
         words: &["homology"],
@@ -226,7 +370,7 @@ pub const ROWS: [Row; 39] = [
         output: "usage: kh COMMAND [OPTIONS]\n",
     },
     Row {
-        words: &["homology", "--to", "gauss"],
+        words: &["homology", "--to", "json"],
         input: TREFOIL,
         status: Status::Usage,
         output: "usage: kh COMMAND [OPTIONS]\n",

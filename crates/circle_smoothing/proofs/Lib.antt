@@ -1,0 +1,16 @@
+pub mod JoinedSlots
+pub mod CircleCycles
+pub mod Ways
+pub mod Exchange
+pub mod EdgeBits
+pub mod EdgeCircles
+pub mod FilteredRanges
+pub mod EdgeNames
+pub mod NumberLemmas
+pub mod ListedNumbers
+pub mod TableLemmas
+pub mod CircleWalks
+pub mod KeptNumbers
+pub mod EdgeAnswers
+pub mod GeneratorLemmas
+pub mod EdgeNumbers

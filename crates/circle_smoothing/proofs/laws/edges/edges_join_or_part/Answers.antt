@@ -1,0 +1,5 @@
+use Rattle.circle_smoothing.proofs.EdgeCircles.{joins_or_parts}
+use Rattle.circle_smoothing.proofs.laws.edges.edges_join_or_part.Goals as goal
+
+pub returns : goal.returns
+returns c = joins_or_parts

@@ -1,0 +1,7 @@
+use Rattle.std.proofs.Common.{◌≡◌, map}
+use Rattle.std.specs.List.{range_with_len}
+use Rattle.kh_types.specs.Darts.{partner_at}
+use Rattle.circle_smoothing.proofs.tables.partners_of.Given as goal
+
+abbrev pub invariant-loop-place : goal.invariant-loop-place
+invariant-loop-place l = l.partners.items ≡ map (partner_at l.diagram.crossings) (range_with_len 0 l.place)

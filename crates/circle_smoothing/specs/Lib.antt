@@ -1,0 +1,7 @@
+pub mod CircleNumbers
+pub mod CircleLists
+pub mod Edges
+pub mod GeneratorCounts
+pub mod Steps
+pub mod Numbered
+pub mod Prepared

@@ -1,0 +1,19 @@
+//! The circles of the states of a diagram, what an edge of the cube does to them, and the number of
+//! generators.
+#![tactic(auto)]
+
+mod change;
+mod finding;
+pub mod laws;
+mod numbered;
+mod numbering;
+mod prepared;
+mod tables;
+#[cfg(test)]
+mod tests;
+mod walk;
+
+pub use change::Edge;
+pub use finding::{circles, edge, generator_count};
+pub use numbered::Circles;
+pub use prepared::Smoothings;

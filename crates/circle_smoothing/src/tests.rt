@@ -1,0 +1,207 @@
+//! What known diagrams come to.
+
+ghost use Rattle.std.specs.Prelude.{◌≡◌};
+
+use crate::{Circles, Edge, circles, edge, generator_count};
+use arrayvec::ArrayVec;
+use kh_types::{Crossing, Diagram, RawCode, bit};
+use std::process::Abort;
+use std::test::Fail;
+
+/// The slots of each crossing and the number of loops; the number of circles of each state; the
+/// circles of the arcs in the first state, in the last, and in the one whose number is half of the
+/// number of states; merges and splits, each by its state and its crossing, with their circles; the
+/// generators. They were found by a Python program that was written for this test: it unites sets
+/// of arcs.
+struct Row {
+    crossings: &'static [[u8; 4]],
+    loops: u8,
+    counts: &'static [u8],
+    arcs: [&'static [u8]; 3],
+    merges: &'static [(u32, u8, [u8; 3])],
+    splits: &'static [(u32, u8, [u8; 3])],
+    generators: u64,
+}
+
+const ROWS: &[Row] = &[
+    Row {
+        crossings: &[],
+        loops: 0,
+        counts: &[0],
+        arcs: [&[], &[], &[]],
+        merges: &[],
+        splits: &[],
+        generators: 1,
+    },
+    Row {
+        crossings: &[],
+        loops: 3,
+        counts: &[3],
+        arcs: [&[], &[], &[]],
+        merges: &[],
+        splits: &[],
+        generators: 8,
+    },
+    Row {
+        crossings: &[[1, 1, 2, 2]],
+        loops: 0,
+        counts: &[2, 1],
+        arcs: [&[0, 1], &[0, 0], &[0, 0]],
+        merges: &[(0, 1, [0, 1, 0])],
+        splits: &[],
+        generators: 6,
+    },
+    Row {
+        crossings: &[[1, 1, 2, 2]],
+        loops: 2,
+        counts: &[4, 3],
+        arcs: [&[0, 1], &[0, 0], &[0, 0]],
+        merges: &[(0, 1, [0, 1, 0])],
+        splits: &[],
+        generators: 24,
+    },
+    Row {
+        crossings: &[[1, 2, 2, 1]],
+        loops: 0,
+        counts: &[1, 2],
+        arcs: [&[0, 0], &[0, 1], &[0, 1]],
+        merges: &[],
+        splits: &[(0, 1, [0, 0, 1])],
+        generators: 6,
+    },
+    Row {
+        crossings: &[[4, 1, 3, 2], [2, 3, 1, 4]],
+        loops: 0,
+        counts: &[2, 1, 1, 2],
+        arcs: [&[0, 1, 1, 0], &[0, 1, 0, 1], &[0, 0, 0, 0]],
+        merges: &[(0, 1, [0, 1, 0]), (0, 2, [0, 1, 0])],
+        splits: &[(1, 2, [0, 0, 1]), (2, 1, [0, 0, 1])],
+        generators: 12,
+    },
+    Row {
+        crossings: &[[1, 4, 2, 5], [3, 6, 4, 1], [5, 2, 6, 3]],
+        loops: 0,
+        counts: &[3, 2, 2, 1, 2, 1, 1, 2],
+        arcs: [
+            &[0, 1, 2, 0, 1, 2],
+            &[0, 1, 0, 1, 0, 1],
+            &[0, 1, 1, 0, 1, 1],
+        ],
+        merges: &[
+            (0, 1, [0, 1, 0]),
+            (0, 2, [0, 2, 0]),
+            (0, 3, [1, 2, 1]),
+            (1, 2, [0, 1, 0]),
+            (1, 3, [0, 1, 0]),
+            (2, 1, [0, 1, 0]),
+            (2, 3, [0, 1, 0]),
+            (4, 1, [0, 1, 0]),
+            (4, 2, [0, 1, 0]),
+        ],
+        splits: &[(3, 3, [0, 0, 1]), (5, 2, [0, 0, 1]), (6, 1, [0, 0, 1])],
+        generators: 30,
+    },
+    Row {
+        crossings: &[[4, 2, 5, 1], [8, 6, 1, 5], [6, 3, 7, 4], [2, 7, 3, 8]],
+        loops: 0,
+        counts: &[3, 2, 2, 1, 2, 1, 1, 2, 2, 1, 1, 2, 3, 2, 2, 3],
+        arcs: [
+            &[0, 1, 2, 1, 0, 2, 1, 2],
+            &[0, 1, 2, 0, 1, 0, 2, 1],
+            &[0, 1, 1, 1, 0, 1, 1, 1],
+        ],
+        merges: &[
+            (0, 2, [0, 2, 0]),
+            (0, 3, [1, 2, 1]),
+            (0, 4, [1, 2, 1]),
+            (4, 1, [0, 1, 0]),
+            (4, 2, [0, 1, 0]),
+            (12, 1, [0, 1, 0]),
+            (12, 2, [0, 1, 0]),
+        ],
+        splits: &[
+            (3, 3, [0, 0, 1]),
+            (3, 4, [0, 0, 1]),
+            (4, 4, [1, 1, 2]),
+            (7, 4, [1, 1, 2]),
+            (8, 3, [1, 1, 2]),
+            (11, 3, [0, 0, 2]),
+        ],
+        generators: 66,
+    },
+];
+
+#[test]
+fn known_diagrams_have_these_circles_and_edges(rt: HostRuntime) -> Result<(), Fail> {
+    for row in ROWS {
+        let diagram = diagram_of(row.crossings, row.loops)?;
+        has_circles(&rt, &diagram, row);
+        has_edges(&rt, &diagram, row);
+        assert_eq!(rt; generator_count(&diagram), row.generators);
+    }
+    Ok(())
+}
+
+// The states of a diagram have so many circles, and the arcs are on these.
+fn has_circles(rt: &impl Abort, diagram: &Diagram, row: &Row) {
+    let states = 1u32 << diagram.count();
+    for state in 0..states {
+        let count = circles(diagram, state).count();
+        assert_eq!(rt; row.counts.get(state as usize), Some(&count));
+    }
+    has_numbers(rt, &circles(diagram, 0), diagram, row.arcs[0]);
+    has_numbers(rt, &circles(diagram, states - 1), diagram, row.arcs[1]);
+    has_numbers(rt, &circles(diagram, states / 2), diagram, row.arcs[2]);
+}
+
+// Each arc is on the circle with this number.
+fn has_numbers(rt: &impl Abort, circles: &Circles, diagram: &Diagram, numbers: &[u8])
+    requires { circles.now.code ≡ diagram.now }
+{
+    for arc in 1..=2 * diagram.count() {
+        let circle = circles.of_arc(arc);
+        assert!(rt; circle < circles.count());
+        assert_eq!(rt; numbers.get(arc as usize - 1), Some(&circle));
+    }
+}
+
+// A diagram has these merges and splits.
+fn has_edges(rt: &impl Abort, diagram: &Diagram, row: &Row) {
+    for (state, crossing, [a, b, to]) in row.merges {
+        let merge = Edge::Merge {
+            a: *a,
+            b: *b,
+            to: *to,
+        };
+        assert_eq!(rt; edge_at(diagram, *state, *crossing), Some(merge));
+    }
+    for (state, crossing, [from, a, b]) in row.splits {
+        let split = Edge::Split {
+            from: *from,
+            a: *a,
+            b: *b,
+        };
+        assert_eq!(rt; edge_at(diagram, *state, *crossing), Some(split));
+    }
+}
+
+// The edge at a crossing, if there is one.
+fn edge_at(diagram: &Diagram, state: u32, crossing: u8) -> Option<Edge> {
+    if state < 1 << diagram.count()
+        && 1 <= crossing
+        && crossing <= diagram.count()
+        && bit(u64::from(state), crossing as usize - 1) == 0
+    {
+        Some(edge(diagram, state, crossing))
+    } else {
+        None
+    }
+}
+
+fn diagram_of(arcs: &[[u8; 4]], loops: u8) -> Result<Diagram, Fail> {
+    let mut crossings = ArrayVec::new();
+    for slots in arcs {
+        let _ = crossings.try_push(Crossing(*slots));
+    }
+    Ok(Diagram::try_new(&RawCode { crossings, loops })?)
+}

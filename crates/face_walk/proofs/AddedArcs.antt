@@ -1,0 +1,203 @@
+-- What one more arc does to open darts, faces and pieces.
+use Rattle.std.proofs.Common.{◌≡◌, ◌≢◌, ℕ, inl, inr, ◌⊎◌, ◌+◌, ◌*◌, ◌/◌, ◌<◌, ◌∙◌, [], ◌∷◌, ◌++◌, sym, ap, map, arith, true, not, ◌&&◌, eq-eqb}
+use Rattle.std.specs.Prelude.{slice_index, nat_eq}
+use Rattle.std.specs.List.{range_with_len}
+use Rattle.std.proofs.lemmas.Bool.{cases_eq}
+use Rattle.std.proofs.lemmas.Bool.Decides.{nat_tests}
+use Rattle.kh_types.specs.Classes.{joined}
+use Rattle.kh_types.specs.Darts.{IsPairing, face_step, turned}
+use Rattle.kh_types.specs.Faces.{open_faces, open_pieces, piece_pair}
+use Rattle.kh_types.proofs.JoinedClasses.{joined-together, classes_of-same, classes_of-more}
+use Rattle.kh_types.proofs.Lists.{AllByRecursion-append, AllByRecursion-first, AllByRecursion-second}
+use Rattle.kh_types.proofs.RangeCounts.{but, count_by-but, count_by-alike}
+use Rattle.face_walk.specs.Permutations.{IsExchange, IsMerge}
+use Rattle.face_walk.specs.AddedArcs.{is_open, open_dart_count, with_arc, HasArcMore, JoinsPieces, StaysInPiece}
+use Rattle.face_walk.proofs.RangeImages.{all-map_range, map_range-at}
+use Rattle.face_walk.proofs.Exchanges.{IsMerge-apart, IsMerge-split}
+use Rattle.face_walk.proofs.OpenFaces.{face_back, crossing-below, IsPermutation-face_step, piece_pairs-below, open_faces-in_pieces}
+
+-- an arc can be added between two open darts
+
+at_first : (partner : ℕ → ℕ) (dart other : ℕ) → with_arc partner dart other dart ≡ other
+at_first partner dart other = grind (arith, nat_tests)
+
+at_second : (partner : ℕ → ℕ) (dart other : ℕ) → dart ≢ other → with_arc partner dart other other ≡ dart
+at_second partner dart other apart = grind (arith, nat_tests)
+
+elsewhere : (partner : ℕ → ℕ) (dart other x : ℕ) → x ≢ dart → x ≢ other → with_arc partner dart other x ≡ partner x
+elsewhere partner dart other x not_dart not_other = grind (arith, nat_tests)
+
+pub HasArcMore-with_arc : (m : ℕ) (partner : ℕ → ℕ) (dart other : ℕ) → dart < m → other < m → dart ≢ other
+    → partner dart ≡ dart → partner other ≡ other → HasArcMore m partner (with_arc partner dart other) dart other
+HasArcMore-with_arc m partner dart other dart_below other_below apart dart_open other_open = record {
+  dart_below = dart_below;
+  other_below = other_below;
+  apart = apart;
+  dart_open = dart_open;
+  other_open = other_open;
+  dart_after = at_first partner dart other;
+  other_after = at_second partner dart other apart;
+  others = λ x x_below not_dart not_other. elsewhere partner dart other x not_dart not_other;
+}
+
+-- a dart is one end of the new arc, or the other, or none
+pub ends_or_not : (dart other x : ℕ) → (x ≡ dart) ⊎ ((x ≡ other) ⊎ ((x ≢ dart) × (x ≢ other)))
+ends_or_not dart other x = grind arith
+
+-- the darts are still partners in pairs
+pub IsPairing-more : (m : ℕ) (before after : ℕ → ℕ) (dart other : ℕ) → IsPairing m before → HasArcMore m before after dart other
+    → IsPairing m after
+IsPairing-more m before after dart other pairing more = record {
+  below = λ x x_below. elim (ends_or_not dart other x) [
+    | inl is_dart ↦ omega (arith, ap after is_dart ∙ more.dart_after, more.other_below)
+    | inr beside ↦ elim beside [
+      | inl is_other ↦ omega (arith, ap after is_other ∙ more.other_after, more.dart_below)
+      | inr none ↦ omega (arith, more.others x x_below none.0 none.1, pairing.below x x_below)
+    ]
+  ];
+  back = λ x x_below. elim (ends_or_not dart other x) [
+    | inl is_dart ↦ ap after (ap after is_dart ∙ more.dart_after) ∙ more.other_after ∙ sym is_dart
+    | inr beside ↦ elim beside [
+      | inl is_other ↦ ap after (ap after is_other ∙ more.other_after) ∙ more.dart_after ∙ sym is_other
+      | inr none ↦
+          let back = pairing.back x x_below in
+          ap after (more.others x x_below none.0 none.1)
+          ∙ more.others (before x) (pairing.below x x_below)
+          (λ same. none.0 (sym back ∙ ap before same ∙ more.dart_open))
+          (λ same. none.1 (sym back ∙ ap before same ∙ more.other_open))
+          ∙ back
+    ]
+  ];
+}
+
+-- one more arc leaves two fewer open darts
+
+still_open : (x dart other old new : ℕ) → dart ≢ other → (x ≡ dart → new ≡ other) → (x ≡ other → new ≡ dart)
+    → (x ≢ dart → x ≢ other → new ≡ old) → ((nat_eq old x && not (nat_eq x dart)) && not (nat_eq x other)) ≡ nat_eq new x
+still_open x dart other old new apart at_dart at_other beside = grind (arith, nat_tests)
+
+both_open : (x dart old : ℕ) → old ≡ x → x ≢ dart → (nat_eq old x && not (nat_eq x dart)) ≡ true
+both_open x dart old is_open other = grind (arith, nat_tests)
+
+pub open_dart_count-more : (n : ℕ) (before after : ℕ → ℕ) (dart other : ℕ) → HasArcMore (4 * n) before after dart other
+    → open_dart_count n before ≡ open_dart_count n after + 2
+open_dart_count-more n before after dart other more =
+    let first = count_by-but (is_open before) 0 (4 * n) dart (omega arith) (omega (arith, more.dart_below))
+    (eq-eqb (before dart) dart more.dart_open) in
+    let second = count_by-but (but (is_open before) dart) 0 (4 * n) other (omega arith) (omega (arith, more.other_below))
+    (both_open other dart (before other) more.other_open (λ same. more.apart (sym same))) in
+    let rest = count_by-alike (but (but (is_open before) dart) other) (is_open after) 0 (4 * n)
+    (λ x from below. still_open x dart other (before x) (after x) more.apart
+    (λ is_dart. ap after is_dart ∙ more.dart_after)
+    (λ is_other. ap after is_other ∙ more.other_after)
+    (λ not_dart not_other. more.others x (omega (arith, below)) not_dart not_other)) in
+    omega (arith, first, second, rest)
+
+-- one more arc exchanges two images of the face step
+pub IsExchange-face_step : (m : ℕ) (before after : ℕ → ℕ) (dart other : ℕ) → HasArcMore m before after dart other
+    → IsExchange m (face_step before) (face_step after) dart other
+IsExchange-face_step m before after dart other more = record {
+  x_below = more.dart_below;
+  y_below = more.other_below;
+  apart = more.apart;
+  at_x = ap turned (more.dart_after ∙ sym more.other_open);
+  at_y = ap turned (more.other_after ∙ sym more.dart_open);
+  others = λ x below not_dart not_other. ap turned (more.others x below not_dart not_other);
+}
+
+-- two darts of one face: the new arc splits the face
+pub open_faces-split : (n : ℕ) (before after : ℕ → ℕ) (dart other : ℕ) → IsPairing (4 * n) before
+    → HasArcMore (4 * n) before after dart other
+    → slice_index (open_faces n before) dart ≡ slice_index (open_faces n before) other
+    → IsMerge (open_faces n after) (open_faces n before) dart other
+open_faces-split n before after dart other pairing more together =
+    IsMerge-split (4 * n) (face_step before) (face_back before) (face_step after) dart other
+    (IsPermutation-face_step n before pairing) (IsExchange-face_step (4 * n) before after dart other more) together
+
+-- two darts of different faces: the new arc makes one face of the two
+pub open_faces-join : (n : ℕ) (before after : ℕ → ℕ) (dart other : ℕ) → IsPairing (4 * n) before
+    → HasArcMore (4 * n) before after dart other
+    → slice_index (open_faces n before) dart ≢ slice_index (open_faces n before) other
+    → IsMerge (open_faces n before) (open_faces n after) dart other
+open_faces-join n before after dart other pairing more apart =
+    IsMerge-apart (4 * n) (face_step before) (face_back before) (face_step after) dart other
+    (IsPermutation-face_step n before pairing) (IsExchange-face_step (4 * n) before after dart other more) apart
+
+-- one more arc joins the pieces of its two ends
+
+-- what has one value at the ends of each arc after it has so before, where a bare dart has one end, and at the ends of the new arc
+ends-before : (h before after : ℕ → ℕ) (m dart other x : ℕ) → HasArcMore m before after dart other → x < m
+    → h (x / 4) ≡ h (after x / 4) → h (x / 4) ≡ h (before x / 4)
+ends-before h before after m dart other x more below same = elim (ends_or_not dart other x) [
+  | inl is_dart ↦ ap (λ z. h (z / 4)) (is_dart ∙ sym more.dart_open ∙ ap before (sym is_dart))
+  | inr beside ↦ elim beside [
+    | inl is_other ↦ ap (λ z. h (z / 4)) (is_other ∙ sym more.other_open ∙ ap before (sym is_other))
+    | inr none ↦ same ∙ ap (λ z. h (z / 4)) (more.others x below none.0 none.1)
+  ]
+]
+
+-- and the other way round
+ends-after : (h before after : ℕ → ℕ) (m dart other x : ℕ) → HasArcMore m before after dart other → x < m
+    → h (dart / 4) ≡ h (other / 4) → h (x / 4) ≡ h (before x / 4) → h (x / 4) ≡ h (after x / 4)
+ends-after h before after m dart other x more below arc same = elim (ends_or_not dart other x) [
+  | inl is_dart ↦ ap (λ z. h (z / 4)) is_dart ∙ arc ∙ ap (λ z. h (z / 4)) (sym (ap after is_dart ∙ more.dart_after))
+  | inr beside ↦ elim beside [
+    | inl is_other ↦
+        ap (λ z. h (z / 4)) is_other ∙ sym arc ∙ ap (λ z. h (z / 4)) (sym (ap after is_other ∙ more.other_after))
+    | inr none ↦ same ∙ ap (λ z. h (z / 4)) (sym (more.others x below none.0 none.1))
+  ]
+]
+
+open_pieces-more : (n : ℕ) (before after : ℕ → ℕ) (dart other : ℕ) → IsPairing (4 * n) before
+    → HasArcMore (4 * n) before after dart other → open_pieces n after ≡ joined (open_pieces n before) (dart / 4, other / 4)
+open_pieces-more n before after dart other pairing more =
+    let old = map (piece_pair before) (range_with_len 0 (4 * n)) in
+    let new = map (piece_pair after) (range_with_len 0 (4 * n)) in
+    let arc : ℕ × ℕ = (dart / 4, other / 4) in
+    classes_of-same n new (old ++ arc ∷ [])
+    (piece_pairs-below n after (IsPairing-more (4 * n) before after dart other pairing more))
+    (AllByRecursion-append (λ (pair : ℕ × ℕ). (pair.0 < n) × (pair.1 < n)) old (arc ∷ []) (piece_pairs-below n before pairing)
+    ((crossing-below n dart more.dart_below, crossing-below n other more.other_below), tt))
+    (λ h holds.
+    let at : (x : ℕ) → x < 4 * n → h (x / 4) ≡ h (after x / 4) =
+    λ x below. map_range-at (λ (pair : ℕ × ℕ). h pair.0 ≡ h pair.1) (piece_pair after) 0 (4 * n) x holds (omega arith)
+    (omega (arith, below)) in
+    AllByRecursion-append (λ (pair : ℕ × ℕ). h pair.0 ≡ h pair.1) old (arc ∷ [])
+    (all-map_range (λ (pair : ℕ × ℕ). h pair.0 ≡ h pair.1) (piece_pair before) 0 (4 * n)
+    (λ x below.
+    let small : x < 4 * n = omega (arith, below) in
+    ends-before h before after (4 * n) dart other x more small (at x small)))
+    (at dart more.dart_below ∙ ap (λ z. h (z / 4)) more.dart_after, tt))
+    (λ h holds.
+    let of_old = AllByRecursion-first (λ (pair : ℕ × ℕ). h pair.0 ≡ h pair.1) old (arc ∷ []) holds in
+    let of_arc = AllByRecursion-second (λ (pair : ℕ × ℕ). h pair.0 ≡ h pair.1) old (arc ∷ []) holds in
+    all-map_range (λ (pair : ℕ × ℕ). h pair.0 ≡ h pair.1) (piece_pair after) 0 (4 * n)
+    (λ x below.
+    let small : x < 4 * n = omega (arith, below) in
+    ends-after h before after (4 * n) dart other x more small of_arc.0
+    (map_range-at (λ (pair : ℕ × ℕ). h pair.0 ≡ h pair.1) (piece_pair before) 0 (4 * n) x of_old (omega arith) (omega (arith, below)))))
+    ∙ classes_of-more n old arc
+
+-- an arc between two pieces
+pub JoinsPieces-apart : (n : ℕ) (before after : ℕ → ℕ) (dart other : ℕ) → IsPairing (4 * n) before
+    → HasArcMore (4 * n) before after dart other
+    → slice_index (open_pieces n before) (dart / 4) ≢ slice_index (open_pieces n before) (other / 4)
+    → JoinsPieces n before after dart other
+JoinsPieces-apart n before after dart other pairing more apart = record {
+  pieces = record { apart = apart; one = open_pieces-more n before after dart other pairing more };
+  faces = open_faces-join n before after dart other pairing more
+      (λ same. apart (open_faces-in_pieces n before dart other pairing more.dart_below more.other_below same));
+}
+
+-- an arc inside a piece
+pub StaysInPiece-together : (n : ℕ) (before after : ℕ → ℕ) (dart other : ℕ) → IsPairing (4 * n) before
+    → HasArcMore (4 * n) before after dart other
+    → slice_index (open_pieces n before) (dart / 4) ≡ slice_index (open_pieces n before) (other / 4)
+    → StaysInPiece n before after dart other
+StaysInPiece-together n before after dart other pairing more together = record {
+  pieces = open_pieces-more n before after dart other pairing more ∙ joined-together (open_pieces n before) (dart / 4, other / 4) together;
+  faces = elim (cases_eq (slice_index (open_faces n before) dart) (slice_index (open_faces n before) other)) [
+    | inl same ↦ inr (open_faces-split n before after dart other pairing more same)
+    | inr apart ↦ inl (open_faces-join n before after dart other pairing more apart)
+  ];
+}

@@ -1,0 +1,10 @@
+pub mod Stops
+pub mod Listings
+pub mod Grammar
+pub mod Labels
+pub mod Passes
+pub mod Faults
+pub mod Held
+pub mod Machine
+pub mod Reading
+pub mod Printing

@@ -1,0 +1,37 @@
+-- What the reading of a text comes to: a code, or why there is none. The order is this project's rule.
+use Rattle.std.specs.Prelude.{◌≡◌, ◌⊎◌, ℕ, List, Result, Ok, Err, Some, None}
+use Rattle.kh_types.specs.Code.{Code}
+use Rattle.kh_lex.specs.declared.stop.LexStop.TheVariants as lexical
+use Rattle.kh_lex.specs.Cuts.{Stops}
+use Rattle.kh_lex.specs.Grammar.{LeavesGrammar}
+use Rattle.gauss_code.specs.declared.stop.GaussStop.{GaussStop}
+use Rattle.gauss_code.specs.declared.stop.GaussStop.TheVariants.{Text, Number, NoMemory}
+use Rattle.gauss_code.specs.Listings.{Listing}
+use Rattle.gauss_code.specs.Grammar.{IsText, Lists}
+use Rattle.gauss_code.specs.Faults.{first_fault, signs_of}
+use Rattle.gauss_code.specs.Passes.{code_of}
+
+-- a text reads as a code: it lists what has no fault, and the code is that of its body and signs
+pub record ReadsAs (text : List ℕ) (code : Code) : Type 0 where
+  pub listing : Listing
+  pub places : List ℕ
+  pub lists : Lists text listing places
+  pub good : first_fault listing places ≡ None
+  pub same : code ≡ code_of listing.body (signs_of listing)
+
+-- a text lists what has a fault, and this is the first
+pub record HasFault (text : List ℕ) (stop : GaussStop) : Type 0 where
+  pub listing : Listing
+  pub places : List ℕ
+  pub lists : Lists text listing places
+  pub first : first_fault listing places ≡ Some stop
+
+-- what the reading of a text comes to. A byte that begins no token, or a number that is too large, is the first such fault of the
+-- text, and then the grammar is not asked; where the text leaves the grammar, its labels are not; running out of memory is no
+-- reading
+abbrev pub IsReading : List ℕ → Result Code GaussStop → Type 0
+IsReading text (Ok code) = ReadsAs text code
+IsReading text (Err (Text place)) = Stops 0 text (lexical.Bad place) ⊎ LeavesGrammar IsText text place
+IsReading text (Err (Number place)) = Stops 0 text (lexical.Number place)
+IsReading text (Err NoMemory) = ⊥
+IsReading text (Err stop) = HasFault text stop

@@ -1,0 +1,11 @@
+-- What a fault of the tokens is for the text.
+use Rattle.kh_lex.specs.declared.stop.LexStop.{LexStop}
+use Rattle.kh_lex.specs.declared.stop.LexStop.TheVariants as lexical
+use Rattle.gauss_code.specs.declared.stop.GaussStop.{GaussStop}
+use Rattle.gauss_code.specs.declared.stop.GaussStop.TheVariants.{Text, Number, NoMemory}
+
+-- a byte that begins no token is a fault of the text
+abbrev pub stop_of : LexStop → GaussStop
+stop_of (lexical.Bad place) = Text place
+stop_of (lexical.Number place) = Number place
+stop_of lexical.NoMemory = NoMemory

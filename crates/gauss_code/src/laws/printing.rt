@@ -1,0 +1,18 @@
+//! What is printed is read back.
+
+ghost use Rattle.std.specs.Prelude.{◌≡◌, ◌≤◌, All, IsTrue, Ok, length};
+ghost use Rattle.kh_types.specs.Code.{Code};
+ghost use Rattle.kh_types.specs.Acceptance.{accepted};
+ghost use Rattle.gauss_code.specs.Printing.{gauss_text};
+ghost use Rattle.gauss_code.specs.Reading.{IsReading};
+
+use kh_types::{CROSSINGS, LOOPS};
+
+/// The text of an accepted code within the limits reads as the code. That a diagram's crossings have
+/// four slots each is part of their type.
+pub fn printed_codes_are_read_back()
+    ensures { (code : Code) → IsTrue (accepted code)
+        → All (λ slots. length slots ≡ 4) code.crossings
+        → length code.crossings ≤ CROSSINGS → code.loops ≤ LOOPS
+        → IsReading (gauss_text code) (Ok code) }
+{}

@@ -1,0 +1,97 @@
+-- A polynomial and the list of its coefficients.
+use Rattle.std.proofs.Common.{◌≡◌, ℕ, zero, suc, ◌+◌, ◌*◌, ◌<◌, ◌≤◌, ◌∙◌, List, ◌∷◌, ◌++◌, map, length, get_or, ap, sym, refl, arith, ℤ, pos, neg_ℤ, ◌+ℤ◌, ◌-ℤ◌, ◌≤ℤ◌, codes}
+use Rattle.std.specs.Prelude.{not}
+use Rattle.std.specs.List.{range_with_len, filter}
+use Rattle.std.specs.Ordering.{int_eq}
+use Rattle.std.proofs.lemmas.Int.{ints}
+use Rattle.std.proofs.lemmas.Simd.{map-map}
+use Rattle.std.proofs.lemmas.List.FromFn.{get_or-map-range_with_len, fill_by_all}
+use Rattle.kh_types.specs.Table.{from_minus, IsWithin}
+use Rattle.kh_types.specs.StateSum.{Term, terms, terms_text, polynomial_text}
+use Rattle.kh_types.specs.declared.limits.TheConstants.{EXPONENT}
+use Rattle.kh_types.proofs.QuantumDegrees.{IsWithin-place, place-IsWithin}
+use Rattle.jones_sum.specs.Coefficients.{coefficients_of, element_at, coefficient_in}
+
+-- what two functions make of a range on which they agree
+pub map-range_agree : {X : Type 0} (f g : ℕ → X) (a n : ℕ) → ((x : ℕ) → a ≤ x → x < a + n → f x ≡ g x)
+    → map f (range_with_len a n) ≡ map g (range_with_len a n)
+map-range_agree f g a zero same = refl
+map-range_agree {X} f g a (suc n) same =
+    ap (λ (x : X). x ∷ map f (range_with_len (a + 1) n)) (same a (omega arith) (omega arith))
+    ∙ ap (λ (xs : List X). g a ∷ xs) (map-range_agree f g (a + 1) n (λ x from below. same x (omega arith) (omega arith)))
+
+-- what two functions make of the numbers from -n to n, on which they agree
+pub map-from_minus_agree : {X : Type 0} (f g : ℤ → X) (n : ℕ) → ((i : ℤ) → IsWithin n i → f i ≡ g i)
+    → map f (from_minus n) ≡ map g (from_minus n)
+map-from_minus_agree f g n same =
+    map-map f (λ k. pos k -ℤ pos n) (range_with_len 0 (2 * n + 1))
+    ∙ map-range_agree (λ k. f (pos k -ℤ pos n)) (λ k. g (pos k -ℤ pos n)) 0 (2 * n + 1)
+    (λ k from below. same (pos k -ℤ pos n) (IsWithin-place n k (pos k -ℤ pos n) (omega arith) refl))
+    ∙ sym (map-map g (λ k. pos k -ℤ pos n) (range_with_len 0 (2 * n + 1)))
+
+-- the value at an exponent stands at its place
+pub element_at-map : (f : ℤ → ℤ) (n : ℕ) (i : ℤ) → IsWithin n i → element_at (map f (from_minus n)) (i +ℤ pos n) ≡ f i
+element_at-map f n i within =
+    let place = place-IsWithin n i within in
+    let k = place.0 in
+    let is_place : i +ℤ pos n ≡ pos k = omega (arith, ints, place.2) in
+    ap (λ (z : ℤ). element_at (map f (from_minus n)) z) is_place
+    ∙ ap (λ (xs : List ℤ). get_or xs k (pos 0)) (map-map f (λ m. pos m -ℤ pos n) (range_with_len 0 (2 * n + 1)))
+    ∙ get_or-map-range_with_len (λ m. f (pos m -ℤ pos n)) 0 (2 * n + 1) k k (pos 0) place.1 (omega arith)
+    ∙ ap f (sym place.2)
+
+pub coefficient_in-coefficients_of : (polynomial : ℤ → ℤ) (exponent : ℤ) → IsWithin EXPONENT exponent
+    → coefficient_in (coefficients_of polynomial) exponent ≡ polynomial exponent
+coefficient_in-coefficients_of polynomial exponent within = element_at-map polynomial EXPONENT exponent within
+
+-- a list with the value of each exponent at its place
+filled : (f : ℤ → ℤ) (n : ℕ) (xs : List ℤ) → length xs ≡ 2 * n + 1
+    → ((k : ℕ) → k < 2 * n + 1 → get_or xs k (pos 0) ≡ f (pos k -ℤ pos n)) → xs ≡ map f (from_minus n)
+filled f n xs size each =
+    fill_by_all (λ k. f (pos k -ℤ pos n)) xs (2 * n + 1) (pos 0) size each
+    ∙ sym (map-map f (λ k. pos k -ℤ pos n) (range_with_len 0 (2 * n + 1)))
+
+pub coefficients_of-filled : (polynomial : ℤ → ℤ) (coefficients : List ℤ) → length coefficients ≡ 2 * EXPONENT + 1
+    → ((place : ℕ) → place < 2 * EXPONENT + 1 → get_or coefficients place (pos 0) ≡ polynomial (pos place -ℤ pos EXPONENT))
+    → coefficients ≡ coefficients_of polynomial
+coefficients_of-filled polynomial coefficients = filled polynomial EXPONENT coefficients
+
+-- the terms with exponents up to a size
+abbrev terms_within : ℕ → (ℤ → ℤ) → List Term
+terms_within most polynomial =
+    filter (λ term. not (int_eq term.coefficient (pos 0)))
+    (map (λ exponent. record { coefficient = polynomial exponent; exponent = exponent }) (from_minus most))
+
+terms_within-agree : (most : ℕ) (one other : ℤ → ℤ) → ((exponent : ℤ) → IsWithin most exponent → one exponent ≡ other exponent)
+    → terms_within most one ≡ terms_within most other
+terms_within-agree most one other same =
+    ap (λ (all : List Term). filter (λ term. not (int_eq term.coefficient (pos 0))) all)
+    (map-from_minus_agree (term_of one) (term_of other) most (λ exponent within. ap (made exponent) (same exponent within)))
+  where
+    made : ℤ → ℤ → Term
+    made exponent coefficient = record { coefficient = coefficient; exponent = exponent }
+
+    term_of : (ℤ → ℤ) → ℤ → Term
+    term_of polynomial exponent = made exponent (polynomial exponent)
+
+-- the Jones line of terms
+abbrev line_of : List Term → List ℕ
+line_of terms = codes "jones" ++ (terms_text terms ++ codes "\n")
+
+pub polynomial_text-agree : (one other : ℤ → ℤ)
+    → ((exponent : ℤ) → IsWithin EXPONENT exponent → one exponent ≡ other exponent) → polynomial_text one ≡ polynomial_text other
+polynomial_text-agree one other same = ap line_of (terms_within-agree EXPONENT one other same)
+
+pub polynomial_text-coefficients_of : (polynomial : ℤ → ℤ)
+    → polynomial_text (coefficient_in (coefficients_of polynomial)) ≡ polynomial_text polynomial
+polynomial_text-coefficients_of polynomial =
+    polynomial_text-agree (coefficient_in (coefficients_of polynomial)) polynomial (coefficient_in-coefficients_of polynomial)
+
+-- an exponent lies between -EXPONENT and EXPONENT
+pub within-low : (i : ℤ) → IsWithin EXPONENT i → neg_ℤ (pos EXPONENT) ≤ℤ i
+within-low i within = let place = place-IsWithin EXPONENT i within in omega (arith, ints, place.1, place.2)
+
+pub within-high : (i : ℤ) → IsWithin EXPONENT i → i ≤ℤ pos EXPONENT
+within-high i within = let place = place-IsWithin EXPONENT i within in omega (arith, ints, place.1, place.2)
+
+pub ruleset exponents = (within-low, within-high)

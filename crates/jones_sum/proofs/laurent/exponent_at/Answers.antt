@@ -1,0 +1,7 @@
+use Rattle.std.proofs.Common.{arith}
+use Rattle.std.proofs.lemmas.Int.{ints}
+use Rattle.kh_types.proofs.QuantumDegrees.{IsWithin-place}
+use Rattle.jones_sum.proofs.laurent.exponent_at.Goals as goal
+
+pub returns-clause-within : goal.returns-clause-within
+returns-clause-within c = IsWithin-place 72 c.args.place _ c.requires (omega (arith, ints))
