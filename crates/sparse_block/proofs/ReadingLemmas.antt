@@ -1,5 +1,5 @@
 -- The columns and rows of a complex as lines of numbers, and their entries.
-use Rattle.std.proofs.Common.{◌≡◌, ℕ, zero, suc, ◌+◌, ◌<◌, ◌≤◌, ◌∙◌, ◌⊎◌, inl, inr, List, [], ◌∷◌, ℤ, pos, negsuc, ◌+ℤ◌, ◌-ℤ◌, length, map, get_or, ap, sym, subst, refl, arith}
+use Rattle.std.proofs.Common.{◌≡◌, ℕ, ◌+◌, ◌<◌, ◌≤◌, ◌∙◌, ◌⊎◌, inl, inr, List, [], ℤ, pos, negsuc, ◌+ℤ◌, ◌-ℤ◌, length, ap, subst, refl, arith}
 use Rattle.std.specs.Prelude.{slice_index, slice_index_or, All}
 use Rattle.std.proofs.Math.ListN as plain
 use Rattle.std.proofs.lemmas.Bool.Decides.{leb_tells}

@@ -1,5 +1,5 @@
 -- The worked complex is one, and its columns are entries.
-use Rattle.std.proofs.Common.{◌≡◌, ℕ, zero, suc, ◌+◌, ◌<◌, ◌≤◌, ◌^◌, ◌∙◌, List, [], ◌∷◌, ℤ, pos, neg_ℤ, refl, ap, sym, subst₂, length, map, arith}
+use Rattle.std.proofs.Common.{◌≡◌, ℕ, zero, suc, ◌+◌, ◌<◌, ◌^◌, ◌∙◌, List, [], ◌∷◌, ℤ, pos, neg_ℤ, refl, ap, sym, subst₂, length, map, arith}
 use Rattle.std.specs.Prelude.{slice_index_or, All}
 use Rattle.std.specs.List.{AllByRecursion, range_with_len}
 use Rattle.std.specs.Global.{Vec}

@@ -1,8 +1,4 @@
-use Rattle.std.proofs.Common.{arith}
 use Rattle.std.specs.Prelude.{slice_index}
-use Rattle.std.proofs.lemmas.List.{length-map}
-use Rattle.std.specs.Global.{Vec}
-use Rattle.kh_types.specs.Generators.{Generator}
 use Rattle.sparse_block.specs.Inside.{lists_in, lines_in}
 use Rattle.sparse_block.proofs.WorkedLemmas.{worked-build}
 use Rattle.sparse_block.proofs.tests.worked.Goals as goal
