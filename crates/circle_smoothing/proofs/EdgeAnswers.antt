@@ -7,7 +7,7 @@ use Rattle.kh_types.specs.Code.{Code, IsCrossing, place_of}
 use Rattle.kh_types.specs.Circles.{circles_of}
 use Rattle.kh_types.proofs.ClassLemmas.{slice_index-joined}
 use Rattle.circle_smoothing.specs.CircleNumbers.{circle_number, number_of}
-use Rattle.circle_smoothing.specs.Edges.{HaveMerged, IsEdge, arc_at_slot, state_behind}
+use Rattle.circle_smoothing.specs.Edges.{HasNumbersBelow, HaveMerged, IsEdge, arc_at_slot, state_behind}
 use Rattle.circle_smoothing.specs.declared.change.Edge.{Edge}
 use Rattle.circle_smoothing.specs.declared.change.Edge.TheVariants.{Merge, Split}
 use Rattle.circle_smoothing.proofs.CircleCycles.{IsNamed-circles}
@@ -116,3 +116,12 @@ IsEdge-split code state crossing x y a b change is is_crossing zero is_x is_y is
       | inr back ↦ HaveMerged-slots code behind state crossing is is_crossing back
     ] in
     rw (is_change, is_x, is_a, is_b) parted
+
+-- the numbers that it names are those of circles
+pub HasNumbersBelow-merge : (limit x y to : ℕ) (change : Edge) → change ≡ Merge (min x y) (max x y) to → x < limit → y < limit
+    → to < limit → HasNumbersBelow limit change
+HasNumbersBelow-merge limit x y to change is x_below y_below to_below = rw is (omega arith, omega arith, to_below)
+
+pub HasNumbersBelow-split : (limit x a b : ℕ) (change : Edge) → change ≡ Split x (min a b) (max a b) → x < limit → a < limit
+    → b < limit → HasNumbersBelow limit change
+HasNumbersBelow-split limit x a b change is x_below a_below b_below = rw is (x_below, omega arith, omega arith)

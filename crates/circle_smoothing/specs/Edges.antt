@@ -88,3 +88,8 @@ Renumbers code state crossing (Merge a b to) =
     (to ≡ a) × AreRenumbered code state (state_behind state crossing) a b
 Renumbers code state crossing (Split from a b) =
     (from ≡ a) × AreRenumbered code (state_behind state crossing) state a b
+
+-- the numbers of circles that an edge names are below a limit
+abbrev pub HasNumbersBelow : ℕ → Edge → Type 0
+HasNumbersBelow limit (Merge a b to) = (a < limit) × (b < limit) × (to < limit)
+HasNumbersBelow limit (Split from a b) = (from < limit) × (a < limit) × (b < limit)

@@ -5,6 +5,7 @@
 mod change;
 mod finding;
 pub mod laws;
+mod limits;
 mod numbered;
 mod numbering;
 mod prepared;
@@ -15,5 +16,6 @@ mod walk;
 
 pub use change::Edge;
 pub use finding::{circles, edge, generator_count};
+pub use limits::GENERATORS;
 pub use numbered::Circles;
 pub use prepared::Smoothings;

@@ -7,10 +7,10 @@ ghost use Rattle.kh_types.specs.Code.{IsArc, IsCrossing, place_of};
 ghost use Rattle.kh_types.specs.Circles.{circle_count};
 ghost use Rattle.kh_types.specs.Darts.{dart_count, partner_at};
 ghost use Rattle.kh_types.specs.declared.limits.TheConstants.{CIRCLES, CROSSINGS};
-ghost use Rattle.circle_smoothing.specs.Edges.{IsEdge, arc_at_slot, state_behind};
+ghost use Rattle.circle_smoothing.specs.Edges.{IsEdge, state_behind};
 ghost use Rattle.circle_smoothing.specs.Prepared.{arc_at};
 
-use crate::change::{Edge, merge, split};
+use crate::change::Edge;
 use crate::numbered::Circles;
 use crate::numbering::{count_of, numbers_of};
 use crate::tables::{arcs_of, partners_of, starts_of};
@@ -90,17 +90,8 @@ impl Smoothings {
         requires smoothing { bit state (place_of crossing) ≡ 0 }
         ensures { IsEdge self.now state crossing result }
     {
-        // (the size of the diagram, by its type)
-        let _ = &self.diagram;
-        let before = self.circles(state);
         let behind = self.circles(self.state_behind(state, crossing));
-        let (first, third) = (self.arc_at_slot(crossing, 0), self.arc_at_slot(crossing, 2));
-        let (x, y) = (before.of_arc(first), before.of_arc(third));
-        if x != y {
-            merge(x, y, behind.of_arc(first))
-        } else {
-            split(x, behind.of_arc(first), behind.of_arc(third))
-        }
+        self.circles(state).edge(&behind, crossing)
     }
 
     /// The state behind an edge.
@@ -114,18 +105,6 @@ impl Smoothings {
         // (the size of the diagram, by its type)
         let _ = &self.diagram;
         state + (1 << (crossing - 1))
-    }
-
-    /// The arc at a slot of a crossing.
-    fn arc_at_slot(&self, crossing: u8, slot: u8) -> u8
-        requires crossing { IsCrossing self.now.crossings crossing }
-        requires slot { slot < 4 }
-        ensures arc { result ≡ arc_at_slot self.now crossing slot }
-        ensures within { IsArc self.now.crossings result }
-    {
-        // (the size of the diagram, by its type)
-        let _ = &self.diagram;
-        self.arc_at(4 * (crossing - 1) + slot)
     }
 
     /// The diagram.
