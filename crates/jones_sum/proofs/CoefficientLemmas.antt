@@ -29,6 +29,13 @@ map-from_minus_agree f g n same =
     (λ k from below. same (pos k -ℤ pos n) (IsWithin-place n k (pos k -ℤ pos n) (omega arith) refl))
     ∙ sym (map-map g (λ k. pos k -ℤ pos n) (range_with_len 0 (2 * n + 1)))
 
+-- what a function makes of the numbers from -n to n, at a place
+pub get_or-map-from_minus : {X : Type 0} (f : ℤ → X) (n k : ℕ) (d : X) → k < 2 * n + 1
+    → get_or (map f (from_minus n)) k d ≡ f (pos k -ℤ pos n)
+get_or-map-from_minus {X} f n k d below =
+    ap (λ (xs : List X). get_or xs k d) (map-map f (λ m. pos m -ℤ pos n) (range_with_len 0 (2 * n + 1)))
+    ∙ get_or-map-range_with_len (λ m. f (pos m -ℤ pos n)) 0 (2 * n + 1) k k d below (omega arith)
+
 -- the value at an exponent stands at its place
 pub element_at-map : (f : ℤ → ℤ) (n : ℕ) (i : ℤ) → IsWithin n i → element_at (map f (from_minus n)) (i +ℤ pos n) ≡ f i
 element_at-map f n i within =
@@ -36,16 +43,14 @@ element_at-map f n i within =
     let k = place.0 in
     let is_place : i +ℤ pos n ≡ pos k = omega (arith, ints, place.2) in
     ap (λ (z : ℤ). element_at (map f (from_minus n)) z) is_place
-    ∙ ap (λ (xs : List ℤ). get_or xs k (pos 0)) (map-map f (λ m. pos m -ℤ pos n) (range_with_len 0 (2 * n + 1)))
-    ∙ get_or-map-range_with_len (λ m. f (pos m -ℤ pos n)) 0 (2 * n + 1) k k (pos 0) place.1 (omega arith)
-    ∙ ap f (sym place.2)
+    ∙ get_or-map-from_minus f n k (pos 0) place.1 ∙ ap f (sym place.2)
 
 pub coefficient_in-coefficients_of : (polynomial : ℤ → ℤ) (exponent : ℤ) → IsWithin EXPONENT exponent
     → coefficient_in (coefficients_of polynomial) exponent ≡ polynomial exponent
 coefficient_in-coefficients_of polynomial exponent within = element_at-map polynomial EXPONENT exponent within
 
 -- a list with the value of each exponent at its place
-filled : (f : ℤ → ℤ) (n : ℕ) (xs : List ℤ) → length xs ≡ 2 * n + 1
+pub filled : (f : ℤ → ℤ) (n : ℕ) (xs : List ℤ) → length xs ≡ 2 * n + 1
     → ((k : ℕ) → k < 2 * n + 1 → get_or xs k (pos 0) ≡ f (pos k -ℤ pos n)) → xs ≡ map f (from_minus n)
 filled f n xs size each =
     fill_by_all (λ k. f (pos k -ℤ pos n)) xs (2 * n + 1) (pos 0) size each

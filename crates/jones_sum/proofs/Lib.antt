@@ -4,3 +4,5 @@ pub mod StateSumLemmas
 pub mod TriangleLemmas
 pub mod TermLemmas
 pub mod KindLemmas
+pub mod TableLemmas
+pub mod EulerLemmas

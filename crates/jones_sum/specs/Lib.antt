@@ -1,3 +1,5 @@
 pub mod Coefficients
 pub mod Binomials
 pub mod Kinds
+pub mod Tables
+pub mod WorkedTables

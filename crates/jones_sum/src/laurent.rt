@@ -44,7 +44,7 @@ impl Laurent {
 }
 
 /// The place of an exponent's coefficient.
-fn place_of(exponent: i16) -> usize
+pub(crate) fn place_of(exponent: i16) -> usize
     requires low { neg_ℤ (pos EXPONENT) ≤ℤ exponent }
     requires high { exponent ≤ℤ pos EXPONENT }
     ensures place { exponent +ℤ pos EXPONENT ≡ pos result }

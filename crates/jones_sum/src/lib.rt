@@ -1,14 +1,22 @@
-//! The unnormalised Jones polynomial of a diagram, as the sum over its states.
+//! The unnormalised Jones polynomial of a diagram, as the sum over its states, and homology tables,
+//! with their graded Euler characteristic.
 #![tactic(auto)]
 
+mod characteristic;
 mod finding;
 mod kinds;
 mod laurent;
 pub mod laws;
+mod row;
+mod table;
 mod terms;
 #[cfg(test)]
 mod tests;
 mod triangle;
 
+pub use characteristic::euler;
 pub use finding::jones;
 pub use laurent::{COEFFICIENTS, Laurent, exponent_at};
+pub use laws::table_laws;
+pub use row::Row;
+pub use table::Table;

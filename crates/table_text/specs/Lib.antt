@@ -1,1 +1,4 @@
 pub mod Terms
+pub mod Lines
+pub mod Reading
+pub mod Words

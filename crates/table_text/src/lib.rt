@@ -1,8 +1,20 @@
-//! The printed texts of a diagram's invariants: so far the Jones line.
+//! The texts of a diagram's invariants: tables, printed and read, and the Jones line.
 #![tactic(auto)]
 
 mod jones_line;
+pub mod laws;
+mod limits;
+mod lines;
+mod printer;
+mod reader;
+mod stop;
 #[cfg(test)]
 mod tests;
+mod words;
 
 pub use jones_line::print_jones;
+pub use jones_sum::{Row, Table};
+pub use limits::TABLE_BYTES;
+pub use printer::print_table;
+pub use reader::read_table;
+pub use stop::TableStop;

@@ -1,5 +1,7 @@
 //! The texts of known links.
 
+mod tables;
+
 use crate::print_jones;
 use arrayvec::ArrayVec;
 use jones_sum::jones;

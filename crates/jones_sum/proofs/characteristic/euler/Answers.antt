@@ -1,0 +1,73 @@
+use Rattle.std.proofs.Common.{◌≡◌, ◌+◌, ◌≤◌, ◌∙◌, List, length, ap, sym, subst, arith, take, get_or, ℤ, pos, ◌+ℤ◌, w64, to_z, of_z}
+use Rattle.std.specs.Prelude.{unsigned_abs}
+use Rattle.std.specs.List.{All, sum_by}
+use Rattle.std.proofs.lemmas.Int.{ints}
+use Rattle.std.proofs.Math.Seq.{take-length}
+use Rattle.kh_types.specs.StateSum.{signed_by}
+use Rattle.kh_types.specs.Table.{Row}
+use Rattle.jones_sum.specs.Coefficients.{coefficients_of}
+use Rattle.jones_sum.specs.Tables.{IsRow}
+use Rattle.jones_sum.proofs.CoefficientLemmas.{within-low, within-high}
+use Rattle.jones_sum.proofs.EulerLemmas.{IsRow-item, coefficients-small, coefficients_of-row, rows_euler}
+use Rattle.jones_sum.proofs.characteristic.euler.Goals as goal
+
+pub place_of-requires : goal.place_of-requires
+place_of-requires c =
+    let rows = c.rows-rows.result.now in
+    let are : All IsRow rows = subst (All IsRow) (sym c.rows-rows.ensures) c.table_laws.ensures.table.rows in
+    let row = c.row-item.result in
+    let is = IsRow-item rows row c.rows.row-index are c.rows-test.true c.row-item.is in
+    let same : c.row.inside.j ≡ row.j = ap (λ (r : Row). r.j) c.row.view_is in
+    record {
+      low = omega (arith, ints, within-low row.j is.j, same);
+      high = omega (arith, ints, within-high row.j is.j, same);
+    }
+
+-- the coefficient and the dimension together are in size at most the sum of all dimensions
+small : (c : goal.After-coefficients-1)
+    → unsigned_abs (get_or c.rows.coefficients c.place_of.result (pos 0)) + unsigned_abs c.signed_dim.result ≤ 20069744640
+small c =
+    let rows = c.rows-rows.result.now in
+    let row = c.row-item.result in
+    let signed : c.signed_dim.result ≡ signed_by row.i row.dim =
+    c.signed_dim.ensures ∙ ap (λ (r : Row). signed_by r.i r.dim) c.row.view_is in
+    omega (
+      arith,
+      coefficients-small rows row c.rows.row-index c.place_of.result c.rows.coefficients c.rows-test.true c.row-item.is
+          c.rows.invariant c.place_of.ensures.within,
+      ap unsigned_abs signed,
+      ap (sum_by (λ (r : Row). r.dim)) c.rows-rows.ensures,
+      c.table_laws.ensures.total,
+    )
+
+pub overflow_add-coefficients : goal.overflow_add-coefficients
+overflow_add-coefficients c = let h = small c in omega (arith, ints, h)
+
+pub rows-preserved : goal.rows-preserved
+rows-preserved c =
+    let rows = c.rows-rows.result.now in
+    let row = c.row-item.result in
+    let k = c.rows.row-index in
+    let place = c.place_of.result in
+    let old = c.rows.coefficients in
+    let are : All IsRow rows = subst (All IsRow) (sym c.rows-rows.ensures) c.table_laws.ensures.table.rows in
+    let is = IsRow-item rows row k are c.rows-test.true c.row-item.is in
+    let same : c.row.inside.j ≡ row.j = ap (λ (r : Row). r.j) c.row.view_is in
+    let signed : c.signed_dim.result ≡ signed_by row.i row.dim =
+    c.signed_dim.ensures ∙ ap (λ (r : Row). signed_by r.i r.dim) c.row.view_is in
+    let h = small c in
+    let sum : to_z w64 (of_z w64 (to_z w64 (of_z w64 (get_or old place (pos 0))) +ℤ to_z w64 (of_z w64 c.signed_dim.result)))
+    ≡ get_or old place (pos 0) +ℤ c.signed_dim.result = omega (arith, ints, h) in
+    coefficients_of-row rows row k place old
+    (to_z w64 (of_z w64 (to_z w64 (of_z w64 (get_or old place (pos 0))) +ℤ to_z w64 (of_z w64 c.signed_dim.result))))
+    c.rows-test.true c.row-item.is c.rows.invariant
+    (omega (arith, ints, c.place_of.ensures.place, within-low row.j is.j, within-high row.j is.j, same))
+    c.place_of.ensures.within (sum ∙ ap (λ (z : ℤ). get_or old place (pos 0) +ℤ z) signed)
+
+pub returns : goal.returns
+returns c =
+    let rows = c.rows-rows.result.now in
+    let all : c.rows.row-index ≡ length rows = omega arith in
+    c.rows.invariant
+    ∙ ap (λ (some : List Row). coefficients_of (rows_euler some))
+    (ap (λ k. take k rows) all ∙ take-length rows ∙ c.rows-rows.ensures)

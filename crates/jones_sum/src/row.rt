@@ -1,0 +1,48 @@
+//! Rows of homology tables.
+
+ghost use Rattle.std.specs.Prelude.{◌≡◌, ◌↔◌, IsTrue};
+ghost use Rattle.kh_types.specs.StateSum.{signed_by};
+ghost use Rattle.jones_sum.specs.Tables.{IsBefore};
+
+use std::marker::Model;
+
+/// A row of a homology table: the quantum degree j, the homological degree i and the dimension.
+/// Contracts see the definition's row.
+#[derive(Clone, Copy, Debug, PartialEq, Eq)]
+pub struct Row {
+    pub j: i16,
+    pub i: i16,
+    pub dim: u32,
+}
+
+impl Model for Row {
+    ghost use Rattle.kh_types.specs.Table as tables;
+
+    ghost Value = { tables.Row };
+
+    ghost view = { λ row. record { j = row.j; i = row.i; dim = row.dim } };
+
+    ghost inverse = { λ row. record { j = row.j; i = row.i; dim = row.dim } };
+}
+
+impl Row {
+    /// Whether the row comes before another: by the quantum degree, then by the homological degree.
+    pub fn is_before(self, other: Row) -> bool
+        ensures { IsTrue result ↔ IsBefore self other }
+    {
+        self.j < other.j || (self.j == other.j && self.i < other.i)
+    }
+
+    /// The dimension, with a minus sign where the homological degree is odd.
+    #[tactic(auto, using(crate::proofs::EulerLemmas::signs))]
+    pub(crate) fn signed_dim(self) -> i64
+        ensures { result ≡ signed_by self.i self.dim }
+    {
+        let dim = i64::from(self.dim);
+        if self.i.unsigned_abs() % 2 == 0 {
+            dim
+        } else {
+            -dim
+        }
+    }
+}
