@@ -77,7 +77,7 @@ entries_from-push a v line =
 
 -- entries that ascend are those of the line that they denote
 
-map-range_agree : {X : Type 0} (f g : ℕ → X) (a n : ℕ) → ((x : ℕ) → a ≤ x → f x ≡ g x)
+pub map-range_agree : {X : Type 0} (f g : ℕ → X) (a n : ℕ) → ((x : ℕ) → a ≤ x → f x ≡ g x)
     → map f (range_with_len a n) ≡ map g (range_with_len a n)
 map-range_agree f g a zero same = refl
 map-range_agree {X} f g a (suc n) same =

@@ -24,10 +24,10 @@ use Rattle.sparse_block.proofs.DegreeLemmas.{length-degrees_from, degree-within,
 
 module _ {p : ℕ} {low : ℤ} {names : List (List Generator)} {alive : List (List Bool)} {columns rows : List (List (List Entry))}
     (kept : IsKept p low names alive columns rows) where
-  degree-count : length (degrees_from alive columns) ≡ length names
+  pub degree-count : length (degrees_from alive columns) ≡ length names
   degree-count = length-degrees_from alive columns ∙ length-same alive names kept.sizes
 
-  within-alive : (k : ℕ) → k < length names → k < length alive
+  pub within-alive : (k : ℕ) → k < length names → k < length alive
   within-alive k within = omega (arith, within, length-same alive names kept.sizes)
 
   pub length-columns : length columns ≡ length names
@@ -66,14 +66,19 @@ pub distance-from : (low i : ℤ) (k : ℕ) → FitsSigned w16 low → FitsSigne
     → to_z w16 (of_z w16 i) ≡ to_z w16 (of_z w16 low) +ℤ pos k → i ≡ low +ℤ pos k
 distance-from low i k low_fits i_fits is_distance = omega (arith, ints)
 
+-- a degree from the least one on, as signed numbers
+pub distance-may : (low i : ℤ) → FitsSigned w16 low → FitsSigned w16 i → low ≤ℤ i
+    → to_z w16 (of_z w16 low) ≤ℤ to_z w16 (of_z w16 i)
+distance-may low i low_fits i_fits from = omega (arith, ints)
+
 -- what contracts see of a complex in memory
-abbrev IsSeen : ℤ → List (List Generator) → List (List Bool) → List (List (List Entry)) → NamedComplex → Type 0
+abbrev pub IsSeen : ℤ → List (List Generator) → List (List Bool) → List (List (List Entry)) → NamedComplex → Type 0
 IsSeen low names alive columns named =
     let seen : NamedComplex = record { complex = complex_from low alive columns; names = names } in seen ≡ named
 
 module _ {p : ℕ} {low : ℤ} {names : List (List Generator)} {alive : List (List Bool)} {columns rows : List (List (List Entry))}
     {named : NamedComplex} (kept : IsKept p low names alive columns rows) (seen : IsSeen low names alive columns named) where
-  degree-at : (i : ℤ) (k : ℕ) → i ≡ low +ℤ pos k → degree_from_lists alive columns k ≡ degree_of named.complex i
+  pub degree-at : (i : ℤ) (k : ℕ) → i ≡ low +ℤ pos k → degree_from_lists alive columns k ≡ degree_of named.complex i
   degree-at i k is_distance =
       sym (degree_of-at low i alive columns k is_distance) ∙ ap (λ (named : NamedComplex). degree_of named.complex i) seen
 

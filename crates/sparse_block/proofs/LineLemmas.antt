@@ -9,7 +9,7 @@ use Rattle.sparse_block.specs.declared.entry.Entry.{Entry}
 use Rattle.sparse_block.specs.Entries.{AreEntries}
 use Rattle.sparse_block.specs.Inside.{entries_in, lists_in, lines_in}
 
-abbrev items : SmallVec Entry → List Entry
+abbrev pub items : SmallVec Entry → List Entry
 items line = line.items
 
 pub line-entries_in : (lines : List (SmallVec Entry)) (k : ℕ) (line : SmallVec Entry) → k < length lines → line ≡ get_or lines k line

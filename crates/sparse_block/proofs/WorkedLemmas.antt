@@ -1,19 +1,22 @@
 -- The worked complex is one, and its columns are entries.
-use Rattle.std.proofs.Common.{◌≡◌, ℕ, zero, suc, ◌+◌, ◌<◌, ◌^◌, ◌∙◌, List, [], ◌∷◌, ℤ, pos, neg_ℤ, refl, ap, sym, subst₂, length, map, arith}
+use Rattle.std.proofs.Common.{◌≡◌, ◌≢◌, ℕ, zero, suc, ◌+◌, ◌<◌, ◌^◌, ◌∙◌, ◌⊎◌, List, [], ◌∷◌, inl, inr, ℤ, pos, ◌+ℤ◌, neg_ℤ, refl, ap, sym, subst, subst₂, length, map, arith}
 use Rattle.std.specs.Prelude.{slice_index_or, All}
-use Rattle.std.specs.List.{AllByRecursion, range_with_len}
+use Rattle.std.specs.List.{AllByRecursion}
 use Rattle.std.specs.Global.{Vec}
+use Rattle.std.proofs.lemmas.Bool.Decides.{eqb_tells}
 use Rattle.std.proofs.lemmas.List.Elements.{All-nil, All-cons, All-from_recursion}
 use Rattle.smallvec.specs.SmallVec.{SmallVec}
-use Rattle.kh_types.specs.Complex.{IsComplex}
-use Rattle.kh_types.specs.Generators.{Generator, generator_of}
+use Rattle.kh_types.specs.Complex.{IsComplex, IsPivot, Pivot, cancel}
+use Rattle.kh_types.specs.Generators.{Generator}
 use Rattle.kh_types.proofs.ComplexLemmas.{complex-from_test}
 use Rattle.sparse_block.specs.declared.entry.Entry.{Entry}
-use Rattle.sparse_block.specs.Entries.{AreEntries, entry_at}
-use Rattle.sparse_block.specs.Complexes.{HaveEntries, SquaresToZero, sparse_complex}
+use Rattle.sparse_block.specs.Changes.{Exchange, PlacedLine, AreChanged, pivot_at, placed}
+use Rattle.sparse_block.specs.Entries.{AreEntries, entry_at, entries_of}
+use Rattle.sparse_block.specs.Complexes.{HaveEntries, NamedComplex, SquaresToZero, column_of, place_count, row_of, sparse_complex}
 use Rattle.sparse_block.specs.Inside.{lists_in, lines_in, entries_in}
-use Rattle.sparse_block.specs.Worked.{worked_names, worked_first, worked_columns, worked_complex, point_names, point_columns}
+use Rattle.sparse_block.specs.Worked.{worked_names, worked_columns, worked_complex, worked_change, middle_names, middle_columns, middle_complex, middle_change, point_names, point_columns}
 use Rattle.sparse_block.proofs.AscendingLemmas.{entries-from_ascend}
+use Rattle.sparse_block.proofs.ReadingLemmas.{column-entries}
 
 pub worked-three : IsComplex 3 (worked_complex 2 1 1).complex
 worked-three = complex-from_test 3 (worked_complex 2 1 1).complex (omega arith) refl
@@ -64,33 +67,27 @@ worked-entries p x y z above x_other x_below y_other y_below z_other z_below (su
 
 -- what the tests make in memory
 
-pub names-made : (first second third fourth : Vec Generator) (made : List (Vec Generator))
-    → made ≡ first ∷ second ∷ third ∷ fourth ∷ []
-    → first.items ≡ map (generator_of 0) (range_with_len 0 6) → second.items ≡ map (generator_of 1) (range_with_len 0 3)
-    → third.items ≡ map (generator_of 3) (range_with_len 0 1) → fourth.items ≡ map (generator_of 7) (range_with_len 0 0)
-    → lists_in made ≡ worked_names
-names-made first second third fourth made are firsts seconds thirds fourths =
-    let a : List Generator = map (generator_of 0) (range_with_len 0 6) in
-    let b : List Generator = map (generator_of 1) (range_with_len 0 3) in
-    let c : List Generator = map (generator_of 3) (range_with_len 0 1) in
+pub names-made : (a b c d : List Generator) (first second third fourth : Vec Generator) (made : List (Vec Generator))
+    → made ≡ first ∷ second ∷ third ∷ fourth ∷ [] → first.items ≡ a → second.items ≡ b → third.items ≡ c → fourth.items ≡ d
+    → lists_in made ≡ a ∷ b ∷ c ∷ d ∷ []
+names-made a b c d first second third fourth made are firsts seconds thirds fourths =
     ap lists_in are
     ∙ ap (λ (xs : List Generator). xs ∷ second.items ∷ third.items ∷ fourth.items ∷ []) firsts
     ∙ ap (λ (xs : List Generator). a ∷ xs ∷ third.items ∷ fourth.items ∷ []) seconds
     ∙ ap (λ (xs : List Generator). a ∷ b ∷ xs ∷ fourth.items ∷ []) thirds
     ∙ ap (λ (xs : List Generator). a ∷ b ∷ c ∷ xs ∷ []) fourths
 
-pub columns-made : (x y z : ℕ) (first second third fourth : Vec (SmallVec Entry)) (made : List (Vec (SmallVec Entry)))
-    → made ≡ first ∷ second ∷ third ∷ fourth ∷ [] → entries_in first.items ≡ worked_first
-    → entries_in second.items ≡ (entry_at (0, x) ∷ []) ∷ (entry_at (0, y) ∷ []) ∷ (entry_at (0, z) ∷ []) ∷ []
-    → entries_in third.items ≡ [] ∷ [] → fourth.items ≡ [] → lines_in made ≡ worked_columns x y z
-columns-made x y z first second third fourth made are firsts seconds thirds fourths =
-    let b : List (List Entry) = (entry_at (0, x) ∷ []) ∷ (entry_at (0, y) ∷ []) ∷ (entry_at (0, z) ∷ []) ∷ [] in
+pub columns-made : (a b c d : List (List Entry)) (first second third fourth : Vec (SmallVec Entry))
+    (made : List (Vec (SmallVec Entry))) → made ≡ first ∷ second ∷ third ∷ fourth ∷ [] → entries_in first.items ≡ a
+    → entries_in second.items ≡ b → entries_in third.items ≡ c → entries_in fourth.items ≡ d
+    → lines_in made ≡ a ∷ b ∷ c ∷ d ∷ []
+columns-made a b c d first second third fourth made are firsts seconds thirds fourths =
     ap lines_in are
     ∙ ap
     (λ (xs : List (List Entry)). xs ∷ entries_in second.items ∷ entries_in third.items ∷ entries_in fourth.items ∷ []) firsts
-    ∙ ap (λ (xs : List (List Entry)). worked_first ∷ xs ∷ entries_in third.items ∷ entries_in fourth.items ∷ []) seconds
-    ∙ ap (λ (xs : List (List Entry)). worked_first ∷ b ∷ xs ∷ entries_in fourth.items ∷ []) thirds
-    ∙ ap (λ (xs : List (SmallVec Entry)). worked_first ∷ b ∷ ([] ∷ []) ∷ entries_in xs ∷ []) fourths
+    ∙ ap (λ (xs : List (List Entry)). a ∷ xs ∷ entries_in third.items ∷ entries_in fourth.items ∷ []) seconds
+    ∙ ap (λ (xs : List (List Entry)). a ∷ b ∷ xs ∷ entries_in fourth.items ∷ []) thirds
+    ∙ ap (λ (xs : List (List Entry)). a ∷ b ∷ c ∷ xs ∷ []) fourths
 
 -- and what `build` asks of it
 
@@ -137,3 +134,156 @@ point-build names columns are_names are_columns =
       entries = point-entries 3;
       squares = point-complex.product;
     })
+
+-- the complex with a middle
+
+middle-five : IsComplex 5 middle_complex.complex
+middle-five = complex-from_test 5 middle_complex.complex (omega arith) refl
+
+middle-entries : HaveEntries 5 middle_names middle_columns
+middle-entries zero =
+    All-cons (AreEntries 5 2) (entry_at (0, 1) ∷ entry_at (1, 1) ∷ []) []
+    (column-entries 5 middle_complex.complex (neg_ℤ (pos 1)) 0 middle-five) (All-nil (AreEntries 5 2))
+middle-entries (suc zero) =
+    All-cons (AreEntries 5 2) (entry_at (0, 2) ∷ entry_at (1, 2) ∷ []) ((entry_at (0, 3) ∷ entry_at (1, 3) ∷ []) ∷ [])
+    (column-entries 5 middle_complex.complex (pos 0) 0 middle-five)
+    (All-cons (AreEntries 5 2) (entry_at (0, 3) ∷ entry_at (1, 3) ∷ []) []
+    (column-entries 5 middle_complex.complex (pos 0) 1 middle-five) (All-nil (AreEntries 5 2)))
+middle-entries (suc (suc zero)) =
+    All-cons (AreEntries 5 1) (entry_at (0, 1) ∷ []) ((entry_at (0, 4) ∷ []) ∷ [])
+    (column-entries 5 middle_complex.complex (pos 1) 0 middle-five)
+    (All-cons (AreEntries 5 1) (entry_at (0, 4) ∷ []) [] (column-entries 5 middle_complex.complex (pos 1) 1 middle-five)
+    (All-nil (AreEntries 5 1)))
+middle-entries (suc (suc (suc zero))) = All-cons (AreEntries 5 0) [] [] (no-entry 5 0) (All-nil (AreEntries 5 0))
+middle-entries (suc (suc (suc (suc k)))) =
+    All-nil (AreEntries 5 (length (slice_index_or middle_names (suc (suc (suc (suc k))) + 1) [])))
+
+pub middle-build : (names : List (List Generator)) (columns : List (List (List Entry))) → names ≡ middle_names
+    → columns ≡ middle_columns → CanBuild 5 (neg_ℤ (pos 1)) names columns
+middle-build names columns are_names are_columns =
+    subst₂ (CanBuild 5 (neg_ℤ (pos 1))) (sym are_names) (sym are_columns)
+    (record {
+      some = omega arith;
+      counts = few-names middle_names (omega arith, (omega arith, (omega arith, (omega arith, tt))));
+      sizes = refl;
+      entries = middle-entries;
+      squares = middle-five.product;
+    })
+
+-- what `exchange` asks of a change
+pub record CanExchange (p : ℕ) (named : NamedComplex) (change : Exchange) : Type 0 where
+  pub pivot : IsPivot named.complex change.pivot
+  pub columns : AreChanged (place_count named.complex change.pivot.degree) (column_of named.complex change.pivot.degree)
+      (column_of (cancel p named.complex change.pivot) change.pivot.degree) change.columns
+  pub rows : AreChanged (place_count named.complex (change.pivot.degree +ℤ pos 1)) (row_of named.complex change.pivot.degree)
+      (row_of (cancel p named.complex change.pivot) change.pivot.degree) change.rows
+
+-- the first of two lines are named, and all others stay
+two-changed : (size first second : ℕ) (before after : ℕ → List ℕ) (a b : List Entry) → first < size → second < size
+    → a ≡ entries_of (after first) → b ≡ entries_of (after second)
+    → ((place : ℕ) → place ≢ first → place ≢ second → before place ≡ after place)
+    → AreChanged size before after (placed first a ∷ placed second b ∷ [])
+two-changed size first second before after a b first_within second_within is_a is_b others =
+    let lines : List PlacedLine = placed first a ∷ placed second b ∷ [] in
+    record {
+      within = All-from_recursion (λ (line : PlacedLine). line.place < size) lines (first_within, (second_within, tt));
+      entries = All-from_recursion (λ (line : PlacedLine). line.entries ≡ entries_of (after line.place)) lines (is_a, (is_b, tt));
+      all = λ place differ.
+          elim (eqb_tells first place) [
+            | inl here ↦ (0, omega arith, here.1)
+            | inr not_first ↦
+                elim (eqb_tells second place) [
+                  | inl here ↦ (1, omega arith, here.1)
+                  | inr not_second ↦
+                      absurd (differ (others place (λ same. not_first.1 (sym same)) (λ same. not_second.1 (sym same))))
+                ]
+          ];
+    }
+
+worked-columns_stay : (place : ℕ) → place ≢ 1 → place ≢ 4
+    → column_of (worked_complex 2 3 1).complex (neg_ℤ (pos 1)) place
+    ≡ column_of (cancel 5 (worked_complex 2 3 1).complex worked_change.pivot) (neg_ℤ (pos 1)) place
+worked-columns_stay zero first second = refl
+worked-columns_stay (suc zero) first second = absurd (first refl)
+worked-columns_stay (suc (suc zero)) first second = refl
+worked-columns_stay (suc (suc (suc zero))) first second = refl
+worked-columns_stay (suc (suc (suc (suc zero)))) first second = absurd (second refl)
+worked-columns_stay (suc (suc (suc (suc (suc zero))))) first second = refl
+worked-columns_stay (suc (suc (suc (suc (suc (suc place)))))) first second = refl
+
+worked-rows_stay : (place : ℕ) → place ≢ 1 → place ≢ 2
+    → row_of (worked_complex 2 3 1).complex (neg_ℤ (pos 1)) place
+    ≡ row_of (cancel 5 (worked_complex 2 3 1).complex worked_change.pivot) (neg_ℤ (pos 1)) place
+worked-rows_stay zero first second = refl
+worked-rows_stay (suc zero) first second = absurd (first refl)
+worked-rows_stay (suc (suc zero)) first second = absurd (second refl)
+worked-rows_stay (suc (suc (suc place))) first second = refl
+
+middle-columns_stay : (place : ℕ) → place ≢ 0 → place ≢ 1
+    → column_of middle_complex.complex (pos 0) place
+    ≡ column_of (cancel 5 middle_complex.complex middle_change.pivot) (pos 0) place
+middle-columns_stay zero first second = absurd (first refl)
+middle-columns_stay (suc zero) first second = absurd (second refl)
+middle-columns_stay (suc (suc place)) first second = refl
+
+middle-rows_stay : (place : ℕ) → place ≢ 0 → place ≢ 1
+    → row_of middle_complex.complex (pos 0) place
+    ≡ row_of (cancel 5 middle_complex.complex middle_change.pivot) (pos 0) place
+middle-rows_stay zero first second = absurd (first refl)
+middle-rows_stay (suc zero) first second = absurd (second refl)
+middle-rows_stay (suc (suc place)) first second = refl
+
+worked-exchange : CanExchange 5 (worked_complex 2 3 1) worked_change
+worked-exchange =
+    let before = (worked_complex 2 3 1).complex in
+    let after = cancel 5 before worked_change.pivot in
+    record {
+      pivot = λ none. omega (arith, none);
+      columns =
+          two-changed 6 1 4 (column_of before (neg_ℤ (pos 1))) (column_of after (neg_ℤ (pos 1))) [] [] (omega arith) (omega arith)
+          refl refl worked-columns_stay;
+      rows =
+          two-changed 3 1 2 (row_of before (neg_ℤ (pos 1))) (row_of after (neg_ℤ (pos 1)))
+          (entry_at (0, 1) ∷ entry_at (2, 1) ∷ entry_at (3, 1) ∷ entry_at (5, 1) ∷ []) [] (omega arith) (omega arith) refl refl
+          worked-rows_stay;
+    }
+
+middle-exchange : CanExchange 5 middle_complex middle_change
+middle-exchange =
+    let before = middle_complex.complex in
+    let after = cancel 5 before middle_change.pivot in
+    record {
+      pivot = λ none. omega (arith, none);
+      columns =
+          two-changed 2 0 1 (column_of before (pos 0)) (column_of after (pos 0)) [] [] (omega arith) (omega arith) refl refl
+          middle-columns_stay;
+      rows =
+          two-changed 2 0 1 (row_of before (pos 0)) (row_of after (pos 0)) [] [] (omega arith) (omega arith) refl refl
+          middle-rows_stay;
+    }
+
+pub worked-can_exchange : (named : NamedComplex) (change : Exchange) → named ≡ worked_complex 2 3 1 → change ≡ worked_change
+    → CanExchange 5 named change
+worked-can_exchange named change is_complex is_change =
+    subst₂ (CanExchange 5) (sym is_complex) (sym is_change) worked-exchange
+
+pub middle-can_exchange : (named : NamedComplex) (change : Exchange) → named ≡ middle_complex → change ≡ middle_change
+    → CanExchange 5 named change
+middle-can_exchange named change is_complex is_change =
+    subst₂ (CanExchange 5) (sym is_complex) (sym is_change) middle-exchange
+
+-- what `drop_pair` asks of a pivot
+pub record CanDrop (named : NamedComplex) (pivot : Pivot) : Type 0 where
+  pub is_pivot : IsPivot named.complex pivot
+  pub is_alone : (length (entries_of (column_of named.complex pivot.degree pivot.column)) ≡ 1)
+      ⊎ (length (entries_of (row_of named.complex pivot.degree pivot.row)) ≡ 1)
+
+pub worked-column_alone : (named : NamedComplex) → named ≡ worked_complex 2 1 1 → CanDrop named (pivot_at (pos 0) 0 0)
+worked-column_alone named is =
+    subst (λ (named : NamedComplex). CanDrop named (pivot_at (pos 0) 0 0)) (sym is)
+    (record { is_pivot = λ none. omega (arith, none); is_alone = inl refl })
+
+pub middle-row_alone : (named : NamedComplex) → named ≡ middle_complex → CanDrop named (pivot_at (neg_ℤ (pos 1)) 0 0)
+middle-row_alone named is =
+    subst (λ (named : NamedComplex). CanDrop named (pivot_at (neg_ℤ (pos 1)) 0 0)) (sym is)
+    (record { is_pivot = λ none. omega (arith, none); is_alone = inr refl })

@@ -1,4 +1,6 @@
 pub mod Entries
 pub mod Complexes
 pub mod Inside
+pub mod Changes
+pub mod Clearing
 pub mod Worked

@@ -1,13 +1,13 @@
 //! A complex at one quantum degree.
 
-ghost use Rattle.std.specs.Prelude.{◌≡◌, ◌<◌, pos, ◌+ℤ◌, ◌≤ℤ◌, length};
+ghost use Rattle.std.specs.Prelude.{◌≡◌, ◌<◌, pos, ◌+ℤ◌, ◌≤ℤ◌, length, slice_index_or, false};
 ghost use Rattle.std.specs.List.{list_all};
-ghost use Rattle.kh_types.specs.Complex.{alive_count, entry_of, is_zero};
+ghost use Rattle.kh_types.specs.Complex.{alive_count, degree_of, entry_of, is_zero};
 ghost use Rattle.sparse_block.specs.Complexes.{column_of, high_of, name_of, place_count, row_of};
 ghost use Rattle.sparse_block.specs.Entries.{entries_of};
 ghost use Rattle.sparse_block.specs.Inside.{are_empty};
 
-use crate::counts::{alive_count, name_count};
+use crate::counts::{alive_at, alive_count, name_count};
 use crate::laws::complex_laws;
 use crate::lines::{line_at, value_at};
 use crate::{Entry, Generator, INLINE_ENTRIES};
@@ -83,6 +83,16 @@ impl<F: PrimeField> Complex<F> {
         alive_count(&self.alive, distance(self.low, i))
     }
 
+    /// Whether a place of a degree is alive; none is outside of the complex.
+    pub fn is_alive(&self, i: i16, place: u32) -> bool
+        ensures { result ≡ slice_index_or (degree_of self.now.complex i).alive place false }
+    {
+        if i < self.low {
+            return false;
+        }
+        alive_at(&self.alive, distance(self.low, i), place)
+    }
+
     /// The entry of the differential out of degree i at a row and a column.
     pub fn entry(&self, i: i16, row: u32, column: u32) -> F
         requires low { self.now.complex.low ≤ℤ i }
@@ -143,7 +153,7 @@ fn are_empty(rows: &[SmallVec<Entry, INLINE_ENTRIES>]) -> bool
 }
 
 /// How far a degree is above the least one.
-fn distance(low: i16, i: i16) -> usize
+pub(crate) fn distance(low: i16, i: i16) -> usize
     requires { low ≤ℤ i }
     ensures { i ≡ low +ℤ pos result }
 {

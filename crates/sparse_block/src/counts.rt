@@ -1,6 +1,6 @@
 //! Counts of the places of a degree, by its number from the least degree on.
 
-ghost use Rattle.std.specs.Prelude.{◌≡◌, ◌<◌, ◌≤◌, ◌^◌, [], length, slice_index_or, All};
+ghost use Rattle.std.specs.Prelude.{◌≡◌, ◌<◌, ◌≤◌, ◌^◌, [], length, slice_index_or, All, false};
 ghost use Rattle.std.specs.List.{count_by};
 ghost use Rattle.sparse_block.specs.Inside.{lists_in};
 
@@ -25,6 +25,16 @@ pub(crate) fn alive_count(alive: &[Vec<bool>], k: usize) -> u32
     match alive.get(k) {
         Some(degree) => live_count(degree) as u32,
         None => 0,
+    }
+}
+
+/// Whether a place of degree number `k` is alive; none is past the end.
+pub(crate) fn alive_at(alive: &[Vec<bool>], k: usize, place: u32) -> bool
+    ensures { result ≡ slice_index_or (slice_index_or (lists_in alive.now) k []) place false }
+{
+    match alive.get(k) {
+        Some(degree) => degree.get(place as usize).copied().unwrap_or(false),
+        None => false,
     }
 }
 

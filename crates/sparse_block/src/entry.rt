@@ -1,7 +1,7 @@
 //! The entries of columns and rows.
 
 /// How many entries a column or a row holds in place, before it takes memory of its own.
-pub const INLINE_ENTRIES: usize = 4;
+pub const INLINE_ENTRIES: usize = 12;
 
 /// An entry other than zero of a column or a row.
 #[derive(Clone, Copy, Debug, Default, PartialEq, Eq)]

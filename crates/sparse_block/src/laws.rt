@@ -3,6 +3,8 @@
 ghost use Rattle.std.specs.Prelude.{◌≡◌, ℕ, ◌<◌, ◌^◌, ℤ, neg_ℤ, pos, ◌+ℤ◌, ◌≤ℤ◌, List, [], ◌∷◌};
 ghost use Rattle.std.specs.Prelude.{length, map, slice_index, All};
 ghost use Rattle.kh_types.specs.Complex.{Complex as Plain, IsComplex, degree_of, entry_of};
+ghost use Rattle.kh_types.specs.Complex.{IsPivot, Pivot, cancel};
+ghost use Rattle.prime_field.specs.Residues.{IsField};
 ghost use Rattle.sparse_block.specs.Complexes.{column_of, place_count, row_of};
 ghost use Rattle.sparse_block.specs.Entries.{AreEntries, entries_of, entry_at, line_of, value_at};
 ghost use Rattle.sparse_block.specs.Worked.{worked_complex};
@@ -63,4 +65,10 @@ pub fn worked_matrices()
         ≡ entry_at (1, 2) ∷ entry_at (4, 2) ∷ [] }
     ensures three { IsComplex 3 (worked_complex 2 1 1).complex }
     ensures five { IsComplex 5 (worked_complex 2 3 1).complex }
+{}
+
+/// Over a field, the cancellation of an entry other than 0 leaves a complex of a complex.
+pub fn cancellations_leave_complexes()
+    ensures { (p : ℕ) (complex : Plain) (pivot : Pivot) → IsField p → IsComplex p complex
+        → IsPivot complex pivot → IsComplex p (cancel p complex pivot) }
 {}

@@ -2,6 +2,9 @@
 #![tactic(auto)]
 
 mod building;
+mod cancelling;
+mod change;
+mod clearing;
 mod complex;
 mod counts;
 mod entry;
@@ -12,6 +15,7 @@ mod lines;
 mod tests;
 
 pub use building::build;
+pub use change::{Change, Line};
 pub use complex::Complex;
 pub use entry::{Entry, INLINE_ENTRIES};
 pub use generator::Generator;

@@ -18,6 +18,8 @@ use std::test::Fail;
 
 const NONE: [Entry; 0] = [];
 
+mod cancelling;
+
 type Columns = Vec<SmallVec<Entry, INLINE_ENTRIES>>;
 
 fn entry(place: u32, value: u8) -> Entry
@@ -88,17 +90,23 @@ fn worked<F: PrimeField>(alloc: Global, last: [u8; 3]) -> Result<Complex<F>, NoM
         (worked_columns (slice_index last 0) (slice_index last 1) (slice_index last 2)) }
     requires squares { SquaresToZero F.P
         (worked_complex (slice_index last 0) (slice_index last 1) (slice_index last 2)).complex }
+    ensures { IfOk result (λ made.
+        made ≡ worked_complex (slice_index last 0) (slice_index last 1) (slice_index last 2)) }
 {
     let names = names(alloc)?;
     let columns = columns(alloc, last)?;
     build(alloc, -1, names, columns)
 }
 
-fn over_three(alloc: Global) -> Result<Complex<F3>, NoMemory> {
+fn over_three(alloc: Global) -> Result<Complex<F3>, NoMemory>
+    ensures { IfOk result (λ made. made ≡ worked_complex 2 1 1) }
+{
     worked(alloc, [2, 1, 1])
 }
 
-fn over_five(alloc: Global) -> Result<Complex<F5>, NoMemory> {
+fn over_five(alloc: Global) -> Result<Complex<F5>, NoMemory>
+    ensures { IfOk result (λ made. made ≡ worked_complex 2 3 1) }
+{
     worked(alloc, [2, 3, 1])
 }
 

@@ -1,4 +1,8 @@
-use Rattle.std.specs.Prelude.{slice_index}
+use Rattle.std.proofs.Common.{◌≡◌, List, pos, neg_ℤ, subst₂}
+use Rattle.std.specs.Prelude.{slice_index, IfOk}
+use Rattle.kh_types.specs.Generators.{Generator}
+use Rattle.sparse_block.specs.declared.entry.Entry.{Entry}
+use Rattle.sparse_block.specs.Complexes.{sparse_complex}
 use Rattle.sparse_block.specs.Inside.{lists_in, lines_in}
 use Rattle.sparse_block.proofs.WorkedLemmas.{worked-build}
 use Rattle.sparse_block.proofs.tests.worked.Goals as goal
@@ -34,3 +38,10 @@ build-requires-clause-squares g c κs within =
     (lists_in c.in_ok-names.names.items) (lines_in c.in_ok-columns.columns.items) c.in_ok-names.ensures c.in_ok-columns.ensures
     c.requires.entries c.requires.squares in
     can.squares
+
+pub returns : goal.returns
+returns g c =
+    subst₂
+    (λ (names : List (List Generator)) (columns : List (List (List Entry))).
+    IfOk c.build.result (λ made. made ≡ sparse_complex (neg_ℤ (pos 1)) names columns))
+    c.in_ok-names.ensures c.in_ok-columns.ensures c.build.ensures
