@@ -1,0 +1,135 @@
+-- The lines across a pivot are those that its cancellation changes.
+use Rattle.std.proofs.Common.{◌≡◌, ℕ, suc, ◌+◌, ◌-◌, ◌*◌, ◌%◌, ◌<◌, ◌∙◌, ◌⊎◌, inl, inr, List, [], ◌∷◌, pos, ◌+ℤ◌, length, map, get_or, ap, ap₂, sym, subst, refl, arith}
+use Rattle.std.specs.Prelude.{slice_index}
+use Rattle.std.proofs.Math.ListN as plain
+use Rattle.std.proofs.Math.Nat.{add-mod_right, mod-eq_of_lt, zero-mod}
+use Rattle.std.proofs.lemmas.Bool.Decides.{eqb_tells}
+use Rattle.std.specs.List.{Contains}
+use Rattle.std.proofs.lemmas.Simd.{map-map}
+use Rattle.std.proofs.lemmas.List.{get_or-map, length-map}
+use Rattle.kh_types.specs.Complex.{Complex, IsComplex, IsPivot, Pivot, cancel, degree_of, entry_of}
+use Rattle.kh_types.specs.Rank.{minus_mod}
+use Rattle.kh_types.proofs.CancelLemmas.{sizes-cancel}
+use Rattle.prime_field.specs.Residues.{IsField, inverse_mod, product_mod}
+use Rattle.sparse_block.specs.declared.entry.Entry.{Entry}
+use Rattle.sparse_block.specs.Entries.{AreEntries, entries_of}
+use Rattle.sparse_block.specs.Changes.{AreChanged, PlacedLine, places_of}
+use Rattle.sparse_block.specs.Complexes.{column_of, place_count, row_of}
+use Rattle.sparse_block.proofs.ReadingLemmas.{column-entries, number-column_of, row-entries}
+use Rattle.cancel_step.specs.Copies.{columns_across, line_across, rows_across}
+use Rattle.cancel_step.proofs.EntryValues.{HasEntry, entry-at_number}
+use Rattle.cancel_step.proofs.UpdateLemmas.{entry-along_column, entry-cancel}
+use Rattle.cancel_step.proofs.CopiedLemmas.{blank, line-across_at}
+
+-- they are the lines that the cancellation changes
+
+lists-alike : (xs ys : List ℕ) → length xs ≡ length ys → ((k : ℕ) → slice_index xs k ≡ slice_index ys k) → xs ≡ ys
+lists-alike [] [] sizes same = refl
+lists-alike [] (y ∷ ys) sizes same = absurd (omega (arith, sizes))
+lists-alike (x ∷ xs) [] sizes same = absurd (omega (arith, sizes))
+lists-alike (x ∷ xs) (y ∷ ys) sizes same =
+    ap₂ (λ (x : ℕ) (xs : List ℕ). x ∷ xs) (same 0) (lists-alike xs ys (omega (arith, sizes)) (λ k. same (suc k)))
+
+places-across : (line : ℕ → List ℕ) (es : List Entry) → places_of (map (line_across line) es) ≡ map (λ e. e.place) es
+places-across line es = map-map (λ (line : PlacedLine). line.place) (line_across line) es
+
+module _ (p size : ℕ) (before after : ℕ → List ℕ) (across : List ℕ) (es : List Entry) (are_entries : es ≡ entries_of across)
+    (are : AreEntries p size es) where
+  pub changed-across : ((place : ℕ) → slice_index across place ≡ 0 → before place ≡ after place)
+      → AreChanged size before after (map (line_across after) es)
+  changed-across stays =
+      record {
+        within = λ k d within.
+            let inside : k < length es = omega (arith, within, length-map es (line_across after)) in
+            subst (λ (line : PlacedLine). line.place < size) (sym (line-across_at after es k blank d inside))
+            (are.places k blank inside);
+        entries = λ k d within.
+            let inside : k < length es = omega (arith, within, length-map es (line_across after)) in
+            subst (λ (line : PlacedLine). line.entries ≡ entries_of (after line.place)) (sym (line-across_at after es k blank d inside))
+            refl;
+        all = λ place changes.
+            elim (eqb_tells (slice_index across place) 0) [
+              | inl none ↦ absurd (changes (stays place none.1))
+              | inr other ↦
+                  let has : HasEntry es place blank =
+                  subst (λ (es : List Entry). HasEntry es place blank) (sym are_entries) (entry-at_number across place blank other.1) in
+                  subst (λ (places : List ℕ). Contains places place) (sym (places-across after es)) (
+                    has.at,
+                    omega (arith, has.within, length-map es (λ (e : Entry). e.place)),
+                    get_or-map (λ (e : Entry). e.place) es has.at blank place has.within ∙ has.is_place,
+                  )
+            ];
+      }
+
+-- without a way back through the pivot an entry stays
+
+no_way : (p x inverse y : ℕ) → (x ≡ 0) ⊎ (y ≡ 0) → product_mod p x inverse * y ≡ 0
+no_way p x inverse y (inl none) =
+    let nothing : product_mod p 0 inverse ≡ 0 =
+    let e : 0 * inverse ≡ 0 = omega arith in ap (λ (n : ℕ). n % p) e ∙ zero-mod p in
+    ap (λ (x : ℕ). product_mod p x inverse * y) none ∙ ap (λ (n : ℕ). n * y) nothing ∙ omega arith
+no_way p x inverse y (inr none) = ap (λ (y : ℕ). product_mod p x inverse * y) none ∙ omega arith
+
+minus_mod-nothing_less : (p x y : ℕ) → x < p → y ≡ 0 → minus_mod p x y ≡ x
+minus_mod-nothing_less p x y below none =
+    let e : x + (p - 0) ≡ x + p = omega arith in
+    ap (λ (y : ℕ). minus_mod p x y) none ∙ ap (λ (rest : ℕ). (x + (p - rest)) % p) (zero-mod p) ∙ ap (λ (n : ℕ). n % p) e
+    ∙ add-mod_right x p ∙ mod-eq_of_lt below
+
+module _ (p : ℕ) (complex : Complex) (pivot : Pivot) (field : IsField p) (is : IsComplex p complex) (is_pivot : IsPivot complex pivot)
+  where
+    pub entry-stays : (row column : ℕ)
+        → (entry_of complex pivot.degree pivot.row column ≡ 0) ⊎ (entry_of complex pivot.degree row pivot.column ≡ 0)
+        → entry_of complex pivot.degree row column ≡ entry_of (cancel p complex pivot) pivot.degree row column
+    entry-stays row column way =
+        let i = pivot.degree in
+        let M : ℕ → ℕ → ℕ = entry_of complex i in
+        let inverse = inverse_mod p (M pivot.row pivot.column) in
+        let number = product_mod p (M pivot.row column) inverse * M row pivot.column in
+        let nothing : number ≡ 0 = no_way p (M pivot.row column) inverse (M row pivot.column) way in
+        sym (minus_mod-nothing_less p (M row column) number (is.below i row column) nothing)
+        ∙ entry-along_column p pivot.row pivot.column M field (is.below i) is_pivot row column
+        ∙ sym (entry-cancel p complex pivot row column is is_pivot)
+
+    column-size : (place : ℕ)
+        → length (column_of complex pivot.degree place) ≡ length (column_of (cancel p complex pivot) pivot.degree place)
+    column-size place =
+        let matrix = (degree_of complex pivot.degree).matrix in
+        let after = (degree_of (cancel p complex pivot) pivot.degree).matrix in
+        omega (
+          arith,
+          length-map matrix (λ (row : List ℕ). slice_index row place),
+          length-map after (λ (row : List ℕ). slice_index row place),
+          length-map {A = List ℕ} {B = ℕ} matrix length,
+          length-map {A = List ℕ} {B = ℕ} after length,
+          ap (λ (sizes : List ℕ). length sizes) (sizes-cancel p complex pivot pivot.degree),
+        )
+
+    row-size : (place : ℕ) → length (row_of complex pivot.degree place) ≡ length (row_of (cancel p complex pivot) pivot.degree place)
+    row-size place =
+        sym (plain.get_or-map length (degree_of complex pivot.degree).matrix place [])
+        ∙ sym (ap (λ (sizes : List ℕ). get_or sizes place 0) (sizes-cancel p complex pivot pivot.degree))
+        ∙ plain.get_or-map length (degree_of (cancel p complex pivot) pivot.degree).matrix place []
+
+    pub columns-changed : AreChanged (place_count complex pivot.degree) (column_of complex pivot.degree)
+        (column_of (cancel p complex pivot) pivot.degree) (columns_across complex pivot (cancel p complex pivot))
+    columns-changed =
+        let i = pivot.degree in
+        changed-across p (place_count complex i) (column_of complex i) (column_of (cancel p complex pivot) i) (row_of complex i pivot.row)
+        (entries_of (row_of complex i pivot.row)) refl (row-entries p complex i pivot.row is)
+        (λ place none.
+        lists-alike (column_of complex i place) (column_of (cancel p complex pivot) i place) (column-size place)
+        (λ k.
+        number-column_of complex i k place ∙ entry-stays k place (inl none)
+        ∙ sym (number-column_of (cancel p complex pivot) i k place)))
+
+    pub rows-changed : AreChanged (place_count complex (pivot.degree +ℤ pos 1)) (row_of complex pivot.degree)
+        (row_of (cancel p complex pivot) pivot.degree) (rows_across complex pivot (cancel p complex pivot))
+    rows-changed =
+        let i = pivot.degree in
+        changed-across p (place_count complex (i +ℤ pos 1)) (row_of complex i) (row_of (cancel p complex pivot) i)
+        (column_of complex i pivot.column) (entries_of (column_of complex i pivot.column)) refl
+        (column-entries p complex i pivot.column is)
+        (λ place none.
+        lists-alike (row_of complex i place) (row_of (cancel p complex pivot) i place) (row-size place)
+        (λ k. entry-stays place k (inr (sym (number-column_of complex i place pivot.column) ∙ none))))

@@ -1,0 +1,151 @@
+-- What stays as cancellations go on: the degrees, the places, and that empty columns are empty.
+use Rattle.std.proofs.Common.{◌≡◌, ℕ, ◌∙◌, inl, List, [], ◌∷◌, ◌++◌, ℤ, pos, ◌+ℤ◌, ◌-ℤ◌, length, ap, sym, subst, refl, Bool, true, false, Result, Ok, Err}
+use Rattle.std.specs.Prelude.{nat_eq, if◌then◌else◌, OnErr, OnOk}
+use Rattle.kh_types.specs.Complex.{Complex, Degree, IsComplex, IsPivot, Pivot, cancel, degree_of, entry_in, entry_of}
+use Rattle.kh_types.specs.History.{IsLegal, replay}
+use Rattle.prime_field.specs.Residues.{IsField}
+use Rattle.plain_matrix.proofs.Entries.{entry-without_column, entry-without_row}
+use Rattle.sparse_block.specs.Complexes.{NamedComplex, column_of, high_of, place_count}
+use Rattle.sparse_block.specs.Entries.{entries_of}
+use Rattle.sparse_block.proofs.ReadingLemmas.{number-column_of}
+use Rattle.sparse_block.proofs.CancelledDegrees.{Where, where_is, degree-after_pivot, degree-before_pivot, degree-elsewhere}
+use Rattle.sparse_block.proofs.CancelledMatrices.{pivot_column-cancel}
+use Rattle.sparse_block.proofs.CancelledComplexes.{complex-cancel}
+use Rattle.cancel_step.specs.Histories.{ComesByCancelling}
+use Rattle.cancel_step.proofs.HistoryLemmas.{complex-replay, degrees-replay, legal-append, low-replay, places-replay, replay-append}
+use Rattle.cancel_step.proofs.EntryValues.{entries-zeros, number-none}
+use Rattle.cancel_step.proofs.ChangedLemmas.{entry-stays}
+use Rattle.cancel_step.proofs.ReadingLemmas.{AreEmptyDown}
+
+-- no cancellation, one, and some after others
+
+pub comes-none : (p : ℕ) (before after : Complex) → after ≡ before → ComesByCancelling p before after
+comes-none p before after same = record { history = []; legal = tt; replayed = same }
+
+pub comes-one : (p : ℕ) (before after : Complex) (pivot : Pivot) → IsPivot before pivot → after ≡ cancel p before pivot
+    → ComesByCancelling p before after
+comes-one p before after pivot is_pivot same = record { history = pivot ∷ []; legal = (is_pivot, tt); replayed = same }
+
+pub comes-both : (p : ℕ) (first second third : Complex) → ComesByCancelling p first second → ComesByCancelling p second third
+    → ComesByCancelling p first third
+comes-both p first second third before after =
+    let same = before.replayed in
+    record {
+      history = before.history ++ after.history;
+      legal = legal-append p first before.history after.history before.legal
+          (subst (λ (complex : Complex). IsLegal p complex after.history) same after.legal);
+      replayed = after.replayed ∙ ap (λ (complex : Complex). replay p complex after.history) same
+          ∙ sym (replay-append p first before.history after.history);
+    }
+
+-- degrees and places stay
+
+pub high-comes : (p : ℕ) (before after : Complex) → ComesByCancelling p before after → high_of after ≡ high_of before
+high-comes p before after comes =
+    let low : after.low ≡ before.low =
+    ap (λ (complex : Complex). complex.low) comes.replayed ∙ low-replay p before comes.history in
+    let count : length after.degrees ≡ length before.degrees =
+    ap (λ (complex : Complex). length complex.degrees) comes.replayed ∙ degrees-replay p before comes.history in
+    ap (λ (low : ℤ). low +ℤ pos (length after.degrees) -ℤ pos 1) low
+    ∙ ap (λ (count : ℕ). before.low +ℤ pos count -ℤ pos 1) count
+
+pub degrees-comes : (p : ℕ) (before after : Complex) → ComesByCancelling p before after
+    → length after.degrees ≡ length before.degrees
+degrees-comes p before after comes =
+    ap (λ (complex : Complex). length complex.degrees) comes.replayed ∙ degrees-replay p before comes.history
+
+pub places-comes : (p : ℕ) (before after : Complex) (i : ℤ) → ComesByCancelling p before after
+    → place_count after i ≡ place_count before i
+places-comes p before after i comes =
+    ap (λ (complex : Complex). place_count complex i) comes.replayed ∙ places-replay p before comes.history i
+
+-- an empty column stays empty
+
+chosen-zero : (test : Bool) (x : ℕ) → x ≡ 0 → (if test then 0 else x) ≡ 0
+chosen-zero true x none = refl
+chosen-zero false x none = none
+
+zero_column-cancel : (p : ℕ) (complex : Complex) (pivot : Pivot) (i : ℤ) (row column : ℕ) → IsField p → IsComplex p complex
+    → IsPivot complex pivot → ((r : ℕ) → entry_of complex i r column ≡ 0) → entry_of (cancel p complex pivot) i row column ≡ 0
+zero_column-cancel p complex pivot i row column field is is_pivot zeros =
+    elim (where_is i pivot.degree) [
+      | Where.is_at here ↦
+          let at : (r : ℕ) → entry_of complex pivot.degree r column ≡ 0 =
+          λ r. ap (λ (i : ℤ). entry_of complex i r column) (sym here) ∙ zeros r in
+          ap (λ (i : ℤ). entry_of (cancel p complex pivot) i row column) here
+          ∙ sym (entry-stays p complex pivot field is is_pivot row column (inl (at pivot.row))) ∙ at row
+      | Where.is_after here ↦
+          ap (λ (degree : Degree). entry_in degree.matrix row column) (degree-after_pivot p complex pivot i here)
+          ∙ entry-without_column pivot.row (degree_of complex i).matrix row column
+          ∙ chosen-zero (nat_eq column pivot.row) (entry_of complex i row column) (zeros row)
+      | Where.is_before here ↦
+          ap (λ (degree : Degree). entry_in degree.matrix row column) (degree-before_pivot p complex pivot i here)
+          ∙ entry-without_row pivot.column (degree_of complex i).matrix row column
+          ∙ chosen-zero (nat_eq row pivot.column) (entry_of complex i row column) (zeros row)
+      | Where.is_elsewhere not_here not_after not_before ↦
+          ap (λ (degree : Degree). entry_in degree.matrix row column)
+          (degree-elsewhere p complex pivot i not_here not_after not_before)
+          ∙ zeros row
+    ]
+
+empty-cancel : (p : ℕ) (complex : Complex) (pivot : Pivot) (i : ℤ) (column : ℕ) → IsField p → IsComplex p complex
+    → IsPivot complex pivot → entries_of (column_of complex i column) ≡ []
+    → entries_of (column_of (cancel p complex pivot) i column) ≡ []
+empty-cancel p complex pivot i column field is is_pivot empty =
+    entries-zeros (column_of (cancel p complex pivot) i column)
+    (λ row.
+    number-column_of (cancel p complex pivot) i row column
+    ∙ zero_column-cancel p complex pivot i row column field is is_pivot
+    (λ r. sym (number-column_of complex i r column) ∙ number-none (column_of complex i column) r empty))
+
+empty-replay : (p : ℕ) (complex : Complex) (history : List Pivot) (i : ℤ) (column : ℕ) → IsField p → IsComplex p complex
+    → IsLegal p complex history → entries_of (column_of complex i column) ≡ []
+    → entries_of (column_of (replay p complex history) i column) ≡ []
+empty-replay p complex [] i column field is legal empty = empty
+empty-replay p complex (pivot ∷ later) i column field is legal empty =
+    empty-replay p (cancel p complex pivot) later i column field (complex-cancel p complex pivot field is legal.0) legal.1
+    (empty-cancel p complex pivot i column field is legal.0 empty)
+
+pub empty-comes : (p : ℕ) (before after : Complex) (i : ℤ) (column : ℕ) → IsField p → IsComplex p before
+    → ComesByCancelling p before after → entries_of (column_of before i column) ≡ [] → entries_of (column_of after i column) ≡ []
+empty-comes p before after i column field is comes empty =
+    ap (λ (complex : Complex). entries_of (column_of complex i column)) comes.replayed
+    ∙ empty-replay p before comes.history i column field is comes.legal empty
+
+-- the pivot's own column is empty afterwards
+pub empty-pivot_column : (p : ℕ) (complex : Complex) (pivot : Pivot) → IsField p → IsComplex p complex → IsPivot complex pivot
+    → entries_of (column_of (cancel p complex pivot) pivot.degree pivot.column) ≡ []
+empty-pivot_column p complex pivot field is is_pivot =
+    entries-zeros (column_of (cancel p complex pivot) pivot.degree pivot.column)
+    (λ row.
+    number-column_of (cancel p complex pivot) pivot.degree row pivot.column
+    ∙ pivot_column-cancel p complex pivot pivot.degree row pivot.column field is is_pivot refl refl)
+
+-- the first degrees from the greatest down stay empty
+pub empty_down-comes : (p : ℕ) (before after : Complex) (count : ℕ) → IsField p → IsComplex p before
+    → ComesByCancelling p before after → AreEmptyDown before count → AreEmptyDown after count
+empty_down-comes p before after count field is comes empty number within column =
+    ap (λ (high : ℤ). entries_of (column_of after (high -ℤ pos number) column)) (high-comes p before after comes)
+    ∙ empty-comes p before after (high_of before -ℤ pos number) column field is comes (empty number within column)
+
+pub complex-comes : (p : ℕ) (before after : Complex) → IsField p → IsComplex p before → ComesByCancelling p before after
+    → IsComplex p after
+complex-comes p before after field is comes =
+    subst (IsComplex p) (sym comes.replayed) (complex-replay p before comes.history field is comes.legal)
+
+-- a cancellation that may lack memory
+
+pub comes-try : {T E : Type 0} (p : ℕ) (before after : NamedComplex) (pivot : Pivot) (result : Result T E)
+    → IsPivot before.complex pivot → OnOk result (after.complex ≡ cancel p before.complex pivot) → OnErr result (after ≡ before)
+    → ComesByCancelling p before.complex after.complex
+comes-try p before after pivot (Ok x) is_pivot ok unchanged = comes-one p before.complex after.complex pivot is_pivot ok
+comes-try p before after pivot (Err e) is_pivot ok unchanged =
+    comes-none p before.complex after.complex (ap (λ (named : NamedComplex). named.complex) unchanged)
+
+pub empty-try : {T E : Type 0} (p : ℕ) (before after : Complex) (pivot : Pivot) (result : Result T E) → IsField p
+    → IsComplex p before → IsPivot before pivot → OnOk result (after ≡ cancel p before pivot)
+    → OnOk result (entries_of (column_of after pivot.degree pivot.column) ≡ [])
+empty-try p before after pivot (Ok x) field is is_pivot ok =
+    ap (λ (complex : Complex). entries_of (column_of complex pivot.degree pivot.column)) ok
+    ∙ empty-pivot_column p before pivot field is is_pivot
+empty-try p before after pivot (Err e) field is is_pivot ok = tt

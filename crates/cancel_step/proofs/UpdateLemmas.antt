@@ -1,0 +1,170 @@
+-- A line less the multiple of the pivot's line that clears the place of the pivot: the line after the cancellation.
+use Rattle.std.proofs.Common.{◌≡◌, ◌≢◌, ℕ, ◌+◌, ◌-◌, ◌*◌, ◌%◌, ◌<◌, ◌∙◌, inl, inr, List, length, refl, ap, sym, subst, arith, Bool, false, ◌||◌}
+use Rattle.std.specs.Prelude.{nat_eq, slice_index, if◌then◌else◌}
+use Rattle.std.proofs.Math.Nat.{mod-eq_of_lt, mod-mod, mod_self}
+use Rattle.std.proofs.lemmas.Bool.Decides.{eqb_tells, leb_tells}
+use Rattle.std.proofs.lemmas.List.{get_or_past}
+use Rattle.std.proofs.lemmas.List.FromFn.{length-map-range_with_len, get_or-map-range_with_len}
+use Rattle.kh_types.specs.Rank.{inverse, minus_mod}
+use Rattle.kh_types.specs.Complex.{Complex, Degree, IsComplex, IsPivot, Pivot, cancel, degree_of, entry_in, entry_of}
+use Rattle.prime_field.specs.Residues.{IsField, inverse_mod, product_mod}
+use Rattle.plain_matrix.specs.Products.{Same}
+use Rattle.plain_matrix.proofs.Residues.{same-equal, same-mul, same-inverse, same-unit_left, same-unit_right}
+use Rattle.plain_matrix.proofs.Reduced.{minus_mod-nothing}
+use Rattle.plain_matrix.proofs.PlainRank.{other-below}
+use Rattle.plain_matrix.proofs.Entries.{entry_cancelled, entry-cancelled_matrix}
+use Rattle.sparse_block.specs.declared.entry.Entry.{Entry}
+use Rattle.sparse_block.specs.Entries.{AreEntries, entries_of, value_at}
+use Rattle.sparse_block.specs.Complexes.{column_of, row_of}
+use Rattle.sparse_block.proofs.AscendingLemmas.{entries-ascend}
+use Rattle.sparse_block.proofs.EntryLemmas.{value_at-entries_of}
+use Rattle.sparse_block.proofs.ReadingLemmas.{number-column_of}
+use Rattle.sparse_block.proofs.ComplexMatrices.{matrix-of_degree, entry-stands}
+use Rattle.sparse_block.proofs.CancelledDegrees.{degree-at_pivot}
+use Rattle.cancel_step.specs.Lines.{line_less}
+use Rattle.cancel_step.proofs.EntryValues.{entries-agree, value_at-past}
+
+-- numbers less others, modulo p
+
+minus_mod-same : (p x y z : ℕ) → Same p y z → minus_mod p x y ≡ minus_mod p x z
+minus_mod-same p x y z same = ap (λ (rest : ℕ). (x + (p - rest)) % p) same
+
+minus_mod-self : (p x y : ℕ) → x < p → Same p y x → minus_mod p x y ≡ 0
+minus_mod-self p x y below same =
+    let e : x + (p - x) ≡ p = omega (arith, below) in
+    minus_mod-same p x y x same ∙ ap (λ (rest : ℕ). (x + (p - rest)) % p) (mod-eq_of_lt below)
+    ∙ ap (λ (n : ℕ). n % p) e ∙ mod_self p
+
+-- the way back from row i to column j through the pivot, and an entry less a number that is the same modulo p
+
+abbrev way_back : ℕ → (ℕ → ℕ → ℕ) → ℕ → ℕ → ℕ → ℕ → ℕ
+way_back p M a b i j = M i b * (inverse p (M a b) * M a j)
+
+module _ (p a b : ℕ) (M : ℕ → ℕ → ℕ) (field : IsField p) (below : (i j : ℕ) → M i j < p) (other : M a b ≢ 0) where
+  inverts : Same p (M a b * inverse p (M a b)) 1
+  inverts = same-inverse p (M a b) field (other-below p (M a b) (below a b) other)
+
+  less-way : (i j : ℕ) → minus_mod p (M i j) (way_back p M a b i j) ≡ entry_cancelled p a b M i j
+  less-way i j =
+      let way = way_back p M a b i j in
+      let less = minus_mod p (M i j) way in
+      elim (eqb_tells i a) [
+        | inl in_row ↦
+            let back : Same p way (M i j) =
+            subst (λ (k : ℕ). Same p (way_back p M a b k j) (M k j)) (sym in_row.1)
+            (same-unit_left p (M a b) (inverse p (M a b)) (M a j) inverts) in
+            minus_mod-self p (M i j) way (below i j) back
+            ∙ ap (λ (test : Bool). if test || nat_eq j b then 0 else less) (sym in_row.0)
+        | inr not_row ↦
+            elim (eqb_tells j b) [
+              | inl in_column ↦
+                  let back : Same p way (M i j) =
+                  subst (λ (k : ℕ). Same p (way_back p M a b i k) (M i k)) (sym in_column.1)
+                  (same-unit_right p (M a b) (inverse p (M a b)) (M i b) inverts) in
+                  minus_mod-self p (M i j) way (below i j) back
+                  ∙ ap (λ (test : Bool). if false || test then 0 else less) (sym in_column.0)
+                  ∙ ap (λ (test : Bool). if test || nat_eq j b then 0 else less) (sym not_row.0)
+              | inr not_column ↦
+                  ap (λ (test : Bool). if false || test then 0 else less) (sym not_column.0)
+                  ∙ ap (λ (test : Bool). if test || nat_eq j b then 0 else less) (sym not_row.0)
+            ]
+      ]
+
+  entry-less : (i j number : ℕ) → Same p number (way_back p M a b i j)
+      → minus_mod p (M i j) number ≡ entry_cancelled p a b M i j
+  entry-less i j number same = minus_mod-same p (M i j) number (way_back p M a b i j) same ∙ less-way i j
+
+  -- with the first two factors multiplied beforehand: along a column, and along a row
+
+  pub entry-along_column : (i j : ℕ)
+      → minus_mod p (M i j) (product_mod p (M a j) (inverse_mod p (M a b)) * M i b) ≡ entry_cancelled p a b M i j
+  entry-along_column i j =
+      let inverse = inverse_mod p (M a b) in
+      let turned : M a j * inverse * M i b ≡ M i b * (inverse * M a j) = omega arith in
+      entry-less i j (product_mod p (M a j) inverse * M i b)
+      (same-mul p (product_mod p (M a j) inverse) (M a j * inverse) (M i b) (M i b) (mod-mod (M a j * inverse) p) refl
+      ∙ same-equal p (M a j * inverse * M i b) (M i b * (inverse * M a j)) turned)
+
+  pub entry-along_row : (i j : ℕ)
+      → minus_mod p (M i j) (product_mod p (M i b) (inverse_mod p (M a b)) * M a j) ≡ entry_cancelled p a b M i j
+  entry-along_row i j =
+      let inverse = inverse_mod p (M a b) in
+      let turned : M i b * inverse * M a j ≡ M i b * (inverse * M a j) = omega arith in
+      entry-less i j (product_mod p (M i b) inverse * M a j)
+      (same-mul p (product_mod p (M i b) inverse) (M i b * inverse) (M a j) (M a j) (mod-mod (M i b * inverse) p) refl
+      ∙ same-equal p (M i b * inverse * M a j) (M i b * (inverse * M a j)) turned)
+
+-- the entries of the pivot's matrix after the cancellation
+pub entry-cancel : (p : ℕ) (complex : Complex) (pivot : Pivot) (row column : ℕ) → IsComplex p complex → IsPivot complex pivot
+    → entry_of (cancel p complex pivot) pivot.degree row column
+    ≡ entry_cancelled p pivot.row pivot.column (entry_of complex pivot.degree) row column
+entry-cancel p complex pivot row column is is_pivot =
+    let i = pivot.degree in
+    ap (λ (degree : Degree). entry_in degree.matrix row column) (degree-at_pivot p complex pivot i refl)
+    ∙ entry-cancelled_matrix p pivot (degree_of complex i).matrix (length (degree_of complex i).alive) (matrix-of_degree p complex is i)
+    (entry-stands p complex i pivot.row pivot.column is is_pivot).row_within row column
+
+-- the numbers of a line less a multiple of another
+
+pub number-line_less : (p size : ℕ) (entries others : List Entry) (factor k : ℕ) → AreEntries p size entries
+    → AreEntries p size others
+    → slice_index (line_less p size entries factor others) k ≡ minus_mod p (value_at entries k) (factor * value_at others k)
+number-line_less p size entries others factor k are are_others =
+    let number : ℕ → ℕ = λ place. minus_mod p (value_at entries place) (factor * value_at others place) in
+    elim (leb_tells size k) [
+      | inl past ↦
+          let none : value_at entries k ≡ 0 = value_at-past p 0 size k entries (entries-ascend p size entries are) past.1 in
+          let none_other : value_at others k ≡ 0 =
+          value_at-past p 0 size k others (entries-ascend p size others are_others) past.1 in
+          let nothing : factor * 0 ≡ 0 = omega arith in
+          get_or_past (line_less p size entries factor others) k 0
+          (omega (arith, past.1, length-map-range_with_len number 0 size))
+          ∙ sym (ap (λ (value : ℕ). minus_mod p value (factor * value_at others k)) none
+          ∙ minus_mod-nothing p (factor * value_at others k) (ap (λ (value : ℕ). factor * value) none_other ∙ nothing))
+      | inr within ↦ get_or-map-range_with_len number 0 size k k 0 within.1 (omega arith)
+    ]
+
+-- so the columns and rows of the pivot's matrix after the cancellation
+
+module _ (p : ℕ) (complex : Complex) (pivot : Pivot) (field : IsField p) (is : IsComplex p complex) (is_pivot : IsPivot complex pivot)
+  where
+    pub column-less : (size place factor : ℕ) (entries others : List Entry) → entries ≡ entries_of (column_of complex pivot.degree place)
+        → others ≡ entries_of (column_of complex pivot.degree pivot.column) → AreEntries p size entries → AreEntries p size others
+        → factor ≡ product_mod p (entry_of complex pivot.degree pivot.row place)
+        (inverse_mod p (entry_of complex pivot.degree pivot.row pivot.column))
+        → entries_of (line_less p size entries factor others) ≡ entries_of (column_of (cancel p complex pivot) pivot.degree place)
+    column-less size place factor entries others are_column are_pivot are are_others is_factor =
+        let i = pivot.degree in
+        let M : ℕ → ℕ → ℕ = entry_of complex i in
+        let value : (column : ℕ) (es : List Entry) (k : ℕ) → es ≡ entries_of (column_of complex i column) → value_at es k ≡ M k column =
+        λ column es k same.
+        ap (λ (es : List Entry). value_at es k) same ∙ value_at-entries_of (column_of complex i column) k
+        ∙ number-column_of complex i k column in
+        entries-agree (line_less p size entries factor others) (column_of (cancel p complex pivot) i place)
+        (λ k.
+        number-line_less p size entries others factor k are are_others
+        ∙ ap (λ (x : ℕ). minus_mod p x (factor * value_at others k)) (value place entries k are_column)
+        ∙ ap (λ (y : ℕ). minus_mod p (M k place) (factor * y)) (value pivot.column others k are_pivot)
+        ∙ ap (λ (f : ℕ). minus_mod p (M k place) (f * M k pivot.column)) is_factor
+        ∙ entry-along_column p pivot.row pivot.column M field (is.below i) is_pivot k place
+        ∙ sym (entry-cancel p complex pivot k place is is_pivot)
+        ∙ sym (number-column_of (cancel p complex pivot) i k place))
+
+    pub row-less : (size place factor : ℕ) (entries others : List Entry) → entries ≡ entries_of (row_of complex pivot.degree place)
+        → others ≡ entries_of (row_of complex pivot.degree pivot.row) → AreEntries p size entries → AreEntries p size others
+        → factor ≡ product_mod p (entry_of complex pivot.degree place pivot.column)
+        (inverse_mod p (entry_of complex pivot.degree pivot.row pivot.column))
+        → entries_of (line_less p size entries factor others) ≡ entries_of (row_of (cancel p complex pivot) pivot.degree place)
+    row-less size place factor entries others are_row are_pivot are are_others is_factor =
+        let i = pivot.degree in
+        let M : ℕ → ℕ → ℕ = entry_of complex i in
+        let value : (row : ℕ) (es : List Entry) (k : ℕ) → es ≡ entries_of (row_of complex i row) → value_at es k ≡ M row k =
+        λ row es k same. ap (λ (es : List Entry). value_at es k) same ∙ value_at-entries_of (row_of complex i row) k in
+        entries-agree (line_less p size entries factor others) (row_of (cancel p complex pivot) i place)
+        (λ k.
+        number-line_less p size entries others factor k are are_others
+        ∙ ap (λ (x : ℕ). minus_mod p x (factor * value_at others k)) (value place entries k are_row)
+        ∙ ap (λ (y : ℕ). minus_mod p (M place k) (factor * y)) (value pivot.row others k are_pivot)
+        ∙ ap (λ (f : ℕ). minus_mod p (M place k) (f * M pivot.row k)) is_factor
+        ∙ entry-along_row p pivot.row pivot.column M field (is.below i) is_pivot place k
+        ∙ sym (entry-cancel p complex pivot place k is is_pivot))

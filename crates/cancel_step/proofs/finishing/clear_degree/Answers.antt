@@ -1,0 +1,58 @@
+use Rattle.std.proofs.Common.{◌≡◌, ◌∙◌, ℕ, ℤ, [], inl, inr, ap, subst, arith, to_z, of_z, w16}
+use Rattle.std.proofs.lemmas.Int.{ints}
+use Rattle.std.proofs.lemmas.Bool.Decides.{leb_tells}
+use Rattle.sparse_block.specs.Complexes.{column_of, place_count}
+use Rattle.sparse_block.specs.Entries.{entries_of}
+use Rattle.cancel_step.proofs.ReadingLemmas.{column-past}
+use Rattle.cancel_step.proofs.FinishLemmas.{comes-both, complex-comes, empty-comes, places-comes}
+use Rattle.cancel_step.proofs.finishing.clear_degree.Goals as goal
+
+pub returns-in_err-clear_column-clause-history : goal.returns-in_err-clear_column-clause-history
+returns-in_err-clear_column-clause-history g c =
+    comes-both g.F.PrimeField.P c.args.complex.now.complex c.columns.complex.complex c.clear_column.new.complex.complex
+    c.columns.invariant.comes c.in_err-clear_column.ensures.history
+
+pub columns-preserved : goal.columns-preserved
+columns-preserved g c =
+    let p = g.F.PrimeField.P in
+    let first = c.args.complex.now.complex in
+    let before = c.columns.complex.complex in
+    let after = c.clear_column.new.complex.complex in
+    let i = to_z w16 (of_z w16 c.args.degree) in
+    let field = c.element_laws.ensures.field in
+    let is = complex-comes p first before field c.complex_laws.ensures.complex c.columns.invariant.comes in
+    record {
+      comes = comes-both p first before after c.columns.invariant.comes c.in_ok-clear_column.ensures.history;
+      empty = λ k within.
+          elim (leb_tells c.columns.column k) [
+            | inl last ↦
+                let same : k ≡ c.columns.column = omega (arith, within, last.1) in
+                ap (λ (k : ℕ). entries_of (column_of after i k)) same ∙ c.in_ok-clear_column.ensures.empty
+            | inr earlier ↦
+                empty-comes p before after i k field is c.in_ok-clear_column.ensures.history
+                (c.columns.invariant.empty k earlier.1)
+          ];
+      names = c.in_ok-clear_column.ensures.names ∙ c.columns.invariant.names;
+    }
+
+pub returns-clause-empty : goal.returns-clause-empty
+returns-clause-empty g c column =
+    let p = g.F.PrimeField.P in
+    let first = c.args.complex.now.complex in
+    let after = c.columns.complex.complex in
+    let i = to_z w16 (of_z w16 c.args.degree) in
+    let same : i ≡ c.args.degree = omega (arith, ints, c.ranges.degree) in
+    let is = complex-comes p first after c.element_laws.ensures.field c.complex_laws.ensures.complex c.columns.invariant.comes in
+    subst (λ (i : ℤ). entries_of (column_of after i column) ≡ []) same
+    (elim (leb_tells (place_count after i) column) [
+      | inl past ↦ column-past p after i column is past.1
+      | inr within ↦
+          c.columns.invariant.empty column
+          (omega (
+            arith,
+            within.1,
+            c.columns-test.false,
+            c.places-column-end.ensures,
+            places-comes p first after i c.columns.invariant.comes,
+          ))
+    ])

@@ -1,0 +1,103 @@
+//! Whether a complex has the columns and rows that were copied, and the least column that tells.
+
+ghost use Rattle.std.specs.Prelude.{◌≡◌, ◌↔◌, ℕ, true};
+ghost use Rattle.sparse_block.specs.Entries.{AreEntries};
+ghost use Rattle.cancel_step.specs.Foreign.{FindsLeast, IsOtherColumn, IsOtherRowAt, ShowsAt};
+ghost use Rattle.cancel_step.specs.Foreign.{ShowsBetween, ShowsIn, lesser_of};
+ghost use Rattle.cancel_step.specs.Lines.{AreLines};
+
+use crate::Look;
+use crate::merging::first_difference;
+use crate::reading::{column_at, row_at};
+use prime_field::PrimeField;
+use sparse_block::{Complex, Entry, Line, complex_laws};
+
+/// The least column at which a difference between a look and a complex shows.
+pub(crate) fn foreign_column<F: PrimeField>(complex: &Complex<F>, look: &Look<F>) -> Option<u32>
+    ensures { FindsLeast (ShowsAt look.now complex.now.complex) result }
+{
+    let pivot = look.pivot;
+    other_line(complex, pivot.degree, &look.columns, &look.rows)
+}
+
+/// The least column at which a difference between columns and rows and those of a complex shows.
+fn other_line<F: PrimeField>(
+    complex: &Complex<F>,
+    degree: i16,
+    columns: &[Line],
+    rows: &[Line],
+) -> Option<u32>
+    requires { (p : ℕ) × (size : ℕ) × AreLines p size rows.now }
+    ensures { FindsLeast (ShowsBetween complex.now.complex degree columns.now rows.now) result }
+{
+    lesser(
+        in_columns(complex, degree, columns),
+        in_rows(complex, degree, rows),
+    )
+}
+
+/// The least of the columns that are not those of the complex.
+fn in_columns<F: PrimeField>(complex: &Complex<F>, degree: i16, lines: &[Line]) -> Option<u32>
+    ensures { FindsLeast (ShowsIn (IsOtherColumn complex.now.complex degree) lines.now) result }
+{
+    let mut least = None;
+    'lines: for line in lines {
+        least = lesser(least, in_column(complex, degree, line));
+    }
+    least
+}
+
+/// The place of a column, if it is not that of the complex.
+fn in_column<F: PrimeField>(complex: &Complex<F>, degree: i16, line: &Line) -> Option<u32>
+    ensures { FindsLeast (IsOtherColumn complex.now.complex degree line.now) result }
+{
+    if are_same(
+        line.entries.as_slice(),
+        column_at(complex, degree, line.place),
+    ) {
+        return None;
+    }
+    Some(line.place)
+}
+
+/// The least column at which one of the rows has another value than that of the complex.
+fn in_rows<F: PrimeField>(complex: &Complex<F>, degree: i16, lines: &[Line]) -> Option<u32>
+    requires { (p : ℕ) × (size : ℕ) × AreLines p size lines.now }
+    ensures { FindsLeast (ShowsIn (IsOtherRowAt complex.now.complex degree) lines.now) result }
+{
+    let mut least = None;
+    'lines: for line in lines {
+        least = lesser(least, in_row(complex, degree, line));
+    }
+    least
+}
+
+/// The least column at which a row has another value than that of the complex.
+fn in_row<F: PrimeField>(complex: &Complex<F>, degree: i16, line: &Line) -> Option<u32>
+    requires { (p : ℕ) × (size : ℕ) × AreEntries p size line.now.entries }
+    ensures { FindsLeast (IsOtherRowAt complex.now.complex degree line.now) result }
+{
+    complex_laws(complex);
+    let row = row_at(complex, degree, line.place);
+    if are_same(line.entries.as_slice(), row) {
+        return None;
+    }
+    first_difference(line.entries.as_slice(), row)
+}
+
+fn are_same(left: &[Entry], right: &[Entry]) -> bool
+    ensures { (result ≡ true) ↔ (left.now ≡ right.now) }
+{
+    left == right
+}
+
+/// The lesser of two numbers that were found, or the only one.
+fn lesser(left: Option<u32>, right: Option<u32>) -> Option<u32>
+    ensures { result ≡ lesser_of left right }
+{
+    match (left, right) {
+        (Some(left), Some(right)) => Some(left.min(right)),
+        (None, found) => found,
+        (found, None) => found,
+    }
+}

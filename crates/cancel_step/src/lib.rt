@@ -1,0 +1,25 @@
+//! The cancellation of pivots of a complex, on a copy and in place, and what it keeps.
+#![tactic(auto)]
+
+mod applying;
+mod comparing;
+mod copying;
+mod finishing;
+pub mod laws;
+mod merging;
+mod passing;
+mod patched;
+mod pivot;
+mod reading;
+mod search;
+#[cfg(test)]
+mod tests;
+mod updating;
+
+pub use applying::{apply, cancel_in_place};
+pub use copying::{Look, copy};
+pub use finishing::finish;
+pub use patched::Patch;
+pub use pivot::{Foreign, Pivot};
+pub use search::{hint_of, look};
+pub use updating::patch;
