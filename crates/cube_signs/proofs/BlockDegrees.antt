@@ -72,7 +72,7 @@ some-test (x ∷ xs) some = refl
 abbrev pub first_degree : Code → ℤ → ℤ
 first_degree code j = first_or_zero (homological_degrees code j)
 
-first-is : (is : List ℤ) (d : ℤ) → 0 < length is → first_or_zero is ≡ get_or is 0 d
+pub first-is : (is : List ℤ) (d : ℤ) → 0 < length is → first_or_zero is ≡ get_or is 0 d
 first-is [] d some = absurd (omega arith)
 first-is (i ∷ is) d some = refl
 
@@ -83,7 +83,7 @@ length-from_minus : (n : ℕ) → length (from_minus n) ≡ 2 * n + 1
 length-from_minus n = length-map-range_with_len (λ m. pos m -ℤ pos n) 0 (2 * n + 1)
 
 -- the degree at a place of the block, by where the block's degrees begin
-degree-placed : (code : Code) (j : ℤ) (k : ℕ) (d : ℤ) → k < length (homological_degrees code j)
+pub degree-placed : (code : Code) (j : ℤ) (k : ℕ) (d : ℤ) → k < length (homological_degrees code j)
     → get_or (homological_degrees code j) k d
     ≡ pos (start_of (has_generators code j) (from_minus (length code.crossings)) + k) -ℤ pos (length code.crossings)
 degree-placed code j k d within =

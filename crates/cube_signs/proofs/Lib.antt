@@ -1,4 +1,8 @@
 pub mod Merges
+pub mod LabelBits
+pub mod HeadBits
+pub mod HeadLabels
+pub mod EdgeHeads
 pub mod SquareKinds
 pub mod Sums
 pub mod Marks
@@ -15,3 +19,18 @@ pub mod Degrees
 pub mod Matrices
 pub mod BlockDegrees
 pub mod BlockComplexes
+pub mod ShapeLemmas
+pub mod StateLists
+pub mod LabelRankLemmas
+pub mod StepLemmas
+pub mod HeadBounds
+pub mod TableLemmas
+pub mod GeneratorPlaces
+pub mod LabelPlaces
+pub mod NameLemmas
+pub mod SignLemmas
+pub mod ColumnLemmas
+pub mod ColumnHeads
+pub mod BlockLemmas
+pub mod SpanLemmas
+pub mod NamedBlocks

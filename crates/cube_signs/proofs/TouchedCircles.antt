@@ -44,11 +44,11 @@ Contains-touched code state crossing circle is touches =
     Contains-filter (is_touched code state crossing) names circle touches
     (k, below, get_or_default names k circle 0 below ∙ circle_names-number_of code state circle is)
 
-one_in : (x k : ℕ) → Contains (k ∷ []) x → x ≡ k
+pub one_in : (x k : ℕ) → Contains (k ∷ []) x → x ≡ k
 one_in x k (zero, below, is) = sym is
 one_in x k (suc i, below, is) = absurd (omega arith)
 
-two_in : (x k g : ℕ) → Contains (k ∷ g ∷ []) x → (x ≡ k) ⊎ (x ≡ g)
+pub two_in : (x k g : ℕ) → Contains (k ∷ g ∷ []) x → (x ≡ k) ⊎ (x ≡ g)
 two_in x k g (zero, below, is) = inl (sym is)
 two_in x k g (suc zero, below, is) = inr (sym is)
 two_in x k g (suc (suc i), below, is) = absurd (omega arith)

@@ -1,3 +1,10 @@
 pub mod Squares
 pub mod NextDegrees
 pub mod VirtualCodes
+pub mod Heads
+pub mod Blocks
+pub mod Shapes
+pub mod Steps
+pub mod LabelRanks
+pub mod Tables
+pub mod Columns

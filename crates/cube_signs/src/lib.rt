@@ -1,4 +1,23 @@
-//! The signs of the cube's edges, and the law that the differential squares to zero.
+//! The signs of the cube's edges, the law that the differential squares to zero, and the blocks of
+//! the cube.
 #![tactic(auto)]
 
+mod blocks;
+mod columns;
+mod cube;
+mod head_labels;
+mod labels;
 pub mod laws;
+mod names;
+mod quantum_degrees;
+mod shape;
+mod size;
+mod steps;
+#[cfg(test)]
+mod tests;
+
+pub use blocks::block_columns;
+pub use cube::Cube;
+pub use quantum_degrees::block_degrees;
+pub use size::{SizeLimit, check_size};
+pub use sparse_block::Generator;

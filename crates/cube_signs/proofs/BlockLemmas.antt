@@ -1,0 +1,114 @@
+-- The columns of the generators of two degrees.
+use Rattle.std.proofs.Common.{◌≡◌, ℕ, ◌+◌, ◌^◌, ◌<◌, ◌≤◌, ◌∙◌, ℤ, pos, ◌+ℤ◌, List, [], ◌∷◌, ◌++◌, length, get_or, map, sym, ap, ap₂, subst, arith, true, Option, IsTrue}
+use Rattle.std.specs.Prelude.{slice_index_or}
+use Rattle.std.specs.Global.{Vec}
+use Rattle.std.proofs.Math.Pow.{pow_mono}
+use Rattle.std.proofs.lemmas.List.{get_or_default, length_push}
+use Rattle.std.proofs.lemmas.List.FromFn.{get_or-map-range_with_len}
+use Rattle.kh_types.specs.declared.limits.TheConstants.{CIRCLES, CROSSINGS}
+use Rattle.kh_types.specs.Acceptance.{accepted}
+use Rattle.kh_types.specs.Circles.{circle_count}
+use Rattle.kh_types.specs.Code.{Code}
+use Rattle.kh_types.specs.Generators.{Generator, generator_of, generators_at, states}
+use Rattle.circle_smoothing.specs.declared.change.Edge.{Edge}
+use Rattle.circle_smoothing.proofs.KeptNumbers.{count-within}
+use Rattle.sparse_block.specs.declared.entry.Entry.{Entry}
+use Rattle.sparse_block.specs.Inside.{lists_in}
+use Rattle.sparse_block.proofs.LineLemmas.{list-lists_in}
+use Rattle.cube_signs.specs.Columns.{column_to, names_from, AreAllColumns, AreColumns, IsColumn}
+use Rattle.cube_signs.specs.Steps.{HasSteps}
+use Rattle.cube_signs.specs.Tables.{base_of, AreRanks}
+use Rattle.cube_signs.proofs.ColumnHeads.{AreAround, IsColumn-entries}
+use Rattle.cube_signs.proofs.GeneratorPlaces.{generator-at, is_label, HasPlace-within}
+use Rattle.cube_signs.proofs.StateLists.{images-more}
+use Rattle.cube_signs.proofs.StepLemmas.{each-more}
+
+-- a generator of the degrees i and j
+pub record IsTail (code : Code) (i j : ℤ) (tail : Generator) : Type 0 where
+  pub state_below : tail.state < 2 ^ length code.crossings
+  pub label_below : tail.label < 2 ^ circle_count code tail.state
+  pub passes : is_label code i j tail.state tail.label ≡ true
+
+pub IsTail-at : (code : Code) (i j : ℤ) (names : List Generator) (k : ℕ) (tail : Generator) → names ≡ generators_at code i j
+    → k < length names → tail ≡ get_or names k tail → IsTail code i j tail
+IsTail-at code i j names k tail is_names below is =
+    let at = HasPlace-within code i j k (omega (arith, below, ap length is_names)) in
+    subst (IsTail code i j)
+    (sym (is ∙ ap (λ (xs : List Generator). get_or xs k tail) is_names ∙ generator-at code i j k tail at))
+    (record { state_below = at.state_below; label_below = at.label_below; passes = at.passes })
+
+pub label-small : (code : Code) (i j : ℤ) (tail : Generator) → IsTrue (accepted code) → length code.crossings ≤ CROSSINGS
+    → IsTail code i j tail → tail.label < 2 ^ CIRCLES
+label-small code i j tail is few tails =
+    let power : 2 ^ circle_count code tail.state ≤ 2 ^ CIRCLES = pow_mono (count-within code tail.state is few) in
+    omega (arith, tails.label_below, power)
+
+-- one column more
+pub columns-more : (p : ℕ) (code : Code) (i j : ℤ) (names : List Generator) (k : ℕ) (tail : Generator) (steps : List (Option Edge))
+    (bases ranks : List ℕ) (column : List Entry) (made next : List (List Entry)) → 1 < p → IsTrue (accepted code)
+    → names ≡ generators_at code i j → k < length names → tail ≡ get_or names k tail
+    → HasSteps code tail.state (length code.crossings) steps → bases ≡ map (base_of code (i +ℤ pos 1) j) (states code)
+    → AreRanks code ranks → column ≡ column_to p steps bases ranks tail (length steps) → AreColumns p code i j k made
+    → next ≡ made ++ column ∷ [] → AreColumns p code i j (k + 1) next
+columns-more p code i j names k tail steps bases ranks column made next prime is is_names below is_tail has_steps is_bases are_ranks
+    is_column are is_next =
+    let tails = IsTail-at code i j names k tail is_names below is_tail in
+    let around : AreAround p code i j tail steps bases ranks =
+    record {
+      prime = prime;
+      is_code = is;
+      tail_below = tails.state_below;
+      label_below = tails.label_below;
+      passes = tails.passes;
+      of_steps = has_steps;
+      of_bases = is_bases;
+      of_ranks = are_ranks.each (i +ℤ pos 1) j;
+    } in
+    let d = generator_of 0 0 in
+    let at : tail ≡ get_or (generators_at code i j) k d =
+    is_tail ∙ get_or_default names k tail d below ∙ ap (λ (xs : List Generator). get_or xs k d) is_names in
+    let more : IsColumn p code i j (get_or (generators_at code i j) k d) column =
+    subst (λ (g : Generator). IsColumn p code i j g column) at
+    (subst (IsColumn p code i j tail) (sym (is_column ∙ ap (column_to p steps bases ranks tail) has_steps.size))
+    (IsColumn-entries p code i j tail steps bases ranks around)) in
+    subst (AreColumns p code i j (k + 1)) (sym is_next) (record {
+      size = length_push made column ∙ ap (λ n. n + 1) are.size;
+      each = each-more (λ k entries. IsColumn p code i j (get_or (generators_at code i j) k d) entries) made column [] k are.size
+          are.each more;
+    })
+
+pub columns-none : (p : ℕ) (code : Code) (i j : ℤ) (made : List (List Entry)) → made ≡ [] → AreColumns p code i j 0 made
+columns-none p code i j made none =
+    subst (AreColumns p code i j 0) (sym none) (record { size = omega arith; each = λ k below. absurd (omega (arith, below)) })
+
+-- one degree more
+pub names-at : (code : Code) (low j : ℤ) (count k : ℕ) (names : List (Vec Generator)) (degree : Vec Generator)
+    → lists_in names ≡ names_from code low j count → k < count → k < length names → degree ≡ get_or names k degree
+    → degree.items ≡ generators_at code (low +ℤ pos k) j
+names-at code low j count k names degree are below within is =
+    sym (list-lists_in names k degree within is) ∙ ap (λ (xs : List (List Generator)). slice_index_or xs k []) are
+    ∙ get_or-map-range_with_len (λ n. generators_at code (low +ℤ pos n) j) 0 count k k [] below (omega arith)
+
+pub all_columns-more : (p : ℕ) (code : Code) (low i j other : ℤ) (k : ℕ) (names : List Generator) (columns : List (List Entry))
+    (made next : List (List (List Entry))) → AreAllColumns p code low j k made → i ≡ low +ℤ pos k → other ≡ j
+    → names ≡ generators_at code i other → AreColumns p code i other (length names) columns → next ≡ made ++ columns ∷ []
+    → AreAllColumns p code low j (k + 1) next
+all_columns-more p code low i j other k names columns made next are is_i is_j is_names more is_next =
+    let all : AreColumns p code i other (length (generators_at code i other)) columns =
+    subst (λ (xs : List Generator). AreColumns p code i other (length xs) columns) is_names more in
+    let at_i : AreColumns p code (low +ℤ pos k) other (length (generators_at code (low +ℤ pos k) other)) columns =
+    subst (λ (i : ℤ). AreColumns p code i other (length (generators_at code i other)) columns) is_i all in
+    let at_j : AreColumns p code (low +ℤ pos k) j (length (generators_at code (low +ℤ pos k) j)) columns =
+    subst (λ (j : ℤ). AreColumns p code (low +ℤ pos k) j (length (generators_at code (low +ℤ pos k) j)) columns) is_j at_i in
+    subst (AreAllColumns p code low j (k + 1)) (sym is_next) (record {
+      size = length_push made columns ∙ ap (λ n. n + 1) are.size;
+      each = each-more (λ k columns. AreColumns p code (low +ℤ pos k) j (length (generators_at code (low +ℤ pos k) j)) columns) made
+          columns [] k are.size are.each at_j;
+    })
+
+pub all_names-more : (code : Code) (low i j other : ℤ) (k : ℕ) (names : List Generator) (made next : List (List Generator))
+    → made ≡ names_from code low j k → i ≡ low +ℤ pos k → other ≡ j → names ≡ generators_at code i other
+    → next ≡ made ++ names ∷ [] → next ≡ names_from code low j (k + 1)
+all_names-more code low i j other k names made next is_made is_i is_j is is_next =
+    images-more (λ n. generators_at code (low +ℤ pos n) j) made next names k is_made
+    (is ∙ ap₂ (generators_at code) is_i is_j) is_next

@@ -1,0 +1,224 @@
+-- The labels behind an edge are its heads, and the coefficients along an edge.
+use Rattle.std.proofs.Common.{◌≡◌, ◌≢◌, ℕ, zero, suc, ◌+◌, ◌^◌, ◌<◌, ◌≤◌, ◌∙◌, inl, inr, List, get_or, length, map, refl, sym, ap, subst, arith, All, Bool, true, false, cond, ◌&&◌, IsTrue}
+use Rattle.std.specs.Prelude.{nat_eq}
+use Rattle.std.specs.Bool.{Decides}
+use Rattle.std.specs.List.{Contains, list_any, range_with_len, sum_by}
+use Rattle.std.specs.List.Sorted.{IsStrictlyIncreasing}
+use Rattle.std.proofs.lemmas.Bool.{cases_eq, cases_lt, eqb-true, eq-eqb}
+use Rattle.std.proofs.lemmas.Bool.Decides.{same_from_decides}
+use Rattle.std.proofs.lemmas.List.Elements.{All-contains, All-contains_itself}
+use Rattle.std.proofs.lemmas.List.Folds.{list_any_at}
+use Rattle.std.proofs.lemmas.List.Sums.{sum_by-cons}
+use Rattle.std.proofs.lemmas.Map.Views.{Contains-from_any}
+use Rattle.std.proofs.Math.Pow.{pow-lt}
+use Rattle.kh_types.specs.Acceptance.{accepted}
+use Rattle.kh_types.specs.Bits.{bit, ones}
+use Rattle.kh_types.specs.Code.{Code, IsCrossing, place_of}
+use Rattle.kh_types.specs.Circles.{circle_count}
+use Rattle.kh_types.specs.Differential.{coefficient, coefficient_at, edge_sign}
+use Rattle.kh_types.specs.Generators.{Generator, generator_of}
+use Rattle.circle_smoothing.specs.CircleNumbers.{number_of}
+use Rattle.circle_smoothing.specs.Edges.{AreRenumbered, HaveMerged, IsEdge, state_behind}
+use Rattle.circle_smoothing.specs.declared.change.Edge.{Edge}
+use Rattle.circle_smoothing.specs.declared.change.Edge.TheVariants.{Merge, Split}
+use Rattle.circle_smoothing.proofs.EdgeNumbers.{renumbers}
+use Rattle.cube_signs.specs.Heads.{labels_behind, merged_labels, minuses_gained, split_labels}
+use Rattle.cube_signs.proofs.Merges.{IsMerge, IsSwitch, switch-edge}
+use Rattle.cube_signs.proofs.Sums.{sum_by-single}
+use Rattle.cube_signs.proofs.MarkedLabels.{labels-lower}
+use Rattle.cube_signs.proofs.TouchedCircles.{fits, fits-decides}
+use Rattle.cube_signs.proofs.Pairs.{IsStep, edge_or_zero, is_edge-decides}
+use Rattle.cube_signs.proofs.HeadBits.{Contains-merged, Contains-parted, IsMerged-contains, IsParted-contains, increasing-merged, increasing-split}
+use Rattle.cube_signs.proofs.HeadLabels.{AreNumbered, AreNumbered-edge, fits-merge, fits-split, greater-below}
+
+-- the circles of an edge are numbered by what it does
+abbrev IsNumbered : Code → ℕ → ℕ → Edge → Type 0
+IsNumbered code state crossing (Merge a b to) = AreNumbered code state (state_behind state crossing) crossing a b
+IsNumbered code state crossing (Split from a b) = AreNumbered code (state_behind state crossing) state crossing a b
+
+-- where two circles are touched there is not one
+not-turned : (code : Code) (before after crossing a b to : ℕ) → HaveMerged code before after crossing a b to
+    → IsMerge code after before crossing → ⊥
+not-turned code before after crossing a b to does merge =
+    let sizes = ap length (sym does.one ∙ ap (λ xs. map (number_of code after) xs) merge.circles.touched_before) in
+    omega (arith, sizes)
+
+numbered-switch : (merges : Bool) (code : Code) (before after crossing a b to : ℕ) → IsTrue (accepted code)
+    → HaveMerged code before after crossing a b to → AreRenumbered code before after a b → IsSwitch merges code before after crossing
+    → AreNumbered code before after crossing a b
+numbered-switch true code before after crossing a b to is does moved merge =
+    AreNumbered-edge code before after crossing a b to is merge does moved
+numbered-switch false code before after crossing a b to is does moved merge =
+    absurd (not-turned code before after crossing a b to does merge)
+
+numbered-back : (merges : Bool) (code : Code) (before after crossing a b to : ℕ) → IsTrue (accepted code)
+    → HaveMerged code after before crossing a b to → AreRenumbered code after before a b → IsSwitch merges code before after crossing
+    → AreNumbered code after before crossing a b
+numbered-back true code before after crossing a b to is does moved merge =
+    absurd (not-turned code after before crossing a b to does merge)
+numbered-back false code before after crossing a b to is does moved merge =
+    AreNumbered-edge code after before crossing a b to is merge does moved
+
+numbered-edge : (code : Code) (state crossing : ℕ) (change : Edge) → IsTrue (accepted code) → IsCrossing code.crossings crossing
+    → bit state (place_of crossing) ≡ 0 → IsEdge code state crossing change → IsNumbered code state crossing change
+numbered-edge code state crossing (Merge a b to) is is_crossing zero_there does =
+    let edge = switch-edge code state crossing is is_crossing zero_there in
+    let moved = renumbers code state crossing (Merge a b to) is is_crossing zero_there does in
+    numbered-switch edge.0 code state (state_behind state crossing) crossing a b to is does moved.1 edge.1
+numbered-edge code state crossing (Split from a b) is is_crossing zero_there does =
+    let edge = switch-edge code state crossing is is_crossing zero_there in
+    let moved = renumbers code state crossing (Split from a b) is is_crossing zero_there does in
+    numbered-back edge.0 code state (state_behind state crossing) crossing a b from is does moved.1 edge.1
+
+-- labels fit along an edge exactly where they are among those behind it
+pub heads : (code : Code) (state crossing : ℕ) (change : Edge) (label head_label : ℕ) → IsTrue (accepted code)
+    → IsCrossing code.crossings crossing → bit state (place_of crossing) ≡ 0 → IsEdge code state crossing change
+    → label < 2 ^ circle_count code state → head_label < 2 ^ circle_count code (state_behind state crossing)
+    → Decides (fits code (generator_of state label) (generator_of (state_behind state crossing) head_label) crossing)
+    (Contains (labels_behind change label) head_label)
+heads code state crossing (Merge a b to) label head_label is is_crossing zero_there does small head_small =
+    let behind = state_behind state crossing in
+    let size = circle_count code behind in
+    let are = numbered-edge code state crossing (Merge a b to) is is_crossing zero_there does in
+    let wide = subst (λ (n : ℕ). label < 2 ^ n) are.merge.circles.count small in
+    let within = greater-below code state behind crossing a b are in
+    let decides = fits-merge code (generator_of state label) (generator_of behind head_label) crossing a b are head_small in (
+      λ passes. Contains-merged size a b label head_label are.order within wide (decides.0 passes),
+      λ has. decides.1 (IsMerged-contains size a b label head_label are.order within wide has),
+    )
+heads code state crossing (Split from a b) label head_label is is_crossing zero_there does small head_small =
+    let behind = state_behind state crossing in
+    let size = circle_count code state in
+    let are = numbered-edge code state crossing (Split from a b) is is_crossing zero_there does in
+    let wide = subst (λ (n : ℕ). head_label < 2 ^ n) are.merge.circles.count head_small in
+    let within = greater-below code behind state crossing a b are in
+    let decides = fits-split code (generator_of state label) (generator_of behind head_label) crossing a b are wide in (
+      λ passes. Contains-parted size a b label head_label are.order within small (decides.0 passes),
+      λ has. decides.1 (IsParted-contains size a b label head_label are.order within small has),
+    )
+
+-- those are labels of the circles behind it, ascending
+pub labels_behind-below : (code : Code) (state crossing : ℕ) (change : Edge) (label : ℕ) → IsTrue (accepted code)
+    → IsCrossing code.crossings crossing → bit state (place_of crossing) ≡ 0 → IsEdge code state crossing change
+    → label < 2 ^ circle_count code state
+    → All (λ behind. behind < 2 ^ circle_count code (state_behind state crossing)) (labels_behind change label)
+labels_behind-below code state crossing (Merge a b to) label is is_crossing zero_there does small k default inside =
+    let behind = state_behind state crossing in
+    let list = merged_labels a b label in
+    let are = numbered-edge code state crossing (Merge a b to) is is_crossing zero_there does in
+    (IsMerged-contains (circle_count code behind) a b label (get_or list k default) are.order
+    (greater-below code state behind crossing a b are)
+    (subst (λ (n : ℕ). label < 2 ^ n) are.merge.circles.count small) (All-contains_itself list k default inside)).small
+labels_behind-below code state crossing (Split from a b) label is is_crossing zero_there does small k default inside =
+    let behind = state_behind state crossing in
+    let list = split_labels a b label in
+    let are = numbered-edge code state crossing (Split from a b) is is_crossing zero_there does in
+    subst (λ (n : ℕ). get_or list k default < 2 ^ n) (sym are.merge.circles.count)
+    (IsParted-contains (circle_count code state) a b label (get_or list k default) are.order
+    (greater-below code behind state crossing a b are) small (All-contains_itself list k default inside)).small
+
+pub labels_behind-ascend : (code : Code) (state crossing : ℕ) (change : Edge) (label : ℕ) → IsEdge code state crossing change
+    → IsStrictlyIncreasing (labels_behind change label)
+labels_behind-ascend code state crossing (Merge a b to) label does = increasing-merged a b label
+labels_behind-ascend code state crossing (Split from a b) label does = increasing-split a b label does.order
+
+-- with as many labels v-, or one more
+
+minuses-fit : (code : Code) (state crossing : ℕ) (change : Edge) (label head_label : ℕ) → IsTrue (accepted code)
+    → IsCrossing code.crossings crossing → bit state (place_of crossing) ≡ 0 → IsEdge code state crossing change
+    → fits code (generator_of state label) (generator_of (state_behind state crossing) head_label) crossing ≡ true
+    → ones (circle_count code (state_behind state crossing)) head_label ≡ ones (circle_count code state) label + minuses_gained change
+minuses-fit code state crossing (Merge a b to) label head_label is is_crossing zero_there does fit =
+    let tail = generator_of state label in
+    let head = generator_of (state_behind state crossing) head_label in
+    let merge = (numbered-edge code state crossing (Merge a b to) is is_crossing zero_there does).merge in
+    let lower = labels-lower true code tail head crossing is merge ((fits-decides true code tail head crossing is merge).0 fit) in
+    omega (arith, lower, merge.circles.count)
+minuses-fit code state crossing (Split from a b) label head_label is is_crossing zero_there does fit =
+    let tail = generator_of state label in
+    let head = generator_of (state_behind state crossing) head_label in
+    let merge = (numbered-edge code state crossing (Split from a b) is is_crossing zero_there does).merge in
+    let lower = labels-lower false code tail head crossing is merge ((fits-decides false code tail head crossing is merge).0 fit) in
+    omega (arith, lower, merge.circles.count)
+
+pub minuses-behind : (code : Code) (state crossing : ℕ) (change : Edge) (label head_label : ℕ) → IsTrue (accepted code)
+    → IsCrossing code.crossings crossing → bit state (place_of crossing) ≡ 0 → IsEdge code state crossing change
+    → label < 2 ^ circle_count code state → Contains (labels_behind change label) head_label
+    → ones (circle_count code (state_behind state crossing)) head_label ≡ ones (circle_count code state) label + minuses_gained change
+minuses-behind code state crossing change label head_label is is_crossing zero_there does small has =
+    let head_small = All-contains (λ (h : ℕ). h < 2 ^ circle_count code (state_behind state crossing)) (labels_behind change label)
+    head_label (labels_behind-below code state crossing change label is is_crossing zero_there does small) has in
+    minuses-fit code state crossing change label head_label is is_crossing zero_there does
+    ((heads code state crossing change label head_label is is_crossing zero_there does small head_small).1 has)
+
+-- the coefficients along an edge, which is one crossing's
+
+one-crossing : (state first second : ℕ) → 1 ≤ first → 1 ≤ second → first ≢ second
+    → state_behind state first ≢ state_behind state second
+one-crossing state first second from second_from other same = elim (cases_lt first second) [
+  | inl less ↦
+      let order : place_of first < place_of second = omega (arith, less, from) in
+      omega (arith, same, pow-lt order)
+  | inr more ↦
+      let order : place_of second < place_of first = omega (arith, more, other, second_from) in
+      omega (arith, same, pow-lt order)
+]
+
+coefficient-one : (p : ℕ) (code : Code) (tail head : Generator) (crossing : ℕ) → IsCrossing code.crossings crossing
+    → IsStep tail.state head.state crossing
+    → coefficient p code tail head ≡ cond (fits code tail head crossing) (edge_sign p tail.state crossing) 0
+coefficient-one p code tail head crossing is_crossing step =
+    sum_by-single (coefficient_at p code tail head) 1 (length code.crossings) crossing is_crossing.positive
+    (omega (arith, is_crossing.within))
+    (λ other from below differs. elim (edge_or_zero p code tail head other) [
+      | inl too ↦ absurd (one-crossing tail.state other crossing from is_crossing.positive differs (sym too.behind ∙ step.behind))
+      | inr none ↦ none
+    ])
+    ∙ ap (λ b. cond (b && fits code tail head crossing) (edge_sign p tail.state crossing) 0) ((is_edge-decides tail head crossing).1 step)
+
+pub list_any-decides : (xs : List ℕ) (x : ℕ) → Decides (list_any (nat_eq x) xs) (Contains xs x)
+list_any-decides xs x = (
+  Contains-from_any eqb-true x xs,
+  λ has. list_any_at (nat_eq x) xs has.0 x has.1 (eq-eqb x (get_or xs has.0 x) (sym has.2)),
+)
+
+pub coefficient-along : (p : ℕ) (code : Code) (state crossing : ℕ) (change : Edge) (label head_label : ℕ) → IsTrue (accepted code)
+    → IsCrossing code.crossings crossing → bit state (place_of crossing) ≡ 0 → IsEdge code state crossing change
+    → label < 2 ^ circle_count code state → head_label < 2 ^ circle_count code (state_behind state crossing)
+    → coefficient p code (generator_of state label) (generator_of (state_behind state crossing) head_label)
+    ≡ cond (list_any (nat_eq head_label) (labels_behind change label)) (edge_sign p state crossing) 0
+coefficient-along p code state crossing change label head_label is is_crossing zero_there does small head_small =
+    let tail = generator_of state label in
+    let head = generator_of (state_behind state crossing) head_label in
+    let decides = heads code state crossing change label head_label is is_crossing zero_there does small head_small in
+    let listed = list_any-decides (labels_behind change label) head_label in
+    coefficient-one p code tail head crossing is_crossing (record { zero_there = zero_there; behind = refl })
+    ∙ ap (λ b. cond b (edge_sign p state crossing) 0)
+    (same_from_decides (fits code tail head crossing) (list_any (nat_eq head_label) (labels_behind change label)) decides listed)
+
+-- a coefficient other than 0 goes along one
+
+sum_by-some : (f : ℕ → ℕ) (a n : ℕ) → sum_by f (range_with_len a n) ≢ 0 → (k : ℕ) × (a ≤ k) × (k < a + n) × (f k ≢ 0)
+sum_by-some f a zero some = absurd (some refl)
+sum_by-some f a (suc n) some = elim (cases_eq (f a) 0) [
+  | inr here ↦ (a, omega arith, omega arith, here)
+  | inl none ↦
+      let later = sum_by-some f (a + 1) n
+      (λ rest. some (sum_by-cons f a (range_with_len (a + 1) n) ∙ omega (arith, none, rest))) in
+      (later.0, omega (arith, later.1), omega (arith, later.2), later.3)
+]
+
+pub coefficient-elsewhere : (p : ℕ) (code : Code) (tail head : Generator) → coefficient p code tail head ≢ 0
+    → (crossing : ℕ) × IsCrossing code.crossings crossing × (bit tail.state (place_of crossing) ≡ 0)
+    × (head.state ≡ state_behind tail.state crossing)
+coefficient-elsewhere p code tail head some =
+    let term = sum_by-some (coefficient_at p code tail head) 1 (length code.crossings) some in
+    elim (edge_or_zero p code tail head term.0) [
+      | inl step ↦ (
+        term.0,
+        record { positive = term.1; within = omega (arith, term.2) },
+        step.zero_there,
+        step.behind,
+      )
+      | inr none ↦ absurd (term.3 none)
+    ]

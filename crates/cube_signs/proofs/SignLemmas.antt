@@ -1,0 +1,46 @@
+-- Signs of edges, and the entries along one edge more.
+use Rattle.std.proofs.Common.{◌≡◌, ◌≢◌, ℕ, ◌+◌, ◌-◌, ◌%◌, ◌<◌, ◌∙◌, List, ◌++◌, sym, ap, arith, Option, None}
+use Rattle.std.specs.Prelude.{nat_eq, if◌then◌else◌, slice_index_or}
+use Rattle.std.proofs.lemmas.Bool.Decides.{nat_tests}
+use Rattle.kh_types.specs.Bits.{bit, ones}
+use Rattle.kh_types.specs.Generators.{Generator}
+use Rattle.kh_types.proofs.BitLemmas.{ones-more}
+use Rattle.kh_types.proofs.Ranges.{flat_map-range_more}
+use Rattle.circle_smoothing.specs.declared.change.Edge.{Edge}
+use Rattle.sparse_block.specs.declared.entry.Entry.{Entry}
+use Rattle.cube_signs.specs.Columns.{column_to, entries_at, sign_at, step_entries}
+
+-- -1 to a power, modulo p
+abbrev sign_of : ℕ → ℕ → ℕ
+sign_of p count = if nat_eq (count % 2) 0 then 1 else p - 1
+
+turned : (p count : ℕ) → 1 < p → p - sign_of p count ≡ sign_of p (count + 1)
+turned p count above = grind (arith, nat_tests)
+
+pub sign-same : (p sign state place b : ℕ) → sign ≡ sign_at p state place → b ≡ bit state place → b ≡ 0 → sign ≡ sign_at p state (place + 1)
+sign-same p sign state place b is is_bit zero =
+    let same : ones place state ≡ ones (place + 1) state = omega (arith, ones-more place state) in
+    is ∙ ap (sign_of p) same
+
+pub sign-turned : (p sign state place b : ℕ) → 1 < p → sign ≡ sign_at p state place → b ≡ bit state place → b < 2 → b ≢ 0
+    → p - sign ≡ sign_at p state (place + 1)
+sign-turned p sign state place b above is is_bit few some =
+    let more : ones place state + 1 ≡ ones (place + 1) state = omega (arith, ones-more place state) in
+    ap (λ s. p - s) is ∙ turned p (ones place state) above ∙ ap (sign_of p) more
+
+pub sign-positive : (p state place : ℕ) → 1 < p → 0 < sign_at p state place
+sign-positive p state place above = grind (arith, nat_tests)
+
+pub sign-below : (p state place : ℕ) → 1 < p → sign_at p state place < p
+sign-below p state place above = grind (arith, nat_tests)
+
+-- one edge more
+pub column-more : (p : ℕ) (steps : List (Option Edge)) (bases ranks : List ℕ) (tail : Generator) (place sign : ℕ) (made next : List Entry)
+    → made ≡ column_to p steps bases ranks tail place → sign ≡ sign_at p tail.state place
+    → next ≡ made ++ step_entries sign bases ranks tail place (slice_index_or steps place None)
+    → next ≡ column_to p steps bases ranks tail (place + 1)
+unfolding entries_at
+column-more p steps bases ranks tail place sign made next is_made is_sign is_next =
+    is_next ∙ ap (λ (xs : List Entry). xs ++ step_entries sign bases ranks tail place (slice_index_or steps place None)) is_made
+    ∙ ap (λ s. column_to p steps bases ranks tail place ++ step_entries s bases ranks tail place (slice_index_or steps place None)) is_sign
+    ∙ sym (flat_map-range_more (entries_at p steps bases ranks tail) 0 place place (omega arith))

@@ -1,0 +1,78 @@
+-- The steps of the loops over the edges out of states.
+use Rattle.std.proofs.Common.{◌≡◌, ℕ, ◌+◌, ◌^◌, ◌<◌, ◌∙◌, inl, inr, List, [], ◌∷◌, ◌++◌, length, get_or, subst, sym, ap, arith, Option, None, Some}
+use Rattle.std.specs.Prelude.{slice_index_or}
+use Rattle.std.proofs.lemmas.Bool.{cases_lt}
+use Rattle.std.proofs.lemmas.List.{get_or-map, get_or_append_left, get_or_push, length-map, length_push}
+use Rattle.arrayvec.specs.ArrayVec.{ArrayVec}
+use Rattle.kh_types.specs.Bits.{bit}
+use Rattle.kh_types.specs.Code.{Code, IsCrossing, place_of}
+use Rattle.circle_smoothing.specs.Edges.{state_behind}
+use Rattle.circle_smoothing.specs.declared.change.Edge.{Edge}
+use Rattle.cube_signs.specs.Columns.{AreSmall, IsSmall}
+use Rattle.cube_signs.specs.Steps.{steps_in, HasSteps, HaveSteps, IsStep}
+
+-- what holds of each element, and of one more
+pub each-more : {X : Type 0} (P : ℕ → X → Type 0) (xs : List X) (x d : X) (count : ℕ) → length xs ≡ count
+    → ((k : ℕ) → k < count → P k (get_or xs k d)) → P count x → (k : ℕ) → k < count + 1 → P k (get_or (xs ++ x ∷ []) k d)
+each-more P xs x d count size holds more k below = elim (cases_lt k count) [
+  | inl before ↦ subst (P k) (sym (get_or_append_left xs (x ∷ []) d k (omega arith))) (holds k before)
+  | inr last ↦
+      let is : count ≡ k = omega arith in
+      subst (λ m. P m (get_or (xs ++ x ∷ []) m d)) is (subst (P count) (sym (get_or_push xs x d count size)) more)
+]
+
+pub HasSteps-none : (code : Code) (state : ℕ) → HasSteps code state 0 []
+HasSteps-none code state = record { size = omega arith; each = λ place below. absurd (omega arith) }
+
+pub HasSteps-more : (code : Code) (state place : ℕ) (steps next : List (Option Edge)) (step : Option Edge)
+    → HasSteps code state place steps → IsStep code state place step → next ≡ steps ++ step ∷ [] → HasSteps code state (place + 1) next
+HasSteps-more code state place steps next step has is is_next =
+    subst (HasSteps code state (place + 1)) (sym is_next) (record {
+      size = length_push steps step ∙ ap (λ n. n + 1) has.size;
+      each = each-more (IsStep code state) steps step None place has.size has.each is;
+    })
+
+pub HaveSteps-more : (code : Code) (state : ℕ) (rows next : List (List (Option Edge))) (row : List (Option Edge))
+    → HaveSteps code state rows → HasSteps code state (length code.crossings) row → next ≡ rows ++ row ∷ []
+    → HaveSteps code (state + 1) next
+HaveSteps-more code state rows next row have has is_next =
+    subst (HaveSteps code (state + 1)) (sym is_next) (record {
+      size = length_push rows row ∙ ap (λ n. n + 1) have.size;
+      each = each-more (λ state. HasSteps code state (length code.crossings)) rows row [] state have.size have.each has;
+    })
+
+-- the state behind an edge, by the place of its crossing
+pub state_behind-place : (state place : ℕ) → state_behind state (place + 1) ≡ state + 2 ^ place
+state_behind-place state place =
+    let e : place_of (place + 1) ≡ place = omega arith in
+    ap (λ k. state + 2 ^ k) e
+
+pub IsCrossing-place : (crossings : List (List ℕ)) (place : ℕ) → place < length crossings → IsCrossing crossings (place + 1)
+IsCrossing-place crossings place below = record { positive = omega arith; within = omega arith }
+
+pub bit-place : (state place : ℕ) → bit state place ≡ 0 → bit state (place_of (place + 1)) ≡ 0
+bit-place state place zero =
+    let e : place_of (place + 1) ≡ place = omega arith in
+    ap (bit state) e ∙ zero
+
+-- the steps out of a state in memory
+pub row-steps : (code : Code) (rows : List (ArrayVec (Option Edge))) (state : ℕ) (row : ArrayVec (Option Edge)) (steps : List (Option Edge))
+    → HaveSteps code (2 ^ length code.crossings) (steps_in rows) → state < 2 ^ length code.crossings → row ≡ get_or rows state row
+    → steps ≡ row.items → HasSteps code state (length code.crossings) steps
+row-steps code rows state row steps have below is is_steps =
+    let items : ArrayVec (Option Edge) → List (Option Edge) = λ row. row.items in
+    let within : state < length rows = omega (arith, below, have.size, length-map rows items) in
+    let at : slice_index_or (steps_in rows) state [] ≡ steps =
+    get_or-map items rows state row [] within ∙ ap items (sym is) ∙ sym is_steps in
+    subst (HasSteps code state (length code.crossings)) at (have.each state below)
+
+small-step : (code : Code) (state place : ℕ) (step : Option Edge) → IsStep code state place step → IsSmall step
+small-step code state place None is = tt
+small-step code state place (Some change) is = is.2
+
+pub AreSmall-steps : (code : Code) (state count : ℕ) (steps : List (Option Edge)) → HasSteps code state count steps → AreSmall steps
+AreSmall-steps code state count steps has =
+    record {
+      each = λ place below.
+          small-step code state place (slice_index_or steps place None) (has.each place (omega (arith, below, has.size)));
+    }

@@ -1,0 +1,40 @@
+use Rattle.std.proofs.Common.{◌∙◌, ◌≤◌, ◌^◌, ap, arith, length}
+use Rattle.std.proofs.Math.Pow.{pow_mono}
+use Rattle.std.proofs.lemmas.List.FromFn.{length-map-range_with_len}
+use Rattle.kh_types.specs.Bits.{ones}
+use Rattle.cube_signs.specs.LabelRanks.{ranks_of}
+use Rattle.cube_signs.proofs.TableLemmas.{circles-most, shapes-few}
+use Rattle.cube_signs.proofs.cube.Cube.new.Goals as goal
+
+pub most_circles-requires : goal.most_circles-requires
+most_circles-requires c =
+    shapes-few c.args.diagram.now c.deref-3.result.now (c.deref-3.ensures.value ∙ c.in_ok-shapes.ensures) c.requires
+
+pub ranks_of-requires : goal.ranks_of-requires
+ranks_of-requires c =
+    let power : 2 ^ c.most_circles.result ≤ 2 ^ 22 = pow_mono c.most_circles.ensures.few in
+    omega (
+      arith,
+      ap length (c.deref-4.ensures.value ∙ c.in_ok-weights.ensures),
+      length-map-range_with_len (ones c.most_circles.result) 0 (2 ^ c.most_circles.result),
+      power,
+    )
+
+pub invariant_of-result : goal.invariant_of-result
+invariant_of-result c =
+    record {
+      is_code = c.crossings.ensures.accepted;
+      few = omega (arith, ap length c.crossings.ensures.crossings, c.crossings.ensures.few);
+      size = c.requires;
+      are_minus = c.minus.ensures;
+      are_shapes = c.in_ok-shapes.ensures;
+      are_steps = c.in_ok-rows.ensures;
+      width = c.most_circles.result;
+      narrow = c.most_circles.ensures.few;
+      most = λ state below.
+          circles-most c.args.diagram.now c.deref-3.result.now c.most_circles.result state
+          (c.deref-3.ensures.value ∙ c.in_ok-shapes.ensures) c.most_circles.ensures.most below;
+      are_weights = c.in_ok-weights.ensures;
+      are_ranks =
+          c.in_ok-ranks.ensures ∙ ap (λ weights. ranks_of weights (length weights)) c.deref-4.ensures.value;
+    }

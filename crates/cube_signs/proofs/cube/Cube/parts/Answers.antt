@@ -1,0 +1,45 @@
+use Rattle.std.proofs.Common.{◌≡◌, ◌∙◌, ◌<◌, ℤ, length, ap, subst, sym, arith, w16}
+use Rattle.std.proofs.lemmas.Int.{ints, to_z-of_z}
+use Rattle.kh_types.specs.History.{first_or_zero, homological_degrees}
+use Rattle.sparse_block.specs.Inside.{lines_in, lists_in}
+use Rattle.cube_signs.specs.Columns.{names_from}
+use Rattle.cube_signs.proofs.NamedBlocks.{block-built, block-some, length-names}
+use Rattle.cube_signs.proofs.cube.Cube.parts.Goals as goal
+
+pub span-requires-clause-some : goal.span-requires-clause-some
+span-requires-clause-some c =
+    let same : c.lowest.result.j ≡ c.args.j = c.lowest.ensures.j ∙ to_z-of_z w16 c.args.j c.ranges.j in
+    subst (λ (j : ℤ). 0 < length (homological_degrees c.args.self.now j)) (sym same) (block-some c.args.self.now c.args.j c.requires.degree)
+
+pub all_columns-requires-clause-high : goal.all_columns-requires-clause-high
+all_columns-requires-clause-high c =
+    let span = c.in_ok-span.span in
+    let count = length-names c.args.self.now span.least.i span.least.j span.count c.in_ok-names.names.items c.in_ok-names.ensures in
+    omega (arith, ints, ap length c.deref.ensures.value, count, c.in_ok-span.ensures.below)
+
+pub all_columns-requires-clause-names : goal.all_columns-requires-clause-names
+all_columns-requires-clause-names c =
+    let code = c.args.self.now in
+    let span = c.in_ok-span.span in
+    let names = c.in_ok-names.names.items in
+    let count : span.count ≡ length c.deref.result.now =
+    sym (ap length c.deref.ensures.value ∙ length-names code span.least.i span.least.j span.count names c.in_ok-names.ensures) in
+    ap lists_in c.deref.ensures.value ∙ c.in_ok-names.ensures ∙ ap (names_from code span.least.i span.least.j) count
+
+pub returns : goal.returns
+returns c =
+    let code = c.args.self.now in
+    let span = c.in_ok-span.span in
+    let least = span.least in
+    let same : c.lowest.result.j ≡ c.args.j = c.lowest.ensures.j ∙ to_z-of_z w16 c.args.j c.ranges.j in
+    let is_j : least.j ≡ c.args.j = c.in_ok-span.ensures.quantum ∙ same in
+    let at_j : c.lowest.result.j ≡ least.j = sym c.in_ok-span.ensures.quantum in
+    let count : span.count ≡ length (homological_degrees code least.j) =
+    c.in_ok-span.ensures.count ∙ ap (λ (j : ℤ). length (homological_degrees code j)) at_j in
+    let some : 0 < length (homological_degrees code least.j) =
+    subst (λ (j : ℤ). 0 < length (homological_degrees code j)) (sym is_j) (block-some code c.args.j c.requires.degree) in
+    block-built c.args.p code c.args.j least.j least.i span.count c.in_ok-names.names.items c.deref.result.now
+    (lines_in c.in_ok-columns.columns.items) c.requires.prime c.state_count.ensures.code c.state_count.ensures.size
+    (omega (arith, some, count)) c.in_ok-span.ensures.above c.in_ok-span.ensures.below is_j
+    (c.in_ok-span.ensures.low ∙ ap (λ (j : ℤ). first_or_zero (homological_degrees code j)) at_j) count c.in_ok-names.ensures
+    c.deref.ensures.value c.in_ok-columns.ensures

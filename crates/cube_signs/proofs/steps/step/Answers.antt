@@ -1,0 +1,90 @@
+use Rattle.std.proofs.Common.{◌≡◌, ◌≢◌, ℕ, ◌+◌, ◌^◌, ◌∙◌, ◌<◌, length, get_or, List, arith, ap, sym, subst}
+use Rattle.kh_types.specs.Bits.{bit}
+use Rattle.kh_types.specs.Code.{Code, IsCrossing}
+use Rattle.circle_smoothing.specs.CircleNumbers.{Resolution}
+use Rattle.circle_smoothing.specs.Edges.{IsEdge, state_behind}
+use Rattle.circle_smoothing.proofs.EdgeBits.{set-within}
+use Rattle.cube_signs.specs.Shapes.{resolution_of, resolutions}
+use Rattle.cube_signs.proofs.StateLists.{length-resolutions, resolution-at}
+use Rattle.cube_signs.proofs.StepLemmas.{IsCrossing-place, bit-place, state_behind-place}
+use Rattle.cube_signs.proofs.steps.step.Goals as goal
+
+is_zero : (result one : ℕ) → result ≡ one → result < 2 → result ≢ 1 → one ≡ 0
+is_zero result one is few differ = omega arith
+
+state-below : (code : Code) (circles : List Resolution) (state : ℕ) → circles ≡ resolutions code → state < 2 ^ length code.crossings
+    → state < length circles
+state-below code circles state is below = omega (arith, ap length is, length-resolutions code)
+
+-- the circles at a state in the list
+at : (code : Code) (circles : List Resolution) (state : ℕ) (one : Resolution) → circles ≡ resolutions code
+    → state < 2 ^ length code.crossings → one ≡ get_or circles state one → one ≡ resolution_of code state
+at code circles state one is_all below is = resolution-at code circles state one is_all (state-below code circles state is_all below) is
+
+pub bounds-circles-state : goal.bounds-circles-state
+bounds-circles-state c = state-below c.args.diagram.now c.args.circles.now c.args.state c.requires.circles c.requires.state
+
+pub bounds-circles-behind : goal.bounds-circles-behind
+bounds-circles-behind c =
+    let zero = is_zero c.bit.result (bit c.args.state c.args.place) c.bit.ensures.bit c.bit.ensures.within c.if-bit-eq1.false in
+    state-below c.args.diagram.now c.args.circles.now c.state_behind-behind.result c.requires.circles
+    (omega (
+      arith,
+      c.state_behind-behind.ensures,
+      set-within c.args.state c.args.place (length c.args.diagram.now.crossings) c.requires.place c.requires.state zero,
+    ))
+
+behind-below : (state place count behind : ℕ) → behind ≡ state + 2 ^ place → place < count → state < 2 ^ count → bit state place ≡ 0
+    → behind < 2 ^ count
+behind-below state place count behind is place_below state_below zero =
+    omega (arith, set-within state place count place_below state_below zero)
+
+pub edge-requires-clause-code : goal.edge-requires-clause-code
+edge-requires-clause-code c =
+    let code = c.args.diagram.now in
+    let count = length code.crossings in
+    let zero = is_zero c.bit.result (bit c.args.state c.args.place) c.bit.ensures.bit c.bit.ensures.within c.if-bit-eq1.false in
+    let below = behind-below c.args.state c.args.place count c.state_behind-behind.result c.state_behind-behind.ensures
+    c.requires.place c.requires.state zero in
+    ap (λ r. r.code)
+    (at code c.args.circles.now c.state_behind-behind.result c.index-circles-behind.result c.requires.circles below
+    c.index-circles-behind.is)
+    ∙ sym (ap (λ r. r.code)
+    (at code c.args.circles.now c.args.state c.index-circles-state.result c.requires.circles c.requires.state c.index-circles-state.is))
+
+pub edge-requires-clause-state : goal.edge-requires-clause-state
+edge-requires-clause-state c =
+    let code = c.args.diagram.now in
+    let count = length code.crossings in
+    let zero = is_zero c.bit.result (bit c.args.state c.args.place) c.bit.ensures.bit c.bit.ensures.within c.if-bit-eq1.false in
+    let below = behind-below c.args.state c.args.place count c.state_behind-behind.result c.state_behind-behind.ensures
+    c.requires.place c.requires.state zero in
+    ap (λ r. r.state)
+    (at code c.args.circles.now c.state_behind-behind.result c.index-circles-behind.result c.requires.circles below
+    c.index-circles-behind.is)
+    ∙ c.state_behind-behind.ensures ∙ sym (state_behind-place c.args.state c.args.place)
+    ∙ sym (ap (λ r. state_behind r.state (c.args.place + 1))
+    (at code c.args.circles.now c.args.state c.index-circles-state.result c.requires.circles c.requires.state c.index-circles-state.is))
+
+pub edge-requires-clause-crossing : goal.edge-requires-clause-crossing
+edge-requires-clause-crossing c =
+    let here = at c.args.diagram.now c.args.circles.now c.args.state c.index-circles-state.result c.requires.circles c.requires.state
+    c.index-circles-state.is in
+    subst (λ (r : Resolution). IsCrossing r.code.crossings (c.args.place + 1)) (sym here)
+    (IsCrossing-place c.args.diagram.now.crossings c.args.place c.requires.place)
+
+pub edge-requires-clause-smoothing : goal.edge-requires-clause-smoothing
+edge-requires-clause-smoothing c =
+    let here = at c.args.diagram.now c.args.circles.now c.args.state c.index-circles-state.result c.requires.circles c.requires.state
+    c.index-circles-state.is in
+    let zero = is_zero c.bit.result (bit c.args.state c.args.place) c.bit.ensures.bit c.bit.ensures.within c.if-bit-eq1.false in
+    bit-place c.index-circles-state.result.state c.args.place (ap (λ r. bit r.state c.args.place) here ∙ zero)
+
+pub returns : goal.returns
+returns c =
+    let here = at c.args.diagram.now c.args.circles.now c.args.state c.index-circles-state.result c.requires.circles c.requires.state
+    c.index-circles-state.is in (
+      is_zero c.bit.result (bit c.args.state c.args.place) c.bit.ensures.bit c.bit.ensures.within c.if-bit-eq1.false,
+      subst (λ (r : Resolution). IsEdge r.code r.state (c.args.place + 1) c.edge.result) here c.edge.ensures.edge,
+      c.edge.ensures.numbers,
+    )

@@ -1,0 +1,61 @@
+-- What is looked up for the blocks of a cube, found once for all of them.
+use Rattle.std.specs.Prelude.{◌≡◌, ℕ, ◌^◌, ◌<◌, ◌≤◌, ℤ, List, length, map, slice_index, true, Option, IsTrue}
+use Rattle.std.specs.List.{filter, flat_map, range_with_len}
+use Rattle.arrayvec.specs.ArrayVec.{ArrayVec}
+use Rattle.kh_types.specs.declared.limits.TheConstants.{CROSSINGS}
+use Rattle.kh_types.specs.Acceptance.{accepted}
+use Rattle.kh_types.specs.Bits.{ones}
+use Rattle.kh_types.specs.Circles.{circle_count}
+use Rattle.kh_types.specs.Code.{Code}
+use Rattle.kh_types.specs.Directions.{minus_count}
+use Rattle.kh_types.specs.Generators.{Generator, generator_of, generators_of, has_degrees, states}
+use Rattle.circle_smoothing.specs.GeneratorCounts.{generator_count}
+use Rattle.circle_smoothing.specs.declared.change.Edge.{Edge}
+use Rattle.circle_smoothing.specs.declared.limits.TheConstants.{GENERATORS}
+use Rattle.cube_signs.specs.LabelRanks.{ranks_of, weights_of}
+use Rattle.cube_signs.specs.Shapes.{is_given, shape_of}
+use Rattle.cube_signs.specs.Steps.{steps_in, HaveSteps}
+use Rattle.cube_signs.specs.declared.shape.Shape.{Shape}
+
+-- the generators of the degrees i and j that a state has
+unfoldable pub state_generators : Code → ℤ → ℤ → ℕ → List Generator
+state_generators code i j state = filter (has_degrees code i j) (generators_of code state)
+
+-- those of the states below a number
+abbrev pub generators_below : Code → ℤ → ℤ → ℕ → List Generator
+generators_below code i j count = flat_map (state_generators code i j) (range_with_len 0 count)
+
+-- how many there are: the place of the first that the next state has
+abbrev pub base_of : Code → ℤ → ℤ → ℕ → ℕ
+base_of code i j state = length (generators_below code i j state)
+
+-- the diagram's code is accepted and within the limits; there are its negative crossings, for each state its shape and the edges out
+-- of it, and for each label of as many circles as any state has how many v- it has, and how many labels before it have as many
+pub record AreTables (code : Code) (minus : ℕ) (shapes : List Shape) (rows : List (ArrayVec (Option Edge))) (weights ranks : List ℕ)
+    : Type 0 where
+  pub is_code : IsTrue (accepted code)
+  pub few : length code.crossings ≤ CROSSINGS
+  pub size : generator_count code ≤ GENERATORS
+  pub are_minus : minus ≡ minus_count code.crossings
+  pub are_shapes : shapes ≡ map (shape_of code) (states code)
+  pub are_steps : HaveSteps code (2 ^ length code.crossings) (steps_in rows)
+  pub width : ℕ
+  pub narrow : width ≤ 22
+  pub most : (state : ℕ) → state < 2 ^ length code.crossings → circle_count code state ≤ width
+  pub are_weights : weights ≡ weights_of width
+  pub are_ranks : ranks ≡ ranks_of weights (length weights)
+
+-- a number of labels v-, if any is given, is that of the labels that have the degrees i and j in a state
+pub record IsWeight (code : Code) (i j : ℤ) (state : ℕ) (given : Option ℕ) : Type 0 where
+  pub labels : (label : ℕ) → has_degrees code i j (generator_of state label) ≡ is_given given (ones (circle_count code state) label)
+
+-- a list of weights has the number of v- of each label of a state
+pub record AtState (code : Code) (state : ℕ) (weights : List ℕ) : Type 0 where
+  pub wide : 2 ^ circle_count code state ≤ length weights
+  pub weight : (label : ℕ) → label < 2 ^ circle_count code state → slice_index weights label ≡ ones (circle_count code state) label
+
+-- a list of ranks has, for each label of a state, how many labels before it have the degrees that it has
+pub record AreRanks (code : Code) (ranks : List ℕ) : Type 0 where
+  pub each : (i j : ℤ) (state label : ℕ) → state < 2 ^ length code.crossings → label < 2 ^ circle_count code state
+      → has_degrees code i j (generator_of state label) ≡ true
+      → slice_index ranks label ≡ length (filter (λ other. has_degrees code i j (generator_of state other)) (range_with_len 0 label))

@@ -1,0 +1,113 @@
+//! The cube of a diagram, with what is looked up for its blocks.
+
+ghost use Rattle.std.specs.Prelude.{◌≡◌, ◌^◌, ◌<◌, ◌≤◌, length, All, IfOk, IsTrue};
+ghost use Rattle.kh_types.specs.Acceptance.{accepted};
+ghost use Rattle.kh_types.specs.declared.limits.TheConstants.{CROSSINGS};
+ghost use Rattle.circle_smoothing.specs.GeneratorCounts.{generator_count};
+ghost use Rattle.circle_smoothing.specs.declared.limits.TheConstants.{GENERATORS};
+ghost use Rattle.cube_signs.specs.Blocks.{block_degrees};
+ghost use Rattle.cube_signs.specs.Columns.{AreSmall};
+ghost use Rattle.cube_signs.specs.Steps.{HasSteps};
+ghost use Rattle.cube_signs.specs.Tables.{AreRanks};
+
+use crate::labels::{ranks_of, weights_of};
+use crate::quantum_degrees::degrees;
+use crate::shape::{Shape, all_circles, all_shapes};
+use crate::steps::{Steps, all_steps};
+use circle_smoothing::Edge;
+use kh_types::{Diagram, NoMemory};
+use std::alloc::Global;
+use std::marker::Model;
+
+/// A diagram with the circles of all its states, found once for all blocks. Contracts see it as the
+/// diagram's `Code`.
+#[derive(Drop)]
+pub struct Cube {
+    pub(crate) diagram: Diagram,
+    // The number of negative crossings.
+    pub(crate) minus: u8,
+    // For each state its number of circles and its degrees, and the edges out of it.
+    pub(crate) shapes: Vec<Shape>,
+    pub(crate) rows: Vec<Steps>,
+    // For each label of as many circles as any state has, the number of its v-, and how many labels
+    // before it have as many.
+    pub(crate) weights: Vec<u8>,
+    pub(crate) ranks: Vec<u32>,
+}
+
+impl Model for Cube {
+    ghost use Rattle.kh_types.specs.Code.{Code};
+    ghost use Rattle.cube_signs.specs.Tables.{AreTables};
+
+    ghost Value = { Code };
+
+    ghost view = { λ cube. cube.diagram };
+
+    ghost invariant = { λ cube. AreTables cube.diagram cube.minus cube.shapes.items cube.rows.items
+        cube.weights.items cube.ranks.items };
+}
+
+impl Cube {
+    /// The cube of a diagram.
+    pub fn new(alloc: Global, diagram: &Diagram) -> Result<Cube, NoMemory>
+        requires { generator_count diagram.now ≤ GENERATORS }
+        ensures { IfOk result (λ cube. cube ≡ diagram.now) }
+    {
+        // (what the type of a diagram keeps)
+        let _ = diagram.crossings();
+        let circles = all_circles(alloc, diagram)?;
+        let shapes = all_shapes(alloc, diagram, &circles)?;
+        let rows = all_steps(alloc, diagram, &circles)?;
+        let weights = weights_of(alloc, most_circles(&shapes))?;
+        let ranks = ranks_of(alloc, &weights)?;
+        Ok(Cube {
+            diagram: *diagram,
+            minus: diagram.minus(),
+            shapes,
+            rows,
+            weights,
+            ranks,
+        })
+    }
+
+    /// The edges out of a state.
+    pub(crate) fn steps(&self, state: usize) -> &[Option<Edge>]
+        requires { state < 2 ^ length self.now.crossings }
+        ensures steps { HasSteps self.now state (length self.now.crossings) result.now }
+        ensures small { AreSmall result.now }
+        ensures few { length result.now ≤ CROSSINGS }
+    {
+        &self.rows[state]
+    }
+
+    /// For each label, how many labels before it have as many v-.
+    pub(crate) fn ranks(&self) -> &[u32]
+        ensures ranks { AreRanks self.now result.now }
+        ensures small { All (λ rank. rank < 2 ^ 31) result.now }
+        ensures code { IsTrue (accepted self.now) }
+        ensures few { length self.now.crossings ≤ CROSSINGS }
+    {
+        &self.ranks
+    }
+
+    /// The quantum degrees that have a generator, ascending.
+    pub fn block_degrees(&self, alloc: Global) -> Result<Vec<i16>, NoMemory>
+        ensures { IfOk result (λ degrees. degrees.items ≡ block_degrees self.now) }
+    {
+        degrees(alloc, &self.shapes)
+    }
+}
+
+/// The most circles of a state.
+#[tactic(auto, using(crate::proofs::TableLemmas::most))]
+fn most_circles(shapes: &[Shape]) -> u8
+    requires { All (λ shape. shape.circles ≤ 22) shapes.now }
+    ensures most { All (λ shape. shape.circles ≤ result) shapes.now }
+    ensures few { result ≤ 22 }
+{
+    let mut most = 0;
+    'states: for state in 0..shapes.len() {
+        most = shapes[state].circles.max(most);
+    }
+    most
+}

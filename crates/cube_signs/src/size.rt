@@ -1,0 +1,29 @@
+//! The limit on generators.
+
+ghost use Rattle.std.specs.Prelude.{◌≡◌, ◌↔◌, ◌≤◌, IsOk, IfOk, IfErr};
+ghost use Rattle.circle_smoothing.specs.GeneratorCounts.{generator_count};
+ghost use Rattle.circle_smoothing.specs.declared.limits.TheConstants.{GENERATORS};
+
+use circle_smoothing::{GENERATORS, generator_count};
+use kh_types::Diagram;
+
+/// There are more generators than the limit, `GENERATORS`.
+#[derive(Clone, Copy, Debug, PartialEq, Eq)]
+pub struct SizeLimit {
+    /// How many there are.
+    pub generators: u64,
+}
+
+/// The number of generators, where it is within the limit.
+pub fn check_size(diagram: &Diagram) -> Result<u64, SizeLimit>
+    ensures within { IsOk result ↔ (generator_count diagram.now ≤ GENERATORS) }
+    ensures count { IfOk result (λ count. count ≡ generator_count diagram.now) }
+    ensures carried { IfErr result (λ limit. limit.generators ≡ generator_count diagram.now) }
+{
+    let generators = generator_count(diagram);
+    if generators <= GENERATORS {
+        Ok(generators)
+    } else {
+        Err(SizeLimit { generators })
+    }
+}
