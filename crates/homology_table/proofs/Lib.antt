@@ -1,0 +1,9 @@
+pub mod IntSums
+pub mod Alternating
+pub mod LabelCounts
+pub mod GeneratorCounts
+pub mod BlockDimensions
+pub mod TableSums
+pub mod RowLists
+pub mod LiveRows
+pub mod Blocks
