@@ -1,0 +1,9 @@
+mod Pieces
+mod Loops
+mod Numbers
+mod CutPieces
+mod LineCuts
+mod WordCuts
+mod Readings
+mod ScheduleLines
+mod ScheduleReadings

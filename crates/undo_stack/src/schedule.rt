@@ -1,0 +1,115 @@
+//! Schedules: what workers do, and when.
+
+ghost use Rattle.std.specs.Prelude.{◌≡◌, ◌≢◌, ◌≤◌, if◌then◌else◌, All, Err, IfOk, drop, length};
+ghost use Rattle.undo_stack.specs.Schedule.{HasWorker, IsSchedule};
+ghost use Rattle.undo_stack.specs.Digits.{signed};
+ghost use Rattle.undo_stack.specs.ScheduleSteps.{block_of, has_minus, line_of_three, line_of_two, schedule_line_of, worker_of};
+
+use crate::command::Command;
+use crate::digits::number_of;
+use crate::limits::{SCRIPT_LINES, WORKERS};
+use crate::reader::read_script;
+use crate::script::Script;
+use crate::stop::ScriptStop;
+use kh_types::INPUT_BYTES;
+use std::alloc::Global;
+
+/// What a line of a schedule lets a worker do. Workers are counted from 1; a block is named by
+/// its quantum degree. This project's rule.
+#[derive(Clone, Copy, Debug, PartialEq, Eq)]
+pub enum ScheduleLine {
+    /// `look W J`: the worker takes a look at the block.
+    Look { worker: u32, block: i16 },
+    /// `commit W`: the worker commits what it has looked up.
+    Commit { worker: u32 },
+    /// `forget W`: the worker forgets what it has looked up.
+    Forget { worker: u32 },
+}
+
+impl Command for ScheduleLine {
+    ghost meaning = { schedule_line_of };
+
+    fn of_words(words: &[&[u8]]) -> Option<Self> {
+        match words {
+            [name, first, second] => line_of_three(name, first, second),
+            [name, first] => line_of_two(name, first),
+            _ => None,
+        }
+    }
+}
+
+/// Reads the text of a schedule: lines of the forms `look W J`, `commit W` and `forget W`, and
+/// lines without words, which do nothing. This project's rule.
+pub fn read_schedule(alloc: Global, text: &[u8]) -> Result<Script<ScheduleLine>, ScriptStop>
+    requires { length text.now ≤ INPUT_BYTES }
+    ensures reads { result ≢ Err ScriptStop.NoMemory → IsSchedule text.now result }
+    ensures workers { IfOk result (λ lines. All HasWorker lines) }
+    ensures few { IfOk result (λ lines. length lines ≤ SCRIPT_LINES) }
+{
+    read_script(alloc, text)
+}
+
+// The line that a name and two words spell.
+fn line_of_three(name: &[u8], first: &[u8], second: &[u8]) -> Option<ScheduleLine>
+    ensures { result ≡ line_of_three name.now first.now second.now }
+{
+    if name != b"look".as_slice() {
+        return None;
+    }
+    let worker = worker_of(first)?;
+    let block = block_of(second)?;
+    Some(ScheduleLine::Look { worker, block })
+}
+
+// The line that a name and one word spell.
+fn line_of_two(name: &[u8], first: &[u8]) -> Option<ScheduleLine>
+    ensures { result ≡ line_of_two name.now first.now }
+{
+    if name == b"commit".as_slice() {
+        let worker = worker_of(first)?;
+        Some(ScheduleLine::Commit { worker })
+    } else if name == b"forget".as_slice() {
+        let worker = worker_of(first)?;
+        Some(ScheduleLine::Forget { worker })
+    } else {
+        None
+    }
+}
+
+// The worker that a word names.
+fn worker_of(word: &[u8]) -> Option<u32>
+    ensures { result ≡ worker_of word.now }
+{
+    let worker = number_of(word, 2)?;
+    if 1 <= worker && worker <= WORKERS {
+        Some(worker)
+    } else {
+        None
+    }
+}
+
+// The block that a word names.
+fn block_of(word: &[u8]) -> Option<i16>
+    ensures { result ≡ block_of word.now }
+{
+    let size = number_of(digits_of(word), 3)?;
+    Some(if has_minus(word) {
+        -(size as i16)
+    } else {
+        size as i16
+    })
+}
+
+// Whether a word begins with a minus sign.
+fn has_minus(word: &[u8]) -> bool
+    ensures { result ≡ has_minus word.now }
+{
+    word.first().copied().unwrap_or(0) == b'-'
+}
+
+// A word without the minus sign that it may begin with.
+fn digits_of(word: &[u8]) -> &[u8]
+    ensures { result.now ≡ drop (if has_minus word.now then 1 else 0) word.now }
+{
+    if has_minus(word) { &word[1..] } else { word }
+}
