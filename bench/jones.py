@@ -14,6 +14,8 @@ import subprocess
 import sys
 import tempfile
 
+from braids import planar_diagram
+
 TOP = os.path.dirname(os.path.dirname(os.path.abspath(__file__)))
 PROGRAM = [os.path.join(TOP, "crates", "kh_main", "out", "kh_main"), "jones"]
 MEMORY = 8 * 1024 * 1024
@@ -30,41 +32,6 @@ BRAIDS = [
     ("torus knot T(5, 4), 16 crossings", 5, [1, 2, 3, 4] * 4),
     ("mixed, 16 crossings", 3, [1, 1, 2, -2, 2, 1, -1, 1, -2, 2, 2, 2, -2, 1, -1, 2]),
 ]
-
-
-def strands_of(strands, letters):
-    """The crossings of a closed braid, each by the names of its strands' ends: upper left and right, lower left and right."""
-    at, fresh, crossings = list(range(strands)), strands, []
-    for letter in letters:
-        left = abs(letter) - 1
-        crossings.append((at[left], at[left + 1], fresh, fresh + 1))
-        at[left], at[left + 1], fresh = fresh, fresh + 1, fresh + 2
-    closed = {bottom: top for top, bottom in enumerate(at)}
-    return [tuple(closed.get(end, end) for end in crossing) for crossing in crossings]
-
-
-def planar_diagram(strands, letters):
-    """The text of a closed braid whose strands all cross: arcs are numbered along each component."""
-    crossings = strands_of(strands, letters)
-    after = {}
-    for upper_left, upper_right, lower_left, lower_right in crossings:
-        after[upper_left], after[upper_right] = lower_right, lower_left
-    numbers = {}
-    for start in after:
-        arc = start
-        while arc not in numbers:
-            numbers[arc] = len(numbers) + 1
-            arc = after[arc]
-    items = []
-    for letter, ends in zip(letters, crossings):
-        upper_left, upper_right, lower_left, lower_right = (numbers[end] for end in ends)
-        slots = (
-            (upper_right, upper_left, lower_left, lower_right)
-            if letter < 0
-            else (upper_left, lower_left, lower_right, upper_right)
-        )
-        items.append("X[%d,%d,%d,%d]" % slots)
-    return "PD[" + ",".join(items) + "]"
 
 
 def run(words, text, memory=resource.RLIM_INFINITY):

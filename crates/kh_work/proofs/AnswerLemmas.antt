@@ -10,7 +10,8 @@ use Rattle.std.proofs.lemmas.Grind.{common_steps}
 use Rattle.kh_types.specs.Acceptance.{accepted, first_fault}
 use Rattle.kh_types.specs.Table.{table, table_text}
 use Rattle.kh_types.specs.declared.fault.CodeFault.{CodeFault}
-use Rattle.kh_work.specs.declared.limits.TheConstants.{HOMOLOGY_CROSSINGS}
+use Rattle.circle_smoothing.specs.GeneratorCounts.{generator_count}
+use Rattle.circle_smoothing.specs.declared.limits.TheConstants.{GENERATORS}
 use Rattle.kh_work.specs.declared.status.Status.TheVariants.{Done}
 use Rattle.kh_work.specs.declared.command.Task.{Task}
 use Rattle.kh_work.specs.declared.command.Task.TheVariants.{Homology, Jones}
@@ -96,17 +97,17 @@ first_fault-accepted : (code : Code) → IsTrue (accepted code) → first_fault 
 unfolding accepted
 first_fault-accepted code is_accepted = none-from_test (first_fault code) is_accepted
 
-homology_reply-table : (field : Field) (code : Code) → length code.crossings ≤ HOMOLOGY_CROSSINGS
+homology_reply-table : (field : Field) (code : Code) → generator_count code ≤ GENERATORS
     → reply_of Done (table_text (table (size_of field) code) ++ jones_line code) ≡ homology_reply field code
 unfolding homology_text
 homology_reply-table field code few =
-    let short : nat_lt HOMOLOGY_CROSSINGS (length code.crossings) ≡ false = grind (arith, common_steps) in
+    let short : nat_lt GENERATORS (generator_count code) ≡ false = grind (arith, common_steps) in
     rw short refl
 
 -- the code of an accepted diagram is answered by its table and its Jones line
 pub IsAnswer-table : (words : List (List ℕ)) (bytes : List ℕ) (command : Command) (code : Code) → command_of words ≡ Some command
     → command.task ≡ Homology → length bytes ≤ INPUT_BYTES → IsCodeRead bytes (Ok code) → IsTrue (accepted code)
-    → length code.crossings ≤ HOMOLOGY_CROSSINGS
+    → generator_count code ≤ GENERATORS
     → IsAnswer words bytes (reply_of Done (table_text (table (size_of command.field) code) ++ jones_line code))
 IsAnswer-table words bytes command code is_command is_homology few_bytes read is_accepted few =
     let reply : Reply = reply_of Done (table_text (table (size_of command.field) code) ++ jones_line code) in

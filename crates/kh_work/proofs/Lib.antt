@@ -3,3 +3,4 @@ pub mod AnswerLemmas
 pub mod TextReadings
 pub mod OneAnswer
 pub mod JonesLemmas
+pub mod Headlines

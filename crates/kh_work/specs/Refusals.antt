@@ -10,7 +10,7 @@ use Rattle.gauss_code.specs.declared.stop.GaussStop.{GaussStop}
 use Rattle.gauss_code.specs.declared.stop.GaussStop.TheVariants as gauss
 use Rattle.json_code.specs.declared.stop.JsonStop.{JsonStop}
 use Rattle.json_code.specs.declared.stop.JsonStop.TheVariants as json
-use Rattle.kh_work.specs.declared.limits.TheConstants.{HOMOLOGY_CROSSINGS}
+use Rattle.circle_smoothing.specs.declared.limits.TheConstants.{GENERATORS}
 use Rattle.kh_work.specs.declared.status.Status.TheVariants.{CodeRefused, Usage, Limit}
 use Rattle.kh_work.specs.Replies.{Reply, reply_of}
 
@@ -48,9 +48,9 @@ too_many_crossings count = limit_on (codes "crossings") count CROSSINGS
 abbrev pub too_many_loops : ℕ → Reply
 too_many_loops count = limit_on (codes "loops") count LOOPS
 
--- a diagram has more crossings than the plain computation of homology takes
-abbrev pub too_many_for_homology : ℕ → Reply
-too_many_for_homology count = limit_on (codes "crossings") count HOMOLOGY_CROSSINGS
+-- a diagram has more generators than a diagram whose homology is computed
+abbrev pub too_many_generators : ℕ → Reply
+too_many_generators count = limit_on (codes "generators") count GENERATORS
 
 -- a PD text is refused for this stop with this reply
 abbrev pub IsPdRefusal : PdStop → Reply → Type 0

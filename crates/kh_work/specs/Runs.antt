@@ -1,12 +1,23 @@
 -- The promises of a run.
-use Rattle.std.specs.Prelude.{◌≡◌, ◌≢◌, ◌⊎◌, ℕ, List, IfSome, IsSome, None}
+use Rattle.std.specs.Prelude.{◌≡◌, ◌≢◌, ◌⊎◌, ℕ, ℤ, ◌≤◌, List, ◌++◌, length, IfSome, IsSome, IsTrue, None, Some, Ok}
 use Rattle.std.specs.declared.option.Option.{Option}
+use Rattle.std.specs.Io.KnownBytes.{Appends}
+use Rattle.kh_types.specs.Acceptance.{accepted}
+use Rattle.kh_types.specs.Code.{Code}
+use Rattle.kh_types.specs.StateSum.{euler, polynomial_text, state_sum}
+use Rattle.kh_types.specs.Table.{table, table_text}
+use Rattle.kh_types.specs.declared.limits.TheConstants.{CROSSINGS, INPUT_BYTES}
+use Rattle.circle_smoothing.specs.GeneratorCounts.{generator_count}
+use Rattle.circle_smoothing.specs.declared.limits.TheConstants.{GENERATORS}
 use Rattle.kh_io.specs.Faults.{Rose}
+use Rattle.kh_work.specs.declared.command.Command.{Command}
+use Rattle.kh_work.specs.declared.command.Task.TheVariants.{Homology}
 use Rattle.kh_work.specs.declared.status.Status.{Status}
-use Rattle.kh_work.specs.declared.status.Status.TheVariants.{Usage, ReadFault, WriteFault, NoMemory}
+use Rattle.kh_work.specs.declared.status.Status.TheVariants.{Done, Usage, ReadFault, WriteFault, NoMemory}
 use Rattle.kh_work.specs.Statuses.{IsWhole}
 use Rattle.kh_work.specs.Replies.{Reply}
-use Rattle.kh_work.specs.Commands.{command_of}
+use Rattle.kh_work.specs.Commands.{command_of, size_of}
+use Rattle.kh_work.specs.Inputs.{IsCodeRead}
 use Rattle.kh_work.specs.Refusals.{usage}
 use Rattle.kh_work.specs.Answer.{IsAnswer}
 use Rattle.kh_work.specs.Told.{Gives, GivesPrefix, IsTaken, IsReadOut}
@@ -45,3 +56,26 @@ pub record IsRun (words : List (List ℕ)) (source_before source_after sink_befo
   -- where no count rose, the answer is written, unless there was no memory
   pub complete : ¬ Rose source_before.faults source_after.faults → ¬ Rose sink_before.faults sink_after.faults
       → IsWhole status ⊎ (status ≡ NoMemory)
+
+-- a run has ended as done, and a sink has gained the homology table of a code over the field of p elements and the Jones line of its
+-- state sum, which is the graded Euler characteristic of that table, and nothing else
+pub record HasWrittenHomology (p : ℕ) (code : Code) (ended : Status) (before after : Option (List ℕ)) : Type 0 where
+  pub status : ended ≡ Done
+  pub written : Appends before after (table_text (table p code) ++ polynomial_text (state_sum code))
+  pub sum : (exponent : ℤ) → state_sum code exponent ≡ euler (table p code) exponent
+
+-- the bytes of an input are the text of the code of an accepted diagram within the limits
+pub record IsAcceptedText (bytes : List ℕ) (code : Code) : Type 0 where
+  pub few_bytes : length bytes ≤ INPUT_BYTES
+  pub read : IsCodeRead bytes (Ok code)
+  pub is_accepted : IsTrue (accepted code)
+  pub few_crossings : length code.crossings ≤ CROSSINGS
+  pub few_generators : generator_count code ≤ GENERATORS
+
+-- a run whose words give `homology`, over an input that is the text of the code of an accepted diagram within the limits, writes its
+-- homology over the field that the words name, unless a fault or want of memory ends it
+abbrev pub KeepsHeadline : List (List ℕ) → Seen → Seen → Seen → Status → Type 0
+KeepsHeadline words source_before sink_before sink_after status =
+    (bytes : List ℕ) (command : Command) (code : Code) → source_before.bytes ≡ Some bytes → command_of words ≡ Some command
+    → command.task ≡ Homology → IsAcceptedText bytes code → IsWhole status
+    → HasWrittenHomology (size_of command.field) code status sink_before.bytes sink_after.bytes

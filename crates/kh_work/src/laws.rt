@@ -1,15 +1,17 @@
 //! Laws of the definitions: each is the contract of a function that does nothing.
 
 ghost use Rattle.std.specs.Prelude.{◌≡◌, ◌≤◌, ◌++◌, ℕ, List, length, IsTrue, Ok, Some};
+ghost use Rattle.circle_smoothing.specs.GeneratorCounts.{generator_count};
+ghost use Rattle.circle_smoothing.specs.declared.limits.TheConstants.{GENERATORS};
 ghost use Rattle.kh_types.specs.Code.{Code};
 ghost use Rattle.kh_types.specs.Acceptance.{accepted};
-ghost use Rattle.kh_types.specs.StateSum.{polynomial_text, state_sum};
+ghost use Rattle.kh_types.specs.StateSum.{euler, polynomial_text, state_sum};
 ghost use Rattle.kh_types.specs.Table.{table, table_text};
-ghost use Rattle.kh_types.specs.declared.limits.TheConstants.{INPUT_BYTES};
+ghost use Rattle.kh_types.specs.declared.limits.TheConstants.{CROSSINGS, INPUT_BYTES};
 ghost use Rattle.kh_work.specs.declared.command.Command.{Command};
+ghost use Rattle.kh_work.specs.declared.command.Field.{Field};
 ghost use Rattle.kh_work.specs.declared.command.Task.{Task};
 ghost use Rattle.kh_work.specs.declared.status.Status.{Status};
-ghost use Rattle.kh_work.specs.declared.limits.TheConstants.{HOMOLOGY_CROSSINGS};
 ghost use Rattle.kh_work.specs.Replies.{Reply, reply_of};
 ghost use Rattle.kh_work.specs.Commands.{command_of, size_of};
 ghost use Rattle.kh_work.specs.Inputs.{IsCodeRead};
@@ -30,7 +32,7 @@ pub fn accepted_diagrams_are_answered_by_their_table()
     ensures { (words : List (List ℕ)) (bytes : List ℕ) (command : Command) (code : Code)
         → command_of words ≡ Some command → command.task ≡ Task.Homology
         → length bytes ≤ INPUT_BYTES → IsCodeRead bytes (Ok code) → IsTrue (accepted code)
-        → length code.crossings ≤ HOMOLOGY_CROSSINGS
+        → generator_count code ≤ GENERATORS
         → IsAnswer words bytes (reply_of Status.Done
         (table_text (table (size_of command.field) code) ++ jones_line code)) }
 {}
@@ -45,7 +47,8 @@ pub fn accepted_diagrams_are_answered_by_their_polynomial()
         → IsAnswer words bytes (reply_of Status.Done (jones_line code)) }
 {}
 
-/// The numbers of the limits of commands.
-pub fn limits_of_commands()
-    ensures { HOMOLOGY_CROSSINGS ≡ 4 }
+/// The Jones line of an accepted diagram is that of the graded Euler characteristic of its homology table, over each field.
+pub fn jones_line_is_the_euler_characteristic()
+    ensures { (field : Field) (code : Code) → IsTrue (accepted code) → length code.crossings ≤ CROSSINGS
+        → jones_line code ≡ polynomial_text (euler (table (size_of field) code)) }
 {}

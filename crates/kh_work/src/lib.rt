@@ -6,7 +6,6 @@ mod command;
 mod commands;
 mod input;
 mod laws;
-mod limits;
 mod refusals;
 mod reply;
 mod status;
@@ -16,8 +15,8 @@ mod top;
 
 pub use laws::{
     accepted_diagrams_are_answered_by_their_polynomial,
-    accepted_diagrams_are_answered_by_their_table, limits_of_commands, one_answer,
+    accepted_diagrams_are_answered_by_their_table, jones_line_is_the_euler_characteristic,
+    one_answer,
 };
-pub use limits::HOMOLOGY_CROSSINGS;
 pub use status::Status;
 pub use top::run;

@@ -1,11 +1,11 @@
 //! Every line of a refusal or a limit.
 
 ghost use Rattle.std.specs.Prelude.{◌≡◌, IfOk, codes, string_bytes};
-ghost use Rattle.kh_work.specs.Refusals.{usage, too_many_bytes, too_many_crossings, too_many_loops, too_many_for_homology, refused_with, IsPdRefusal, IsGaussRefusal, IsJsonRefusal, fault_refusal};
+ghost use Rattle.kh_work.specs.Refusals.{usage, too_many_bytes, too_many_crossings, too_many_loops, too_many_generators, refused_with, IsPdRefusal, IsGaussRefusal, IsJsonRefusal, fault_refusal};
 
-use crate::limits::HOMOLOGY_CROSSINGS;
 use crate::reply::{Reply, fixed_reply, reply_with};
 use crate::status::Status;
+use circle_smoothing::GENERATORS;
 use gauss_code::GaussStop;
 use json_code::JsonStop;
 use kh_types::{COMPONENTS, CROSSINGS, CodeFault, INPUT_BYTES, LOOPS, NoMemory};
@@ -44,11 +44,11 @@ fn too_many_loops(alloc: Global, count: u32) -> Result<Reply, NoMemory>
     Ok(reply_with(Status::Limit, line))
 }
 
-/// The reply to a diagram with more crossings than the plain computation of homology takes.
-pub fn too_many_for_homology(alloc: Global, count: u8) -> Result<Reply, NoMemory>
-    ensures { IfOk result (λ reply. reply ≡ too_many_for_homology count) }
+/// The reply to a diagram with more generators than one whose homology is computed.
+pub fn too_many_generators(alloc: Global, count: u64) -> Result<Reply, NoMemory>
+    ensures { IfOk result (λ reply. reply ≡ too_many_generators count) }
 {
-    let line = format!(in alloc; "limit crossings {count} of {HOMOLOGY_CROSSINGS}\n")?;
+    let line = format!(in alloc; "limit generators {count} of {GENERATORS}\n")?;
     Ok(reply_with(Status::Limit, line))
 }
 

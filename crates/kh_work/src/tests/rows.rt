@@ -126,8 +126,8 @@ pub const ROWS: [Row; 63] = [
     Row {
         words: &["homology"],
         input: "PD[X[1,1,2,2],X[3,3,4,4],X[5,5,6,6],X[7,7,8,8],X[9,9,10,10]]",
-        status: Status::Limit,
-        output: "limit crossings 5 of 4\n",
+        status: Status::Done,
+        output: "field 2\nj -5 i 0 dim 1\nj -3 i 0 dim 5\nj -1 i 0 dim 10\nj 1 i 0 dim 10\nj 3 i 0 dim 5\nj 5 i 0 dim 1\njones 1*q^-5 5*q^-3 10*q^-1 10*q^1 5*q^3 1*q^5\n",
     },
     Row {
         words: &["convert"],
