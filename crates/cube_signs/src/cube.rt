@@ -70,6 +70,13 @@ impl Cube {
         })
     }
 
+    /// The diagram.
+    pub fn diagram(&self) -> &Diagram
+        ensures { result.now ≡ self.now }
+    {
+        &self.diagram
+    }
+
     /// The edges out of a state.
     pub(crate) fn steps(&self, state: usize) -> &[Option<Edge>]
         requires { state < 2 ^ length self.now.crossings }

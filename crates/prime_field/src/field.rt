@@ -5,7 +5,7 @@ ghost use Rattle.prime_field.specs.Residues.{IsField, IsSmallPrime};
 ghost use Rattle.prime_field.specs.Residues.{negative_mod, product_mod, sum_mod};
 
 /// A field of `P` elements, each known by its value, a number below `P`. `P` is 2, 3, 5 or 7.
-pub trait PrimeField: Copy + Eq + Send + Sync {
+pub trait PrimeField: Copy + Eq {
     /// The number of elements.
     ghost P: { ℕ };
 
