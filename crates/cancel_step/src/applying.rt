@@ -23,6 +23,7 @@ use std::alloc::Global;
 pub fn apply<F: PrimeField>(complex: &mut Complex<F>, patch: Patch<F>) -> Result<(), Foreign>
     ensures ok { OnOk result
         (complex.new.complex ≡ cancel F.P complex.old.complex patch.pivot) }
+    ensures pivot { OnOk result (IsPivot complex.old.complex patch.pivot) }
     ensures names { complex.new.names ≡ complex.old.names }
     ensures foreign { IsErr result ↔ IsForeign patch complex.old.complex }
     ensures carried { IfErr result (λ foreign. (foreign.degree ≡ patch.pivot.degree)

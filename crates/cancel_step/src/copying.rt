@@ -35,6 +35,15 @@ impl<F: PrimeField> Model for Look<F> {
         look.rows.items) };
 }
 
+impl<F: PrimeField> Look<F> {
+    /// The pivot.
+    pub fn pivot(&self) -> Pivot
+        ensures { result ≡ self.now.pivot }
+    {
+        self.pivot
+    }
+}
+
 /// Copies what the cancellation of a pivot reads and changes in the pivot's own differential.
 pub fn copy<F: PrimeField>(
     alloc: Global,

@@ -1,6 +1,8 @@
 //! Patches: what a cancellation makes of a look.
 
-use crate::Look;
+ghost use Rattle.std.specs.Prelude.{◌≡◌};
+
+use crate::{Look, Pivot};
 use prime_field::PrimeField;
 use sparse_block::Line;
 use std::marker::Model;
@@ -21,4 +23,13 @@ impl<F: PrimeField> Model for Patch<F> {
     ghost view = { λ patch. patch.look };
 
     ghost invariant = { λ patch. WasPatched F.P patch.look patch.columns.items patch.rows.items };
+}
+
+impl<F: PrimeField> Patch<F> {
+    /// The pivot.
+    pub fn pivot(&self) -> Pivot
+        ensures { result ≡ self.now.pivot }
+    {
+        self.look.pivot()
+    }
 }

@@ -1,8 +1,8 @@
 -- The entries, the size and the rank of a transpose.
-use Rattle.std.proofs.Common.{◌≡◌, ℕ, zero, suc, ◌+◌, ◌^◌, ◌++◌, map, ap₂, ◌<◌, ◌≤◌, ◌∙◌, inl, inr, List, [], ◌∷◌, length, refl, ap, sym, subst, arith}
+use Rattle.std.proofs.Common.{◌≡◌, ℕ, zero, suc, ◌+◌, ◌^◌, ◌++◌, map, take, get_or, ap₂, ◌<◌, ◌≤◌, ◌∙◌, inl, inr, List, [], ◌∷◌, length, refl, ap, sym, subst, arith}
 use Rattle.std.specs.Prelude.{slice_index, slice_index_or}
 use Rattle.std.proofs.lemmas.Bool.Decides.{leb_tells}
-use Rattle.std.proofs.lemmas.List.{length-map, map-append}
+use Rattle.std.proofs.lemmas.List.{length-map, map-append, map_push, take_more}
 use Rattle.std.proofs.lemmas.List.FromFn.{length-map-range_with_len, get_or-map-range_with_len, map-range_with_len_more}
 use Rattle.kh_types.specs.Complex.{entry_in}
 use Rattle.kh_types.specs.Rank.{rank}
@@ -19,6 +19,19 @@ slice_index-column_of : (rows : List (List ℕ)) (j i : ℕ) → slice_index (co
 slice_index-column_of [] j i = refl
 slice_index-column_of (row ∷ rows) j zero = refl
 slice_index-column_of (row ∷ rows) j (suc i) = slice_index-column_of rows j i
+
+-- a column of one row more
+pub column_of-more : {F : Type 0} (value_of : F → ℕ) (rows : List (Vec F)) (k column : ℕ) (made next seen : List F) (row : Vec F) (x : F)
+    → map value_of made ≡ column_of (values_of value_of (take k rows)) column → k < length rows → row ≡ get_or rows k row
+    → seen ≡ row.items → value_of x ≡ slice_index (map value_of seen) column → next ≡ made ++ x ∷ []
+    → map value_of next ≡ column_of (values_of value_of (take (k + 1) rows)) column
+column_of-more {F = F} value_of rows k column made next seen row x is_made below is_row is_seen is_x is_next =
+    ap (map value_of) is_next ∙ map_push value_of made x
+    ∙ ap₂ (λ (xs : List ℕ) (y : ℕ). xs ++ y ∷ []) is_made (is_x ∙ ap (λ ys. slice_index (map value_of ys) column) is_seen)
+    ∙ sym (map_push (λ r. slice_index r column) (values_of value_of (take k rows)) (map value_of row.items))
+    ∙ ap (λ rs. column_of rs column) (sym (map_push (λ r. map value_of r.items) (take k rows) row))
+    ∙ ap (λ (r : Vec F). column_of (values_of value_of (take k rows ++ r ∷ [])) column) is_row
+    ∙ ap (λ rs. column_of (values_of value_of rs) column) (sym (take_more rows k row below))
 
 -- past the last column, entries are 0
 entry-past_width : (p columns : ℕ) (rows : List (List ℕ)) → IsMatrix p columns rows → (i j : ℕ) → columns ≤ j → entry_in rows i j ≡ 0

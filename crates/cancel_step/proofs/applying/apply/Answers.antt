@@ -8,7 +8,7 @@ use Rattle.cancel_step.proofs.SameLemmas.{columns-patched, pivot-same, rows-patc
 use Rattle.cancel_step.proofs.applying.apply.Goals as goal
 
 pub exchange-requires-clause-pivot : goal.exchange-requires-clause-pivot
-exchange-requires-clause-pivot g c κs within =
+exchange-requires-clause-pivot g c =
     let p = g.F.PrimeField.P in
     let complex = c.args.complex.now.complex in
     let look = c.patch.inside.look in
@@ -18,7 +18,7 @@ exchange-requires-clause-pivot g c κs within =
     (pivot-same p complex look c.complex_laws.ensures.complex c.patch.invariant.from none)
 
 pub exchange-requires-clause-columns : goal.exchange-requires-clause-columns
-exchange-requires-clause-columns g c κs within =
+exchange-requires-clause-columns g c =
     let p = g.F.PrimeField.P in
     let complex = c.args.complex.now.complex in
     let look = c.patch.inside.look in
@@ -29,7 +29,7 @@ exchange-requires-clause-columns g c κs within =
     ∙ ap (λ (pivot : Pivot). columns_across complex pivot (cancel p complex pivot)) (sym is_pivot)
 
 pub exchange-requires-clause-rows : goal.exchange-requires-clause-rows
-exchange-requires-clause-rows g c κs within =
+exchange-requires-clause-rows g c =
     let p = g.F.PrimeField.P in
     let complex = c.args.complex.now.complex in
     let look = c.patch.inside.look in
@@ -49,3 +49,12 @@ returns-clause-foreign g c =
       λ differ. absurd (false≢true differ),
       λ foreign. absurd (none_there foreign.0 foreign.1),
     )
+
+pub returns-clause-pivot : goal.returns-clause-pivot
+returns-clause-pivot g c =
+    let p = g.F.PrimeField.P in
+    let complex = c.args.complex.now.complex in
+    let look = c.patch.inside.look in
+    let none = subst (FindsLeast (ShowsAt look complex)) c.in_default.is c.foreign_column.ensures in
+    let is_pivot = pivot-same p complex look c.complex_laws.ensures.complex c.patch.invariant.from none in
+    subst (λ (parts : Copied). IsPivot complex parts.pivot) c.patch.view_is is_pivot

@@ -49,8 +49,8 @@ of-requires g c =
     entry-below p (place_count complex pivot.degree) c.entries.entry-index c.row_at-row.result.now (record { place = 0; value = 0 }) are
     c.entries-test.true
 
-pub quotient-factor-requires-after_bounds : goal.quotient-factor-requires-after_bounds
-quotient-factor-requires-after_bounds g c κs within none =
+pub quotient-factor-requires : goal.quotient-factor-requires
+quotient-factor-requires g c none =
     let p = g.F.PrimeField.P in
     let complex = c.args.complex.now.complex in
     let pivot = c.args.pivot in
@@ -68,7 +68,7 @@ quotient-factor-requires-after_bounds g c κs within none =
     ∙ ap (value_at c.column_at-column.result.now) (sym is_place) ∙ sym c.value_at.ensures ∙ sym c.of-value.ensures ∙ none)
 
 pub merge-requires-clause-line : goal.merge-requires-clause-line
-merge-requires-clause-line g c κs within =
+merge-requires-clause-line g c =
     let p = g.F.PrimeField.P in
     let complex = c.args.complex.now.complex in
     let i = to_z w16 (of_z w16 c.pivot.inside.degree) in
@@ -80,7 +80,7 @@ merge-requires-clause-line g c κs within =
     (place_count complex (i +ℤ pos 1), are)
 
 pub merge-requires-clause-other : goal.merge-requires-clause-other
-merge-requires-clause-other g c κs within =
+merge-requires-clause-other g c =
     let p = g.F.PrimeField.P in
     let complex = c.args.complex.now.complex in
     let pivot = c.args.pivot in

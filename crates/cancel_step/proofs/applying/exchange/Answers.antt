@@ -7,7 +7,7 @@ use Rattle.cancel_step.proofs.ChangedLemmas.{columns-changed, rows-changed}
 use Rattle.cancel_step.proofs.applying.exchange.Goals as goal
 
 pub exchange-requires-clause-columns : goal.exchange-requires-clause-columns
-exchange-requires-clause-columns g c κs within =
+exchange-requires-clause-columns g c =
     let p = g.F.PrimeField.P in
     let complex = c.args.complex.now.complex in
     let inside = c.pivot.inside in
@@ -22,7 +22,7 @@ exchange-requires-clause-columns g c κs within =
     (columns-changed p complex c.args.pivot c.element_laws.ensures.field c.complex_laws.ensures.complex c.requires.pivot))
 
 pub exchange-requires-clause-rows : goal.exchange-requires-clause-rows
-exchange-requires-clause-rows g c κs within =
+exchange-requires-clause-rows g c =
     let p = g.F.PrimeField.P in
     let complex = c.args.complex.now.complex in
     let inside = c.pivot.inside in

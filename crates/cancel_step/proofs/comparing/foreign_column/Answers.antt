@@ -9,8 +9,8 @@ use Rattle.cancel_step.specs.Lines.{AreLines}
 use Rattle.cancel_step.proofs.CopiedLemmas.{rows-lines}
 use Rattle.cancel_step.proofs.comparing.foreign_column.Goals as goal
 
-pub other_line-requires-after_bounds : goal.other_line-requires-after_bounds
-other_line-requires-after_bounds g c κs within =
+pub other_line-requires : goal.other_line-requires
+other_line-requires g c =
     let p = g.F.PrimeField.P in
     let was = c.look.invariant in
     let pivot = c.look.inside.pivot in

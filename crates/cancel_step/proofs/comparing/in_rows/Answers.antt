@@ -22,8 +22,8 @@ returns g c =
     subst₂ (λ (i : ℤ) (lines : List PlacedLine). FindsLeast (ShowsIn (IsOtherRowAt complex i) lines) c.lines.least) same whole
     c.lines.invariant
 
-pub in_row-requires-after_bounds : goal.in_row-requires-after_bounds
-in_row-requires-after_bounds g c κs within =
+pub in_row-requires : goal.in_row-requires
+in_row-requires g c =
     let lines = c.args.lines.now in
     let k = c.lines.line-index in
     let item = c.line-item.result in (

@@ -7,8 +7,8 @@ use Rattle.cancel_step.proofs.ReadingLemmas.{zero-from_degrees}
 use Rattle.cancel_step.proofs.FinishLemmas.{comes-both, complex-comes, degrees-comes, empty_down-comes, high-comes}
 use Rattle.cancel_step.proofs.finishing.finish.Goals as goal
 
-pub degree_down-degree-requires-after_bounds : goal.degree_down-degree-requires-after_bounds
-degree_down-degree-requires-after_bounds g c κs within =
+pub degree_down-degree-requires : goal.degree_down-degree-requires
+degree_down-degree-requires g c =
     omega (
       arith,
       c.degrees-test.true,

@@ -34,7 +34,7 @@ of-requires g c =
     )
 
 pub merge-requires-clause-line : goal.merge-requires-clause-line
-merge-requires-clause-line g c κs within =
+merge-requires-clause-line g c =
     let p = g.F.PrimeField.P in
     let size = c.requires.entries.0 in
     let item = c.line-item.result in
@@ -45,7 +45,7 @@ merge-requires-clause-line g c κs within =
     (size, are)
 
 pub merge-requires-clause-other : goal.merge-requires-clause-other
-merge-requires-clause-other g c κs within =
+merge-requires-clause-other g c =
     let p = g.F.PrimeField.P in
     let size = c.requires.entries.0 in
     let are : AreEntries p size c.line_at-pivot_line.result.now =

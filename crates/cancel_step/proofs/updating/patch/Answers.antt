@@ -9,7 +9,7 @@ use Rattle.cancel_step.proofs.CopiedLemmas.{columns-cleared, columns-lines, pivo
 use Rattle.cancel_step.proofs.updating.patch.Goals as goal
 
 pub lines_cleared-requires-clause-entries : goal.lines_cleared-requires-clause-entries
-lines_cleared-requires-clause-entries g c κs within =
+lines_cleared-requires-clause-entries g c =
     let p = g.F.PrimeField.P in
     let was = c.look.invariant in
     let pivot = c.look.inside.pivot in
@@ -20,7 +20,7 @@ lines_cleared-requires-clause-entries g c κs within =
     (size, are)
 
 pub lines_cleared-requires-clause-pivot : goal.lines_cleared-requires-clause-pivot
-lines_cleared-requires-clause-pivot g c κs within =
+lines_cleared-requires-clause-pivot g c =
     let p = g.F.PrimeField.P in
     let was = c.look.invariant in
     let pivot = c.look.inside.pivot in
@@ -29,7 +29,7 @@ lines_cleared-requires-clause-pivot g c κs within =
     (sym are) (pivot-in_column p was.complex pivot was.is_complex was.is_pivot)
 
 pub lines_cleared-requires-2-clause-entries : goal.lines_cleared-requires-2-clause-entries
-lines_cleared-requires-2-clause-entries g c κs within =
+lines_cleared-requires-2-clause-entries g c =
     let p = g.F.PrimeField.P in
     let was = c.look.invariant in
     let pivot = c.look.inside.pivot in
@@ -40,7 +40,7 @@ lines_cleared-requires-2-clause-entries g c κs within =
     (size, are)
 
 pub lines_cleared-requires-2-clause-pivot : goal.lines_cleared-requires-2-clause-pivot
-lines_cleared-requires-2-clause-pivot g c κs within =
+lines_cleared-requires-2-clause-pivot g c =
     let p = g.F.PrimeField.P in
     let was = c.look.invariant in
     let pivot = c.look.inside.pivot in

@@ -2,8 +2,8 @@ use Rattle.std.proofs.Common.{map}
 use Rattle.plain_matrix.proofs.RowLemmas.{lead-other, values-reduced}
 use Rattle.plain_matrix.proofs.rows.reduced.Goals as goal
 
-pub quotient-factor-requires-after_bounds : goal.quotient-factor-requires-after_bounds
-quotient-factor-requires-after_bounds g c κs within =
+pub quotient-factor-requires : goal.quotient-factor-requires
+quotient-factor-requires g c =
     lead-other c.lead_of-column.result (g.F.PrimeField.value_of c.entry-2.result)
     (map g.F.PrimeField.value_of c.args.pivot.now) c.requires c.lead_of-column.ensures c.entry-2.ensures
 

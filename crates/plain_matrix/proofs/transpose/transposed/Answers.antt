@@ -9,8 +9,8 @@ loop-column-preserved g c =
     c.loop-column.column (values_of g.F.PrimeField.value_of c.row_list-rows.result.now) c.in_ok-push.ensures.items
     c.in_ok-column_of.ensures c.loop-column.invariant
 
-pub of_rows-requires-after_bounds : goal.of_rows-requires-after_bounds
-of_rows-requires-after_bounds g c κs within =
+pub of_rows-requires : goal.of_rows-requires
+of_rows-requires g c =
     size-transposed g.F.PrimeField.value_of g.F.PrimeField.P c.loop-column.column c.args.matrix.now.columns c.rows.result
     c.loop-column.made.items (values_of g.F.PrimeField.value_of c.row_list-rows.result.now) c.args.matrix.now.rows
     (omega (arith, c.loop-column-test.false, c.loop-column.auto.column-end, c.columns-columns.ensures))

@@ -8,7 +8,7 @@ use Rattle.sparse_block.proofs.WorkedLemmas.{worked-build}
 use Rattle.sparse_block.proofs.tests.worked.Goals as goal
 
 pub build-requires-clause-counts : goal.build-requires-clause-counts
-build-requires-clause-counts g c κs within =
+build-requires-clause-counts g c =
     let can =
     worked-build g.F.PrimeField.P (slice_index c.args.last 0) (slice_index c.args.last 1) (slice_index c.args.last 2)
     (lists_in c.in_ok-names.names.items) (lines_in c.in_ok-columns.columns.items) c.in_ok-names.ensures c.in_ok-columns.ensures
@@ -16,7 +16,7 @@ build-requires-clause-counts g c κs within =
     can.counts
 
 pub build-requires-clause-sizes : goal.build-requires-clause-sizes
-build-requires-clause-sizes g c κs within =
+build-requires-clause-sizes g c =
     let can =
     worked-build g.F.PrimeField.P (slice_index c.args.last 0) (slice_index c.args.last 1) (slice_index c.args.last 2)
     (lists_in c.in_ok-names.names.items) (lines_in c.in_ok-columns.columns.items) c.in_ok-names.ensures c.in_ok-columns.ensures
@@ -24,7 +24,7 @@ build-requires-clause-sizes g c κs within =
     can.sizes
 
 pub build-requires-clause-entries : goal.build-requires-clause-entries
-build-requires-clause-entries g c κs within =
+build-requires-clause-entries g c =
     let can =
     worked-build g.F.PrimeField.P (slice_index c.args.last 0) (slice_index c.args.last 1) (slice_index c.args.last 2)
     (lists_in c.in_ok-names.names.items) (lines_in c.in_ok-columns.columns.items) c.in_ok-names.ensures c.in_ok-columns.ensures
@@ -32,7 +32,7 @@ build-requires-clause-entries g c κs within =
     can.entries
 
 pub build-requires-clause-squares : goal.build-requires-clause-squares
-build-requires-clause-squares g c κs within =
+build-requires-clause-squares g c =
     let can =
     worked-build g.F.PrimeField.P (slice_index c.args.last 0) (slice_index c.args.last 1) (slice_index c.args.last 2)
     (lists_in c.in_ok-names.names.items) (lines_in c.in_ok-columns.columns.items) c.in_ok-names.ensures c.in_ok-columns.ensures

@@ -12,12 +12,12 @@ fits : (low : ℤ) (names : List (Vec Generator)) → neg_ℤ (pos 32) ≤ℤ lo
 fits low names above below = omega (arith, ints, length-map names (λ (degree : Vec Generator). degree.items))
 
 pub build-requires-clause-end : goal.build-requires-clause-end
-build-requires-clause-end g c κs within =
+build-requires-clause-end g c =
     let parts = c.in_ok-parts.parts in
     fits parts.least.i parts.names.items c.in_ok-parts.ensures.start c.in_ok-parts.ensures.end
 
 pub build-requires-clause-entries : goal.build-requires-clause-entries
-build-requires-clause-entries g c κs within =
+build-requires-clause-entries g c =
     let parts = c.in_ok-parts.parts in
     subst (λ (p : ℕ). HaveEntries p (lists_in parts.names.items) (lines_in parts.columns.items)) c.P.ensures
     c.in_ok-parts.ensures.entries
