@@ -1,0 +1,75 @@
+-- The dimensions of a block are those of its code, and its ranks fit into its generators.
+use Rattle.std.proofs.Common.{◌≡◌, ℕ, ◌+◌, ◌∙◌, inl, inr, ℤ, pos, ◌+ℤ◌, ◌-ℤ◌, List, [], ◌∷◌, IsTrue, true, length, map, refl, sym, ap, arith, cond}
+use Rattle.std.specs.List.{count_by}
+use Rattle.std.proofs.lemmas.List.Elements.{All-nil}
+use Rattle.std.proofs.lemmas.List.Sums.{sum_by-cons}
+use Rattle.kh_types.specs.Acceptance.{accepted}
+use Rattle.kh_types.specs.Code.{Code}
+use Rattle.kh_types.specs.Complex.{Pivot, alive_count, degree_of, dimension_of, is_zero}
+use Rattle.kh_types.specs.Differential.{coefficient, differential}
+use Rattle.kh_types.specs.Generators.{Generator, generators_at}
+use Rattle.kh_types.specs.History.{IsLegal, block, replay}
+use Rattle.kh_types.specs.Rank.{rank}
+use Rattle.kh_types.specs.Table.{dimension}
+use Rattle.kh_types.proofs.RankLemmas.{rank-zeros}
+use Rattle.prime_field.specs.Residues.{IsField}
+use Rattle.cube_signs.proofs.BlockComplexes.{IsComplex-block, alive-block}
+use Rattle.cube_signs.proofs.BlockDegrees.{degree-block}
+use Rattle.cancel_step.proofs.HistoryEnds.{alive_count-end, dimension_of-add}
+
+-- the rank of a matrix without columns or without rows
+
+rank-empty_rows : {X : Type 0} (p : ℕ) (xs : List X) → rank p (map (λ x. []) xs) ≡ 0
+rank-empty_rows p [] = refl
+rank-empty_rows p (x ∷ xs) = rank-zeros p [] (map (λ x. []) xs) (All-nil (λ n. n ≡ 0)) ∙ rank-empty_rows p xs
+
+pub rank-no_columns : (p : ℕ) (code : Code) (i j : ℤ) → generators_at code i j ≡ [] → rank p (differential p code i j) ≡ 0
+rank-no_columns p code i j none =
+    let heads = generators_at code (i +ℤ pos 1) j in
+    ap (λ (tails : List Generator). rank p (map (λ head. map (λ tail. coefficient p code tail head) tails) heads)) none
+    ∙ rank-empty_rows p heads
+
+pub rank-no_rows : (p : ℕ) (code : Code) (i j : ℤ) → generators_at code (i +ℤ pos 1) j ≡ [] → rank p (differential p code i j) ≡ 0
+rank-no_rows p code i j none =
+    ap (λ (heads : List Generator). rank p (map (λ head. map (λ tail. coefficient p code tail head) (generators_at code i j)) heads))
+    none
+
+-- the ranks and the places alive of a block
+
+rank-block : (p : ℕ) (code : Code) (j i : ℤ) → rank p (degree_of (block p code j) i).matrix ≡ rank p (differential p code i j)
+rank-block p code j i = elim (degree-block p code j i) [
+  | inl is ↦ ap (λ degree. rank p degree.matrix) is
+  | inr (is, none) ↦ ap (λ degree. rank p degree.matrix) is ∙ sym (rank-no_columns p code i j none)
+]
+
+count-all : {X : Type 0} (xs : List X) → count_by (λ is_alive. is_alive) (map (λ x. true) xs) ≡ length xs
+count-all [] = refl
+count-all (x ∷ xs) = omega (arith, sum_by-cons (λ b. cond b 1 0) true (map (λ y. true) xs), count-all xs)
+
+alive_count-block : (p : ℕ) (code : Code) (j i : ℤ) → alive_count (block p code j) i ≡ length (generators_at code i j)
+alive_count-block p code j i =
+    ap (λ alive. count_by (λ is_alive. is_alive) alive) (alive-block p code j i) ∙ count-all (generators_at code i j)
+
+pub dimension_of-block : (p : ℕ) (code : Code) (j i : ℤ) → dimension_of p (block p code j) i ≡ dimension p code i j
+dimension_of-block p code j i =
+    omega (arith, alive_count-block p code j i, rank-block p code j i, rank-block p code j (i -ℤ pos 1))
+
+pub alive_count-finished : (p : ℕ) (code : Code) (j i : ℤ) (history : List Pivot) → IsField p → IsTrue (accepted code)
+    → IsLegal p (block p code j) history → is_zero (replay p (block p code j) history) ≡ true
+    → alive_count (replay p (block p code j) history) i ≡ dimension p code i j
+alive_count-finished p code j i history field is legal zero =
+    alive_count-end p (block p code j) history i field (IsComplex-block p code j field.above_one is) legal zero
+    ∙ dimension_of-block p code j i
+
+pub ranks-generators : (p : ℕ) (code : Code) (j i : ℤ) → IsField p → IsTrue (accepted code)
+    → dimension p code i j + rank p (differential p code i j) + rank p (differential p code (i -ℤ pos 1) j)
+    ≡ length (generators_at code i j)
+ranks-generators p code j i field is =
+    omega (
+      arith,
+      dimension_of-add p (block p code j) i field (IsComplex-block p code j field.above_one is),
+      dimension_of-block p code j i,
+      alive_count-block p code j i,
+      rank-block p code j i,
+      rank-block p code j (i -ℤ pos 1),
+    )

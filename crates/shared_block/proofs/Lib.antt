@@ -1,0 +1,3 @@
+pub mod BlockDimensions
+pub mod PlaceSums
+pub mod CommitLemmas

@@ -1,0 +1,27 @@
+-- The places alive of a complex, degree by degree.
+use Rattle.std.proofs.Common.{◌≡◌, ℕ, ◌+◌, ◌*◌, ◌<◌, ◌≤◌, ◌∙◌, List, [], ◌∷◌, ◌++◌, ℤ, pos, ◌+ℤ◌, length, take, take_all, get_or, refl, sym, ap, ap₂, arith}
+use Rattle.std.specs.List.{count_by, sum_by}
+use Rattle.std.proofs.lemmas.List.{take_more}
+use Rattle.std.proofs.lemmas.List.Sums.{sum_by-append, sum_by-cons}
+use Rattle.kh_types.specs.Complex.{Complex, Degree, alive_count, degree_of, empty_degree}
+use Rattle.sparse_block.proofs.CancelledComplexes.{degree_of-number}
+use Rattle.cancel_step.specs.RankSums.{live_places}
+use Rattle.shared_block.specs.Places.{live_places_to}
+
+abbrev live_in : Degree → ℕ
+live_in degree = count_by (λ is_alive. is_alive) degree.alive
+
+pub live-more : (complex : Complex) (k : ℕ) (i : ℤ) (sum next : ℕ) → sum ≡ live_places_to complex k → k < length complex.degrees
+    → i ≡ complex.low +ℤ pos k → next ≡ sum + alive_count complex i → next ≡ live_places_to complex (k + 1)
+live-more complex k i sum next is_sum below is_degree is_next =
+    let degree = get_or complex.degrees k empty_degree in
+    let here : alive_count complex i ≡ live_in degree =
+    ap (alive_count complex) is_degree ∙ ap live_in (degree_of-number complex k) in
+    let one : sum_by live_in (degree ∷ []) ≡ live_in degree = sum_by-cons live_in degree [] ∙ omega arith in
+    is_next ∙ ap₂ (λ (x y : ℕ). x + y) is_sum (here ∙ sym one) ∙ sym (sum_by-append live_in (take k complex.degrees) (degree ∷ []))
+    ∙ ap (sum_by live_in) (sym (take_more complex.degrees k empty_degree below))
+
+pub live-all : (complex : Complex) (k : ℕ) → length complex.degrees ≤ k → live_places_to complex k ≡ live_places complex
+live-all complex k all = ap (sum_by live_in) (take_all k complex.degrees all)
+
+pub ruleset places = (live-more, live-all)

@@ -1,0 +1,14 @@
+use Rattle.std.proofs.Common.{◌≡◌}
+use mathlib.Core.List.{IsPrefix}
+use Rattle.cancel_step.specs.RankSums.{live_places}
+use Rattle.shared_block.specs.BlockHistories.{HasLegalHistory, complex_of}
+use Rattle.shared_block.proofs.shared_block.SharedBlock.finish.Given as goal
+
+abbrev pub invariant-turns : goal.invariant-turns
+invariant-turns g l =
+    IsPrefix l.initial.self.history l.self.history
+    × (l.self.diagram ≡ l.initial.self.diagram)
+    × (l.self.degree ≡ l.initial.self.degree)
+
+abbrev pub decreases-turns : goal.decreases-turns
+decreases-turns g l = live_places (complex_of g.F.PrimeField.P l.self)

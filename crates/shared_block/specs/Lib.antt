@@ -1,0 +1,3 @@
+pub mod BlockHistories
+pub mod Commits
+pub mod Places

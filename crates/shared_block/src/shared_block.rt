@@ -1,0 +1,123 @@
+//! A block with its history.
+
+ghost use Rattle.std.specs.Prelude.{◌≡◌, ◌↔◌, ◌+◌, ◌<◌, ◌≤◌, ◌^◌, length, None, true, IfOk, IfSome, IsTrue};
+ghost use Rattle.kh_types.specs.Acceptance.{accepted};
+ghost use Rattle.kh_types.specs.Complex.{is_zero};
+ghost use Rattle.kh_types.specs.Table.{dimension};
+ghost use Rattle.cancel_step.specs.Foreign.{IsForeign};
+ghost use Rattle.shared_block.specs.BlockHistories.{HasLegalHistory, IsCopyOf, complex_of};
+ghost use Rattle.shared_block.specs.Commits.{Answers, IsForeignAnswer, IsOld, IsStale};
+
+use crate::{BlockLook, BlockPatch, CommitAnswer};
+use cancel_step::{Foreign, Pivot, apply, copy, look};
+use kh_types::{Diagram, NoMemory};
+use prime_field::PrimeField;
+use prime_field::laws::element_laws;
+use sparse_block::Complex;
+use std::alloc::Global;
+use std::marker::Model;
+
+/// The block of a diagram's cube at a quantum degree, with the pivots that were cancelled in it.
+/// Contracts see a `BlockHistory`: diagram, degree and history, which determine the complex.
+#[derive(Drop)]
+pub struct SharedBlock<F: PrimeField> {
+    pub(crate) diagram: Diagram,
+    pub(crate) degree: i16,
+    pub(crate) history: Vec<Pivot>,
+    pub(crate) complex: Complex<F>,
+}
+
+impl<F: PrimeField> Model for SharedBlock<F> {
+    ghost use Rattle.std.specs.Prelude.{vec_capacity};
+    ghost use Rattle.shared_block.specs.BlockHistories.{BlockHistory, IsKept, block_with};
+
+    ghost Value = { BlockHistory };
+
+    ghost view = { λ held. block_with held.diagram held.degree held.history.items };
+
+    ghost invariant = { λ held. IsKept F.P (block_with held.diagram held.degree held.history.items)
+        (vec_capacity held.history) held.complex.complex };
+}
+
+impl<F: PrimeField> SharedBlock<F> {
+    /// The length of the history.
+    pub fn version(&self) -> u64
+        ensures version { result ≡ length self.now.history }
+        ensures short { result < 2 ^ 63 }
+    {
+        self.history.len() as u64
+    }
+
+    /// The diagram.
+    pub fn diagram(&self) -> &Diagram
+        ensures { result.now ≡ self.now.diagram }
+    {
+        &self.diagram
+    }
+
+    /// The quantum degree.
+    pub fn degree(&self) -> i16
+        ensures { result ≡ self.now.degree }
+    {
+        self.degree
+    }
+
+    /// Copies what the cancellation of some pivot reads and changes; `None` exactly where the
+    /// complex is zero. The hint may say where to search; no clause reads it.
+    pub fn look(&self, alloc: Global, hint: u32) -> Result<Option<BlockLook<F>>, NoMemory>
+        ensures none { IfOk result (λ found.
+            (found ≡ None) ↔ (is_zero (complex_of F.P self.now) ≡ true)) }
+        ensures look { IfOk result (λ found. IfSome found (IsCopyOf F.P self.now)) }
+    {
+        match look(&self.complex, hint) {
+            Some(pivot) => Ok(Some(BlockLook {
+                version: self.version(),
+                look: copy(alloc, &self.complex, pivot)?,
+            })),
+            None => Ok(None),
+        }
+    }
+
+    /// Cancels the pivot of a patch, where it was made at this version from this block. It takes no
+    /// memory.
+    pub fn commit(&mut self, patch: BlockPatch<F>) -> CommitAnswer
+        ensures stale { IsStale result ↔ IsOld self.old patch }
+        ensures foreign { IsForeignAnswer result ↔ ((patch.version ≡ length self.old.history)
+            × IsForeign patch.parts (complex_of F.P self.old)) }
+        ensures answer { Answers F.P self.old patch result self.new }
+    {
+        element_laws::<F>();
+        let now = self.version();
+        if patch.version != now {
+            return CommitAnswer::Stale {
+                looked: patch.version,
+                now,
+            };
+        }
+        let pivot = patch.patch.pivot();
+        match apply(&mut self.complex, patch.patch) {
+            Ok(()) => {
+                self.history.push_reserved(pivot);
+                CommitAnswer::Committed { version: now + 1 }
+            }
+            Err(Foreign { degree, column }) => CommitAnswer::Foreign { degree, column },
+        }
+    }
+
+    /// Whether all entries of the complex are zero.
+    pub fn is_zero(&self) -> bool
+        ensures { result ≡ is_zero (complex_of F.P self.now) }
+    {
+        self.complex.is_zero()
+    }
+
+    /// The homology dimension at a homological degree, once the complex is zero; 0 outside of the
+    /// block.
+    pub fn dim(&self, i: i16) -> u32
+        requires { is_zero (complex_of F.P self.now) ≡ true }
+        ensures { result ≡ dimension F.P self.now.diagram i self.now.degree }
+    {
+        element_laws::<F>();
+        self.complex.alive(i)
+    }
+}
