@@ -14,6 +14,7 @@ use std::marker::Model;
 #[derive(Drop)]
 pub struct BlockLook<F: PrimeField> {
     pub(crate) version: u64,
+    pub(crate) hint: u32,
     pub(crate) look: Look<F>,
 }
 
@@ -31,6 +32,12 @@ impl<F: PrimeField> BlockLook<F> {
         ensures { result ≡ self.now.version }
     {
         self.version
+    }
+
+    /// A hint for the next look, with which the search goes on where this one ended. No clause
+    /// rests on it.
+    pub fn hint(&self) -> u32 {
+        self.hint
     }
 
     /// Computes on the copy what the cancellation of the pivot makes of it. Where memory runs out

@@ -50,7 +50,7 @@ impl<F: PrimeField> SharedBlock<F> {
 
 /// How many places of a complex are alive.
 #[tactic(auto, using(crate::proofs::PlaceSums::places))]
-fn live_places<F: PrimeField>(complex: &Complex<F>) -> usize
+pub(crate) fn live_places<F: PrimeField>(complex: &Complex<F>) -> usize
     ensures places { result ≡ live_places complex.now.complex }
     ensures few { result < 2 ^ 63 }
 {

@@ -5,11 +5,13 @@ ghost use Rattle.kh_types.specs.Acceptance.{accepted};
 ghost use Rattle.kh_types.specs.Complex.{is_zero};
 ghost use Rattle.kh_types.specs.Table.{dimension};
 ghost use Rattle.cancel_step.specs.Foreign.{IsForeign};
+ghost use Rattle.cancel_step.specs.RankSums.{live_places};
 ghost use Rattle.shared_block.specs.BlockHistories.{HasLegalHistory, IsCopyOf, complex_of};
 ghost use Rattle.shared_block.specs.Commits.{Answers, IsForeignAnswer, IsOld, IsStale};
 
+use crate::building::live_places;
 use crate::{BlockLook, BlockPatch, CommitAnswer};
-use cancel_step::{Foreign, Pivot, apply, copy, look};
+use cancel_step::{Foreign, Pivot, apply, copy, hint_of, look};
 use kh_types::{Diagram, NoMemory};
 use prime_field::PrimeField;
 use prime_field::laws::element_laws;
@@ -72,6 +74,7 @@ impl<F: PrimeField> SharedBlock<F> {
         match look(&self.complex, hint) {
             Some(pivot) => Ok(Some(BlockLook {
                 version: self.version(),
+                hint: hint_of(&self.complex, pivot),
                 look: copy(alloc, &self.complex, pivot)?,
             })),
             None => Ok(None),
@@ -102,6 +105,13 @@ impl<F: PrimeField> SharedBlock<F> {
             }
             Err(Foreign { degree, column }) => CommitAnswer::Foreign { degree, column },
         }
+    }
+
+    /// How many generators are alive.
+    pub fn alive(&self) -> usize
+        ensures { result ≡ live_places (complex_of F.P self.now) }
+    {
+        live_places(&self.complex)
     }
 
     /// Whether all entries of the complex are zero.
