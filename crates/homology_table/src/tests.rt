@@ -1,5 +1,7 @@
 //! The tables of known links, and that of the plain cube.
 
+mod same_blocks;
+
 use crate::homology_table;
 use arrayvec::ArrayVec;
 use cube_signs::check_size;
