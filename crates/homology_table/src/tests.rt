@@ -1,5 +1,6 @@
 //! The tables of known links, and that of the plain cube.
 
+mod all_blocks;
 mod same_blocks;
 
 use crate::homology_table;
