@@ -1,0 +1,102 @@
+#!/usr/bin/env python3
+"""Measures how long `kh homology` builds the blocks of a cube against another program that builds them, on the closed braids of 16
+crossings.
+
+    bench/cube.py [RUNS] [--only WORD] [--field P] [--program PATH] OTHER
+
+The wanted limit: at most 4 times the other's time, on each diagram. `kh` has no command that only builds, so its functions that build
+(those of `cube_signs` and of the building of `sparse_block`: circles, edges, generators, columns and rows of all blocks) are timed in
+whole runs, with one worker. gdb stops the run where they are called and where they return, and adds up the processor time of its thread
+in between; allocation, page faults and all that these functions call count, cancelling and the release of a block do not. Calls that the
+compiler has put inline can not be timed: where a block has no call of its own, the script ends with an error.
+
+OTHER is a program that reads a planar diagram text, is given `--field` and a field and `--stats`, and tells of itself
+`states SECONDSs build SECONDSs` on its error output: the time for the circles of all states, and the processor time for columns and rows
+of all blocks. Both build a block, cancel it and go on to the next. Runs of the two are alternated, and the least of each is taken. For
+each diagram it prints the two times, their ratio, and what part of the run of `kh` it is; at the end the greatest ratio. It wants gdb
+with Python, and nm. Build the program first, by `./kh`. The gate does not run it.
+"""
+import argparse
+import json
+import os
+import re
+import subprocess
+import sys
+import tempfile
+
+from braids import braids, planar_diagram
+from homology import PROGRAM, run
+
+HERE = os.path.dirname(os.path.abspath(__file__))
+CROSSINGS = 16
+LIMIT = 4
+TOLD = re.compile(r"states ([0-9.]+)s build ([0-9.]+)s")
+
+
+def calls_of(calls, part):
+    return sum(count for name, count in calls.items() if part in name)
+
+
+def timed_blocks(calls):
+    """How many blocks have been timed, 0 where a part of the building has no call of its own."""
+    whole, parts = calls_of(calls, "Cube::block::"), calls_of(calls, "Cube::parts")
+    rows = calls_of(calls, "building::build") + calls_of(calls, "building::all_rows")
+    if not calls_of(calls, "Cube::new"):
+        return 0
+    return whole or (parts if parts == rows else 0)
+
+
+def building(program, words, text):
+    """The seconds that a run builds, and how many blocks."""
+    with tempfile.NamedTemporaryFile("w") as given, tempfile.NamedTemporaryFile("r") as measured:
+        given.write(text)
+        given.flush()
+        files = {"PROGRAM": program, "GIVEN": given.name, "MEASURED": measured.name}
+        script = os.path.join(HERE, "building_time.py")
+        debugger = ["gdb", "-nx", "-q", "-batch", "-x", script, "--args", program, *words]
+        done = subprocess.run(debugger, env={**os.environ, **files}, capture_output=True, text=True)
+        result = json.loads(measured.read() or "{}")
+    blocks = timed_blocks(result.get("calls", {}))
+    if not blocks:
+        sys.exit(f"the building of {program} can not be timed: {result.get('calls', {})}\n{done.stderr}")
+    return result["nanoseconds"] / 1e9, blocks
+
+
+def others_building(other, field, text):
+    """The seconds that the other program says it builds."""
+    done = subprocess.run([other, "--field", field, "--stats"], input=text, capture_output=True, text=True)
+    told = TOLD.search(done.stderr)
+    if not told:
+        sys.exit(f"{other} does not tell its times: {done.stderr}")
+    return float(told.group(1)) + float(told.group(2))
+
+
+def main(arguments):
+    words, greatest = ["homology", "--field", arguments.field], 0
+    for name, strands, letters in braids():
+        if len(letters) != CROSSINGS or arguments.only not in name:
+            continue
+        text = planar_diagram(strands, letters)
+        mine, others, all_of_it = [], [], []
+        for _ in range(arguments.runs):
+            mine.append(building(arguments.program, words, text))
+            others.append(others_building(arguments.other, arguments.field, text))
+            all_of_it.append(run([arguments.program, *words], text)[1])
+        (seconds, blocks), other = min(mine), min(others)
+        greatest = max(greatest, seconds / other)
+        print(
+            f"{name} over {arguments.field}: {blocks} blocks in {seconds:.3f} s, other {other:.3f} s, ratio {seconds / other:.2f},"
+            f" {100 * seconds / min(all_of_it):.0f} % of a run",
+            flush=True,
+        )
+    print(f"greatest ratio {greatest:.2f}, wanted at most {LIMIT}")
+
+
+if __name__ == "__main__":
+    parser = argparse.ArgumentParser()
+    parser.add_argument("runs", nargs="?", type=int, default=3)
+    parser.add_argument("--only", default="")
+    parser.add_argument("--field", default="2")
+    parser.add_argument("--program", default=PROGRAM)
+    parser.add_argument("other")
+    main(parser.parse_intermixed_args())
