@@ -1,0 +1,9 @@
+pub mod Lists
+pub mod Apart
+pub mod BlockChanges
+pub mod Sound
+pub mod SoundRows
+pub mod Counted
+pub mod Runs
+pub mod HistoryRuns
+pub mod Kept
