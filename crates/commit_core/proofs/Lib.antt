@@ -7,3 +7,5 @@ pub mod Counted
 pub mod Runs
 pub mod HistoryRuns
 pub mod Kept
+pub mod Places
+pub mod Steps

@@ -1,11 +1,11 @@
 -- What a core keeps, along the rows of its table.
-use Rattle.std.proofs.Common.{◌≡◌, ℕ, ◌-◌, ◌<◌, ◌≤◌, ◌∙◌, List, [], ◌∷◌, ℤ, length, get_or, set, map, take, refl, sym, ap, subst, arith, cond, inl, inr, Option, None, Some, length-append, take_all}
+use Rattle.std.proofs.Common.{◌≡◌, ℕ, ◌+◌, ◌-◌, ◌<◌, ◌≤◌, ◌∙◌, List, [], ◌∷◌, ◌++◌, ℤ, length, get_or, set, map, take, refl, sym, ap, ap₂, subst, arith, cond, inl, inr, Option, None, Some, length-append, take_all}
 use Rattle.std.specs.Prelude.{IfSome}
 use Rattle.std.specs.List.{All}
 use Rattle.std.specs.Option.{option_map}
 use Rattle.std.specs.Ordering.{int_eq}
 use Rattle.std.proofs.lemmas.Bool.{cases_Bool}
-use Rattle.std.proofs.lemmas.List.{take-append-le}
+use Rattle.std.proofs.lemmas.List.{map_push, take_more, take-append-le}
 use Rattle.std.proofs.lemmas.List.Elements.{All-map, All-replicate, All-set, All-weaker}
 use Rattle.kh_types.specs.Code.{Code}
 use Rattle.kh_types.specs.Complex.{IsPivot, Pivot}
@@ -24,6 +24,25 @@ use Rattle.commit_core.proofs.BlockChanges.{block_at-commit, block_at-place, cha
 degrees-opening : (code : Code) (degrees : List ℤ) → map (λ held. held.degree) (map (λ j. block_with code j []) degrees) ≡ degrees
 degrees-opening code [] = refl
 degrees-opening code (j ∷ degrees) = ap (λ (is : List ℤ). j ∷ is) (degrees-opening code degrees)
+
+-- the blocks of some quantum degrees
+abbrev pub opened : Code → List ℤ → List BlockHistory
+opened code degrees = map (λ j. block_with code j []) degrees
+
+-- one block more; a degree that is read from memory and kept there is the same
+pub opened-more : (code made_of : Code) (degrees : List ℤ) (k : ℕ) (read kept : ℤ) (made next : List BlockHistory)
+    (block : BlockHistory) → made ≡ opened code (take k degrees) → k < length degrees → read ≡ get_or degrees k read → kept ≡ read
+    → made_of ≡ code → block ≡ block_with made_of kept [] → next ≡ made ++ block ∷ [] → next ≡ opened code (take (k + 1) degrees)
+opened-more code made_of degrees k read kept made next block is_made below is_read is_kept is_code is_block is_next =
+    is_next
+    ∙ ap₂ (λ (xs : List BlockHistory) (b : BlockHistory). xs ++ b ∷ []) is_made
+    (is_block ∙ ap₂ (λ (diagram : Code) (j : ℤ). block_with diagram j []) is_code (is_kept ∙ is_read))
+    ∙ sym (map_push (λ j. block_with code j []) (take k degrees) (get_or degrees k read))
+    ∙ ap (opened code) (sym (take_more degrees k read below))
+
+pub opened-all : (code : Code) (degrees : List ℤ) (k : ℕ) (made : List BlockHistory) → made ≡ opened code (take k degrees)
+    → length degrees ≤ k → degrees ≡ block_degrees code → made ≡ opened code (block_degrees code)
+opened-all code degrees k made is_made all is_degrees = is_made ∙ ap (opened code) (take_all k degrees all ∙ is_degrees)
 
 pub sound-opening : (p : ℕ) (code : Code) (workers : ℕ) → IsSound p (opening_state code workers)
 sound-opening p code workers =
@@ -152,3 +171,5 @@ held_by-sound p state worker held sound holds =
     let Is : Option Holding → Type 0 = λ one. IfSome one (IsHeldOf p state) in
     let here : Is (held_by state worker) = All-or_default Is state.workers (worker - 1) None tt sound.holdings in
     subst Is holds here
+
+pub ruleset openings = (opened-more, opened-all)

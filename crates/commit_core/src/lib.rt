@@ -2,8 +2,13 @@
 #![tactic(auto)]
 
 mod answer;
+mod blocks;
+mod building;
+mod core;
 mod event;
+mod held_look;
 pub mod laws;
 
 pub use answer::Answer;
+pub use core::Core;
 pub use event::Event;
