@@ -94,7 +94,7 @@ turns-block : (p : ℕ) (code : Code) (state : State) (j : ℤ) (held : BlockHis
 turns-block p code state j held (sound, of_code) there =
     let at = block_at-place state j held there in
     let same : held.diagram ≡ code =
-    subst (λ (x : BlockHistory). x.diagram ≡ state.diagram) (at.2 held) (sound.diagrams at.0 held at.1) ∙ of_code in
+    subst (λ (x : BlockHistory). x.diagram ≡ state.diagram) (at.2 held) (sound.blocks.diagram at.0 held at.1) ∙ of_code in
     ap (λ (c : Code). rank_sum p (cube_block p c held.degree)) same
 
 looks : (p : ℕ) (code : Code) (counts : Counts) (worker : ℕ) (count : Count) (test : Bool)

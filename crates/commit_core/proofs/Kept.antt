@@ -35,7 +35,7 @@ pub dimensions-sound : (p : ℕ) (state : State) → IsField p → IsTrue (accep
     → All (λ held. (i : ℤ) → dimension_of p (complex_of p held) i ≡ dimension p state.diagram i held.degree) state.blocks
 dimensions-sound p state field is sound k d below i =
     let held = get_or state.blocks k d in
-    let same : held.diagram ≡ state.diagram = sound.diagrams k d below in
+    let same : held.diagram ≡ state.diagram = sound.blocks.diagram k d below in
     dimension_of-legal p held i field (subst (λ (code : Code). IsTrue (accepted code)) (sym same) is) (sound.legal k d below)
     ∙ ap (λ (code : Code). dimension p code i held.degree) same
 
@@ -47,3 +47,9 @@ dimensions-reached p code state field is (sound, of_code) =
     All (λ (held : BlockHistory). (i : ℤ) → dimension_of p (complex_of p held) i ≡ dimension p c i held.degree) state.blocks)
     of_code
     (dimensions-sound p state field (subst (λ (c : Code). IsTrue (accepted c)) (sym of_code) is) sound)
+
+-- the same of a core in memory
+pub dimensions-kept : (p : ℕ) (inside now : State) → IsField p → inside ≡ now → IsTrue (accepted inside.diagram) → IsSound p inside
+    → All (λ held. (i : ℤ) → dimension_of p (complex_of p held) i ≡ dimension p now.diagram i held.degree) now.blocks
+dimensions-kept p inside now field same is sound =
+    dimensions-sound p now field (subst (λ (s : State). IsTrue (accepted s.diagram)) same is) (subst (IsSound p) same sound)

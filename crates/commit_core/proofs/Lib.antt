@@ -2,6 +2,7 @@ pub mod Lists
 pub mod Apart
 pub mod BlockChanges
 pub mod Sound
+pub mod RowsKeep
 pub mod SoundRows
 pub mod Counted
 pub mod Runs

@@ -1,7 +1,8 @@
 -- A search in a list, and a list with one element replaced.
-use Rattle.std.proofs.Common.{◌≡◌, ℕ, zero, suc, ◌<◌, ◌∙◌, List, [], ◌∷◌, length, get_or, set, map, replicate, refl, sym, ap, arith, subst, Bool, true, cond, Some, inl, inr}
+use Rattle.std.proofs.Common.{take, ◌++◌, ◌≡◌, ℕ, zero, suc, ◌<◌, ◌∙◌, List, [], ◌∷◌, length, get_or, set, map, replicate, refl, sym, ap, arith, subst, Bool, true, cond, Some, inl, inr}
 use Rattle.std.specs.List.{All, find}
 use Rattle.std.specs.Option.{option_map}
+use Rattle.std.proofs.Math.Seq.{take-append_seam}
 use Rattle.std.proofs.lemmas.Bool.{cases_Bool, cases_lt}
 use Rattle.std.proofs.lemmas.List.{get_or_past}
 
@@ -16,6 +17,10 @@ module _ {X : Type 0} where
   set-same [] i d same = refl
   set-same (x ∷ xs) zero d same = ap (λ (y : X). y ∷ xs) (sym same)
   set-same (x ∷ xs) (suc i) d same = ap (λ (ys : List X). x ∷ ys) (set-same xs i d same)
+
+  -- a list that is written over another of its length
+  pub take-whole : (n : ℕ) (xs rest : List X) → length xs ≡ n → take n (xs ++ rest) ≡ xs
+  take-whole n xs rest size = ap (λ (m : ℕ). take m (xs ++ rest)) (sym size) ∙ take-append_seam xs rest
 
   -- what holds of all elements, and of the default, holds at each place
   pub All-or_default : (P : X → Type 0) (xs : List X) (i : ℕ) (d : X) → P d → All P xs → P (get_or xs i d)

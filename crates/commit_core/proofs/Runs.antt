@@ -1,5 +1,5 @@
 -- Runs of the core: their answers are the function of the events, and their histories are legal.
-use Rattle.std.proofs.Common.{◌≡◌, ℕ, ◌∙◌, List, [], ◌∷◌, refl, sym, ap, ap₂}
+use Rattle.std.proofs.Common.{subst, ◌≡◌, ℕ, ◌∙◌, List, [], ◌∷◌, refl, sym, ap, ap₂}
 use Rattle.kh_types.specs.Code.{Code}
 use Rattle.commit_core.specs.States.{State, opening_state}
 use Rattle.commit_core.specs.Rows.{IsRun}
@@ -32,3 +32,15 @@ pub sound-reached : (p : ℕ) (code : Code) (workers : ℕ) (events : List Event
     → IsRun p (opening_state code workers) events made after → IsSoundOf p code after
 sound-reached p code workers events made after run =
     sound-run p code (opening_state code workers) events made after (sound-opening p code workers, refl) run
+
+-- a run of a core that has just been made
+
+pub answers-made : (p : ℕ) (code : Code) (workers : ℕ) (core : State) (events : List Event) (made : List Answer) (after : State)
+    → core ≡ opening_state code workers → IsRun p core events made after → made ≡ answers p code workers events
+answers-made p code workers core events made after is run =
+    answers-opening p code workers events made after (subst (λ (s : State). IsRun p s events made after) is run)
+
+pub diagram-made : (p : ℕ) (code : Code) (workers : ℕ) (core : State) (events : List Event) (made : List Answer) (after : State)
+    → core ≡ opening_state code workers → IsRun p core events made after → after.diagram ≡ code
+diagram-made p code workers core events made after is run =
+    (sound-reached p code workers events made after (subst (λ (s : State). IsRun p s events made after) is run)).1

@@ -1,11 +1,11 @@
 -- What a core keeps, along the rows of its table.
-use Rattle.std.proofs.Common.{◌≡◌, ℕ, ◌+◌, ◌-◌, ◌<◌, ◌≤◌, ◌∙◌, List, [], ◌∷◌, ◌++◌, ℤ, length, get_or, set, map, take, refl, sym, ap, ap₂, subst, arith, cond, inl, inr, Option, None, Some, length-append, take_all}
+use Rattle.std.proofs.Common.{◌≡◌, ℕ, ◌-◌, ◌<◌, ◌≤◌, ◌∙◌, [], ◌∷◌, ℤ, length, get_or, set, map, take, sym, ap, subst, arith, cond, inl, inr, Option, None, Some, length-append, take_all}
 use Rattle.std.specs.Prelude.{IfSome}
 use Rattle.std.specs.List.{All}
 use Rattle.std.specs.Option.{option_map}
 use Rattle.std.specs.Ordering.{int_eq}
 use Rattle.std.proofs.lemmas.Bool.{cases_Bool}
-use Rattle.std.proofs.lemmas.List.{map_push, take_more, take-append-le}
+use Rattle.std.proofs.lemmas.List.{take-append-le}
 use Rattle.std.proofs.lemmas.List.Elements.{All-map, All-replicate, All-set, All-weaker}
 use Rattle.kh_types.specs.Code.{Code}
 use Rattle.kh_types.specs.Complex.{IsPivot, Pivot}
@@ -14,6 +14,7 @@ use Rattle.cancel_step.proofs.HistoryLemmas.{legal-push}
 use Rattle.cube_signs.specs.Blocks.{block_degrees}
 use Rattle.shared_block.specs.BlockHistories.{BlockCopy, BlockHistory, HasLegalHistory, IsCopyOf, block_with, complex_of}
 use Rattle.shared_block.specs.Commits.{with_pivot}
+use Rattle.homology_table.proofs.AllBlocks.{AreBlocksOf-opening}
 use Rattle.commit_core.specs.States.{Holding, IsHeldOf, IsSound, State, block_at, held_by, holding_of, opening_state, with_commit, with_held}
 use Rattle.commit_core.proofs.Apart.{AreApart, block_degrees-apart}
 use Rattle.commit_core.proofs.Lists.{All-or_default}
@@ -21,35 +22,11 @@ use Rattle.commit_core.proofs.BlockChanges.{block_at-commit, block_at-place, cha
 
 -- at first
 
-degrees-opening : (code : Code) (degrees : List ℤ) → map (λ held. held.degree) (map (λ j. block_with code j []) degrees) ≡ degrees
-degrees-opening code [] = refl
-degrees-opening code (j ∷ degrees) = ap (λ (is : List ℤ). j ∷ is) (degrees-opening code degrees)
-
--- the blocks of some quantum degrees
-abbrev pub opened : Code → List ℤ → List BlockHistory
-opened code degrees = map (λ j. block_with code j []) degrees
-
--- one block more; a degree that is read from memory and kept there is the same
-pub opened-more : (code made_of : Code) (degrees : List ℤ) (k : ℕ) (read kept : ℤ) (made next : List BlockHistory)
-    (block : BlockHistory) → made ≡ opened code (take k degrees) → k < length degrees → read ≡ get_or degrees k read → kept ≡ read
-    → made_of ≡ code → block ≡ block_with made_of kept [] → next ≡ made ++ block ∷ [] → next ≡ opened code (take (k + 1) degrees)
-opened-more code made_of degrees k read kept made next block is_made below is_read is_kept is_code is_block is_next =
-    is_next
-    ∙ ap₂ (λ (xs : List BlockHistory) (b : BlockHistory). xs ++ b ∷ []) is_made
-    (is_block ∙ ap₂ (λ (diagram : Code) (j : ℤ). block_with diagram j []) is_code (is_kept ∙ is_read))
-    ∙ sym (map_push (λ j. block_with code j []) (take k degrees) (get_or degrees k read))
-    ∙ ap (opened code) (sym (take_more degrees k read below))
-
-pub opened-all : (code : Code) (degrees : List ℤ) (k : ℕ) (made : List BlockHistory) → made ≡ opened code (take k degrees)
-    → length degrees ≤ k → degrees ≡ block_degrees code → made ≡ opened code (block_degrees code)
-opened-all code degrees k made is_made all is_degrees = is_made ∙ ap (opened code) (take_all k degrees all ∙ is_degrees)
-
 pub sound-opening : (p : ℕ) (code : Code) (workers : ℕ) → IsSound p (opening_state code workers)
 sound-opening p code workers =
     let opening = opening_state code workers in
     record {
-      degrees = degrees-opening code (block_degrees code);
-      diagrams = All-map (λ held. held.diagram ≡ code) (λ j. block_with code j []) (block_degrees code) (λ k d below. refl);
+      blocks = AreBlocksOf-opening code;
       legal = All-map (HasLegalHistory p) (λ j. block_with code j []) (block_degrees code) (λ k d below. tt);
       holdings = All-replicate (λ held. IfSome held (IsHeldOf p opening)) workers None tt;
     }
@@ -67,8 +44,7 @@ pub sound-held : (p : ℕ) (state : State) (worker : ℕ) (held : Option Holding
 sound-held p state worker held sound is =
     let after = with_held state worker held in
     record {
-      degrees = sound.degrees;
-      diagrams = sound.diagrams;
+      blocks = sound.blocks;
       legal = sound.legal;
       holdings =
           All-weaker (λ one. IfSome one (IsHeldOf p state)) (λ one. IfSome one (IsHeldOf p after))
@@ -134,7 +110,7 @@ held-with_commit p state j pivot (Some held) is =
     }
 
 pub apart-sound : (p : ℕ) (state : State) → IsSound p state → AreApart (map (λ held. held.degree) state.blocks)
-apart-sound p state sound = subst AreApart (sym sound.degrees) (block_degrees-apart state.diagram)
+apart-sound p state sound = subst AreApart (sym sound.blocks.degrees) (block_degrees-apart state.diagram)
 
 -- the blocks after a commit, by the place of the block that changes
 pub blocks-commit : (p : ℕ) (state : State) (j : ℤ) (pivot : Pivot) (place : ℕ) (block : BlockHistory) → IsSound p state
@@ -150,10 +126,13 @@ sound-commit p state j pivot block sound there is =
     let at = block_at-place state j block there in
     let legal : HasLegalHistory p block = subst (HasLegalHistory p) (at.2 block) (sound.legal at.0 block at.1) in
     record {
-      degrees = degrees-changed j pivot state.blocks ∙ sound.degrees;
-      diagrams =
-          All-map (λ held. held.diagram ≡ state.diagram) (changed j pivot) state.blocks
-          (λ k d below. diagram-changed j pivot (get_or state.blocks k d) ∙ sound.diagrams k d below);
+      blocks =
+          record {
+            degrees = degrees-changed j pivot state.blocks ∙ sound.blocks.degrees;
+            diagram =
+                All-map (λ held. held.diagram ≡ state.diagram) (changed j pivot) state.blocks
+                (λ k d below. diagram-changed j pivot (get_or state.blocks k d) ∙ sound.blocks.diagram k d below);
+          };
       legal =
           subst (All (HasLegalHistory p)) (sym (blocks-commit p state j pivot at.0 block sound at.1 at.2 at.3))
           (All-set (HasLegalHistory p) state.blocks at.0 (with_pivot block pivot)
@@ -171,5 +150,3 @@ held_by-sound p state worker held sound holds =
     let Is : Option Holding → Type 0 = λ one. IfSome one (IsHeldOf p state) in
     let here : Is (held_by state worker) = All-or_default Is state.workers (worker - 1) None tt sound.holdings in
     subst Is holds here
-
-pub ruleset openings = (opened-more, opened-all)

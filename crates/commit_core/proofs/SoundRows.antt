@@ -1,5 +1,6 @@
 -- Each row of the core's table keeps what a core keeps, and so does each run.
-use Rattle.std.proofs.Common.{◌≡◌, ℕ, List, [], ◌∷◌, ◌++◌, ℤ, refl, sym, subst, None, Some}
+use Rattle.std.proofs.Common.{subst₂, get_or, length, take, ◌<◌, ◌+◌, ◌≡◌, ℕ, List, [], ◌∷◌, ◌++◌, ℤ, refl, sym, subst, None, Some}
+use Rattle.std.proofs.lemmas.List.{take_more}
 use Rattle.kh_types.specs.Code.{Code}
 use Rattle.commit_core.specs.States.{IsSound, State, holding_of, with_commit, with_held}
 use Rattle.commit_core.specs.Rows.{Commits, Forgets, IsRow, IsRun, LooksAt}
@@ -84,3 +85,11 @@ pub run-push : (p : ℕ) (before middle after : State) (events : List Event) (an
     → IsRun p before (events ++ event ∷ []) (answers ++ answer ∷ []) after
 run-push p before middle after events answers event answer run row =
     run-append p before middle after events (event ∷ []) answers (answer ∷ []) run (after, row, refl)
+
+-- the run of the first events, and one more
+pub run-more : (p : ℕ) (before middle after : State) (events : List Event) (k : ℕ) (d : Event) (answers next : List Answer)
+    (answer : Answer) → k < length events → IsRun p before (take k events) answers middle
+    → IsRow p middle (get_or events k d) answer after → next ≡ answers ++ answer ∷ [] → IsRun p before (take (k + 1) events) next after
+run-more p before middle after events k d answers next answer below run row is_next =
+    subst₂ (λ (es : List Event) (made : List Answer). IsRun p before es made after) (sym (take_more events k d below)) (sym is_next)
+    (run-push p before middle after (take k events) answers (get_or events k d) answer run row)

@@ -14,11 +14,11 @@ use Rattle.sparse_block.specs.Entries.{entries_of}
 use Rattle.sparse_block.proofs.EntryLemmas.{value_at-entries_of}
 use Rattle.cancel_step.specs.Copies.{Copied, copied, line_across}
 use Rattle.cancel_step.specs.Foreign.{IsForeign, IsOtherColumn, IsOtherRowAt}
-use Rattle.cube_signs.specs.Blocks.{block_degrees}
 use Rattle.shared_block.specs.BlockHistories.{BlockCopy, BlockHistory, HasLegalHistory, IsCopyOf, complex_of}
 use Rattle.shared_block.specs.Commits.{Answers, IsForeignAnswer, IsOld, IsStale, with_pivot}
 use Rattle.shared_block.specs.declared.commit_answer.CommitAnswer.{CommitAnswer}
 use Rattle.shared_block.specs.declared.commit_answer.CommitAnswer.TheVariants.{Committed as BlockCommitted, Stale as BlockStale, Foreign as BlockForeign}
+use Rattle.homology_table.specs.AllBlocks.{opening_blocks}
 use Rattle.commit_core.specs.Parts.{CommitsTo, IsBlockAt, IsSameAnswer, IsSight}
 use Rattle.commit_core.specs.Rows.{Commits, LooksAt}
 use Rattle.commit_core.specs.States.{Holding, IsHeldOf, IsSound, State, block_at, held_by, holding_of, state_of, with_commit, with_held}
@@ -27,12 +27,12 @@ use Rattle.commit_core.specs.declared.answer.Answer.TheVariants.{Looked, Zero, C
 use Rattle.commit_core.proofs.BlockChanges.{block_at-place}
 use Rattle.commit_core.proofs.Kept.{zero-turns}
 use Rattle.commit_core.proofs.Lists.{set-same, set-set}
-use Rattle.commit_core.proofs.Sound.{blocks-commit, copy-held, held-copy, opened, sound-opening, sound-commit, sound-held}
+use Rattle.commit_core.proofs.Sound.{blocks-commit, copy-held, held-copy, sound-opening, sound-commit, sound-held}
 
 -- at first
 
 pub sound-made : (p most : ℕ) (code : Code) (blocks : List BlockHistory) (seats : List (Option Holding)) (workers : ℕ)
-    → blocks ≡ opened code (block_degrees code) → seats ≡ replicate workers None → workers ≤ most
+    → blocks ≡ opening_blocks code → seats ≡ replicate workers None → workers ≤ most
     → IsSound p (state_of code blocks seats) × (length seats ≤ most)
 sound-made p most code blocks seats workers are_blocks are_seats few = (
   subst₂ (λ (bs : List BlockHistory) (ss : List (Option Holding)). IsSound p (state_of code bs ss)) (sym are_blocks) (sym are_seats)

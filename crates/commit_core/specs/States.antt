@@ -1,12 +1,12 @@
 -- The states of the core: a history for each block, and what each worker holds (this project's rule).
-use Rattle.std.specs.Prelude.{◌≡◌, ℕ, ◌-◌, ◌≤◌, ℤ, List, [], length, map, take, replicate, if◌then◌else◌, slice_index_or, slice_set, Option, None, Some, IfSome, All}
+use Rattle.std.specs.Prelude.{◌≡◌, ℕ, ◌-◌, ◌≤◌, ℤ, List, length, map, take, replicate, if◌then◌else◌, slice_index_or, slice_set, Option, None, Some, IfSome, All}
 use Rattle.std.specs.List.{find}
 use Rattle.std.specs.Ordering.{int_eq}
 use Rattle.kh_types.specs.Code.{Code}
 use Rattle.kh_types.specs.Complex.{Pivot}
-use Rattle.cube_signs.specs.Blocks.{block_degrees}
 use Rattle.shared_block.specs.BlockHistories.{BlockCopy, BlockHistory, HasLegalHistory, IsCopyOf, block_with}
 use Rattle.shared_block.specs.Commits.{with_pivot}
+use Rattle.homology_table.specs.AllBlocks.{AreBlocksOf, opening_blocks}
 use Rattle.commit_core.specs.declared.event.Event.{Event}
 use Rattle.commit_core.specs.declared.event.Event.TheVariants.{Look, Commit, Forget}
 
@@ -31,7 +31,7 @@ state_of code blocks workers = record { diagram = code; blocks = blocks; workers
 
 -- at first no block has a history, and no worker holds anything
 abbrev pub opening_state : Code → ℕ → State
-opening_state code workers = state_of code (map (λ j. block_with code j []) (block_degrees code)) (replicate workers None)
+opening_state code workers = state_of code (opening_blocks code) (replicate workers None)
 
 -- the block at a quantum degree, if there is one
 abbrev pub block_at : State → ℤ → Option BlockHistory
@@ -66,7 +66,6 @@ worker_of (Forget worker) = worker
 -- what a core keeps: its blocks are those of the diagram, each with a legal history, and what a worker holds was copied of what the
 -- first pivots of its block's history left
 pub record IsSound (p : ℕ) (state : State) : Type 0 where
-  pub degrees : map (λ held. held.degree) state.blocks ≡ block_degrees state.diagram
-  pub diagrams : All (λ held. held.diagram ≡ state.diagram) state.blocks
+  pub blocks : AreBlocksOf state.diagram state.blocks
   pub legal : All (HasLegalHistory p) state.blocks
   pub holdings : All (λ held. IfSome held (IsHeldOf p state)) state.workers

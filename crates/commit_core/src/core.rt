@@ -7,9 +7,10 @@ ghost use Rattle.shared_block.specs.declared.limits.TheConstants.{WORKERS};
 ghost use Rattle.commit_core.specs.Rows.{Commits, Forgets, IsRow, LooksAt};
 ghost use Rattle.commit_core.specs.States.{IsHeldOf, held_by, opening_state, with_held, worker_of};
 
-use crate::building::{blocks_of, nothing_held};
+use crate::building::nothing_held;
 use crate::held_look::HeldLook;
 use crate::{Answer, Event};
+use homology_table::blocks_of;
 use kh_types::{Diagram, NoMemory};
 use prime_field::PrimeField;
 use shared_block::SharedBlock;

@@ -10,12 +10,35 @@ ghost use Rattle.kh_types.specs.Table.{dimension};
 ghost use Rattle.prime_field.specs.Residues.{IsField};
 ghost use Rattle.cube_signs.specs.Blocks.{block_degrees};
 ghost use Rattle.shared_block.specs.BlockHistories.{HasLegalHistory, complex_of};
+ghost use Rattle.shared_block.specs.declared.limits.TheConstants.{WORKERS};
+ghost use Rattle.homology_table.specs.AllBlocks.{AreBlocksOf};
 ghost use Rattle.commit_core.specs.Alone.{looks_and_commits, state_with};
 ghost use Rattle.commit_core.specs.Answering.{answers, turns};
 ghost use Rattle.commit_core.specs.Rows.{IsRun};
 ghost use Rattle.commit_core.specs.States.{IsHeldOf, State, opening_state};
 ghost use Rattle.commit_core.specs.declared.answer.Answer.{Answer};
 ghost use Rattle.commit_core.specs.declared.event.Event.{Event};
+
+use crate::Core;
+use prime_field::PrimeField;
+use prime_field::laws::element_laws;
+
+/// What the type of a core keeps: the diagram is accepted, its blocks have legal histories and the
+/// homology dimensions of the diagram, and what each worker holds was copied of what the first
+/// pivots of its block's history left, as many as its version says. It does nothing: a function
+/// calls it, and its proof then has these facts at hand.
+pub fn core_laws<F: PrimeField>(core: &Core<F>)
+    ensures code { IsTrue (accepted core.now.diagram) }
+    ensures blocks { AreBlocksOf core.now.diagram core.now.blocks }
+    ensures legal { All (HasLegalHistory F.P) core.now.blocks }
+    ensures dimensions { All (λ held. (i : ℤ) → dimension_of F.P (complex_of F.P held) i
+        ≡ dimension F.P core.now.diagram i held.degree) core.now.blocks }
+    ensures held { All (λ held. IfSome held (IsHeldOf F.P core.now)) core.now.workers }
+    ensures few { length core.now.workers ≤ WORKERS }
+{
+    element_laws::<F>();
+    let _ = core.diagram.crossings();
+}
 
 /// The answers of a run from the opening state are a function of its events: of the pivots that
 /// workers look at nothing depends.

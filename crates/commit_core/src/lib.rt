@@ -8,7 +8,9 @@ mod core;
 mod event;
 mod held_look;
 pub mod laws;
+mod run;
 
 pub use answer::Answer;
 pub use core::Core;
 pub use event::Event;
+pub use run::{Run, run_events};
