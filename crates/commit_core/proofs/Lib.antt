@@ -1,0 +1,12 @@
+pub mod Lists
+pub mod Apart
+pub mod BlockChanges
+pub mod Sound
+pub mod RowsKeep
+pub mod SoundRows
+pub mod Counted
+pub mod Runs
+pub mod HistoryRuns
+pub mod Kept
+pub mod Places
+pub mod Steps
