@@ -51,7 +51,7 @@ block_at-with code workers j history is =
 
 -- with one pivot more
 
-blocks-changed : (code : Code) (j : ℤ) (history : List Pivot) (pivot : Pivot) (degrees : List ℤ)
+pub blocks-changed : (code : Code) (j : ℤ) (history : List Pivot) (pivot : Pivot) (degrees : List ℤ)
     → map (changed j pivot) (blocks_with code j history degrees) ≡ blocks_with code j (history ++ pivot ∷ []) degrees
 blocks-changed code j history pivot [] = refl
 blocks-changed code j history pivot (k ∷ degrees) =
@@ -81,7 +81,7 @@ state-opening code workers j =
 
 -- worker 1 has taken and given back
 
-workers-back : (workers : ℕ) (held : Option Holding) → 1 ≤ workers
+pub workers-back : (workers : ℕ) (held : Option Holding) → 1 ≤ workers
     → set (set (replicate workers None) 0 held) 0 None ≡ replicate workers None
 workers-back workers held some =
     set-set (replicate workers None) 0 held None

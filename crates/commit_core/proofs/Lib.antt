@@ -10,3 +10,5 @@ pub mod HistoryRuns
 pub mod Kept
 pub mod Places
 pub mod Steps
+pub mod RowsExist
+pub mod LockedTurns

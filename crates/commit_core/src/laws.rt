@@ -1,6 +1,6 @@
 //! What the answers to events depend on, which states are reached, and which histories.
 
-ghost use Rattle.std.specs.Prelude.{◌≡◌, ◌↔◌, ℕ, ◌≤◌, ℤ, List, length, true, All, IfSome, IsTrue};
+ghost use Rattle.std.specs.Prelude.{◌≡◌, ◌↔◌, ℕ, ◌+◌, ◌≤◌, ℤ, List, [], ◌∷◌, ◌++◌, length, true, All, IfSome, IsTrue};
 ghost use Rattle.std.specs.List.{Contains};
 ghost use Rattle.kh_types.specs.Acceptance.{accepted};
 ghost use Rattle.kh_types.specs.Code.{Code};
@@ -9,12 +9,13 @@ ghost use Rattle.kh_types.specs.History.{IsLegal, block, replay};
 ghost use Rattle.kh_types.specs.Table.{dimension};
 ghost use Rattle.prime_field.specs.Residues.{IsField};
 ghost use Rattle.cube_signs.specs.Blocks.{block_degrees};
-ghost use Rattle.shared_block.specs.BlockHistories.{HasLegalHistory, complex_of};
+ghost use Rattle.shared_block.specs.BlockHistories.{BlockCopy, Fits, HasLegalHistory};
+ghost use Rattle.shared_block.specs.BlockHistories.{block_with, complex_of};
 ghost use Rattle.shared_block.specs.declared.limits.TheConstants.{WORKERS};
 ghost use Rattle.homology_table.specs.AllBlocks.{AreBlocksOf};
-ghost use Rattle.commit_core.specs.Alone.{looks_and_commits, state_with};
+ghost use Rattle.commit_core.specs.Alone.{looks_and_commits, state_between, state_with};
 ghost use Rattle.commit_core.specs.Answering.{answers, turns};
-ghost use Rattle.commit_core.specs.Rows.{IsRun};
+ghost use Rattle.commit_core.specs.Rows.{IsRow, IsRun};
 ghost use Rattle.commit_core.specs.States.{IsHeldOf, State, opening_state};
 ghost use Rattle.commit_core.specs.declared.answer.Answer.{Answer};
 ghost use Rattle.commit_core.specs.declared.event.Event.{Event};
@@ -82,4 +83,36 @@ pub fn histories_are_runs()
         → IsLegal p (block p code j) history
         → (made : List Answer) × IsRun p (opening_state code workers)
         (looks_and_commits 1 j (length history)) made (state_with code workers j history) }
+{}
+
+/// All events have a run from the opening state, so that the answers to them are those of a run.
+pub fn all_events_have_a_run()
+    ensures { (p workers : ℕ) (code : Code) (events : List Event) → IsField p
+        → IsTrue (accepted code) → (made : List Answer) × (after : State)
+        × IsRun p (opening_state code workers) events made after }
+{}
+
+/// The turns that a worker takes at a block under a lock are those of the core. A look that fits a
+/// history is the core's look at the block with this history; a patch of it that is taken is the
+/// core's commit; and where nothing is left to do under the lock the core answers that the block is
+/// zero.
+pub fn turns_under_a_lock_are_those_of_the_core()
+    ensures look { (p workers hint : ℕ) (code : Code) (j : ℤ) (history : List Pivot)
+        (copy : BlockCopy) → IsField p → IsTrue (accepted code) → 1 ≤ workers
+        → Contains (block_degrees code) j → Fits p (block_with code j history) copy
+        → IsRow p (state_with code workers j history) (Event.Look 1 j hint)
+        (Answer.Looked (length history))
+        (state_between code workers j history copy) }
+    ensures commit { (p workers : ℕ) (code : Code) (j : ℤ) (history : List Pivot)
+        (copy : BlockCopy) → IsField p → IsTrue (accepted code) → 1 ≤ workers
+        → Contains (block_degrees code) j → Fits p (block_with code j history) copy
+        → IsRow p (state_between code workers j history copy) (Event.Commit 1)
+        (Answer.Committed (length history + 1))
+        (state_with code workers j (history ++ copy.parts.pivot ∷ [])) }
+    ensures done { (p workers hint : ℕ) (code : Code) (j : ℤ) (history : List Pivot) → IsField p
+        → IsTrue (accepted code) → 1 ≤ workers → Contains (block_degrees code) j
+        → IsLegal p (block p code j) history
+        → is_zero (replay p (block p code j) history) ≡ true
+        → IsRow p (state_with code workers j history) (Event.Look 1 j hint) Answer.Zero
+        (state_with code workers j history) }
 {}
