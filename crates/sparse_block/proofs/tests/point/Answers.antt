@@ -6,7 +6,7 @@ use Rattle.sparse_block.proofs.WorkedLemmas.{point-build}
 use Rattle.sparse_block.proofs.tests.point.Goals as goal
 
 pub build-requires-clause-counts : goal.build-requires-clause-counts
-build-requires-clause-counts c κs =
+build-requires-clause-counts c =
     let can =
     point-build (lists_in c.in_ok-names.names.items) (lines_in c.in_ok-columns.columns.items)
     (ap lists_in c.in_ok-names.ensures.items
@@ -17,7 +17,7 @@ build-requires-clause-counts c κs =
     can.counts
 
 pub build-requires-clause-sizes : goal.build-requires-clause-sizes
-build-requires-clause-sizes c κs =
+build-requires-clause-sizes c =
     let can =
     point-build (lists_in c.in_ok-names.names.items) (lines_in c.in_ok-columns.columns.items)
     (ap lists_in c.in_ok-names.ensures.items
@@ -28,7 +28,7 @@ build-requires-clause-sizes c κs =
     can.sizes
 
 pub build-requires-clause-entries : goal.build-requires-clause-entries
-build-requires-clause-entries c κs =
+build-requires-clause-entries c =
     let can =
     point-build (lists_in c.in_ok-names.names.items) (lines_in c.in_ok-columns.columns.items)
     (ap lists_in c.in_ok-names.ensures.items
@@ -39,7 +39,7 @@ build-requires-clause-entries c κs =
     can.entries
 
 pub build-requires-clause-squares : goal.build-requires-clause-squares
-build-requires-clause-squares c κs =
+build-requires-clause-squares c =
     let can =
     point-build (lists_in c.in_ok-names.names.items) (lines_in c.in_ok-columns.columns.items)
     (ap lists_in c.in_ok-names.ensures.items

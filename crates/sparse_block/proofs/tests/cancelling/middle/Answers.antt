@@ -8,28 +8,28 @@ use Rattle.sparse_block.proofs.WorkedLemmas.{middle-build}
 use Rattle.sparse_block.proofs.tests.cancelling.middle.Goals as goal
 
 pub build-requires-clause-counts : goal.build-requires-clause-counts
-build-requires-clause-counts c κs =
+build-requires-clause-counts c =
     let can =
     middle-build (lists_in c.in_ok-names.names.items) (lines_in c.in_ok-columns.columns.items) c.in_ok-names.ensures
     c.in_ok-columns.ensures in
     can.counts
 
 pub build-requires-clause-sizes : goal.build-requires-clause-sizes
-build-requires-clause-sizes c κs =
+build-requires-clause-sizes c =
     let can =
     middle-build (lists_in c.in_ok-names.names.items) (lines_in c.in_ok-columns.columns.items) c.in_ok-names.ensures
     c.in_ok-columns.ensures in
     can.sizes
 
 pub build-requires-clause-entries : goal.build-requires-clause-entries
-build-requires-clause-entries c κs =
+build-requires-clause-entries c =
     let can =
     middle-build (lists_in c.in_ok-names.names.items) (lines_in c.in_ok-columns.columns.items) c.in_ok-names.ensures
     c.in_ok-columns.ensures in
     can.entries
 
 pub build-requires-clause-squares : goal.build-requires-clause-squares
-build-requires-clause-squares c κs =
+build-requires-clause-squares c =
     let can =
     middle-build (lists_in c.in_ok-names.names.items) (lines_in c.in_ok-columns.columns.items) c.in_ok-names.ensures
     c.in_ok-columns.ensures in
