@@ -1,5 +1,8 @@
 //! What a worker does.
 
+ghost use Rattle.std.specs.Prelude.{◌≡◌, ◌↔◌, ◌≤◌, All, IsTrue};
+ghost use Rattle.commit_core.specs.States.{worker_of};
+
 /// What a worker does next. Workers are numbered from 1.
 #[derive(Clone, Copy, Debug, PartialEq, Eq)]
 pub enum Event {
@@ -10,4 +13,26 @@ pub enum Event {
     Commit { worker: u32 },
     /// It gives up what it holds.
     Forget { worker: u32 },
+}
+
+impl Event {
+    /// The worker that the event is of.
+    pub fn worker(self) -> u32
+        ensures { result ≡ worker_of self }
+    {
+        match self {
+            Event::Look { worker, .. } | Event::Commit { worker } | Event::Forget { worker } =>
+                worker,
+        }
+    }
+}
+
+/// Whether all events are of workers from 1 to this number.
+pub fn are_of_workers(events: &[Event], workers: u32) -> bool
+    ensures { IsTrue result
+        ↔ All (λ event. (1 ≤ worker_of event) × (worker_of event ≤ workers)) events.now }
+{
+    events
+        .iter()
+        .all(|event| 1 <= event.worker() && event.worker() <= workers)
 }

@@ -9,8 +9,10 @@ mod event;
 mod held_look;
 pub mod laws;
 mod run;
+#[cfg(test)]
+mod tests;
 
 pub use answer::Answer;
 pub use core::Core;
-pub use event::Event;
+pub use event::{Event, are_of_workers};
 pub use run::{Run, run_events};
