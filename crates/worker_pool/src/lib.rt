@@ -1,0 +1,8 @@
+//! The blocks of a diagram, cancelled to zero by workers that take turns at them.
+#![tactic(auto)]
+
+mod gate;
+mod turns;
+
+pub use gate::{Free, Gate};
+pub use turns::work;
