@@ -1,1 +1,3 @@
 mod Working
+mod Zips
+mod RowLemmas

@@ -2,6 +2,7 @@
 #![tactic(auto)]
 
 mod gate;
+mod rows;
 mod turns;
 
 pub use gate::{Free, Gate};

@@ -35,7 +35,7 @@ pub fn work<R: Wait, F: PrimeField + Send, G: Gate>(
     ensures seen { IsPrefix seat.old.seen seat.new.seen }
     ensures mine { IsPrefix seat.old.mine seat.new.mine }
     ensures done { IfOk result (λ _. is_zero (complex_of F.P (
-      block_with lock.now.origin.0 lock.now.origin.1 seat.new.seen)) ≡ true) }
+        block_with lock.now.origin.0 lock.now.origin.1 seat.new.seen)) ≡ true) }
     ensures turns { IfOk result (λ turns. length seat.old.seen + turns ≤ length seat.new.seen) }
     ensures own { IfOk result (λ turns. length seat.new.mine ≤ length seat.old.mine + turns) }
 {
