@@ -75,3 +75,24 @@ module _ {A B : Type 0} (R : A → B → Type 0) where
   zip_ends [] x (y ∷ z ∷ ys) h = absurd h.1
   zip_ends (w ∷ xs) x [] h = absurd h
   zip_ends (w ∷ xs) x (y ∷ ys) h = let rest = zip_ends xs x ys h.1 in (y ∷ rest.0, rest.1, ap (λ zs. y ∷ zs) rest.2, (h.0, rest.3), rest.4)
+
+  zip_size : (xs : List A) (ys : List B) → AllZip R xs ys → length ys ≡ length xs
+  zip_size [] [] h = refl
+  zip_size [] (y ∷ ys) h = absurd h
+  zip_size (x ∷ xs) [] h = absurd h
+  zip_size (x ∷ xs) (y ∷ ys) h = ap suc (zip_size xs ys h.1)
+
+  -- at one place
+  pub zip_at : (xs : List A) (ys : List B) (k : ℕ) (d : A) (e : B) → AllZip R xs ys → k < length xs → R (get_or xs k d) (get_or ys k e)
+  zip_at [] ys k d e h lt = absurd (omega arith)
+  zip_at (x ∷ xs) [] k d e h lt = absurd h
+  zip_at (x ∷ xs) (y ∷ ys) zero d e h lt = h.0
+  zip_at (x ∷ xs) (y ∷ ys) (suc k) d e h lt = zip_at xs ys k d e h.1 (omega arith)
+
+  -- another item at one place
+  pub zip_set : (xs : List A) (ys : List B) (k : ℕ) (d : A) (y : B) → AllZip R xs ys → R (get_or xs k d) y → AllZip R xs (set ys k y)
+  zip_set [] [] k d y h r = tt
+  zip_set [] (z ∷ ys) k d y h r = absurd h
+  zip_set (x ∷ xs) [] k d y h r = absurd h
+  zip_set (x ∷ xs) (z ∷ ys) zero d y h r = (r, h.1)
+  zip_set (x ∷ xs) (z ∷ ys) (suc k) d y h r = (h.0, zip_set xs ys k d y h.1 r)

@@ -3,6 +3,7 @@
 
 mod gate;
 mod rows;
+mod sharing;
 mod turns;
 
 pub use gate::{Free, Gate};
