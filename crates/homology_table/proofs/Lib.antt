@@ -2,8 +2,8 @@ pub mod IntSums
 pub mod Alternating
 pub mod LabelCounts
 pub mod GeneratorCounts
-pub mod BlockDimensions
 pub mod TableSums
 pub mod RowLists
-pub mod LiveRows
+pub mod BlockRows
 pub mod Blocks
+pub mod AllBlocks

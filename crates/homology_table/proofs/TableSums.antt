@@ -20,7 +20,7 @@ use Rattle.kh_types.proofs.QuantumDegrees.{generators_at-degrees, homological_de
 use Rattle.jones_sum.proofs.StateSumLemmas.{state_sum-outside}
 use Rattle.prime_field.specs.Residues.{IsField}
 use Rattle.homology_table.proofs.Alternating.{alternating, alternating-add, alternating-alike, alternating-neighbours, signed_by-zero}
-use Rattle.homology_table.proofs.BlockDimensions.{rank-no_columns, rank-no_rows, ranks-generators}
+use Rattle.shared_block.proofs.BlockDimensions.{rank-no_columns, rank-no_rows, ranks-generators}
 use Rattle.homology_table.proofs.GeneratorCounts.{alternating-generators, int_eq-other}
 use Rattle.homology_table.proofs.IntSums.{int_sum-alike, int_sum-filter, int_sum-flat_map, int_sum-map, int_sum-outside, int_sum-within, int_sum-zeros, within_or_not}
 

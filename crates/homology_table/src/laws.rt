@@ -1,19 +1,32 @@
-//! What the homology table has: its rows stand block by block, its dimensions are those of the
-//! blocks, also once they are cancelled to zero, and its graded Euler characteristic is the state
-//! sum.
+//! What blocks and the homology table have: blocks stay those of their diagram whatever is
+//! cancelled in them, the rows of a table stand block by block, and its graded Euler characteristic
+//! is the state sum.
 
-ghost use Rattle.std.specs.Prelude.{◌≡◌, ℕ, ◌≤◌, ℤ, List, [], length, true, false, IsTrue};
-ghost use Rattle.std.specs.List.{flat_map};
+ghost use Rattle.std.specs.Prelude.{◌≡◌, ℕ, ◌≤◌, ℤ, List, [], length, false, IsTrue};
+ghost use Rattle.std.specs.List.{AllZip, flat_map};
 ghost use Rattle.kh_types.specs.Acceptance.{accepted};
 ghost use Rattle.kh_types.specs.Code.{Code};
-ghost use Rattle.kh_types.specs.Complex.{Complex, Pivot, alive_count, dimension_of, is_zero};
-ghost use Rattle.kh_types.specs.History.{IsLegal, block, replay};
 ghost use Rattle.kh_types.specs.StateSum.{euler, polynomial_text, state_sum};
-ghost use Rattle.kh_types.specs.Table.{dimension, rows_at, table};
+ghost use Rattle.kh_types.specs.Table.{rows_at, table};
 ghost use Rattle.kh_types.specs.declared.limits.TheConstants.{CROSSINGS};
 ghost use Rattle.prime_field.specs.Residues.{IsField};
 ghost use Rattle.cube_signs.specs.Blocks.{block_degrees, has_block};
-ghost use Rattle.homology_table.specs.Finished.{IsFinished, live_rows};
+ghost use Rattle.shared_block.specs.BlockHistories.{BlockHistory};
+ghost use Rattle.homology_table.specs.AllBlocks.{AreBlocksOf, IsLaterOf, opening_blocks};
+
+/// The blocks that a diagram has before any cancellation are its blocks, and they are after any.
+pub fn blocks_stay_those_of_their_diagram()
+    ensures opening { (code : Code) → AreBlocksOf code (opening_blocks code) }
+    ensures later { (code : Code) (before after : List BlockHistory)
+        → AllZip IsLaterOf before after → AreBlocksOf code before → AreBlocksOf code after }
+{}
+
+/// Blocks that are left as they are, or that are cancelled in twice, are later ones.
+pub fn later_blocks_follow_one_another()
+    ensures same { (blocks : List BlockHistory) → AllZip IsLaterOf blocks blocks }
+    ensures twice { (first second third : List BlockHistory) → AllZip IsLaterOf first second
+        → AllZip IsLaterOf second third → AllZip IsLaterOf first third }
+{}
 
 /// The rows of a table are those of its blocks, one after another; other quantum degrees have none.
 pub fn tables_are_their_blocks()
@@ -21,23 +34,6 @@ pub fn tables_are_their_blocks()
         → (table p code).rows ≡ flat_map (rows_at p code) (block_degrees code) }
     ensures none { (p : ℕ) (code : Code) (j : ℤ) → has_block code j ≡ false
         → rows_at p code j ≡ [] }
-{}
-
-/// A block has the homology dimensions of its code at every degree, also outside of its own.
-pub fn blocks_have_the_dimensions()
-    ensures { (p : ℕ) (code : Code) (j i : ℤ)
-        → dimension_of p (block p code j) i ≡ dimension p code i j }
-{}
-
-/// A block that legal cancellations leave with no entry but zeros has as many places alive as its
-/// code has dimensions, and so they give the rows of its quantum degree.
-pub fn finished_blocks_have_the_dimensions()
-    ensures rows { (p : ℕ) (code : Code) (j : ℤ) (complex : Complex) → IsField p
-        → IsFinished p code j complex → live_rows complex j ≡ rows_at p code j }
-    ensures dimensions { (p : ℕ) (code : Code) (j i : ℤ) (history : List Pivot) → IsField p
-        → IsTrue (accepted code) → IsLegal p (block p code j) history
-        → is_zero (replay p (block p code j) history) ≡ true
-        → alive_count (replay p (block p code j) history) i ≡ dimension p code i j }
 {}
 
 /// The graded Euler characteristic of a table is the state sum: the same coefficient at every

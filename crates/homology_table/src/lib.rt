@@ -1,11 +1,12 @@
-//! The homology table of a diagram, by cancelling its blocks one after another.
+//! The homology table of a diagram, from its blocks once they are cancelled to zero.
 #![tactic(auto)]
 
+mod all_blocks;
 pub mod laws;
 mod rows;
 mod table;
 #[cfg(test)]
 mod tests;
 
-pub use rows::push_rows;
-pub use table::homology_table;
+pub use all_blocks::{blocks_of, finish_all};
+pub use table::{homology_table, table_of};

@@ -1,5 +1,8 @@
 //! The tables of known links, and that of the plain cube.
 
+mod all_blocks;
+mod same_blocks;
+
 use crate::homology_table;
 use arrayvec::ArrayVec;
 use cube_signs::check_size;

@@ -50,7 +50,6 @@ impl Cube {
     }
 
     /// The rank of the differential from degree i at j.
-    #[tactic(auto, using(crate::proofs::TableLemmas::matrices))]
     fn differential_rank<F: PrimeField>(
         &self,
         alloc: Global,
@@ -61,10 +60,26 @@ impl Cube {
         ensures { IfOk result (λ found.
             found ≡ rank F.P (differential F.P self.now.diagram i j)) }
     {
+        let differential = self.differential::<F>(alloc, i, j)?;
+        Ok(rank(alloc, &differential)? as usize)
+    }
+
+    /// The differential from degree i at j: a row for each generator of degree i + 1, with an entry for each of degree i.
+    #[tactic(auto, using(crate::proofs::TableLemmas::matrices))]
+    pub fn differential<F: PrimeField>(
+        &self,
+        alloc: Global,
+        i: i16,
+        j: i16,
+    ) -> Result<Dense<F>, NoMemory>
+        requires { i ≤ℤ pos EXPONENT }
+        ensures rows { IfOk result (λ made. made.rows ≡ differential F.P self.now.diagram i j) }
+        ensures columns { IfOk result (λ made.
+            made.columns ≡ length (generators_at self.now.diagram i j)) }
+    {
         let tails = self.generators_at(alloc, i, j)?;
         let heads = self.generators_at(alloc, i + 1, j)?;
-        let differential: Dense<F> = self.matrix(alloc, &tails, &heads)?;
-        Ok(rank(alloc, &differential)? as usize)
+        self.matrix(alloc, &tails, &heads)
     }
 
     /// The matrix with a row for each generator of one list, `heads`, and in it the coefficient from each generator of another.
@@ -107,9 +122,9 @@ impl Cube {
         }
     }
 
-    /// The generators of the degrees i and j.
+    /// The generators of the degrees i and j, by state, then by label.
     #[tactic(auto, using(crate::proofs::TableLemmas::placing))]
-    fn generators_at(&self, alloc: Global, i: i16, j: i16) -> Result<Vec<Placed>, NoMemory>
+    pub fn generators_at(&self, alloc: Global, i: i16, j: i16) -> Result<Vec<Placed>, NoMemory>
         ensures { let code = self.now.diagram in
             IfOk result (λ made. made.items ≡ map (placed_in code) (generators_at code i j)) }
     {

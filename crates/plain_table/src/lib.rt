@@ -11,4 +11,6 @@ mod resolved;
 mod table;
 mod text;
 
+pub use cube::Cube;
+pub use generators::{Generator, Placed};
 pub use text::table_text_of;

@@ -1,0 +1,63 @@
+#!/usr/bin/env python3
+"""Measures `kh homology` with several workers against one, on the ten largest closed braids.
+
+    bench/workers.py [RUNS] [--workers N] [--model OTHER]
+
+Runs with N workers (4 at first) and with one are alternated. For each diagram it prints the least wall and user times of both, how many
+times faster N workers are, and the ratio of user times; then a trefoil with 64 workers against one. OTHER is a program that takes the same turns
+(`--braid "STRANDS LETTERS.."`) and says how long one took in its word after `us/turn`; with it the turns of four workers are compared. On
+idle cores alone the wall times tell something; the load is printed. Build the program first, by `./kh`. The gate does not run it.
+"""
+import argparse
+import os
+import subprocess
+
+from braids import braids, planar_diagram
+from homology import PROGRAM, TREFOIL, run
+
+LARGEST = 10
+
+
+def least(words, text, runs):
+    """The least user and wall times of some runs, the most memory, and what was written."""
+    seen = [run(words, text) for _ in range(runs)]
+    return min(r[1] for r in seen), min(r[2] for r in seen), max(r[3] for r in seen), seen[0][0]
+
+
+def model_turn(program, strands, letters):
+    """How long a turn of the other program takes, in microseconds, and how many there were."""
+    braid = " ".join(map(str, [strands, *letters]))
+    words = subprocess.run([program, "--braid", braid], capture_output=True, text=True, check=True).stdout.split()
+    return float(words[words.index("us/turn") + 1]), int(words[words.index("turns") + 1])
+
+
+def main(arguments):
+    print("load", os.getloadavg())
+    chosen = [b for b in braids() if len(b[2]) >= 13]
+    timed = []
+    for name, strands, letters in chosen:
+        text = planar_diagram(strands, letters)
+        timed.append((run([PROGRAM, "homology"], text)[1], name, strands, letters, text))
+    many = ["--workers", str(arguments.workers)]
+    for _, name, strands, letters, text in sorted(timed, reverse=True)[:LARGEST]:
+        user_one, wall_one, memory_one, wrote = least([PROGRAM, "homology"], text, arguments.runs)
+        user, wall, memory, wrote_too = least([PROGRAM, "homology", *many], text, arguments.runs)
+        line = (
+            f"{name}: 1 worker {wall_one:.2f} s wall {user_one:.2f} s user {memory_one:.0f} MB, {arguments.workers} workers"
+            f" {wall:.2f} s wall {user:.2f} s user {memory:.0f} MB, {wall_one / wall:.2f} times faster, user ratio {user / user_one:.2f},"
+            f" {'same' if wrote == wrote_too else 'DIFFERENT'}"
+        )
+        if arguments.model:
+            micros, turns = model_turn(arguments.model, strands, letters)
+            line += f", other {micros:.2f} us a turn for {turns} turns"
+        print(line, flush=True)
+    walls = [min(run([PROGRAM, "homology", "--workers", w], TREFOIL)[2] for _ in range(100)) for w in ("64", "1")]
+    print(f"trefoil: 64 workers {walls[0] * 1000:.2f} ms, 1 worker {walls[1] * 1000:.2f} ms, ratio {walls[0] / walls[1]:.2f}")
+
+
+if __name__ == "__main__":
+    parser = argparse.ArgumentParser(description=__doc__, formatter_class=argparse.RawDescriptionHelpFormatter)
+    parser.add_argument("runs", nargs="?", type=int, default=3)
+    parser.add_argument("--workers", type=int, default=4)
+    parser.add_argument("--model")
+    main(parser.parse_args())
