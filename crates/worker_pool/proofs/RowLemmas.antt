@@ -1,14 +1,14 @@
 -- Rows of seats that gain or lose one each.
-use Rattle.std.proofs.Common.{◌≡◌, ℕ, ◌+◌, ◌<◌, List, [], ◌∷◌, ◌++◌, length, take, drop, get_or, All, refl, sym, ap, subst, arith, length-append}
+use Rattle.std.proofs.Common.{◌≡◌, ℕ, ◌+◌, ◌<◌, List, [], ◌∷◌, ◌++◌, length, take, drop, get_or, All, refl, sym, ap, subst, arith, length-append, ◌∙◌}
 use Rattle.std.specs.Global.{Vec}
 use Rattle.std.specs.List.{AllZip}
 use Rattle.std.proofs.lemmas.List.Elements.{All-push, AllZip-get_or, length_all_zip}
 use Rattle.std.proofs.lemmas.List.{drop_all}
-use Rattle.std.proofs.Math.ListN.{get_or-append}
+use Rattle.std.proofs.Math.ListN.{set, get_or-append}
 use Rattle.std.proofs.Math.Seq.{get_or-append_seam, take-append_seam}
 use Rattle.version_lock.specs.Calls.{LockFacts, SeatFacts, IsSeatOf}
 use Rattle.worker_pool.specs.Rows.{AreSeated, EndsAt, Gains, IsOneSeatOf, IsRowOf, Loses}
-use Rattle.worker_pool.proofs.Zips.{zip_push, zip_last, zip_ends}
+use Rattle.worker_pool.proofs.Zips.{zip_at, zip_set, zip_push, zip_last, zip_ends}
 
 -- what a slice of all items wrote
 pub written : {A : Type 0} (n : ℕ) (xs ys : List A) → n ≡ length ys → length xs ≡ length ys → take n (xs ++ drop (length xs) ys) ≡ xs
@@ -22,6 +22,19 @@ seats_more : {O : Type 0} (n : ℕ) (locks : List (LockFacts O)) (lock : LockFac
 seats_more n locks lock h e = All-push (λ l. l.seats ≡ n) locks lock h e
 
 module _ {O E : Type 0} where
+  -- the seat of a row at one place
+  pub seat_there : (locks : List (LockFacts O)) (row : List (SeatFacts O E)) (k : ℕ) (lock : LockFacts O) (seat : SeatFacts O E)
+      → IsRowOf locks row → k < length locks → lock ≡ get_or locks k lock → IsOneSeatOf lock (get_or row k seat)
+  seat_there locks row k lock seat h lt e = subst (λ l. IsOneSeatOf l (get_or row k seat)) (sym e) (zip_at IsOneSeatOf locks row k lock seat h lt)
+
+  -- a row with the seat at one place replaced by one of the same lock with the same share
+  pub row_set : (locks : List (LockFacts O)) (row : List (SeatFacts O E)) (k : ℕ) (lock : LockFacts O) (seat after : SeatFacts O E)
+      → IsRowOf locks row → k < length locks → lock ≡ get_or locks k lock → IsSeatOf lock after → after.share ≡ (get_or row k seat).share
+      → IsRowOf locks (set row k after)
+  row_set locks row k lock seat after h lt e belongs share =
+      let one = seat_there locks row k lock seat h lt e in
+      zip_set IsOneSeatOf locks row k lock after h (subst (λ l. IsOneSeatOf l after) e record { belongs = belongs; share = share ∙ one.share })
+
   gained : (locks : List (LockFacts O)) (lock : LockFacts O) (xs ys : List (Vec (SeatFacts O E))) → AllZip (Gains lock) xs ys
       → All (λ row. IsRowOf locks row.items) xs → All (λ row. IsRowOf (locks ++ lock ∷ []) row.items) ys
   gained locks lock xs ys z h k d lt =

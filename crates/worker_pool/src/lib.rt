@@ -1,6 +1,7 @@
 //! The blocks of a diagram, cancelled to zero by workers that take turns at them.
 #![tactic(auto)]
 
+mod building;
 mod gate;
 mod rows;
 mod sharing;

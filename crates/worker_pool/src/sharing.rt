@@ -76,7 +76,7 @@ fn work_row<R: Wait, F: PrimeField + Send, G: Gate>(
 }
 
 /// The next place in the order that nobody has begun.
-fn next_place(order: &[usize], begun: &AtomicU64) -> Option<usize> {
+pub(crate) fn next_place(order: &[usize], begun: &AtomicU64) -> Option<usize> {
     let next = begun.fetch_add(1, Ordering::SeqCst);
     order.get(usize::try_from(next).ok()?).copied()
 }
