@@ -1,3 +1,4 @@
 mod Working
 mod Zips
 mod RowLemmas
+mod SlotLemmas

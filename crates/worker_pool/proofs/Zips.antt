@@ -76,7 +76,7 @@ module _ {A B : Type 0} (R : A → B → Type 0) where
   zip_ends (w ∷ xs) x [] h = absurd h
   zip_ends (w ∷ xs) x (y ∷ ys) h = let rest = zip_ends xs x ys h.1 in (y ∷ rest.0, rest.1, ap (λ zs. y ∷ zs) rest.2, (h.0, rest.3), rest.4)
 
-  zip_size : (xs : List A) (ys : List B) → AllZip R xs ys → length ys ≡ length xs
+  pub zip_size : (xs : List A) (ys : List B) → AllZip R xs ys → length ys ≡ length xs
   zip_size [] [] h = refl
   zip_size [] (y ∷ ys) h = absurd h
   zip_size (x ∷ xs) [] h = absurd h

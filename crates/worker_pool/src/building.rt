@@ -1,8 +1,8 @@
 //! How workers build the blocks of a diagram: each takes the next quantum degree that nobody has
 //! begun, the middle ones first, since their blocks are the largest.
 
-ghost use Rattle.std.specs.Prelude.{◌≡◌, ◌<◌, ◌≤◌, [], All, IfOk, None, length, map, slice_index_or};
-ghost use Rattle.std.specs.Prelude.{slice_set};
+ghost use Rattle.std.specs.Prelude.{◌≡◌, ◌<◌, ◌≤◌, [], All, IfOk, None, length, map, pos};
+ghost use Rattle.std.specs.Prelude.{slice_index_or, slice_set};
 ghost use Rattle.circle_smoothing.specs.GeneratorCounts.{generator_count};
 ghost use Rattle.circle_smoothing.specs.declared.limits.TheConstants.{GENERATORS};
 ghost use Rattle.cube_signs.specs.Blocks.{block_degrees};
@@ -35,10 +35,26 @@ pub(crate) fn built_blocks<R: Threads + Sync, F: PrimeField + Send + Sync>(
 {
     let cube = Cube::new(alloc, diagram)?;
     let degrees = cube.block_degrees(alloc)?;
+    blocks_at(rt, alloc, &cube, &degrees, threads)
+}
+
+/// The blocks at all degrees.
+fn blocks_at<R: Threads + Sync, F: PrimeField + Send + Sync>(
+    rt: &R,
+    alloc: Global,
+    cube: &Cube,
+    degrees: &[i16],
+    threads: usize,
+) -> Result<Vec<SharedBlock<F>>, NoMemory>
+    requires { degrees.now ≡ block_degrees cube.now }
+    ensures { IfOk result (λ blocks.
+        blocks.items ≡ map (λ j. block_with cube.now j []) degrees.now) }
+{
     let order = middle_first(alloc, degrees.len())?;
-    let mut rows = empty_rows(alloc, threads.min(degrees.len()), degrees.len())?;
-    build_rows(rt, alloc, &cube, &degrees, &order, &mut rows);
-    picked(alloc, &cube, &degrees, &mut rows)
+    let mut made = empty_rows(alloc, threads.min(degrees.len()), degrees.len())?;
+    let rows = made.as_mut_slice();
+    build_rows(rt, alloc, cube, degrees, &order, rows);
+    picked(alloc, cube, degrees, rows)
 }
 
 /// The places of a list of so many, those in the middle first.
@@ -151,8 +167,23 @@ fn build_at<F: PrimeField>(
     ensures { AreSlotsOf cube.now degrees.now slots.new }
 {
     if place < degrees.len() && place < slots.len() {
-        slots[place] = SharedBlock::of_cube(alloc, cube, degrees[place]).ok();
+        slots[place] = build_one(alloc, cube, degrees, place).ok();
     }
+}
+
+/// The block at one place.
+fn build_one<F: PrimeField>(
+    alloc: Global,
+    cube: &Cube,
+    degrees: &[i16],
+    place: usize,
+) -> Result<SharedBlock<F>, NoMemory>
+    requires degrees { degrees.now ≡ block_degrees cube.now }
+    requires place { place < length degrees.now }
+    ensures { IfOk result (λ held.
+        held ≡ block_with cube.now (slice_index_or degrees.now place (pos 0)) []) }
+{
+    SharedBlock::of_cube(alloc, cube, degrees[place])
 }
 
 /// The blocks out of the slots. What is missing is built.
@@ -187,14 +218,14 @@ fn block_at<F: PrimeField>(
     requires rows { All (λ row. AreSlotsOf cube.now degrees.now row.items) rows.old }
     ensures rows { All (λ row. AreSlotsOf cube.now degrees.now row.items) rows.new }
     ensures block { IfOk result (λ held.
-        held ≡ block_with cube.now (slice_index_or degrees.now place held.degree) []) }
+        held ≡ block_with cube.now (slice_index_or degrees.now place (pos 0)) []) }
 {
     'rows: for row in rows.iter_mut() {
         if let Some(held) = take_slot(row, place) {
             return Ok(held);
         }
     }
-    SharedBlock::of_cube(alloc, cube, degrees[place])
+    build_one(alloc, cube, degrees, place)
 }
 
 /// What is in a slot, which is left empty.
