@@ -2,10 +2,14 @@
 #![tactic(auto)]
 
 mod building;
+mod cancelling;
 mod gate;
+mod outcome;
 mod rows;
 mod sharing;
 mod turns;
 
+pub use cancelling::{cancel_all, cancel_alone};
 pub use gate::{Free, Gate};
+pub use outcome::{Cancelled, PoolStop};
 pub use turns::work;

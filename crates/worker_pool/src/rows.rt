@@ -30,6 +30,7 @@ pub(crate) fn opened<B: Held>(
         AreSeated pool.locks.items pool.kept.items pool.rows.items) }
     ensures origins { IfOk result (λ pool.
         map (λ lock. lock.origin) pool.locks.items ≡ reverse (map B.origin values.items)) }
+    ensures rows { IfOk result (λ pool. length pool.rows.items ≡ workers) }
 {
     let mut pool = Pool {
         locks: Vec::with_capacity(alloc, values.len())?,

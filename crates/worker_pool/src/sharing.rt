@@ -25,13 +25,15 @@ pub(crate) fn work_rows<R: Threads + Wait + Sync, F: PrimeField + Send + Sync, G
     rows: &mut [Vec<WorkSeat<SharedBlock<F>>>],
     gate: &G,
 )
-    requires some { 0 < length rows.old }
     requires few { length rows.old < 2 ^ 32 }
     requires rows { All (λ row. IsRowOf locks.now row.items) rows.old }
     ensures rows { All (λ row. IsRowOf locks.now row.items) rows.new }
 {
-    let begun = AtomicU64::new(0);
     let threads = rows.len();
+    if threads == 0 {
+        return;
+    }
+    let begun = AtomicU64::new(0);
     thread::for_each_mut(
         rt,
         rows,
