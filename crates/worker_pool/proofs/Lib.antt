@@ -2,3 +2,4 @@ mod Working
 mod Zips
 mod RowLemmas
 mod SlotLemmas
+mod BlockLemmas

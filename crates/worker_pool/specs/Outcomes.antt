@@ -1,5 +1,7 @@
 -- What the cancellation of all blocks of a diagram comes to (this project's rule).
-use Rattle.std.specs.Prelude.{◌≡◌, ℕ, Result, Ok, Err}
+use Rattle.std.specs.Prelude.{◌≡◌, ℕ, ℤ, Result, Ok, Err}
+use Rattle.kh_types.specs.Code.{Code}
+use Rattle.shared_block.specs.BlockHistories.{BlockHistory}
 use Rattle.worker_pool.specs.declared.outcome.PoolStop.{PoolStop}
 use Rattle.worker_pool.specs.declared.outcome.PoolStop.TheVariants.{SizeLimit, NoMemory}
 
@@ -22,3 +24,7 @@ abbrev pub TellsCount : {A : Type 0} → ℕ → Result A PoolStop → Type 0
 TellsCount count (Ok made) = Unit {0}
 TellsCount count (Err (SizeLimit generators)) = generators ≡ count
 TellsCount count (Err NoMemory) = Unit {0}
+
+-- which block it is: that of this diagram at this quantum degree
+abbrev pub origin_of : BlockHistory → Code × ℤ
+origin_of held = (held.diagram, held.degree)

@@ -7,7 +7,7 @@ ghost use Rattle.circle_smoothing.specs.declared.limits.TheConstants.{GENERATORS
 ghost use Rattle.kh_types.specs.Table.{table};
 ghost use Rattle.homology_table.specs.AllBlocks.{AreBlocksOf, IsFinished, IsLaterOf};
 ghost use Rattle.shared_block.specs.declared.limits.TheConstants.{WORKERS};
-ghost use Rattle.worker_pool.specs.Outcomes.{IsSizeLimit, TellsCount};
+ghost use Rattle.worker_pool.specs.Outcomes.{IsSizeLimit, TellsCount, origin_of};
 
 use crate::building::built_blocks;
 use crate::gate::Gate;
@@ -88,8 +88,7 @@ fn shared<R: Threads + Wait + Sync, F: PrimeField + Send + Sync, G: Gate + Sync>
     gate: &G,
 ) -> Result<Vec<SharedBlock<F>>, NoMemory>
     requires { workers ≤ WORKERS }
-    ensures { IfOk result (λ after. map (λ held. (held.diagram, held.degree)) after.items
-        ≡ map (λ held. (held.diagram, held.degree)) blocks.items) }
+    ensures { IfOk result (λ after. map origin_of after.items ≡ map origin_of blocks.items) }
 {
     let order = largest_first(alloc, &blocks)?;
     let count = workers.min(blocks.len());
