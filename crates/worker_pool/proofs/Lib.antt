@@ -1,0 +1,5 @@
+mod Working
+mod Zips
+mod RowLemmas
+mod SlotLemmas
+mod BlockLemmas

@@ -1,0 +1,8 @@
+use Rattle.std.proofs.Common.{◌≡◌, All, take, map, []}
+use Rattle.shared_block.specs.BlockHistories.{block_with}
+use Rattle.worker_pool.specs.Slots.{AreSlotsOf}
+use Rattle.homology_table.proofs.AllBlocks.{opened}
+use Rattle.worker_pool.proofs.building.picked.Given as goal
+
+abbrev pub invariant-places : goal.invariant-places
+invariant-places g l = All (λ row. AreSlotsOf l.cube l.degrees row.items) l.rows × (l.blocks.items ≡ opened l.cube (take l.place l.degrees))

@@ -1,0 +1,5 @@
+use Rattle.worker_pool.proofs.Working.{HasWorked}
+use Rattle.worker_pool.proofs.turns.work.Given as goal
+
+abbrev pub invariant-turns : goal.invariant-turns
+invariant-turns g l = HasWorked l.lock l.initial.seat l.seat l.turns

@@ -1,0 +1,238 @@
+//! How workers build the blocks of a diagram: each takes the next quantum degree that nobody has
+//! begun, the middle ones first, since their blocks are the largest.
+
+ghost use Rattle.std.specs.Prelude.{◌≡◌, ◌<◌, ◌≤◌, [], All, IfOk, None, length, map, pos};
+ghost use Rattle.std.specs.Prelude.{slice_index_or, slice_set};
+ghost use Rattle.circle_smoothing.specs.GeneratorCounts.{generator_count};
+ghost use Rattle.circle_smoothing.specs.declared.limits.TheConstants.{GENERATORS};
+ghost use Rattle.cube_signs.specs.Blocks.{block_degrees};
+ghost use Rattle.homology_table.specs.AllBlocks.{opening_blocks};
+ghost use Rattle.shared_block.specs.BlockHistories.{block_with};
+ghost use Rattle.worker_pool.specs.Slots.{AreEmpty, AreSlotsOf};
+
+use crate::sharing::next_place;
+use cube_signs::Cube;
+use kh_types::{Diagram, NoMemory};
+use prime_field::PrimeField;
+use shared_block::SharedBlock;
+use std::alloc::Global;
+use std::sync::atomic::AtomicU64;
+use std::thread;
+use std::thread::Threads;
+
+/// A slot for each block that a worker may build.
+type Slots<F> = Vec<Option<SharedBlock<F>>>;
+
+/// The blocks of a diagram before any cancellation, built by at most so many threads.
+pub(crate) fn built_blocks<R: Threads + Sync, F: PrimeField + Send + Sync>(
+    rt: &R,
+    alloc: Global,
+    diagram: &Diagram,
+    threads: usize,
+) -> Result<Vec<SharedBlock<F>>, NoMemory>
+    requires { generator_count diagram.now ≤ GENERATORS }
+    ensures { IfOk result (λ blocks. blocks.items ≡ opening_blocks diagram.now) }
+{
+    let cube = Cube::new(alloc, diagram)?;
+    let degrees = cube.block_degrees(alloc)?;
+    blocks_at(rt, alloc, &cube, &degrees, threads)
+}
+
+/// The blocks at all degrees.
+fn blocks_at<R: Threads + Sync, F: PrimeField + Send + Sync>(
+    rt: &R,
+    alloc: Global,
+    cube: &Cube,
+    degrees: &[i16],
+    threads: usize,
+) -> Result<Vec<SharedBlock<F>>, NoMemory>
+    requires { degrees.now ≡ block_degrees cube.now }
+    ensures { IfOk result (λ blocks.
+        blocks.items ≡ map (λ j. block_with cube.now j []) degrees.now) }
+{
+    let order = middle_first(alloc, degrees.len())?;
+    let mut made = empty_rows(alloc, threads.min(degrees.len()), degrees.len())?;
+    let rows = made.as_mut_slice();
+    build_rows(rt, alloc, cube, degrees, &order, rows);
+    picked(alloc, cube, degrees, rows)
+}
+
+/// The places of a list of so many, those in the middle first.
+fn middle_first(alloc: Global, count: usize) -> Result<Vec<usize>, NoMemory> {
+    let mut order = Vec::with_capacity(alloc, count)?;
+    'places: for step in 0..count {
+        order.push(from_middle(count, step))?;
+    }
+    Ok(order)
+}
+
+/// The place that is so many steps from the middle of a list, first to the right.
+fn from_middle(count: usize, step: usize) -> usize
+    requires { step < count }
+{
+    if step % 2 == 0 {
+        count / 2 + step / 2
+    } else {
+        (count / 2).saturating_sub(step / 2 + 1)
+    }
+}
+
+/// So many rows with so many slots, all of them empty.
+fn empty_rows<F: PrimeField>(
+    alloc: Global,
+    count: usize,
+    slots: usize,
+) -> Result<Vec<Slots<F>>, NoMemory>
+    ensures { IfOk result (λ rows. All (λ row. AreEmpty slots row.items) rows.items) }
+{
+    let mut rows = Vec::with_capacity(alloc, count)?;
+    'rows: for _ in 0..count {
+        rows.push(empty_row(alloc, slots)?)?;
+    }
+    Ok(rows)
+}
+
+/// So many empty slots.
+fn empty_row<F: PrimeField>(alloc: Global, slots: usize) -> Result<Slots<F>, NoMemory>
+    ensures { IfOk result (λ row. AreEmpty slots row.items) }
+{
+    let mut row = Vec::with_capacity(alloc, slots)?;
+    'slots: for _ in 0..slots {
+        row.push(None)?;
+    }
+    Ok(row)
+}
+
+/// Has the blocks built, by a thread for each row.
+fn build_rows<R: Threads + Sync, F: PrimeField + Send + Sync>(
+    rt: &R,
+    alloc: Global,
+    cube: &Cube,
+    degrees: &[i16],
+    order: &[usize],
+    rows: &mut [Slots<F>],
+)
+    requires degrees { degrees.now ≡ block_degrees cube.now }
+    requires rows { All (λ row. AreSlotsOf cube.now degrees.now row.items) rows.old }
+    ensures { All (λ row. AreSlotsOf cube.now degrees.now row.items) rows.new }
+{
+    let threads = rows.len();
+    if threads == 0 {
+        return;
+    }
+    let begun = AtomicU64::new(0);
+    thread::for_each_mut(
+        rt,
+        rows,
+        threads,
+        &|_: usize, row: &mut Slots<F>|
+            requires { (degrees.now ≡ block_degrees cube.now) ×
+                AreSlotsOf cube.now degrees.now row.now.items }
+            ensures { AreSlotsOf cube.entry.now degrees.entry.now row.exit.now.items }
+        { build_row(alloc, cube, degrees, order, &begun, row.as_mut_slice()) },
+    );
+}
+
+/// What one thread builds.
+fn build_row<F: PrimeField>(
+    alloc: Global,
+    cube: &Cube,
+    degrees: &[i16],
+    order: &[usize],
+    begun: &AtomicU64,
+    slots: &mut [Option<SharedBlock<F>>],
+)
+    requires degrees { degrees.now ≡ block_degrees cube.now }
+    requires slots { AreSlotsOf cube.now degrees.now slots.old }
+    ensures { AreSlotsOf cube.now degrees.now slots.new }
+{
+    'begun: for _ in 0..order.len() {
+        let Some(place) = next_place(order, begun) else {
+            return;
+        };
+        build_at(alloc, cube, degrees, slots, place);
+    }
+}
+
+/// Builds one block. Where memory runs out its slot stays empty.
+fn build_at<F: PrimeField>(
+    alloc: Global,
+    cube: &Cube,
+    degrees: &[i16],
+    slots: &mut [Option<SharedBlock<F>>],
+    place: usize,
+)
+    requires degrees { degrees.now ≡ block_degrees cube.now }
+    requires slots { AreSlotsOf cube.now degrees.now slots.old }
+    ensures { AreSlotsOf cube.now degrees.now slots.new }
+{
+    if place < degrees.len() && place < slots.len() {
+        slots[place] = build_one(alloc, cube, degrees, place).ok();
+    }
+}
+
+/// The block at one place.
+fn build_one<F: PrimeField>(
+    alloc: Global,
+    cube: &Cube,
+    degrees: &[i16],
+    place: usize,
+) -> Result<SharedBlock<F>, NoMemory>
+    requires degrees { degrees.now ≡ block_degrees cube.now }
+    requires place { place < length degrees.now }
+    ensures { IfOk result (λ held.
+        held ≡ block_with cube.now (slice_index_or degrees.now place (pos 0)) []) }
+{
+    SharedBlock::of_cube(alloc, cube, degrees[place])
+}
+
+/// The blocks out of the slots. What is missing is built.
+fn picked<F: PrimeField>(
+    alloc: Global,
+    cube: &Cube,
+    degrees: &[i16],
+    rows: &mut [Slots<F>],
+) -> Result<Vec<SharedBlock<F>>, NoMemory>
+    requires degrees { degrees.now ≡ block_degrees cube.now }
+    requires rows { All (λ row. AreSlotsOf cube.now degrees.now row.items) rows.old }
+    ensures { IfOk result (λ blocks.
+        blocks.items ≡ map (λ j. block_with cube.now j []) degrees.now) }
+{
+    let mut blocks = Vec::with_capacity(alloc, degrees.len())?;
+    'places: for place in 0..degrees.len() {
+        blocks.push(block_at(alloc, cube, degrees, rows, place)?)?;
+    }
+    Ok(blocks)
+}
+
+/// The block at one place, out of a slot or built.
+fn block_at<F: PrimeField>(
+    alloc: Global,
+    cube: &Cube,
+    degrees: &[i16],
+    rows: &mut [Slots<F>],
+    place: usize,
+) -> Result<SharedBlock<F>, NoMemory>
+    requires degrees { degrees.now ≡ block_degrees cube.now }
+    requires place { place < length degrees.now }
+    requires rows { All (λ row. AreSlotsOf cube.now degrees.now row.items) rows.old }
+    ensures rows { All (λ row. AreSlotsOf cube.now degrees.now row.items) rows.new }
+    ensures block { IfOk result (λ held.
+        held ≡ block_with cube.now (slice_index_or degrees.now place (pos 0)) []) }
+{
+    'rows: for row in rows.iter_mut() {
+        if let Some(held) = take_slot(row, place) {
+            return Ok(held);
+        }
+    }
+    build_one(alloc, cube, degrees, place)
+}
+
+/// What is in a slot, which is left empty.
+fn take_slot<F: PrimeField>(slots: &mut Slots<F>, place: usize) -> Option<SharedBlock<F>>
+    requires { place < length slots.old.items }
+    ensures taken { result ≡ slice_index_or slots.old.items place result }
+    ensures empty { slots.new.items ≡ slice_set slots.old.items place None }
+{
+    slots[place].take()
+}

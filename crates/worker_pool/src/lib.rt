@@ -1,0 +1,19 @@
+//! The blocks of a diagram, cancelled to zero by workers that take turns at them.
+#![tactic(auto)]
+
+mod building;
+mod cancelling;
+mod gate;
+mod one_seat;
+mod outcome;
+mod rows;
+mod sharing;
+#[cfg(test)]
+mod tests;
+mod turns;
+
+pub use cancelling::{cancel_all, cancel_alone};
+pub use gate::{Free, Gate};
+pub use one_seat::cancel_by_one_seat;
+pub use outcome::{Cancelled, PoolStop};
+pub use turns::work;

@@ -1,0 +1,45 @@
+//! What the cancellation of all blocks of a diagram comes to.
+
+ghost use Rattle.std.specs.Prelude.{◌≡◌};
+ghost use Rattle.worker_pool.specs.Outcomes.{no_memory, size_limit};
+
+use cube_signs::SizeLimit;
+use jones_sum::Table;
+use kh_types::NoMemory;
+use prime_field::PrimeField;
+use shared_block::SharedBlock;
+
+/// The homology table of a diagram, and the blocks that it was read from: one for each quantum
+/// degree that has a generator, ascending, each cancelled to zero by the history that it has.
+#[derive(Drop)]
+pub struct Cancelled<F: PrimeField> {
+    pub table: Table,
+    pub blocks: Vec<SharedBlock<F>>,
+}
+
+/// Why blocks were not cancelled.
+#[derive(Clone, Copy, Debug, PartialEq, Eq)]
+pub enum PoolStop {
+    /// There are `generators`, which are more than `GENERATORS`.
+    SizeLimit { generators: u64 },
+    /// Out of memory, whatever the diagram is.
+    NoMemory,
+}
+
+impl From<NoMemory> for PoolStop {
+    ghost from_gives = { λ _ stop. stop ≡ no_memory };
+
+    fn from(_: NoMemory) -> Self {
+        PoolStop::NoMemory
+    }
+}
+
+impl From<SizeLimit> for PoolStop {
+    ghost from_gives = { λ limit stop. stop ≡ size_limit limit.generators };
+
+    fn from(limit: SizeLimit) -> Self {
+        PoolStop::SizeLimit {
+            generators: limit.generators,
+        }
+    }
+}

@@ -1,0 +1,103 @@
+//! How workers share many blocks: each works at the largest block that nobody has begun, and where
+//! all are begun it helps at those where work is left.
+
+ghost use Rattle.std.specs.Prelude.{◌+◌, ◌<◌, ◌^◌, All, length};
+ghost use Rattle.worker_pool.specs.Rows.{IsRowOf};
+
+use crate::gate::Gate;
+use crate::turns::work;
+use prime_field::PrimeField;
+use shared_block::SharedBlock;
+use std::alloc::Global;
+use std::sync::Wait;
+use std::sync::atomic::{AtomicU64, Ordering};
+use std::thread;
+use std::thread::Threads;
+use version_lock::{Versioned, WorkSeat};
+
+/// Has each row worked at by a thread of its own. The places of the locks are given in the order in
+/// which they are to be begun.
+pub(crate) fn work_rows<R: Threads + Wait + Sync, F: PrimeField + Send + Sync, G: Gate + Sync>(
+    rt: &R,
+    alloc: Global,
+    locks: &[Versioned<SharedBlock<F>>],
+    order: &[usize],
+    rows: &mut [Vec<WorkSeat<SharedBlock<F>>>],
+    gate: &G,
+)
+    requires few { length rows.old < 2 ^ 32 }
+    requires rows { All (λ row. IsRowOf locks.now row.items) rows.old }
+    ensures rows { All (λ row. IsRowOf locks.now row.items) rows.new }
+{
+    let threads = rows.len();
+    if threads == 0 {
+        return;
+    }
+    let begun = AtomicU64::new(0);
+    thread::for_each_mut(
+        rt,
+        rows,
+        threads,
+        &|place: usize, row: &mut Vec<WorkSeat<SharedBlock<F>>>|
+            requires { (place + 1 < 2 ^ 32) × IsRowOf locks.now row.now.items }
+            ensures { IsRowOf locks.entry.now row.exit.now.items }
+        {
+            let worker = place as u32 + 1;
+            work_row(rt, alloc, locks, order, &begun, row.as_mut_slice(), worker, gate)
+        },
+    );
+}
+
+/// What one worker does. It stops where memory runs out.
+fn work_row<R: Wait, F: PrimeField + Send, G: Gate>(
+    rt: &R,
+    alloc: Global,
+    locks: &[Versioned<SharedBlock<F>>],
+    order: &[usize],
+    begun: &AtomicU64,
+    seats: &mut [WorkSeat<SharedBlock<F>>],
+    worker: u32,
+    gate: &G,
+)
+    requires { IsRowOf locks.now seats.old }
+    ensures { IsRowOf locks.now seats.new }
+{
+    'begun: for _ in 0..order.len() {
+        let Some(place) = next_place(order, begun) else {
+            break;
+        };
+        if !work_at(rt, alloc, locks, seats, place, worker, gate) {
+            return;
+        }
+    }
+    'helped: for place in 0..locks.len() {
+        if !work_at(rt, alloc, locks, seats, place, worker, gate) {
+            return;
+        }
+    }
+}
+
+/// The next place in the order that nobody has begun.
+pub(crate) fn next_place(order: &[usize], begun: &AtomicU64) -> Option<usize> {
+    let next = begun.fetch_add(1, Ordering::SeqCst);
+    order.get(usize::try_from(next).ok()?).copied()
+}
+
+/// Works at one block until it is zero: whether there was memory enough.
+fn work_at<R: Wait, F: PrimeField + Send, G: Gate>(
+    rt: &R,
+    alloc: Global,
+    locks: &[Versioned<SharedBlock<F>>],
+    seats: &mut [WorkSeat<SharedBlock<F>>],
+    place: usize,
+    worker: u32,
+    gate: &G,
+) -> bool
+    requires { IsRowOf locks.now seats.old }
+    ensures { IsRowOf locks.now seats.new }
+{
+    if place >= locks.len() || place >= seats.len() {
+        return true;
+    }
+    work(rt, alloc, &locks[place], &mut seats[place], worker, gate).is_ok()
+}

@@ -1,0 +1,70 @@
+//! The turns that a worker takes at one block.
+
+ghost use Rattle.std.specs.Prelude.{◌≡◌, ◌+◌, ◌≤◌, length, true, IfOk};
+ghost use mathlib.Core.List.{IsPrefix};
+ghost use Rattle.kh_types.specs.Complex.{is_zero};
+ghost use Rattle.shared_block.specs.BlockHistories.{block_with, complex_of};
+ghost use Rattle.version_lock.specs.Calls.{IsSeatOf};
+
+use crate::gate::Gate;
+use kh_types::NoMemory;
+use prime_field::PrimeField;
+use shared_block::SharedBlock;
+use std::alloc::Global;
+use std::sync::Wait;
+use std::thread::yield_now;
+use version_lock::{CommitSeen, Versioned, WorkSeat};
+
+/// How often a worker lets others go first, at most, after one commit that was stale.
+const MOST_PAUSES: u32 = 4096;
+
+/// Takes turns at a block until a look finds it zero, and answers their number. A turn is a look, a
+/// patch, one call of the gate and a commit; it brings the seat at least one pivot more to know, of
+/// its own or of others.
+pub fn work<R: Wait, F: PrimeField + Send, G: Gate>(
+    rt: &R,
+    alloc: Global,
+    lock: &Versioned<SharedBlock<F>>,
+    seat: &mut WorkSeat<SharedBlock<F>>,
+    worker: u32,
+    gate: &G,
+) -> Result<u64, NoMemory>
+    requires belongs { IsSeatOf lock.now seat.old }
+    ensures belongs { IsSeatOf lock.now seat.new }
+    ensures share { seat.new.share ≡ seat.old.share }
+    ensures seen { IsPrefix seat.old.seen seat.new.seen }
+    ensures mine { IsPrefix seat.old.mine seat.new.mine }
+    ensures done { IfOk result (λ _. is_zero (complex_of F.P (
+        block_with lock.now.origin.0 lock.now.origin.1 seat.new.seen)) ≡ true) }
+    ensures turns { IfOk result (λ turns. length seat.old.seen + turns ≤ length seat.new.seen) }
+    ensures own { IfOk result (λ turns. length seat.new.mine ≤ length seat.old.mine + turns) }
+{
+    let mut turns = 0u64;
+    let mut hint = 0u32;
+    let mut pauses = 1u32;
+    'turns: for _ in rt.forever() {
+        let Some(look) = lock.look_with(rt, alloc, seat, hint)? else {
+            return Ok(turns);
+        };
+        hint = look.hint();
+        let patch = look.patch(alloc)?;
+        turns += 1;
+        gate.before_commit(worker, turns);
+        pauses = paused(lock.commit_with(rt, seat, patch), pauses);
+    }
+    unreachable!()
+}
+
+/// Lets others go first after a stale commit, twice as long after each in a row: how long after the
+/// next.
+fn paused(seen: CommitSeen, pauses: u32) -> u32 {
+    match seen {
+        CommitSeen::Committed { version: _ } => 1,
+        CommitSeen::Stale { looked: _, now: _ } => {
+            'pauses: for _ in 0..pauses {
+                yield_now();
+            }
+            pauses.saturating_mul(2).min(MOST_PAUSES)
+        }
+    }
+}
