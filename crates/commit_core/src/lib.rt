@@ -4,15 +4,15 @@
 mod answer;
 mod blocks;
 mod building;
-mod core;
 mod event;
 mod held_look;
 pub mod laws;
+mod machine;
 mod run;
 #[cfg(test)]
 mod tests;
 
 pub use answer::Answer;
-pub use core::Core;
 pub use event::{Event, are_of_workers};
+pub use machine::Core;
 pub use run::{Run, run_events};

@@ -2,7 +2,7 @@ use Rattle.std.proofs.Common.{arith, ◌∙◌, get_or, pos}
 use Rattle.commit_core.specs.declared.event.Event.TheVariants.{Look}
 use Rattle.commit_core.proofs.RowsKeep.{workers-row}
 use Rattle.commit_core.proofs.SoundRows.{run-more}
-use Rattle.commit_core.proofs.core.Core.run.Goals as goal
+use Rattle.commit_core.proofs.machine.Core.run.Goals as goal
 
 pub events-preserved : goal.events-preserved
 events-preserved g c =

@@ -1,7 +1,7 @@
 use Rattle.std.proofs.Common.{rules, ◌≡◌, ℤ, to_z, of_z, w16}
 use Rattle.commit_core.specs.States.{state_of}
 use Rattle.commit_core.proofs.Places.{place-read}
-use Rattle.commit_core.proofs.core.Core.place_of.Goals as goal
+use Rattle.commit_core.proofs.machine.Core.place_of.Goals as goal
 
 pub returns : goal.returns
 returns g c =

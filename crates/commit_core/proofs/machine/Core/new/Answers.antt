@@ -1,6 +1,6 @@
 use Rattle.shared_block.specs.declared.limits.TheConstants.{WORKERS}
 use Rattle.commit_core.proofs.Steps.{sound-made}
-use Rattle.commit_core.proofs.core.Core.new.Goals as goal
+use Rattle.commit_core.proofs.machine.Core.new.Goals as goal
 
 pub invariant_of-result : goal.invariant_of-result
 invariant_of-result g c =

@@ -2,7 +2,7 @@ use Rattle.std.proofs.Common.{◌≡◌, ◌∙◌, arith, drop, length, subst, 
 use Rattle.std.specs.List.{All}
 use Rattle.homology_table.specs.AllBlocks.{AreBlocksOf, IsFinished}
 use Rattle.commit_core.proofs.Lists.{take-whole}
-use Rattle.commit_core.proofs.core.Core.finish.Goals as goal
+use Rattle.commit_core.proofs.machine.Core.finish.Goals as goal
 
 pub table_of-requires-clause-blocks : goal.table_of-requires-clause-blocks
 table_of-requires-clause-blocks g c =

@@ -2,7 +2,7 @@ use Rattle.std.proofs.Common.{rules, ◌≡◌, ℤ, subst, to_z, of_z, w16}
 use Rattle.commit_core.specs.Parts.{IsBlockAt}
 use Rattle.commit_core.specs.States.{state_of}
 use Rattle.commit_core.proofs.Steps.{sight-block}
-use Rattle.commit_core.proofs.core.Core.sight.Goals as goal
+use Rattle.commit_core.proofs.machine.Core.sight.Goals as goal
 
 pub returns-in_ok-look-in-Some : goal.returns-in_ok-look-in-Some
 returns-in_ok-look-in-Some g c =

@@ -1,7 +1,7 @@
 use Rattle.shared_block.specs.declared.limits.TheConstants.{WORKERS}
 use Rattle.commit_core.specs.States.{state_of}
 use Rattle.commit_core.proofs.Steps.{sound-put, sound-taken}
-use Rattle.commit_core.proofs.core.Core.take.Goals as goal
+use Rattle.commit_core.proofs.machine.Core.take.Goals as goal
 
 pub invariant_of-self : goal.invariant_of-self
 invariant_of-self g c =

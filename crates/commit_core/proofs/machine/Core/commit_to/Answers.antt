@@ -2,7 +2,7 @@ use Rattle.std.proofs.Common.{rules, ◌≡◌, ℤ, subst, to_z, of_z, w16}
 use Rattle.commit_core.specs.Parts.{IsBlockAt}
 use Rattle.commit_core.specs.States.{state_of}
 use Rattle.commit_core.proofs.Steps.{commits-left, not-foreign, sound-left}
-use Rattle.commit_core.proofs.core.Core.commit_to.Goals as goal
+use Rattle.commit_core.proofs.machine.Core.commit_to.Goals as goal
 
 pub told-requires : goal.told-requires
 told-requires g c =

@@ -1,6 +1,6 @@
 use Rattle.std.proofs.Common.{◌≡◌, length, take}
 use Rattle.commit_core.specs.Rows.{IsRun}
-use Rattle.commit_core.proofs.core.Core.run.Given as goal
+use Rattle.commit_core.proofs.machine.Core.run.Given as goal
 
 abbrev pub invariant-events : goal.invariant-events
 invariant-events g l = record {

@@ -1,6 +1,6 @@
 use Rattle.std.proofs.Common.{rules, ◌≡◌, ℤ, to_z, of_z, w16}
 use Rattle.commit_core.proofs.Steps.{looked-row}
-use Rattle.commit_core.proofs.core.Core.look.Goals as goal
+use Rattle.commit_core.proofs.machine.Core.look.Goals as goal
 
 pub returns-in-Some-Some-clause-row : goal.returns-in-Some-Some-clause-row
 returns-in-Some-Some-clause-row g c =
