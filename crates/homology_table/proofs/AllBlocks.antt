@@ -1,16 +1,14 @@
 -- Blocks of a diagram before any cancellation, and after some.
-use Rattle.std.proofs.Common.{◌≡◌, ℕ, zero, suc, ◌+◌, ◌<◌, ◌≤◌, ◌∙◌, List, [], ◌∷◌, ◌++◌, ℤ, length, map, take, take_all, get_or, set, refl, sym, ap, ap₂, arith, append_assoc}
-use Rattle.std.specs.Prelude.{All}
-use Rattle.std.specs.List.{AllByRecursion, AllWithin, AllZip}
+use Rattle.std.proofs.Common.{◌≡◌, ℕ, zero, suc, ◌+◌, ◌<◌, ◌≤◌, ◌∙◌, List, [], ◌∷◌, ◌++◌, ℤ, length, map, take, take_all, get_or, set, subst, refl, sym, ap, ap₂, arith, append_assoc}
+use Rattle.std.specs.List.{AllByRecursion, AllZip}
 use Rattle.std.proofs.lemmas.List.{map_push, take_more}
-use Rattle.std.proofs.lemmas.List.Elements.{All-from_all_within, All-from_recursion, AllWithin-more_set, All-map, recursion_from_All}
+use Rattle.std.proofs.lemmas.List.Elements.{All-from_recursion, All-map, recursion_from_All}
 use Rattle.std.proofs.lemmas.Simd.{map-map}
 use mathlib.Core.List.{IsPrefix}
 use Rattle.kh_types.specs.Code.{Code}
-use Rattle.kh_types.specs.Complex.{Pivot}
 use Rattle.cube_signs.specs.Blocks.{block_degrees}
 use Rattle.shared_block.specs.BlockHistories.{BlockHistory, block_with}
-use Rattle.homology_table.specs.AllBlocks.{AreBlocksOf, IsFinished, IsLaterOf, degrees_of, opening_blocks}
+use Rattle.homology_table.specs.AllBlocks.{AreBlocksOf, IsLaterOf, degrees_of, opening_blocks}
 
 -- before any cancellation
 
@@ -43,6 +41,9 @@ AreBlocksOf-opening code =
       diagram = All-map (λ held. held.diagram ≡ code) (λ j. block_with code j []) (block_degrees code) (λ k d below. refl);
       degrees = map-map (λ held. held.degree) (λ j. block_with code j []) (block_degrees code) ∙ map-same (block_degrees code);
     }
+
+pub AreBlocksOf-opened : (code : Code) (blocks : List BlockHistory) → blocks ≡ opening_blocks code → AreBlocksOf code blocks
+AreBlocksOf-opened code blocks are = subst (AreBlocksOf code) (sym are) (AreBlocksOf-opening code)
 
 -- after some cancellations
 
@@ -111,9 +112,5 @@ later-set (x ∷ xs) (y ∷ ys) zero d after below later more = (IsLaterOf-trans
 later-set (x ∷ xs) (y ∷ ys) (suc k) d after below later more =
     (later.0, later-set xs ys k d after (omega (arith, below)) later.1 more)
 
-pub finished-all : (p k : ℕ) (blocks : List BlockHistory) → AllWithin (IsFinished p) blocks 0 k → length blocks ≤ k
-    → All (IsFinished p) blocks
-finished-all p k blocks within all = λ m d below. within m d (omega arith) (omega (arith, below, all))
-
 -- for the crates above
-pub ruleset blocks = (AreBlocksOf-opening, AreBlocksOf-later, IsLaterOf-self, IsLaterOf-trans, later-self, later-trans)
+pub ruleset blocks = (AreBlocksOf-opening, AreBlocksOf-opened, AreBlocksOf-later, IsLaterOf-self, IsLaterOf-trans, later-self, later-trans)

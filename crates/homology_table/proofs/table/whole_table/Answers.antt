@@ -1,4 +1,4 @@
-use Rattle.std.proofs.Common.{◌∙◌, ap, ap₂, arith, length}
+use Rattle.std.proofs.Common.{◌∙◌, ap, arith, length}
 use Rattle.homology_table.proofs.Blocks.{IsTable-all, table-all}
 use Rattle.homology_table.proofs.table.whole_table.Goals as goal
 
