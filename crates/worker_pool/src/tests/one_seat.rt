@@ -18,9 +18,8 @@ fn work_at_each_block_of_the_figure_eight_takes_28_turns(rt: HostRuntime) -> Res
     let alloc = rt.alloc();
     let diagram = diagram_of(FIGURE_EIGHT, 0)?;
     check_size(&diagram)?;
-    let mut blocks = blocks_of::<F2>(alloc, &diagram)?;
     let mut total = 0u64;
-    while let Some(block) = blocks.pop() {
+    for block in blocks_of::<F2>(alloc, &diagram)? {
         let (lock, seat) = Versioned::new(alloc, block, 1)?;
         let mut seat = seat;
         let turns = work(&rt, alloc, &lock, &mut seat, 1, &Free)?;
@@ -41,8 +40,7 @@ fn one_seat_cancels_a_block(rt: HostRuntime) -> Result<(), Fail> {
     let diagram = diagram_of(FIGURE_EIGHT, 0)?;
     check_size(&diagram)?;
     let mut total = 0u64;
-    let mut blocks = blocks_of::<F2>(alloc, &diagram)?;
-    while let Some(block) = blocks.pop() {
+    for block in blocks_of::<F2>(alloc, &diagram)? {
         if block.version() == 0 {
             let (block, turns) = cancel_by_one_seat(&rt, alloc, block, &Free)?;
             assert!(rt; block.is_zero());
