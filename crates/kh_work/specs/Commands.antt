@@ -2,7 +2,7 @@
 use Rattle.std.specs.Prelude.{ℕ, List, [], ◌∷◌, codes, is_some, if◌then◌else◌, Option, Some, None, option_map, option_and_then, unwrap_or}
 use Rattle.std.specs.Str.{bytes_eq}
 use Rattle.kh_work.specs.declared.command.Task.{Task}
-use Rattle.kh_work.specs.declared.command.Task.TheVariants.{Homology, Convert, Check, Jones}
+use Rattle.kh_work.specs.declared.command.Task.TheVariants.{Homology, Convert, Check, Jones, Schedule}
 use Rattle.kh_work.specs.declared.command.Field.{Field}
 use Rattle.kh_work.specs.declared.command.Field.TheVariants.{Two, Three, Five, Seven}
 use Rattle.kh_work.specs.declared.command.Form.{Form}
@@ -17,6 +17,7 @@ task_of name =
     else if bytes_eq name (codes "convert") then Some Convert
     else if bytes_eq name (codes "check") then Some Check
     else if bytes_eq name (codes "jones") then Some Jones
+    else if bytes_eq name (codes "schedule") then Some Schedule
     else None
 
 -- the field of a value

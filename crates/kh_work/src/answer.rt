@@ -5,12 +5,16 @@ ghost use Rattle.kh_io.specs.Faults.{Rose};
 ghost use Rattle.kh_work.specs.Commands.{command_of};
 ghost use Rattle.kh_work.specs.Refusals.{usage};
 ghost use Rattle.kh_work.specs.Answer.{IsTaskReply, IsCommandReply};
+ghost use Rattle.kh_work.specs.Parts.{code_in, script_part};
 ghost use Rattle.kh_work.specs.Statuses.{IsWhole};
 ghost use Rattle.kh_work.specs.Told.{IsKnownAnswer, IsKnownReply, IsTaken, IsReadOut};
 
 use crate::command::{Command, Task, command_of};
-use crate::commands::{reply_to_check, reply_to_convert, reply_to_homology, reply_to_jones};
+use crate::commands::{
+    reply_to_check, reply_to_convert, reply_to_homology, reply_to_jones, reply_to_schedule,
+};
 use crate::input::{InputStop, read_diagram};
+use crate::parts::{code_in, script_part};
 use crate::refusals::{too_many_bytes, usage};
 use crate::reply::Reply;
 use crate::status::Status;
@@ -86,21 +90,28 @@ fn reply_to_bytes(alloc: Global, command: Command, bytes: &[u8]) -> Result<Reply
     ensures whole { IfOk result (λ reply. IsWhole reply.status) }
     ensures no_usage { IfOk result (λ reply. reply.status ≢ Status.Usage) }
 {
-    match read_diagram(alloc, bytes) {
-        Ok(diagram) => reply_to_diagram(alloc, command, &diagram),
+    match read_diagram(alloc, code_in(command.task, bytes)) {
+        Ok(diagram) => reply_to_diagram(alloc, command, &diagram, script_part(bytes)),
         Err(InputStop::Refused(reply)) => Ok(reply),
         Err(InputStop::NoMemory) => Err(NoMemory),
     }
 }
 
-// The reply of a command to a diagram.
-fn reply_to_diagram(alloc: Global, command: Command, diagram: &Diagram) -> Result<Reply, NoMemory>
-    ensures { IfOk result (IsTaskReply command.task command diagram.now) }
+// The reply of a command to a diagram, and to the text of a script.
+fn reply_to_diagram(
+    alloc: Global,
+    command: Command,
+    diagram: &Diagram,
+    script: &[u8],
+) -> Result<Reply, NoMemory>
+    requires { length script.now ≤ INPUT_BYTES }
+    ensures { IfOk result (IsTaskReply command.task command script.now diagram.now) }
 {
     match command.task {
         Task::Homology => reply_to_homology(alloc, command.field, diagram),
         Task::Convert => reply_to_convert(alloc, command.to, diagram),
         Task::Check => reply_to_check(alloc, diagram),
         Task::Jones => reply_to_jones(alloc, diagram),
+        Task::Schedule => reply_to_schedule(alloc, command.field, diagram, script),
     }
 }

@@ -16,6 +16,8 @@ pub enum Task {
     Check,
     /// Write the unnormalised Jones polynomial.
     Jones,
+    /// Let workers look and commit as a script says; write the answers, and the homology table.
+    Schedule,
 }
 
 /// A field, by its number of elements.
@@ -81,6 +83,7 @@ fn task_of(name: &str) -> Option<Task>
         "convert" => Some(Task::Convert),
         "check" => Some(Task::Check),
         "jones" => Some(Task::Jones),
+        "schedule" => Some(Task::Schedule),
         _ => None,
     }
 }

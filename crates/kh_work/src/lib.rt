@@ -6,6 +6,7 @@ mod command;
 mod commands;
 mod input;
 mod laws;
+mod parts;
 mod refusals;
 mod reply;
 mod status;

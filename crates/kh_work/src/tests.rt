@@ -4,6 +4,7 @@ mod bad;
 mod counted;
 mod known;
 mod rows;
+mod schedules;
 
 use crate::{Status, run};
 use bad::BAD;
@@ -12,6 +13,7 @@ use kh_io::{MemSink, MemSource};
 use kh_types::Words;
 use known::KNOWN;
 use rows::{ROWS, TREFOIL};
+use schedules::SCHEDULES;
 use std::process::Abort;
 use std::test::Fail;
 
@@ -130,6 +132,46 @@ fn words_and_inputs_have_their_answers(rt: HostRuntime) -> Result<(), Fail> {
         Status::CodeRefused,
         "refused text at 3\n",
     )
+}
+
+#[test]
+fn schedules_have_their_answers(rt: HostRuntime) -> Result<(), Fail> {
+    for row in &SCHEDULES {
+        expect_answer(&rt, row.words, row.input.as_bytes(), row.status, row.output)?;
+    }
+    Ok(())
+}
+
+#[test]
+fn a_script_of_4096_lines_is_read_and_a_line_more_is_not(rt: HostRuntime) -> Result<(), Fail> {
+    for (code, full, above) in [
+        (
+            "PD[X[1,1,2,2]];",
+            "refused line 4096\n",
+            "limit lines 4097 of 4096\n",
+        ),
+        (
+            "PD[X[1,2,1,2]];",
+            "refused checkerboard at arc 1\n",
+            "refused checkerboard at arc 1\n",
+        ),
+    ] {
+        let mut input = String::from_str(rt.alloc(), code)?;
+        for _ in 0..4_095 {
+            input.push('\n')?;
+        }
+        input.push_str("commit 0\n")?;
+        let refused = Status::CodeRefused;
+        expect_answer(&rt, &["schedule"], input.as_bytes(), refused, full)?;
+        input.push('\n')?;
+        let status = if full == above {
+            refused
+        } else {
+            Status::Limit
+        };
+        expect_answer(&rt, &["schedule"], input.as_bytes(), status, above)?;
+    }
+    Ok(())
 }
 
 #[test]
