@@ -25,18 +25,21 @@ use Rattle.kh_work.specs.Inputs.{IsCodeRead, IsDiagramRead}
 use Rattle.kh_work.specs.Homology.{homology_reply, homology_text}
 use Rattle.kh_work.specs.Jones.{jones_line}
 use Rattle.kh_work.specs.Answer.{IsTaskReply, IsCommandReply, IsAnswerOf, IsAnswer}
+use Rattle.kh_work.specs.declared.draft.Draft.{Draft}
+use Rattle.kh_work.specs.Drafts.{reply_in}
 use Rattle.kh_work.specs.Told.{IsKnownAnswer, IsKnownReply, IsReadOut}
 
 -- a diagram is answered by its task, and a refusal by itself
-pub IsCommandReply-diagram : {E : Type 0} (result : Result Reply E) (command : Command) (bytes text script : List ℕ) (code : Code)
+pub IsCommandReply-diagram : {E : Type 0} (result : Result Draft E) (command : Command) (bytes text script : List ℕ) (code : Code)
     → length bytes ≤ INPUT_BYTES → text ≡ code_in command.task bytes → script ≡ script_part bytes → IsDiagramRead text (Ok code)
-    → IfOk result (IsTaskReply command.task command script code) → IfOk result (λ reply. IsCommandReply command bytes reply)
-IsCommandReply-diagram (Ok reply) command bytes text script code few is_text is_script read replied =
+    → IfOk result (λ draft. IsTaskReply command.task command script code (reply_in draft))
+    → IfOk result (λ draft. IsCommandReply command bytes (reply_in draft))
+IsCommandReply-diagram (Ok draft) command bytes text script code few is_text is_script read replied =
     inr (record {
       few = few;
       outcome = Ok code;
       read = subst (λ t. IsDiagramRead t (Ok code)) is_text read;
-      answered = subst (λ s. IsTaskReply command.task command s code reply) is_script replied;
+      answered = subst (λ s. IsTaskReply command.task command s code (reply_in draft)) is_script replied;
     })
 IsCommandReply-diagram (Err stop) command bytes text script code few is_text is_script read replied = tt
 
@@ -86,12 +89,12 @@ answer-usage words bytes reply none is =
     let P : Option Command → Type 0 = λ c. IsAnswerOf c bytes reply in
     subst P (sym none) is
 
-pub IsKnownAnswer-command : {E : Type 0} (result : Result Reply E) (left : Option (List ℕ)) (words : List (List ℕ)) (command : Command)
-    → command_of words ≡ Some command → IfOk result (λ reply. IsKnownReply left command reply)
-    → IfOk result (λ reply. IsKnownAnswer left words reply)
-IsKnownAnswer-command (Ok reply) None words command is_command replied = record { known = tt }
-IsKnownAnswer-command (Ok reply) (Some bytes) words command is_command replied =
-    record { known = answer-command words bytes command reply is_command replied.known }
+pub IsKnownAnswer-command : {E : Type 0} (result : Result Draft E) (left : Option (List ℕ)) (words : List (List ℕ)) (command : Command)
+    → command_of words ≡ Some command → IfOk result (λ draft. IsKnownReply left command (reply_in draft))
+    → IfOk result (λ draft. IsKnownAnswer left words (reply_in draft))
+IsKnownAnswer-command (Ok draft) None words command is_command replied = record { known = tt }
+IsKnownAnswer-command (Ok draft) (Some bytes) words command is_command replied =
+    record { known = answer-command words bytes command (reply_in draft) is_command replied.known }
 IsKnownAnswer-command (Err stop) left words command is_command replied = tt
 
 pub IsKnownAnswer-usage : (left : Option (List ℕ)) (words : List (List ℕ)) (reply : Reply) → command_of words ≡ None → reply ≡ usage

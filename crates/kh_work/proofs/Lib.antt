@@ -5,3 +5,5 @@ pub mod TextReadings
 pub mod OneAnswer
 pub mod JonesLemmas
 pub mod Headlines
+pub mod Written
+pub mod Workers

@@ -11,5 +11,6 @@ pub mod Convert
 pub mod Check
 pub mod Schedule
 pub mod Answer
+pub mod Drafts
 pub mod Told
 pub mod Runs
