@@ -14,15 +14,22 @@ use kh_work::{Status, run};
 use std::io;
 use std::process::ExitCode;
 use std::rt::Env;
+use std::sync::Wait;
+use std::thread::Threads;
 use words::words_of;
+use worker_pool::Free;
 
 fn main(rt: HostRuntime) -> ExitCode {
-    exit_of(&rt)
+    exit_of(&rt, &rt)
 }
 
-/// Does all that the program does, over a system's words, input and output, and answers what the program ends with.
-fn exit_of(rt: &(impl Input + Print + Env + AllocGlobal)) -> ExitCode {
-    exit_code(status_of(rt))
+/// Does all that the program does, over a system's words, input and output and with threads, and answers what the program ends
+/// with.
+fn exit_of<T: Threads + Wait + Sync>(
+    threads: &T,
+    rt: &(impl Input + Print + Env + AllocGlobal),
+) -> ExitCode {
+    exit_code(status_of(threads, rt))
 }
 
 /// The exit status that stands for a status.
@@ -32,12 +39,15 @@ fn exit_code(status: Status) -> ExitCode
     ExitCode::from(status.number())
 }
 
-fn status_of(rt: &(impl Input + Print + Env + AllocGlobal)) -> Status {
+fn status_of<T: Threads + Wait + Sync>(
+    threads: &T,
+    rt: &(impl Input + Print + Env + AllocGlobal),
+) -> Status {
     match words_of(rt) {
         Ok(words) => {
             let mut source = StdSource::new(rt.reader());
             let mut sink = StdSink::new(io::writer(rt));
-            run(rt.alloc(), &words, &mut source, &mut sink)
+            run(threads, rt.alloc(), &words, &mut source, &mut sink, &Free)
         }
         Err(status) => status,
     }

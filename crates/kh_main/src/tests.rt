@@ -5,7 +5,9 @@ mod system;
 use crate::exit_of;
 use crate::words::words_of;
 use std::process::{Abort, ExitCode};
+use std::sync::Wait;
 use std::test::Fail;
+use std::thread::Threads;
 use system::System;
 
 const TREFOIL: &[u8] = b"PD[X[1,4,2,5], X[3,6,4,1], X[5,2,6,3]]";
@@ -23,7 +25,7 @@ jones -1*q^-9 1*q^-5 1*q^-3 1*q^-1
 const USAGE: &str = "usage: kh COMMAND [OPTIONS]\n";
 
 // Command lines, with the program's name, and what each comes to where the trefoil is the input: a status and a text.
-const LINES: [(&[&[u8]], u8, &str); 9] = [
+const LINES: [(&[&[u8]], u8, &str); 12] = [
     (&[b"kh", b"homology"], 0, TREFOIL_TABLE),
     (&[b"", b"homology"], 0, TREFOIL_TABLE),
     (&[], 2, USAGE),
@@ -33,11 +35,14 @@ const LINES: [(&[&[u8]], u8, &str); 9] = [
     (&[b"kh", b" homology"], 2, USAGE),
     (&[b"kh", b"homology "], 2, USAGE),
     (&[b"kh", b"homology", b"\xff"], 2, ""),
+    (&[b"kh", b"homology", b"--workers", b"1"], 0, TREFOIL_TABLE),
+    (&[b"kh", b"homology", b"--workers", b"8"], 0, TREFOIL_TABLE),
+    (&[b"kh", b"homology", b"--workers", b"65"], 2, USAGE),
 ];
 
 // The program ends with this status, and has written this text.
-fn ends(rt: &impl Abort, system: &System<'_>, exit: u8, text: &[u8]) {
-    assert_eq!(rt; exit_of(system), ExitCode::from(exit));
+fn ends<R: Abort + Threads + Wait + Sync>(rt: &R, system: &System<'_>, exit: u8, text: &[u8]) {
+    assert_eq!(rt; exit_of(rt, system), ExitCode::from(exit));
     system.has_written(rt, text);
 }
 

@@ -20,24 +20,38 @@ use Rattle.kh_work.specs.declared.command.Command.{Command}
 use Rattle.kh_work.specs.Replies.{Reply, reply_of}
 use Rattle.kh_work.specs.Commands.{command_of, size_of}
 use Rattle.kh_work.specs.Refusals.{usage, too_many_bytes}
+use Rattle.kh_work.specs.Parts.{code_in, script_part}
 use Rattle.kh_work.specs.Inputs.{IsCodeRead, IsDiagramRead}
 use Rattle.kh_work.specs.Homology.{homology_reply, homology_text}
 use Rattle.kh_work.specs.Jones.{jones_line}
 use Rattle.kh_work.specs.Answer.{IsTaskReply, IsCommandReply, IsAnswerOf, IsAnswer}
+use Rattle.kh_work.specs.declared.draft.Draft.{Draft}
+use Rattle.kh_work.specs.Drafts.{reply_in}
 use Rattle.kh_work.specs.Told.{IsKnownAnswer, IsKnownReply, IsReadOut}
 
 -- a diagram is answered by its task, and a refusal by itself
-pub IsCommandReply-diagram : {E : Type 0} (result : Result Reply E) (command : Command) (bytes : List ℕ) (code : Code)
-    → length bytes ≤ INPUT_BYTES → IsDiagramRead bytes (Ok code) → IfOk result (IsTaskReply command.task command code)
-    → IfOk result (λ reply. IsCommandReply command bytes reply)
-IsCommandReply-diagram (Ok reply) command bytes code few read replied =
-    inr (record { few = few; outcome = Ok code; read = read; answered = replied })
-IsCommandReply-diagram (Err stop) command bytes code few read replied = tt
+pub IsCommandReply-diagram : {E : Type 0} (result : Result Draft E) (command : Command) (bytes text script : List ℕ) (code : Code)
+    → length bytes ≤ INPUT_BYTES → text ≡ code_in command.task bytes → script ≡ script_part bytes → IsDiagramRead text (Ok code)
+    → IfOk result (λ draft. IsTaskReply command.task command script code (reply_in draft))
+    → IfOk result (λ draft. IsCommandReply command bytes (reply_in draft))
+IsCommandReply-diagram (Ok draft) command bytes text script code few is_text is_script read replied =
+    inr (record {
+      few = few;
+      outcome = Ok code;
+      read = subst (λ t. IsDiagramRead t (Ok code)) is_text read;
+      answered = subst (λ s. IsTaskReply command.task command s code (reply_in draft)) is_script replied;
+    })
+IsCommandReply-diagram (Err stop) command bytes text script code few is_text is_script read replied = tt
 
-pub IsCommandReply-refused : (command : Command) (bytes : List ℕ) (reply : Reply) → length bytes ≤ INPUT_BYTES
-    → IsDiagramRead bytes (Err reply) → IsCommandReply command bytes reply
-IsCommandReply-refused command bytes reply few read =
-    inr (record { few = few; outcome = Err reply; read = read; answered = refl })
+pub IsCommandReply-refused : (command : Command) (bytes text : List ℕ) (reply : Reply) → length bytes ≤ INPUT_BYTES
+    → text ≡ code_in command.task bytes → IsDiagramRead text (Err reply) → IsCommandReply command bytes reply
+IsCommandReply-refused command bytes text reply few is_text read =
+    inr (record {
+      few = few;
+      outcome = Err reply;
+      read = subst (λ t. IsDiagramRead t (Err reply)) is_text read;
+      answered = refl;
+    })
 
 -- the bytes that were read are all that the source had left
 pub IsKnownReply-read : (left : Option (List ℕ)) (command : Command) (bytes : List ℕ) (reply : Reply) → IfSome left (λ all. bytes ≡ all)
@@ -75,12 +89,12 @@ answer-usage words bytes reply none is =
     let P : Option Command → Type 0 = λ c. IsAnswerOf c bytes reply in
     subst P (sym none) is
 
-pub IsKnownAnswer-command : {E : Type 0} (result : Result Reply E) (left : Option (List ℕ)) (words : List (List ℕ)) (command : Command)
-    → command_of words ≡ Some command → IfOk result (λ reply. IsKnownReply left command reply)
-    → IfOk result (λ reply. IsKnownAnswer left words reply)
-IsKnownAnswer-command (Ok reply) None words command is_command replied = record { known = tt }
-IsKnownAnswer-command (Ok reply) (Some bytes) words command is_command replied =
-    record { known = answer-command words bytes command reply is_command replied.known }
+pub IsKnownAnswer-command : {E : Type 0} (result : Result Draft E) (left : Option (List ℕ)) (words : List (List ℕ)) (command : Command)
+    → command_of words ≡ Some command → IfOk result (λ draft. IsKnownReply left command (reply_in draft))
+    → IfOk result (λ draft. IsKnownAnswer left words (reply_in draft))
+IsKnownAnswer-command (Ok draft) None words command is_command replied = record { known = tt }
+IsKnownAnswer-command (Ok draft) (Some bytes) words command is_command replied =
+    record { known = answer-command words bytes command (reply_in draft) is_command replied.known }
 IsKnownAnswer-command (Err stop) left words command is_command replied = tt
 
 pub IsKnownAnswer-usage : (left : Option (List ℕ)) (words : List (List ℕ)) (reply : Reply) → command_of words ≡ None → reply ≡ usage
@@ -111,12 +125,13 @@ pub IsAnswer-table : (words : List (List ℕ)) (bytes : List ℕ) (command : Com
     → IsAnswer words bytes (reply_of Done (table_text (table (size_of command.field) code) ++ jones_line code))
 IsAnswer-table words bytes command code is_command is_homology few_bytes read is_accepted few =
     let reply : Reply = reply_of Done (table_text (table (size_of command.field) code) ++ jones_line code) in
-    let P : Task → Type 0 = λ task. IsTaskReply task command code reply in
+    let P : Task → Type 0 = λ task. IsTaskReply task command (script_part bytes) code reply in
+    let Read : Task → Type 0 = λ task. IsDiagramRead (code_in task bytes) (Ok code) in
     answer-command words bytes command reply is_command
     (inr (record {
       few = few_bytes;
       outcome = Ok code;
-      read = (read, first_fault-accepted code is_accepted);
+      read = subst Read (sym is_homology) (read, first_fault-accepted code is_accepted);
       answered = subst P (sym is_homology) (homology_reply-table command.field code few);
     }))
 
@@ -125,11 +140,12 @@ pub IsAnswer-jones : (words : List (List ℕ)) (bytes : List ℕ) (command : Com
     → command.task ≡ Jones → length bytes ≤ INPUT_BYTES → IsCodeRead bytes (Ok code) → IsTrue (accepted code)
     → IsAnswer words bytes (reply_of Done (jones_line code))
 IsAnswer-jones words bytes command code is_command is_jones few_bytes read is_accepted =
-    let P : Task → Type 0 = λ task. IsTaskReply task command code (reply_of Done (jones_line code)) in
+    let P : Task → Type 0 = λ task. IsTaskReply task command (script_part bytes) code (reply_of Done (jones_line code)) in
+    let Read : Task → Type 0 = λ task. IsDiagramRead (code_in task bytes) (Ok code) in
     answer-command words bytes command (reply_of Done (jones_line code)) is_command
     (inr (record {
       few = few_bytes;
       outcome = Ok code;
-      read = (read, first_fault-accepted code is_accepted);
+      read = subst Read (sym is_jones) (read, first_fault-accepted code is_accepted);
       answered = subst P (sym is_jones) refl;
     }))

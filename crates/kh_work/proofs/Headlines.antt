@@ -23,7 +23,6 @@ use Rattle.kh_work.specs.Commands.{command_of, size_of}
 use Rattle.kh_work.specs.Jones.{jones_line}
 use Rattle.kh_work.specs.Replies.{Reply, reply_of}
 use Rattle.kh_work.specs.Runs.{IsRun, Seen, IsAcceptedText, HasWrittenHomology, KeepsHeadline}
-use Rattle.kh_work.specs.Statuses.{IsWhole}
 use Rattle.kh_work.specs.Told.{Gives}
 use Rattle.kh_work.proofs.AnswerLemmas.{IsAnswer-table}
 use Rattle.kh_work.proofs.OneAnswer.{IsAnswer-one}

@@ -1,6 +1,9 @@
 pub mod CommandLemmas
 pub mod AnswerLemmas
+pub mod ScheduleLemmas
 pub mod TextReadings
 pub mod OneAnswer
 pub mod JonesLemmas
 pub mod Headlines
+pub mod Written
+pub mod Workers

@@ -6,18 +6,27 @@ use Rattle.kh_types.specs.declared.limits.TheConstants.{INPUT_BYTES}
 use Rattle.kh_types.specs.Code.{Code}
 use Rattle.kh_types.specs.Acceptance.{first_fault}
 use Rattle.kh_types.specs.declared.fault.CodeFault.{CodeFault}
+use Rattle.undo_stack.specs.declared.schedule.ScheduleLine.{ScheduleLine}
+use Rattle.undo_stack.specs.declared.stop.ScriptStop.{ScriptStop}
+use Rattle.undo_stack.specs.declared.stop.ScriptStop.TheVariants as stops
+use Rattle.undo_stack.specs.Schedule.{IsSchedule}
+use Rattle.undo_stack.specs.ScheduleSteps.{schedule_of}
+use Rattle.undo_stack.proofs.ScheduleReadings.{IsSchedule-one, IsSchedule-schedule_of}
 use Rattle.kh_work.specs.declared.command.Task.{Task}
-use Rattle.kh_work.specs.declared.command.Task.TheVariants.{Homology, Convert, Check, Jones}
+use Rattle.kh_work.specs.declared.command.Task.TheVariants.{Homology, Convert, Check, Jones, Schedule}
+use Rattle.kh_work.specs.declared.command.Field.{Field}
 use Rattle.kh_work.specs.declared.command.Command.{Command}
 use Rattle.kh_work.specs.Replies.{Reply}
 use Rattle.kh_work.specs.Commands.{command_of}
-use Rattle.kh_work.specs.Refusals.{fault_refusal, usage, too_many_bytes}
+use Rattle.kh_work.specs.Refusals.{fault_refusal, usage, too_many_bytes, too_many_lines, refused_line}
+use Rattle.kh_work.specs.Parts.{code_in, script_part}
 use Rattle.kh_work.specs.Inputs.{input_form, IsCodeRead, IsFaulty, IsDiagramRead}
 use Rattle.kh_work.proofs.TextReadings.{IsReadAs-some, IsCodeRead-one}
 use Rattle.kh_work.specs.Homology.{homology_reply}
 use Rattle.kh_work.specs.Convert.{convert_reply}
 use Rattle.kh_work.specs.Check.{check_reply}
 use Rattle.kh_work.specs.Jones.{jones_reply}
+use Rattle.kh_work.specs.Schedule.{schedule_reply, IsScriptReply, IsScheduleReply}
 use Rattle.kh_work.specs.Answer.{IsTaskReply, IsReplyTo, IsCommandReply, IsAnswerOf, IsAnswer}
 
 -- codes and diagrams
@@ -75,32 +84,63 @@ IsDiagramRead-one bytes (Err a) (Err b) is_a is_b = ap Err (refused_reply bytes 
 
 -- replies
 
-IsTaskReply-some : (task : Task) (command : Command) (code : Code) → (reply : Reply) × IsTaskReply task command code reply
-IsTaskReply-some Homology command code = (homology_reply command.field code, refl)
-IsTaskReply-some Convert command code = (convert_reply command.to code, refl)
-IsTaskReply-some Check command code = (check_reply code, refl)
-IsTaskReply-some Jones command code = (jones_reply code, refl)
+-- what a script was read as is answered once
+IsScriptReply-some : (field : Field) (code : Code) (text : List ℕ) (reading : Result (List (ℕ × ScheduleLine)) ScriptStop)
+    → IsSchedule text reading → (reply : Reply) × IsScriptReply field code reading reply
+IsScriptReply-some field code text (Ok script) read = (schedule_reply field code script, refl)
+IsScriptReply-some field code text (Err (stops.LineLimit count)) read = (too_many_lines count, refl)
+IsScriptReply-some field code text (Err (stops.Line line)) read = (refused_line line, refl)
+IsScriptReply-some field code text (Err stops.NoMemory) read = absurd read
 
-IsTaskReply-one : (task : Task) (command : Command) (code : Code) (a b : Reply) → IsTaskReply task command code a
-    → IsTaskReply task command code b → a ≡ b
-IsTaskReply-one Homology command code a b is_a is_b = is_a ∙ sym is_b
-IsTaskReply-one Convert command code a b is_a is_b = is_a ∙ sym is_b
-IsTaskReply-one Check command code a b is_a is_b = is_a ∙ sym is_b
-IsTaskReply-one Jones command code a b is_a is_b = is_a ∙ sym is_b
+IsScriptReply-one : (field : Field) (code : Code) (reading : Result (List (ℕ × ScheduleLine)) ScriptStop) (a b : Reply)
+    → IsScriptReply field code reading a → IsScriptReply field code reading b → a ≡ b
+IsScriptReply-one field code (Ok script) a b is_a is_b = is_a ∙ sym is_b
+IsScriptReply-one field code (Err (stops.LineLimit count)) a b is_a is_b = is_a ∙ sym is_b
+IsScriptReply-one field code (Err (stops.Line line)) a b is_a is_b = is_a ∙ sym is_b
+IsScriptReply-one field code (Err stops.NoMemory) a b is_a is_b = absurd is_a
 
-IsReplyTo-some : (command : Command) (outcome : Result Code Reply) → (reply : Reply) × IsReplyTo command outcome reply
-IsReplyTo-some command (Ok code) = IsTaskReply-some command.task command code
-IsReplyTo-some command (Err refusal) = (refusal, refl)
+IsScheduleReply-some : (field : Field) (code : Code) (text : List ℕ) → (reply : Reply) × IsScheduleReply field code text reply
+IsScheduleReply-some field code text =
+    let read = IsSchedule-schedule_of text in
+    let reply = IsScriptReply-some field code text (schedule_of text) read in
+    (reply.0, record { reading = schedule_of text; read = read; answered = reply.1 })
 
-IsReplyTo-one : (command : Command) (outcome other : Result Code Reply) (a b : Reply) → outcome ≡ other → IsReplyTo command outcome a
-    → IsReplyTo command other b → a ≡ b
-IsReplyTo-one command (Ok x) (Ok y) a b same is_a is_b =
+IsScheduleReply-one : (field : Field) (code : Code) (text : List ℕ) (a b : Reply) → IsScheduleReply field code text a
+    → IsScheduleReply field code text b → a ≡ b
+IsScheduleReply-one field code text a b is_a is_b =
+    let same : is_a.reading ≡ is_b.reading = IsSchedule-one text is_a.reading is_b.reading is_a.read is_b.read in
+    IsScriptReply-one field code is_b.reading a b (subst (λ reading. IsScriptReply field code reading a) same is_a.answered) is_b.answered
+
+IsTaskReply-some : (task : Task) (command : Command) (script : List ℕ) (code : Code)
+    → (reply : Reply) × IsTaskReply task command script code reply
+IsTaskReply-some Homology command script code = (homology_reply command.field code, refl)
+IsTaskReply-some Convert command script code = (convert_reply command.to code, refl)
+IsTaskReply-some Check command script code = (check_reply code, refl)
+IsTaskReply-some Jones command script code = (jones_reply code, refl)
+IsTaskReply-some Schedule command script code = IsScheduleReply-some command.field code script
+
+IsTaskReply-one : (task : Task) (command : Command) (script : List ℕ) (code : Code) (a b : Reply)
+    → IsTaskReply task command script code a → IsTaskReply task command script code b → a ≡ b
+IsTaskReply-one Homology command script code a b is_a is_b = is_a ∙ sym is_b
+IsTaskReply-one Convert command script code a b is_a is_b = is_a ∙ sym is_b
+IsTaskReply-one Check command script code a b is_a is_b = is_a ∙ sym is_b
+IsTaskReply-one Jones command script code a b is_a is_b = is_a ∙ sym is_b
+IsTaskReply-one Schedule command script code a b is_a is_b = IsScheduleReply-one command.field code script a b is_a is_b
+
+IsReplyTo-some : (command : Command) (script : List ℕ) (outcome : Result Code Reply)
+    → (reply : Reply) × IsReplyTo command script outcome reply
+IsReplyTo-some command script (Ok code) = IsTaskReply-some command.task command script code
+IsReplyTo-some command script (Err refusal) = (refusal, refl)
+
+IsReplyTo-one : (command : Command) (script : List ℕ) (outcome other : Result Code Reply) (a b : Reply) → outcome ≡ other
+    → IsReplyTo command script outcome a → IsReplyTo command script other b → a ≡ b
+IsReplyTo-one command script (Ok x) (Ok y) a b same is_a is_b =
     let e : x ≡ y = cc in
-    let P : Code → Type 0 = λ code. IsTaskReply command.task command code a in
-    IsTaskReply-one command.task command y a b (subst P e is_a) is_b
-IsReplyTo-one command (Ok x) (Err s) a b same is_a is_b = absurd (cc)
-IsReplyTo-one command (Err r) (Ok y) a b same is_a is_b = absurd (cc)
-IsReplyTo-one command (Err r) (Err s) a b same is_a is_b = let e : r ≡ s = cc in is_a ∙ e ∙ sym is_b
+    let P : Code → Type 0 = λ code. IsTaskReply command.task command script code a in
+    IsTaskReply-one command.task command script y a b (subst P e is_a) is_b
+IsReplyTo-one command script (Ok x) (Err s) a b same is_a is_b = absurd (cc)
+IsReplyTo-one command script (Err r) (Ok y) a b same is_a is_b = absurd (cc)
+IsReplyTo-one command script (Err r) (Err s) a b same is_a is_b = let e : r ≡ s = cc in is_a ∙ e ∙ sym is_b
 
 IsCommandReply-size : (command : Command) (bytes : List ℕ) (long : Bool) → nat_lt INPUT_BYTES (length bytes) ≡ long
     → (reply : Reply) × IsCommandReply command bytes reply
@@ -109,8 +149,8 @@ IsCommandReply-size command bytes true is_long =
     (too_many_bytes, inl (many, refl))
 IsCommandReply-size command bytes false is_long =
     let few : length bytes ≤ INPUT_BYTES = grind (arith, common_steps) in
-    let read = IsDiagramRead-some bytes in
-    let reply = IsReplyTo-some command read.0 in
+    let read = IsDiagramRead-some (code_in command.task bytes) in
+    let reply = IsReplyTo-some command (script_part bytes) read.0 in
     (reply.0, inr (record { few = few; outcome = read.0; read = read.1; answered = reply.1 }))
 
 IsCommandReply-one : (command : Command) (bytes : List ℕ) (a b : Reply) → IsCommandReply command bytes a
@@ -121,8 +161,8 @@ IsCommandReply-one command bytes a b (inl is_a) (inr is_b) =
 IsCommandReply-one command bytes a b (inr is_a) (inl is_b) =
     let many = is_b.0 in let few = is_a.few in absurd (omega (arith, many, few))
 IsCommandReply-one command bytes a b (inr is_a) (inr is_b) =
-    IsReplyTo-one command is_a.outcome is_b.outcome a b
-    (IsDiagramRead-one bytes is_a.outcome is_b.outcome is_a.read is_b.read) is_a.answered is_b.answered
+    IsReplyTo-one command (script_part bytes) is_a.outcome is_b.outcome a b
+    (IsDiagramRead-one (code_in command.task bytes) is_a.outcome is_b.outcome is_a.read is_b.read) is_a.answered is_b.answered
 
 IsAnswerOf-some : (command : Option Command) (bytes : List ℕ) → (reply : Reply) × IsAnswerOf command bytes reply
 IsAnswerOf-some None bytes = (usage, refl)

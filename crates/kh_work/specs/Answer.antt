@@ -4,35 +4,38 @@ use Rattle.std.specs.Prelude.{◌≡◌, ◌⊎◌, ℕ, ◌<◌, ◌≤◌, Lis
 use Rattle.kh_types.specs.declared.limits.TheConstants.{INPUT_BYTES}
 use Rattle.kh_types.specs.Code.{Code}
 use Rattle.kh_work.specs.declared.command.Task.{Task}
-use Rattle.kh_work.specs.declared.command.Task.TheVariants.{Homology, Convert, Check, Jones}
+use Rattle.kh_work.specs.declared.command.Task.TheVariants.{Homology, Convert, Check, Jones, Schedule}
 use Rattle.kh_work.specs.declared.command.Command.{Command}
 use Rattle.kh_work.specs.Replies.{Reply}
 use Rattle.kh_work.specs.Commands.{command_of}
 use Rattle.kh_work.specs.Refusals.{usage, too_many_bytes}
+use Rattle.kh_work.specs.Parts.{code_in, script_part}
 use Rattle.kh_work.specs.Inputs.{IsDiagramRead}
 use Rattle.kh_work.specs.Homology.{homology_reply}
 use Rattle.kh_work.specs.Convert.{convert_reply}
 use Rattle.kh_work.specs.Check.{check_reply}
 use Rattle.kh_work.specs.Jones.{jones_reply}
+use Rattle.kh_work.specs.Schedule.{IsScheduleReply}
 
--- the reply of a task to the code of a diagram
-abbrev pub IsTaskReply : Task → Command → Code → Reply → Type 0
-IsTaskReply Homology command code reply = reply ≡ homology_reply command.field code
-IsTaskReply Convert command code reply = reply ≡ convert_reply command.to code
-IsTaskReply Check command code reply = reply ≡ check_reply code
-IsTaskReply Jones command code reply = reply ≡ jones_reply code
+-- the reply of a task to the code of a diagram and the text of a script, which a schedule has
+abbrev pub IsTaskReply : Task → Command → List ℕ → Code → Reply → Type 0
+IsTaskReply Homology command script code reply = reply ≡ homology_reply command.field code
+IsTaskReply Convert command script code reply = reply ≡ convert_reply command.to code
+IsTaskReply Check command script code reply = reply ≡ check_reply code
+IsTaskReply Jones command script code reply = reply ≡ jones_reply code
+IsTaskReply Schedule command script code reply = IsScheduleReply command.field code script reply
 
--- the reply of a command to what its input was read as
-abbrev pub IsReplyTo : Command → Result Code Reply → Reply → Type 0
-IsReplyTo command (Ok code) reply = IsTaskReply command.task command code reply
-IsReplyTo command (Err refusal) reply = reply ≡ refusal
+-- the reply of a command to what the code in its input was read as, and to the text of a script
+abbrev pub IsReplyTo : Command → List ℕ → Result Code Reply → Reply → Type 0
+IsReplyTo command script (Ok code) reply = IsTaskReply command.task command script code reply
+IsReplyTo command script (Err refusal) reply = reply ≡ refusal
 
--- bytes, not more than an input may have, are read as a diagram or refused, and answered
+-- bytes, not more than an input may have, are read as a diagram, with a script where the task wants one, or refused, and answered
 pub record IsReadReply (command : Command) (bytes : List ℕ) (reply : Reply) : Type 0 where
   pub few : length bytes ≤ INPUT_BYTES
   pub outcome : Result Code Reply
-  pub read : IsDiagramRead bytes outcome
-  pub answered : IsReplyTo command outcome reply
+  pub read : IsDiagramRead (code_in command.task bytes) outcome
+  pub answered : IsReplyTo command (script_part bytes) outcome reply
 
 -- the reply of a command to the bytes of an input
 abbrev pub IsCommandReply : Command → List ℕ → Reply → Type 0

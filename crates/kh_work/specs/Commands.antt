@@ -1,8 +1,10 @@
 -- The command that the words after the program's name give. All of it is this project's rule.
-use Rattle.std.specs.Prelude.{ℕ, List, [], ◌∷◌, codes, is_some, if◌then◌else◌, Option, Some, None, option_map, option_and_then, unwrap_or}
+use Rattle.std.specs.Prelude.{ℕ, ◌≤◌, nat_le, ◌&&◌, List, [], ◌∷◌, codes, is_some, if◌then◌else◌, Option, Some, None, option_map, option_and_then, unwrap_or}
 use Rattle.std.specs.Str.{bytes_eq}
+use Rattle.shared_block.specs.declared.limits.TheConstants.{WORKERS}
+use Rattle.undo_stack.specs.Steps.{number_of}
 use Rattle.kh_work.specs.declared.command.Task.{Task}
-use Rattle.kh_work.specs.declared.command.Task.TheVariants.{Homology, Convert, Check, Jones}
+use Rattle.kh_work.specs.declared.command.Task.TheVariants.{Homology, Convert, Check, Jones, Schedule}
 use Rattle.kh_work.specs.declared.command.Field.{Field}
 use Rattle.kh_work.specs.declared.command.Field.TheVariants.{Two, Three, Five, Seven}
 use Rattle.kh_work.specs.declared.command.Form.{Form}
@@ -17,6 +19,7 @@ task_of name =
     else if bytes_eq name (codes "convert") then Some Convert
     else if bytes_eq name (codes "check") then Some Check
     else if bytes_eq name (codes "jones") then Some Jones
+    else if bytes_eq name (codes "schedule") then Some Schedule
     else None
 
 -- the field of a value
@@ -37,9 +40,18 @@ abbrev pub form_of : List ℕ → Option Form
 form_of value =
     if bytes_eq value (codes "pd") then Some Pd else if bytes_eq value (codes "gauss") then Some Gauss else None
 
+-- a number of workers: one or more, and no more than the limit
+abbrev pub AreWorkers : ℕ → Type 0
+AreWorkers count = (1 ≤ count) × (count ≤ WORKERS)
+
+-- the number of workers of a value, which writes it in one or two digits
+abbrev pub workers_of : List ℕ → Option ℕ
+workers_of value =
+    option_and_then (λ count. if nat_le 1 count && nat_le count WORKERS then Some count else None) (number_of 2 value)
+
 -- no option is given
 abbrev pub no_options : Options
-no_options = record { field = None; to = None }
+no_options = record { field = None; to = None; workers = None }
 
 -- the options with a field, unless one is given already
 abbrev pub with_field : Options → List ℕ → Option Options
@@ -51,11 +63,18 @@ abbrev pub with_form : Options → List ℕ → Option Options
 with_form options value =
     if is_some options.to then None else option_map (λ form. record options { to = Some form }) (form_of value)
 
+-- the options with a number of workers, unless one is given already
+abbrev pub with_workers : Options → List ℕ → Option Options
+with_workers options value =
+    if is_some options.workers then None
+    else option_map (λ count. record options { workers = Some count }) (workers_of value)
+
 -- the options with one more, of a name and a value; none where there is no such option or value, or where it is given already
 abbrev pub with_option : Options → List ℕ → List ℕ → Option Options
 with_option options name value =
     if bytes_eq name (codes "--field") then with_field options value
     else if bytes_eq name (codes "--to") then with_form options value
+    else if bytes_eq name (codes "--workers") then with_workers options value
     else None
 
 -- the options with those of more words, which are pairs of a name and a value
@@ -65,9 +84,15 @@ with_options options (name ∷ []) = None
 with_options options (name ∷ value ∷ more) =
     option_and_then (λ given. with_options given more) (with_option options name value)
 
--- the command of a task and options: without an option the field is that of two elements, and the form is that of PD texts
+-- the command of a task and options: without an option the field is that of two elements, the form is that of PD texts, and there
+-- is one worker
 abbrev pub command_with : Task → Options → Command
-command_with task options = record { task = task; field = unwrap_or options.field Two; to = unwrap_or options.to Pd }
+command_with task options = record {
+  task = task;
+  field = unwrap_or options.field Two;
+  to = unwrap_or options.to Pd;
+  workers = unwrap_or options.workers 1;
+}
 
 -- the command that words give, if they give one: the name of a task, then options
 abbrev pub command_of : List (List ℕ) → Option Command

@@ -11,6 +11,7 @@ use Rattle.gauss_code.specs.declared.stop.GaussStop.TheVariants as gauss
 use Rattle.json_code.specs.declared.stop.JsonStop.{JsonStop}
 use Rattle.json_code.specs.declared.stop.JsonStop.TheVariants as json
 use Rattle.circle_smoothing.specs.declared.limits.TheConstants.{GENERATORS}
+use Rattle.undo_stack.specs.declared.limits.TheConstants.{SCRIPT_LINES}
 use Rattle.kh_work.specs.declared.status.Status.TheVariants.{CodeRefused, Usage, Limit}
 use Rattle.kh_work.specs.Replies.{Reply, reply_of}
 
@@ -51,6 +52,14 @@ too_many_loops count = limit_on (codes "loops") count LOOPS
 -- a diagram has more generators than a diagram whose homology is computed
 abbrev pub too_many_generators : ℕ → Reply
 too_many_generators count = limit_on (codes "generators") count GENERATORS
+
+-- a script has more lines than a script may have
+abbrev pub too_many_lines : ℕ → Reply
+too_many_lines count = limit_on (codes "lines") count SCRIPT_LINES
+
+-- a script has a line that has words and is no command, and this is the number of the first
+abbrev pub refused_line : ℕ → Reply
+refused_line line = refused_with (codes "line ") line
 
 -- a PD text is refused for this stop with this reply
 abbrev pub IsPdRefusal : PdStop → Reply → Type 0

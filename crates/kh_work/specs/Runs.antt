@@ -1,5 +1,5 @@
 -- The promises of a run.
-use Rattle.std.specs.Prelude.{◌≡◌, ◌≢◌, ◌⊎◌, ℕ, ℤ, ◌≤◌, List, ◌++◌, length, IfSome, IsSome, IsTrue, None, Some, Ok}
+use Rattle.std.specs.Prelude.{◌≡◌, ◌≢◌, ◌⊎◌, ℕ, ℤ, ◌≤◌, List, ◌++◌, length, IfOk, IfSome, IsSome, IsTrue, None, OnOk, Some, Result, Ok, Err}
 use Rattle.std.specs.declared.option.Option.{Option}
 use Rattle.std.specs.Io.KnownBytes.{Appends}
 use Rattle.kh_types.specs.Acceptance.{accepted}
@@ -10,6 +10,8 @@ use Rattle.kh_types.specs.declared.limits.TheConstants.{CROSSINGS, INPUT_BYTES}
 use Rattle.circle_smoothing.specs.GeneratorCounts.{generator_count}
 use Rattle.circle_smoothing.specs.declared.limits.TheConstants.{GENERATORS}
 use Rattle.kh_io.specs.Faults.{Rose}
+use Rattle.kh_work.specs.declared.answer.ReplyStop.{ReplyStop}
+use Rattle.kh_work.specs.declared.answer.ReplyStop.TheVariants as stops
 use Rattle.kh_work.specs.declared.command.Command.{Command}
 use Rattle.kh_work.specs.declared.command.Task.TheVariants.{Homology}
 use Rattle.kh_work.specs.declared.status.Status.{Status}
@@ -20,7 +22,7 @@ use Rattle.kh_work.specs.Commands.{command_of, size_of}
 use Rattle.kh_work.specs.Inputs.{IsCodeRead}
 use Rattle.kh_work.specs.Refusals.{usage}
 use Rattle.kh_work.specs.Answer.{IsAnswer}
-use Rattle.kh_work.specs.Told.{Gives, GivesPrefix, IsTaken, IsReadOut}
+use Rattle.kh_work.specs.Told.{Gives, GivesPrefix, IsKnownAnswer, IsTaken, IsReadOut}
 
 -- what is known of a source or a sink at one moment: its bytes, those still to come or those written, and its count of faults
 pub record Seen : Type 0 where
@@ -30,6 +32,32 @@ pub record Seen : Type 0 where
 -- these bytes and this count
 abbrev pub seen : Option (List ℕ) → ℕ → Seen
 seen bytes faults = record { bytes = bytes; faults = faults }
+
+-- a run with these words has come to a reply, or to a stop without one, before it writes; the source was as seen before and after
+-- it, and may be the same
+pub record IsReplied (words : List (List ℕ)) (source_before source_after : Seen) (same_source : Type 0)
+    (made : Result Reply ReplyStop) : Type 0 where
+  pub known : IfOk made (λ reply. IsKnownAnswer source_before.bytes words reply)
+  pub whole : IfOk made (λ reply. IsWhole reply.status)
+  pub usage : command_of words ≡ None → IfOk made (λ reply. reply ≡ usage)
+  pub usage_only : IfOk made (λ reply. reply.status ≡ Usage → command_of words ≡ None)
+  pub unread : command_of words ≡ None → same_source
+  pub taken : IsTaken source_before.bytes source_after.bytes
+  pub read_out : IsSome (command_of words) → OnOk made (IsReadOut source_before.bytes source_after.bytes)
+  pub fault : made ≡ Err stops.ReadFault → Rose source_before.faults source_after.faults
+
+-- the status of a stop without a reply
+abbrev pub status_of : ReplyStop → Status
+status_of stops.ReadFault = ReadFault
+status_of stops.NoMemory = NoMemory
+
+-- a sink has gained a reply, whole, and the status is its status; or its count of faults rose, and it has gained a prefix. Without a
+-- reply it is the same
+abbrev pub IsWritten : Result Reply ReplyStop → Seen → Seen → Type 0 → Status → Type 0
+IsWritten (Ok reply) before after same_sink status =
+    Gives reply status before.bytes after.bytes
+    ⊎ ((status ≡ WriteFault) × Rose before.faults after.faults × GivesPrefix reply before.bytes after.bytes)
+IsWritten (Err stop) before after same_sink status = (status ≡ status_of stop) × same_sink
 
 -- a run with these words ended with this status; the source and the sink were as seen before and after it, and each may be the same
 pub record IsRun (words : List (List ℕ)) (source_before source_after sink_before sink_after : Seen) (same_source same_sink : Type 0)

@@ -26,6 +26,13 @@ pub fn one_answer()
         → IsAnswer words bytes reply → IsAnswer words bytes other → reply ≡ other }
 {}
 
+/// Commands that differ only in the number of their workers have the same answers.
+pub fn workers_do_not_change_answers()
+    ensures { (words other : List (List ℕ)) (command : Command) (workers : ℕ) (bytes : List ℕ) (reply : Reply)
+        → command_of words ≡ Some command → command_of other ≡ Some (record command { workers = workers })
+        → IsAnswer words bytes reply → IsAnswer other bytes reply }
+{}
+
 /// Words that give the command `homology`, and bytes that are the text of the code of an accepted diagram within the limits, are
 /// answered by its homology table over the field that the words name, and by the Jones line of its state sum.
 pub fn accepted_diagrams_are_answered_by_their_table()

@@ -1,7 +1,7 @@
 //! Every line of a refusal or a limit.
 
 ghost use Rattle.std.specs.Prelude.{◌≡◌, IfOk, codes, string_bytes};
-ghost use Rattle.kh_work.specs.Refusals.{usage, too_many_bytes, too_many_crossings, too_many_loops, too_many_generators, refused_with, IsPdRefusal, IsGaussRefusal, IsJsonRefusal, fault_refusal};
+ghost use Rattle.kh_work.specs.Refusals.{usage, too_many_bytes, too_many_crossings, too_many_loops, too_many_generators, too_many_lines, refused_line, refused_with, IsPdRefusal, IsGaussRefusal, IsJsonRefusal, fault_refusal};
 
 use crate::reply::{Reply, fixed_reply, reply_with};
 use crate::status::Status;
@@ -11,6 +11,7 @@ use json_code::JsonStop;
 use kh_types::{COMPONENTS, CROSSINGS, CodeFault, INPUT_BYTES, LOOPS, NoMemory};
 use pd_code::PdStop;
 use std::alloc::Global;
+use undo_stack::SCRIPT_LINES;
 
 /// The reply to words that give no command.
 pub fn usage(alloc: Global) -> Result<Reply, NoMemory>
@@ -50,6 +51,22 @@ pub fn too_many_generators(alloc: Global, count: u64) -> Result<Reply, NoMemory>
 {
     let line = format!(in alloc; "limit generators {count} of {GENERATORS}\n")?;
     Ok(reply_with(Status::Limit, line))
+}
+
+/// The reply to a script with more lines than a script may have.
+pub fn too_many_lines(alloc: Global, count: u32) -> Result<Reply, NoMemory>
+    ensures { IfOk result (λ reply. reply ≡ too_many_lines count) }
+{
+    let line = format!(in alloc; "limit lines {count} of {SCRIPT_LINES}\n")?;
+    Ok(reply_with(Status::Limit, line))
+}
+
+/// The reply to a script with a line that is no command.
+pub fn refused_line(alloc: Global, line: u32) -> Result<Reply, NoMemory>
+    ensures { IfOk result (λ reply. reply ≡ refused_line line) }
+{
+    let text = format!(in alloc; "refused line {line}\n")?;
+    Ok(reply_with(Status::CodeRefused, text))
 }
 
 /// The reply to a text that goes on as no text does.

@@ -4,16 +4,23 @@ mod bad;
 mod counted;
 mod known;
 mod rows;
+mod schedules;
+mod workers;
 
-use crate::{Status, run};
+use crate::{Status, run, run_alone};
 use bad::BAD;
 use counted::COUNTED;
 use kh_io::{MemSink, MemSource};
 use kh_types::Words;
 use known::KNOWN;
 use rows::{ROWS, TREFOIL};
+use schedules::SCHEDULES;
 use std::process::Abort;
+use std::sync::Wait;
 use std::test::Fail;
+use std::thread::Threads;
+use worker_pool::Free;
+use workers::WORKERS;
 
 fn words_of(rt: &impl AllocGlobal, words: &[&str]) -> Result<Words, Fail> {
     let mut list = Words::new(rt.alloc())?;
@@ -23,7 +30,7 @@ fn words_of(rt: &impl AllocGlobal, words: &[&str]) -> Result<Words, Fail> {
     Ok(list)
 }
 
-// Runs some words on an input, and gives the status and what is written.
+// Runs some words on an input, alone, and gives the status and what is written.
 fn answer_to<R: Abort + AllocGlobal>(
     rt: &R,
     words: &[&str],
@@ -32,21 +39,35 @@ fn answer_to<R: Abort + AllocGlobal>(
     let words = words_of(rt, words)?;
     let mut source = MemSource::new(rt.alloc(), input, 7, &[])?;
     let mut sink = MemSink::new(rt.alloc(), 4_096, 5, &[])?;
-    let status = run(rt.alloc(), &words, &mut source, &mut sink);
+    let status = run_alone(rt.alloc(), &words, &mut source, &mut sink);
     Ok((status, sink))
 }
 
-// Runs some words on an input, and compares the status and what is written.
-fn expect_answer<R: Abort + AllocGlobal>(
+// The same with a handle to threads.
+fn answer_by<R: Abort + AllocGlobal + Threads + Wait + Sync>(
+    rt: &R,
+    words: &[&str],
+    input: &[u8],
+) -> Result<(Status, MemSink), Fail> {
+    let words = words_of(rt, words)?;
+    let mut source = MemSource::new(rt.alloc(), input, 7, &[])?;
+    let mut sink = MemSink::new(rt.alloc(), 4_096, 5, &[])?;
+    let status = run(rt, rt.alloc(), &words, &mut source, &mut sink, &Free);
+    Ok((status, sink))
+}
+
+// Runs some words on an input, in both ways, and compares the status and what is written.
+fn expect_answer<R: Abort + AllocGlobal + Threads + Wait + Sync>(
     rt: &R,
     words: &[&str],
     input: &[u8],
     status: Status,
     output: &str,
 ) -> Result<(), Fail> {
-    let (ended, sink) = answer_to(rt, words, input)?;
-    assert_eq!(rt; sink.bytes(), output.as_bytes(), "{output}");
-    assert_eq!(rt; ended, status, "{output}");
+    for (ended, sink) in [answer_to(rt, words, input)?, answer_by(rt, words, input)?] {
+        assert_eq!(rt; sink.bytes(), output.as_bytes(), "{output}");
+        assert_eq!(rt; ended, status, "{output}");
+    }
     Ok(())
 }
 
@@ -133,6 +154,54 @@ fn words_and_inputs_have_their_answers(rt: HostRuntime) -> Result<(), Fail> {
 }
 
 #[test]
+fn numbers_of_workers_are_read(rt: HostRuntime) -> Result<(), Fail> {
+    for row in &WORKERS {
+        expect_answer(&rt, row.words, row.input.as_bytes(), row.status, row.output)?;
+    }
+    Ok(())
+}
+
+#[test]
+fn schedules_have_their_answers(rt: HostRuntime) -> Result<(), Fail> {
+    for row in &SCHEDULES {
+        expect_answer(&rt, row.words, row.input.as_bytes(), row.status, row.output)?;
+    }
+    Ok(())
+}
+
+#[test]
+fn a_script_of_4096_lines_is_read_and_a_line_more_is_not(rt: HostRuntime) -> Result<(), Fail> {
+    for (code, full, above) in [
+        (
+            "PD[X[1,1,2,2]];",
+            "refused line 4096\n",
+            "limit lines 4097 of 4096\n",
+        ),
+        (
+            "PD[X[1,2,1,2]];",
+            "refused checkerboard at arc 1\n",
+            "refused checkerboard at arc 1\n",
+        ),
+    ] {
+        let mut input = String::from_str(rt.alloc(), code)?;
+        for _ in 0..4_095 {
+            input.push('\n')?;
+        }
+        input.push_str("commit 0\n")?;
+        let refused = Status::CodeRefused;
+        expect_answer(&rt, &["schedule"], input.as_bytes(), refused, full)?;
+        input.push('\n')?;
+        let status = if full == above {
+            refused
+        } else {
+            Status::Limit
+        };
+        expect_answer(&rt, &["schedule"], input.as_bytes(), status, above)?;
+    }
+    Ok(())
+}
+
+#[test]
 fn a_full_input_is_read_and_a_byte_more_is_not(rt: HostRuntime) -> Result<(), Fail> {
     let mut input = String::from_str(rt.alloc(), TREFOIL)?;
     for _ in 0..65_498 {
@@ -155,7 +224,7 @@ fn a_fault_ends_a_run_with_what_was_written(rt: HostRuntime) -> Result<(), Fail>
     ] {
         let mut source = MemSource::new(rt.alloc(), TREFOIL.as_bytes(), 4, reads)?;
         let mut sink = MemSink::new(rt.alloc(), 4_096, 1, writes)?;
-        let ended = run(rt.alloc(), &words, &mut source, &mut sink);
+        let ended = run_alone(rt.alloc(), &words, &mut source, &mut sink);
         assert_eq!(rt; ended, status);
         assert_eq!(rt; sink.bytes(), output.as_bytes());
     }

@@ -1,17 +1,30 @@
-//! The top call: reads, answers and writes.
+//! The top calls: they read, answer and write.
 
 ghost use Rattle.std.specs.Prelude.{◌≡◌};
-ghost use Rattle.kh_work.specs.Runs.{IsRun, KeepsHeadline, seen};
+ghost use Rattle.kh_work.specs.Runs.{IsReplied, IsRun, IsWritten, KeepsHeadline, seen};
 
-use crate::answer::{ReplyStop, reply_to};
+use crate::answer::{ReplyStop, draft_to};
+use crate::completion::{completed_alone, completed_by};
+use crate::reply::Reply;
 use crate::status::Status;
 use kh_io::{Sink, Source, write_all};
 use kh_types::Words;
 use std::alloc::Global;
+use std::sync::Wait;
+use std::thread::Threads;
+use worker_pool::Gate;
 
 /// Does all that the program does: takes the words after the program's name, reads the source to its end where they give a
-/// command, makes the whole answer, and writes it. Answers how the run ended. Source: this project's rule.
-pub fn run<S: Source, K: Sink>(alloc: Global, words: &Words, source: &mut S, sink: &mut K) -> Status
+/// command, makes the whole answer, and writes it. Answers how the run ended. Only `homology` with more than one worker starts
+/// threads and may wait; its workers call the gate in each of their turns. Source: this project's rule.
+pub fn run<R: Threads + Wait + Sync, S: Source, K: Sink, G: Gate + Sync>(
+    rt: &R,
+    alloc: Global,
+    words: &Words,
+    source: &mut S,
+    sink: &mut K,
+    gate: &G,
+) -> Status
     ensures run { IsRun words.now
         (seen (S.left source.old) (S.faults source.old)) (seen (S.left source.new) (S.faults source.new))
         (seen (K.written sink.old) (K.faults sink.old)) (seen (K.written sink.new) (K.faults sink.new))
@@ -19,17 +32,61 @@ pub fn run<S: Source, K: Sink>(alloc: Global, words: &Words, source: &mut S, sin
     ensures headline { KeepsHeadline words.now (seen (S.left source.old) (S.faults source.old))
         (seen (K.written sink.old) (K.faults sink.old)) (seen (K.written sink.new) (K.faults sink.new)) result }
 {
-    answer(alloc, words, source, sink)
+    let made = reply_by(rt, alloc, words, source, gate);
+    written(sink, made)
 }
 
-/// Answers the words and the source: reads, makes the whole answer, and writes it.
-fn answer<S: Source, K: Sink>(alloc: Global, words: &Words, source: &mut S, sink: &mut K) -> Status
-    ensures { IsRun words.now
+/// Does the same on the caller's thread, whatever the number of workers, and waits for nobody. Source: this project's rule.
+pub fn run_alone<S: Source, K: Sink>(
+    alloc: Global,
+    words: &Words,
+    source: &mut S,
+    sink: &mut K,
+) -> Status
+    ensures run { IsRun words.now
         (seen (S.left source.old) (S.faults source.old)) (seen (S.left source.new) (S.faults source.new))
         (seen (K.written sink.old) (K.faults sink.old)) (seen (K.written sink.new) (K.faults sink.new))
         (source.new ≡ source.old) (sink.new ≡ sink.old) result }
+    ensures headline { KeepsHeadline words.now (seen (S.left source.old) (S.faults source.old))
+        (seen (K.written sink.old) (K.faults sink.old)) (seen (K.written sink.new) (K.faults sink.new)) result }
 {
-    match reply_to(alloc, words, source) {
+    let made = reply_alone(alloc, words, source);
+    written(sink, made)
+}
+
+/// The reply to words and a source, made with workers.
+fn reply_by<R: Threads + Wait + Sync, S: Source, G: Gate + Sync>(
+    rt: &R,
+    alloc: Global,
+    words: &Words,
+    source: &mut S,
+    gate: &G,
+) -> Result<Reply, ReplyStop>
+    ensures { IsReplied words.now
+        (seen (S.left source.old) (S.faults source.old)) (seen (S.left source.new) (S.faults source.new))
+        (source.new ≡ source.old) result }
+{
+    let draft = draft_to(alloc, words, source)?;
+    Ok(completed_by(rt, alloc, draft, gate)?)
+}
+
+/// The reply to words and a source, made with no other thread.
+fn reply_alone<S: Source>(alloc: Global, words: &Words, source: &mut S) -> Result<Reply, ReplyStop>
+    ensures { IsReplied words.now
+        (seen (S.left source.old) (S.faults source.old)) (seen (S.left source.new) (S.faults source.new))
+        (source.new ≡ source.old) result }
+{
+    let draft = draft_to(alloc, words, source)?;
+    Ok(completed_alone(alloc, draft)?)
+}
+
+/// Writes a reply, if there is one, and answers how the run ends.
+fn written<K: Sink>(sink: &mut K, made: Result<Reply, ReplyStop>) -> Status
+    ensures { IsWritten made
+        (seen (K.written sink.old) (K.faults sink.old)) (seen (K.written sink.new) (K.faults sink.new))
+        (sink.new ≡ sink.old) result }
+{
+    match made {
         Ok(reply) => match write_all(sink, reply.text.as_slice()) {
             Ok(()) => reply.status,
             Err(_) => Status::WriteFault,

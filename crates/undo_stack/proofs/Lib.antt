@@ -6,4 +6,4 @@ mod LineCuts
 mod WordCuts
 mod Readings
 mod ScheduleLines
-mod ScheduleReadings
+pub mod ScheduleReadings

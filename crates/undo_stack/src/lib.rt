@@ -14,6 +14,7 @@ mod stop;
 mod tests;
 mod word;
 
+pub use digits::number_of;
 pub use laws::{
     each_text_has_one_reading, each_text_is_cut_in_one_way, limits_of_scripts, worked_scripts,
 };

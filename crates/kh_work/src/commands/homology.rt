@@ -1,65 +1,56 @@
 //! The command `homology`: the table of homology dimensions, and the Jones polynomial.
 
-ghost use Rattle.std.specs.Prelude.{◌≡◌, ◌≤◌, IfOk};
-ghost use Rattle.circle_smoothing.specs.GeneratorCounts.{generator_count};
-ghost use Rattle.circle_smoothing.specs.declared.limits.TheConstants.{GENERATORS};
-ghost use Rattle.kh_types.specs.Table.{table, table_text};
-ghost use Rattle.kh_work.specs.Commands.{size_of};
-ghost use Rattle.kh_work.specs.Homology.{homology_reply, homology_text};
+ghost use Rattle.std.specs.Prelude.{◌≡◌, ◌++◌, IfOk};
+ghost use Rattle.kh_types.specs.Table.{table_text};
+ghost use Rattle.kh_work.specs.Commands.{AreWorkers};
+ghost use Rattle.kh_work.specs.Drafts.{IsReady, reply_in};
+ghost use Rattle.kh_work.specs.Homology.{homology_reply};
+ghost use Rattle.kh_work.specs.Jones.{jones_line};
+ghost use Rattle.kh_work.specs.Replies.{reply_of};
+ghost use Rattle.kh_work.specs.declared.status.Status.{Status};
 
 use crate::command::Field;
 use crate::commands::jones::jones_line;
+use crate::draft::Draft;
 use crate::refusals::too_many_generators;
 use crate::reply::Reply;
 use crate::status::Status;
 use cube_signs::check_size;
-use homology_table::homology_table;
+use jones_sum::Table;
 use kh_types::{Diagram, NoMemory};
-use prime_field::{F2, F3, F5, F7, PrimeField};
 use std::alloc::Global;
 use table_text::print_table;
 
-/// The text of the homology table over a field and the Jones line, where the diagram has few enough generators.
-pub fn reply_to_homology(alloc: Global, field: Field, diagram: &Diagram) -> Result<Reply, NoMemory>
-    ensures { IfOk result (λ reply. reply ≡ homology_reply field diagram.now) }
+/// The reply to a diagram, whose homology table is still to be made where it has few enough generators.
+pub fn draft_of_homology(
+    alloc: Global,
+    field: Field,
+    workers: u32,
+    diagram: &Diagram,
+) -> Result<Draft, NoMemory>
+    requires { AreWorkers workers }
+    ensures reply { IfOk result (λ draft. reply_in draft ≡ homology_reply field diagram.now) }
+    ensures ready { IfOk result IsReady }
 {
     match check_size(diagram) {
-        Ok(_) => Ok(Reply {
-            status: Status::Done,
-            text: homology_text(alloc, field, diagram)?,
+        Ok(_) => Ok(Draft::Table {
+            field,
+            workers,
+            diagram: *diagram,
         }),
-        Err(limit) => too_many_generators(alloc, limit.generators),
+        Err(limit) => Ok(Draft::Made(too_many_generators(alloc, limit.generators)?)),
     }
 }
 
-/// The text of the homology table over a field, and the Jones line behind it.
-#[tactic(auto, unfolding(crate::specs::Homology::homology_text))]
-fn homology_text(alloc: Global, field: Field, diagram: &Diagram) -> Result<Vec<u8>, NoMemory>
-    requires { generator_count diagram.now ≤ GENERATORS }
-    ensures { IfOk result (λ text. text.items ≡ homology_text field diagram.now) }
+/// The text of a homology table of a diagram, and the Jones line behind it.
+pub fn reply_with_table(alloc: Global, diagram: &Diagram, table: &Table) -> Result<Reply, NoMemory>
+    ensures { IfOk result (λ reply. reply
+        ≡ reply_of Status.Done (table_text table.now ++ jones_line diagram.now)) }
 {
-    let mut text = table_text_of(alloc, field, diagram)?;
+    let mut text = print_table(alloc, table)?;
     text.extend_from_slice(&jones_line(alloc, diagram)?)?;
-    Ok(text)
-}
-
-/// The text of the homology table over a field.
-fn table_text_of(alloc: Global, field: Field, diagram: &Diagram) -> Result<Vec<u8>, NoMemory>
-    requires { generator_count diagram.now ≤ GENERATORS }
-    ensures { IfOk result (λ text. text.items ≡ table_text (table (size_of field) diagram.now)) }
-{
-    match field {
-        Field::Two => table_text_over::<F2>(alloc, diagram),
-        Field::Three => table_text_over::<F3>(alloc, diagram),
-        Field::Five => table_text_over::<F5>(alloc, diagram),
-        Field::Seven => table_text_over::<F7>(alloc, diagram),
-    }
-}
-
-fn table_text_over<F: PrimeField>(alloc: Global, diagram: &Diagram) -> Result<Vec<u8>, NoMemory>
-    requires { generator_count diagram.now ≤ GENERATORS }
-    ensures { IfOk result (λ text. text.items ≡ table_text (table F.P diagram.now)) }
-{
-    let table = homology_table::<F>(alloc, diagram)?;
-    print_table(alloc, &table)
+    Ok(Reply {
+        status: Status::Done,
+        text,
+    })
 }

@@ -1,0 +1,124 @@
+-- What is written of a reply is what a run promises.
+use Rattle.std.proofs.Common.{◌≡◌, ◌⊎◌, inl, inr, ℕ, List, IfSome, sym, subst, refl, ◌∙◌, Result, Ok, Err, None, Some}
+use Rattle.std.specs.declared.option.Option.{Option}
+use Rattle.kh_io.specs.Faults.{Rose}
+use Rattle.kh_work.specs.declared.answer.ReplyStop.{ReplyStop}
+use Rattle.kh_work.specs.declared.answer.ReplyStop.TheVariants as stops
+use Rattle.kh_work.specs.declared.status.Status.{Status}
+use Rattle.kh_work.specs.declared.status.Status.TheVariants.{Usage, ReadFault, WriteFault, NoMemory}
+use Rattle.kh_work.specs.Answer.{IsAnswer}
+use Rattle.kh_work.specs.Replies.{Reply}
+use Rattle.kh_work.specs.Runs.{IsReplied, IsRun, IsWritten, Seen}
+use Rattle.kh_work.specs.Statuses.{IsWhole}
+use Rattle.kh_work.specs.Told.{Gives, GivesPrefix, IsKnownAnswer}
+
+-- what is known of an answer goes with what is known of a reply
+with_answer : (left : Option (List ℕ)) (words : List (List ℕ)) (reply : Reply) (Fact : Reply → Type 0) → IsKnownAnswer left words reply
+    → Fact reply → IfSome left (λ bytes. (told : Reply) × IsAnswer words bytes told × Fact told)
+with_answer None words reply Fact known fact = tt
+with_answer (Some bytes) words reply Fact known fact = (reply, known.known, fact)
+
+-- a whole reply is not one of these statuses
+not_whole : (status ended : Status) → IsWhole ended → status ≡ ended → (IsWhole status → ⊥) → ⊥
+not_whole status ended whole same not = not (subst IsWhole (sym same) whole)
+
+not_stopped : (status : Status) → IsWhole status → (status ≡ ReadFault) ⊎ (status ≡ NoMemory) → ⊥
+not_stopped status whole (inl same) = subst IsWhole same whole
+not_stopped status whole (inr same) = subst IsWhole same whole
+
+not_both : (status : Status) → status ≡ WriteFault → (status ≡ ReadFault) ⊎ (status ≡ NoMemory) → ⊥
+not_both status is (inl same) = let both : WriteFault ≡ ReadFault = sym is ∙ same in cc
+not_both status is (inr same) = let both : WriteFault ≡ NoMemory = sym is ∙ same in cc
+
+run_whole : (words : List (List ℕ)) (source_before source_after sink_before sink_after : Seen) (same_source same_sink : Type 0)
+    (reply : Reply) (status : Status) → IsReplied words source_before source_after same_source (Ok reply)
+    → Gives reply status sink_before.bytes sink_after.bytes
+    → IsRun words source_before source_after sink_before sink_after same_source same_sink status
+run_whole words source_before source_after sink_before sink_after same_source same_sink reply status replied gives =
+    let whole : IsWhole status = subst IsWhole (sym gives.status) replied.whole in
+    record {
+      answered = λ w. with_answer source_before.bytes words reply (λ r. Gives r status sink_before.bytes sink_after.bytes) replied.known gives;
+      usage_answered = λ none w. subst (λ r. Gives r status sink_before.bytes sink_after.bytes) (replied.usage none) gives;
+      usage_only = λ is. replied.usage_only (sym gives.status ∙ is);
+      unread = replied.unread;
+      taken = replied.taken;
+      read_out = λ some no_fault memory. replied.read_out some;
+      read_fault = λ is. absurd (subst IsWhole is whole);
+      write_fault = λ is. absurd (subst IsWhole is whole);
+      unwritten = λ stopped. absurd (not_stopped status whole stopped);
+      prefix_written = λ is. absurd (subst IsWhole is whole);
+      usage_prefix = λ is none. absurd (subst IsWhole is whole);
+      complete = λ read wrote. inl whole;
+    }
+
+run_cut : (words : List (List ℕ)) (source_before source_after sink_before sink_after : Seen) (same_source same_sink : Type 0)
+    (reply : Reply) (status : Status) → IsReplied words source_before source_after same_source (Ok reply) → status ≡ WriteFault
+    → Rose sink_before.faults sink_after.faults → GivesPrefix reply sink_before.bytes sink_after.bytes
+    → IsRun words source_before source_after sink_before sink_after same_source same_sink status
+run_cut words source_before source_after sink_before sink_after same_source same_sink reply status replied is_fault rose prefix =
+    record {
+      answered = λ whole. absurd (subst IsWhole is_fault whole);
+      usage_answered = λ none whole. absurd (subst IsWhole is_fault whole);
+      usage_only = λ is. let both : WriteFault ≡ Usage = sym is_fault ∙ is in absurd (cc);
+      unread = replied.unread;
+      taken = replied.taken;
+      read_out = λ some no_fault memory. replied.read_out some;
+      read_fault = λ is. absurd (not_both status is_fault (inl is));
+      write_fault = λ is. rose;
+      unwritten = λ stopped. absurd (not_both status is_fault stopped);
+      prefix_written = λ is. with_answer source_before.bytes words reply (λ r. GivesPrefix r sink_before.bytes sink_after.bytes) replied.known prefix;
+      usage_prefix = λ is none. subst (λ r. GivesPrefix r sink_before.bytes sink_after.bytes) (replied.usage none) prefix;
+      complete = λ read wrote. absurd (wrote rose);
+    }
+
+run_unread : (words : List (List ℕ)) (source_before source_after sink_before sink_after : Seen) (same_source same_sink : Type 0)
+    (status : Status) → IsReplied words source_before source_after same_source (Err stops.ReadFault) → status ≡ ReadFault → same_sink
+    → IsRun words source_before source_after sink_before sink_after same_source same_sink status
+run_unread words source_before source_after sink_before sink_after same_source same_sink status replied is_fault same =
+    record {
+      answered = λ whole. absurd (subst IsWhole is_fault whole);
+      usage_answered = λ none whole. absurd (subst IsWhole is_fault whole);
+      usage_only = λ is. let both : ReadFault ≡ Usage = sym is_fault ∙ is in absurd (cc);
+      unread = replied.unread;
+      taken = replied.taken;
+      read_out = λ some no_fault memory. absurd (no_fault is_fault);
+      read_fault = λ is. replied.fault refl;
+      write_fault = λ is. let both : ReadFault ≡ WriteFault = sym is_fault ∙ is in absurd (cc);
+      unwritten = λ stopped. same;
+      prefix_written = λ is. let both : ReadFault ≡ WriteFault = sym is_fault ∙ is in absurd (cc);
+      usage_prefix = λ is none. let both : ReadFault ≡ WriteFault = sym is_fault ∙ is in absurd (cc);
+      complete = λ read wrote. absurd (read (replied.fault refl));
+    }
+
+run_unmade : (words : List (List ℕ)) (source_before source_after sink_before sink_after : Seen) (same_source same_sink : Type 0)
+    (status : Status) → IsReplied words source_before source_after same_source (Err stops.NoMemory) → status ≡ NoMemory → same_sink
+    → IsRun words source_before source_after sink_before sink_after same_source same_sink status
+run_unmade words source_before source_after sink_before sink_after same_source same_sink status replied is_memory same =
+    record {
+      answered = λ whole. absurd (subst IsWhole is_memory whole);
+      usage_answered = λ none whole. absurd (subst IsWhole is_memory whole);
+      usage_only = λ is. let both : NoMemory ≡ Usage = sym is_memory ∙ is in absurd (cc);
+      unread = replied.unread;
+      taken = replied.taken;
+      read_out = λ some no_fault memory. absurd (memory is_memory);
+      read_fault = λ is. let both : NoMemory ≡ ReadFault = sym is_memory ∙ is in absurd (cc);
+      write_fault = λ is. let both : NoMemory ≡ WriteFault = sym is_memory ∙ is in absurd (cc);
+      unwritten = λ stopped. same;
+      prefix_written = λ is. let both : NoMemory ≡ WriteFault = sym is_memory ∙ is in absurd (cc);
+      usage_prefix = λ is none. let both : NoMemory ≡ WriteFault = sym is_memory ∙ is in absurd (cc);
+      complete = λ read wrote. inr is_memory;
+    }
+
+-- whatever a run has come to, once that is written
+pub IsRun-written : (words : List (List ℕ)) (source_before source_after sink_before sink_after : Seen)
+    (same_source same_sink : Type 0) (made : Result Reply ReplyStop) (status : Status)
+    → IsReplied words source_before source_after same_source made → IsWritten made sink_before sink_after same_sink status
+    → IsRun words source_before source_after sink_before sink_after same_source same_sink status
+IsRun-written words source_before source_after sink_before sink_after same_source same_sink (Ok reply) status replied (inl gives) =
+    run_whole words source_before source_after sink_before sink_after same_source same_sink reply status replied gives
+IsRun-written words source_before source_after sink_before sink_after same_source same_sink (Ok reply) status replied (inr (is, rose, prefix)) =
+    run_cut words source_before source_after sink_before sink_after same_source same_sink reply status replied is rose prefix
+IsRun-written words source_before source_after sink_before sink_after same_source same_sink (Err stops.ReadFault) status replied (is, same) =
+    run_unread words source_before source_after sink_before sink_after same_source same_sink status replied is same
+IsRun-written words source_before source_after sink_before sink_after same_source same_sink (Err stops.NoMemory) status replied (is, same) =
+    run_unmade words source_before source_after sink_before sink_after same_source same_sink status replied is same

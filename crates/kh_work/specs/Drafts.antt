@@ -1,0 +1,20 @@
+-- Drafts of replies: what a reply is to be made of, where its homology table is still to be made.
+use Rattle.std.specs.Prelude.{◌≤◌}
+use Rattle.circle_smoothing.specs.GeneratorCounts.{generator_count}
+use Rattle.circle_smoothing.specs.declared.limits.TheConstants.{GENERATORS}
+use Rattle.kh_work.specs.declared.draft.Draft.{Draft}
+use Rattle.kh_work.specs.declared.draft.Draft.TheVariants.{Made, Table}
+use Rattle.kh_work.specs.declared.status.Status.TheVariants.{Done}
+use Rattle.kh_work.specs.Commands.{AreWorkers}
+use Rattle.kh_work.specs.Replies.{Reply, reply_of}
+use Rattle.kh_work.specs.Homology.{homology_text}
+
+-- the reply that a draft is of
+abbrev pub reply_in : Draft → Reply
+reply_in (Made reply) = reply
+reply_in (Table field workers code) = reply_of Done (homology_text field code)
+
+-- the table of a draft, where one is still to be made, can be made: the cube has few enough generators, and there are workers
+abbrev pub IsReady : Draft → Type 0
+IsReady (Made reply) = Unit {0}
+IsReady (Table field workers code) = (generator_count code ≤ GENERATORS) × AreWorkers workers

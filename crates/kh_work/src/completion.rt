@@ -1,0 +1,53 @@
+//! From a draft to the reply, whose homology table is made on the caller's thread or by workers.
+
+ghost use Rattle.std.specs.Prelude.{◌≡◌, IfOk};
+ghost use Rattle.kh_work.specs.Drafts.{IsReady, reply_in};
+
+use crate::commands::reply_with_table;
+use crate::draft::Draft;
+use crate::reply::Reply;
+use crate::tables::{table_alone, table_by};
+use kh_types::NoMemory;
+use std::alloc::Global;
+use std::sync::Wait;
+use std::thread::Threads;
+use worker_pool::Gate;
+
+/// The reply of a draft, with no other thread.
+#[tactic(auto, unfolding(crate::specs::Homology::homology_text))]
+pub fn completed_alone(alloc: Global, draft: Draft) -> Result<Reply, NoMemory>
+    requires { IsReady draft }
+    ensures { IfOk result (λ reply. reply ≡ reply_in draft) }
+{
+    match draft {
+        Draft::Made(reply) => Ok(reply),
+        Draft::Table { field, diagram, .. } => {
+            let table = table_alone(alloc, field, &diagram)?;
+            reply_with_table(alloc, &diagram, &table)
+        }
+    }
+}
+
+/// The reply of a draft, with as many workers as it asks for, which call a gate.
+#[tactic(auto, unfolding(crate::specs::Homology::homology_text))]
+pub fn completed_by<R: Threads + Wait + Sync, G: Gate + Sync>(
+    rt: &R,
+    alloc: Global,
+    draft: Draft,
+    gate: &G,
+) -> Result<Reply, NoMemory>
+    requires { IsReady draft }
+    ensures { IfOk result (λ reply. reply ≡ reply_in draft) }
+{
+    match draft {
+        Draft::Made(reply) => Ok(reply),
+        Draft::Table {
+            field,
+            workers,
+            diagram,
+        } => {
+            let table = table_by(rt, alloc, field, workers, &diagram, gate)?;
+            reply_with_table(alloc, &diagram, &table)
+        }
+    }
+}
