@@ -12,3 +12,4 @@ pub mod Places
 pub mod Steps
 pub mod RowsExist
 pub mod LockedTurns
+pub mod AnswerCounts

@@ -41,10 +41,12 @@ pub fn core_laws<F: PrimeField>(core: &Core<F>)
     let _ = core.diagram.crossings();
 }
 
-/// The answers of a run from the opening state are a function of its events: of the pivots that
-/// workers look at nothing depends.
+/// The answers of a run from the opening state are a function of its events, one for each: of the
+/// pivots that workers look at nothing depends.
 pub fn answers_are_a_function_of_the_events()
-    ensures { (p workers : ℕ) (code : Code) (events : List Event) (made : List Answer)
+    ensures count { (p workers : ℕ) (code : Code) (events : List Event)
+        → length (answers p code workers events) ≡ length events }
+    ensures answers { (p workers : ℕ) (code : Code) (events : List Event) (made : List Answer)
         (after : State) → IsRun p (opening_state code workers) events made after
         → made ≡ answers p code workers events }
 {}

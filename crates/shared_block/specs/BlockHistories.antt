@@ -39,7 +39,7 @@ abbrev pub copy_with : ℕ → Copied → BlockCopy
 copy_with version parts = record { version = version; parts = parts }
 
 -- a copy is one of the block as it stands: at its version, which is the length of its history, for a pivot of its complex, and
--- with the parts that the cancellation of this pivot reads and changes there
+-- with the columns and rows of the pivot's own matrix that its cancellation reads and changes
 pub record IsCopyOf (p : ℕ) (held : BlockHistory) (copy : BlockCopy) : Type 0 where
   pub version : copy.version ≡ length held.history
   pub pivot : IsPivot (complex_of p held) copy.parts.pivot
@@ -52,7 +52,7 @@ pub record Fits (p : ℕ) (held : BlockHistory) (copy : BlockCopy) : Type 0 wher
   pub copy_is : IsCopyOf p held copy
 
 -- what a block in memory keeps: its diagram is accepted, its history is legal, its complex is what the history leaves, and the
--- history has room for half as many pivots more as places are alive, rounded down
+-- history has room for half as many pivots more as places are alive, rounded down, in all for fewer than 2^63
 pub record IsKept (p : ℕ) (held : BlockHistory) (room : ℕ) (complex : Complex) : Type 0 where
   pub accepted : IsTrue (accepted held.diagram)
   pub legal : HasLegalHistory p held

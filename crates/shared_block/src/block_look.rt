@@ -9,8 +9,8 @@ use prime_field::PrimeField;
 use std::alloc::Global;
 use std::marker::Model;
 
-/// A pivot of a block, with copies of the columns and rows that its cancellation reads and changes,
-/// and the version at which they were made. Contracts see a `BlockCopy`.
+/// A pivot of a block, with copies of the columns and rows of its own matrix that its cancellation
+/// reads and changes, and the version at which they were made. Contracts see a `BlockCopy`.
 #[derive(Drop)]
 pub struct BlockLook<F: PrimeField> {
     pub(crate) version: u64,

@@ -343,7 +343,7 @@ module _ {S O E : Type 0} (origin_of : S → O) (history_of : S → List E) (ori
 
   -- where one view has all shares, the value is at home with what it has seen, and it has all places
   pub ends : (s : St) (id : ℕ) (v : V) → Rule s → get_elem? s.views id ≡ some v → v.share ≡ seats → 1 ≤ v.share → v.held ≡ None
-      → IsAtHome origin_of history_of origin v.seen s × IsAscending v.mine × Dealt first (length v.seen) (v ∷ [])
+      → IsAtHome origin_of history_of origin v.seen s × IsAscending v.mine × Dealt first (length v.seen) (v ∷ []) × (first ≤ length v.seen)
   ends s id v r at all one free =
       let k = knows s r id v one at in
       let none_else : (g : V → ℕ) → g spent ≡ 0 → total g s.views ≡ g v = λ g z. total-alone share_of g s.views id v at (r.shares ∙ sym all)
@@ -358,10 +358,11 @@ module _ {S O E : Type 0} (origin_of : S → O) (history_of : S → List E) (ori
         (home.0, home.1, home.2, home.3 ∙ sym whole),
         k.ascending,
         dealt_sum (length v.seen) s.views (v ∷ []) (λ place. omega (arith, mine place)) (subst (λ l. Dealt first (length l) s.views) (sym whole) r.dealt),
+        k.least,
       )
 
   pub closes : (words : List ℕ) (slots : List S) (id : ℕ) (v : V) (result : S) → Final (Seen Rule id v) words slots → get_elem? slots 0 ≡ some result → v.share ≡ seats → 1 ≤ v.share → v.held ≡ None
-      → (origin_of result ≡ origin) × (history_of result ≡ v.seen) × (v.mine ≡ range_with_len first (length v.seen - first))
+      → (origin_of result ≡ origin) × (history_of result ≡ v.seen) × (v.mine ≡ range_with_len first (length v.seen - first)) × (first ≤ length v.seen)
   closes words slots id v result last out all one free =
       let end = ends last.0 id v last.1.0 last.1.1 all one free in
       let home = end.0 in
@@ -373,6 +374,7 @@ module _ {S O E : Type 0} (origin_of : S → O) (history_of : S → List E) (ori
             (λ place a b. omega (arith, d.within place a (omega (arith, a, b))))
             (λ place a. omega (arith, d.before place a))
             (λ place a. omega (arith, d.after place (omega (arith, a)))),
+        end.3,
       )
 
 pub opens : {S O E : Type 0} (origin_of : S → O) (history_of : S → List E) (value : S) (seats : ℕ) → 1 ≤ seats → seats < 2 ^ 32

@@ -202,6 +202,7 @@ impl<B: Held> Versioned<B> {
         requires all { seat.share ≡ self.seats }
         ensures origin { B.origin result ≡ self.origin }
         ensures history { B.history result ≡ seat.seen }
+        ensures first { self.first ≤ length seat.seen }
         ensures mine { seat.mine ≡ range_with_len self.first (length seat.seen - self.first) }
     {
         let Versioned { table, seats: _ } = self;

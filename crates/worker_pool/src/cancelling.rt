@@ -6,6 +6,7 @@ ghost use Rattle.circle_smoothing.specs.GeneratorCounts.{generator_count};
 ghost use Rattle.circle_smoothing.specs.declared.limits.TheConstants.{GENERATORS};
 ghost use Rattle.kh_types.specs.Table.{table};
 ghost use Rattle.homology_table.specs.AllBlocks.{AreBlocksOf, IsFinished, IsLaterOf};
+ghost use Rattle.shared_block.specs.BlockHistories.{HasLegalHistory};
 ghost use Rattle.shared_block.specs.declared.limits.TheConstants.{WORKERS};
 ghost use Rattle.worker_pool.specs.Outcomes.{IsSizeLimit, TellsCount, origin_of};
 
@@ -19,6 +20,7 @@ use homology_table::{blocks_of, finish_all, table_of};
 use kh_types::{Diagram, NoMemory};
 use prime_field::PrimeField;
 use shared_block::SharedBlock;
+use shared_block::laws::block_laws;
 use std::alloc::Global;
 use std::sync::Wait;
 use std::thread::Threads;
@@ -33,6 +35,7 @@ pub fn cancel_alone<F: PrimeField>(
     ensures table { IfOk result (λ made. made.table ≡ table F.P diagram.now) }
     ensures blocks { IfOk result (λ made. AreBlocksOf diagram.now made.blocks.items) }
     ensures zero { IfOk result (λ made. All (IsFinished F.P) made.blocks.items) }
+    ensures legal { IfOk result (λ made. All (HasLegalHistory F.P) made.blocks.items) }
 {
     check_size(diagram)?;
     let blocks = blocks_of(alloc, diagram)?;
@@ -54,6 +57,7 @@ pub fn cancel_all<R: Threads + Wait + Sync, F: PrimeField + Send + Sync, G: Gate
     ensures table { IfOk result (λ made. made.table ≡ table F.P diagram.now) }
     ensures blocks { IfOk result (λ made. AreBlocksOf diagram.now made.blocks.items) }
     ensures zero { IfOk result (λ made. All (IsFinished F.P) made.blocks.items) }
+    ensures legal { IfOk result (λ made. All (HasLegalHistory F.P) made.blocks.items) }
 {
     check_size(diagram)?;
     let blocks = worked_blocks(rt, alloc, diagram, workers, gate)?;
@@ -126,9 +130,11 @@ fn with_table<F: PrimeField>(
     ensures table { IfOk result (λ made. made.table ≡ table F.P diagram.now) }
     ensures blocks { IfOk result (λ made. AreBlocksOf diagram.now made.blocks.items) }
     ensures zero { IfOk result (λ made. All (IsFinished F.P) made.blocks.items) }
+    ensures legal { IfOk result (λ made. All (HasLegalHistory F.P) made.blocks.items) }
 {
     let blocks = finished(alloc, blocks)?;
     let table = table_of(alloc, diagram, &blocks)?;
+    legal_histories(&blocks);
     Ok(Cancelled { table, blocks })
 }
 
@@ -142,4 +148,13 @@ fn finished<F: PrimeField>(
 {
     finish_all(alloc, blocks.as_mut_slice())?;
     Ok(blocks)
+}
+
+/// The histories of blocks are legal, which the type of each keeps.
+fn legal_histories<F: PrimeField>(blocks: &[SharedBlock<F>])
+    ensures { All (HasLegalHistory F.P) blocks.now }
+{
+    'places: for k in 0..blocks.len() {
+        block_laws(&blocks[k]);
+    }
 }

@@ -10,3 +10,6 @@ returns-clause-history g c = (closes _ _ _ _ _ _ _ _ _ _ c.close_with-closed.ens
 
 pub returns-clause-mine : goal.returns-clause-mine
 returns-clause-mine g c = rw (← c.seat.view_is, ← c.self.view_is) ((closes _ _ _ _ _ _ _ _ _ _ c.close_with-closed.ensures.values.2 c.take-value.ensures.value (search rules) (search rules) (search rules)).2)
+
+pub returns-clause-first : goal.returns-clause-first
+returns-clause-first g c = rw (← c.seat.view_is, ← c.self.view_is) ((closes _ _ _ _ _ _ _ _ _ _ c.close_with-closed.ensures.values.2 c.take-value.ensures.value (search rules) (search rules) (search rules)).3)
