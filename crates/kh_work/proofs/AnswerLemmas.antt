@@ -14,16 +14,21 @@ use Rattle.circle_smoothing.specs.GeneratorCounts.{generator_count}
 use Rattle.circle_smoothing.specs.declared.limits.TheConstants.{GENERATORS}
 use Rattle.kh_work.specs.declared.status.Status.TheVariants.{Done}
 use Rattle.kh_work.specs.declared.command.Task.{Task}
-use Rattle.kh_work.specs.declared.command.Task.TheVariants.{Homology, Jones}
+use Rattle.kh_work.specs.declared.command.Task.TheVariants.{Homology, Jones, Schedule}
 use Rattle.kh_work.specs.declared.command.Field.{Field}
 use Rattle.kh_work.specs.declared.command.Command.{Command}
 use Rattle.kh_work.specs.Replies.{Reply, reply_of}
 use Rattle.kh_work.specs.Commands.{command_of, size_of}
 use Rattle.kh_work.specs.Refusals.{usage, too_many_bytes}
-use Rattle.kh_work.specs.Parts.{code_in, script_part}
+use Rattle.kh_work.specs.Parts.{code_in, code_part, script_part}
 use Rattle.kh_work.specs.Inputs.{IsCodeRead, IsDiagramRead}
 use Rattle.kh_work.specs.Homology.{homology_reply, homology_text}
 use Rattle.kh_work.specs.Jones.{jones_line}
+use Rattle.kh_work.specs.Schedule.{answer_lines, events_of, schedule_reply, schedule_text}
+use Rattle.commit_core.specs.Answering.{answers}
+use Rattle.shared_block.specs.declared.limits.TheConstants.{WORKERS}
+use Rattle.undo_stack.specs.Schedule.{IsSchedule}
+use Rattle.undo_stack.specs.declared.schedule.ScheduleLine.{ScheduleLine}
 use Rattle.kh_work.specs.Answer.{IsTaskReply, IsCommandReply, IsAnswerOf, IsAnswer}
 use Rattle.kh_work.specs.declared.draft.Draft.{Draft}
 use Rattle.kh_work.specs.Drafts.{reply_in}
@@ -148,4 +153,36 @@ IsAnswer-jones words bytes command code is_command is_jones few_bytes read is_ac
       outcome = Ok code;
       read = subst Read (sym is_jones) (read, first_fault-accepted code is_accepted);
       answered = subst P (sym is_jones) refl;
+    }))
+
+-- the text of a schedule, where the cube has few enough generators
+schedule_reply-text : (field : Field) (code : Code) (script : List (ℕ × ScheduleLine)) → generator_count code ≤ GENERATORS
+    → reply_of Done
+    (answer_lines script (answers (size_of field) code WORKERS (events_of script)) ++ (table_text (table (size_of field) code) ++ jones_line code))
+    ≡ schedule_reply field code script
+unfolding schedule_text homology_text
+schedule_reply-text field code script few =
+    let short : nat_lt GENERATORS (generator_count code) ≡ false = grind (arith, common_steps) in
+    rw short refl
+
+-- the code of an accepted diagram with a script is answered by the lines of the script, its table and its Jones line
+pub IsAnswer-schedule : (words : List (List ℕ)) (bytes : List ℕ) (command : Command) (code : Code) (script : List (ℕ × ScheduleLine))
+    → command_of words ≡ Some command → command.task ≡ Schedule → length bytes ≤ INPUT_BYTES → IsCodeRead (code_part bytes) (Ok code)
+    → IsTrue (accepted code) → IsSchedule (script_part bytes) (Ok script) → generator_count code ≤ GENERATORS
+    → IsAnswer words bytes (reply_of Done
+    (answer_lines script (answers (size_of command.field) code WORKERS (events_of script))
+    ++ (table_text (table (size_of command.field) code) ++ jones_line code)))
+IsAnswer-schedule words bytes command code script is_command is_schedule few_bytes read is_accepted read_script few =
+    let reply : Reply = reply_of Done
+    (answer_lines script (answers (size_of command.field) code WORKERS (events_of script))
+    ++ (table_text (table (size_of command.field) code) ++ jones_line code)) in
+    let P : Task → Type 0 = λ task. IsTaskReply task command (script_part bytes) code reply in
+    let Read : Task → Type 0 = λ task. IsDiagramRead (code_in task bytes) (Ok code) in
+    answer-command words bytes command reply is_command
+    (inr (record {
+      few = few_bytes;
+      outcome = Ok code;
+      read = subst Read (sym is_schedule) (read, first_fault-accepted code is_accepted);
+      answered = subst P (sym is_schedule)
+          (record { reading = Ok script; read = read_script; answered = schedule_reply-text command.field code script few });
     }))

@@ -3,6 +3,7 @@
 ghost use Rattle.std.specs.Prelude.{◌≡◌, ◌≤◌, ◌++◌, ℕ, List, length, IsTrue, Ok, Some};
 ghost use Rattle.circle_smoothing.specs.GeneratorCounts.{generator_count};
 ghost use Rattle.circle_smoothing.specs.declared.limits.TheConstants.{GENERATORS};
+ghost use Rattle.commit_core.specs.Answering.{answers};
 ghost use Rattle.kh_types.specs.Code.{Code};
 ghost use Rattle.kh_types.specs.Acceptance.{accepted};
 ghost use Rattle.kh_types.specs.StateSum.{euler, polynomial_text, state_sum};
@@ -16,7 +17,12 @@ ghost use Rattle.kh_work.specs.Replies.{Reply, reply_of};
 ghost use Rattle.kh_work.specs.Commands.{command_of, size_of};
 ghost use Rattle.kh_work.specs.Inputs.{IsCodeRead};
 ghost use Rattle.kh_work.specs.Jones.{jones_line};
+ghost use Rattle.kh_work.specs.Parts.{code_part, script_part};
+ghost use Rattle.kh_work.specs.Schedule.{answer_lines, events_of};
 ghost use Rattle.kh_work.specs.Answer.{IsAnswer};
+ghost use Rattle.shared_block.specs.declared.limits.TheConstants.{WORKERS};
+ghost use Rattle.undo_stack.specs.Schedule.{IsSchedule};
+ghost use Rattle.undo_stack.specs.declared.schedule.ScheduleLine.{ScheduleLine};
 
 /// To all words and all bytes there is exactly one answer.
 pub fn one_answer()
@@ -52,6 +58,20 @@ pub fn accepted_diagrams_are_answered_by_their_polynomial()
         → command_of words ≡ Some command → command.task ≡ Task.Jones
         → length bytes ≤ INPUT_BYTES → IsCodeRead bytes (Ok code) → IsTrue (accepted code)
         → IsAnswer words bytes (reply_of Status.Done (jones_line code)) }
+{}
+
+/// Words that give the command `schedule`, and bytes with the code of an accepted diagram within the limits and a script that is read
+/// as the lines of a schedule, are answered by what the core answers to these lines, by the homology table over the field that the
+/// words name, and by the Jones line.
+pub fn accepted_diagrams_are_answered_by_their_schedule()
+    ensures { (words : List (List ℕ)) (bytes : List ℕ) (command : Command) (code : Code)
+        (script : List (ℕ × ScheduleLine))
+        → command_of words ≡ Some command → command.task ≡ Task.Schedule
+        → length bytes ≤ INPUT_BYTES → IsCodeRead (code_part bytes) (Ok code) → IsTrue (accepted code)
+        → IsSchedule (script_part bytes) (Ok script) → generator_count code ≤ GENERATORS
+        → IsAnswer words bytes (reply_of Status.Done
+        (answer_lines script (answers (size_of command.field) code WORKERS (events_of script))
+        ++ (table_text (table (size_of command.field) code) ++ jones_line code))) }
 {}
 
 /// The Jones line of an accepted diagram is that of the graded Euler characteristic of its homology table, over each field.
