@@ -43,7 +43,16 @@ pub(crate) fn work_rows<R: Threads + Wait + Sync, F: PrimeField + Send + Sync, G
             ensures { IsRowOf locks.entry.now row.exit.now.items }
         {
             let worker = place as u32 + 1;
-            work_row(rt, alloc, locks, order, &begun, row.as_mut_slice(), worker, gate)
+            work_row(
+                rt,
+                alloc,
+                locks,
+                order,
+                &begun,
+                row.as_mut_slice(),
+                worker,
+                gate,
+            )
         },
     );
 }

@@ -6,5 +6,14 @@ pub returns-clause-turns : goal.returns-clause-turns
 returns-clause-turns g c =
     let lock = c.in_ok-lock.lock in
     let size = ap length c.close.ensures.mine ∙ length-range_with_len lock.first (length c.work.new.seat.seen - lock.first) in
-    omega (arith, size, ap length c.close.ensures.history, ap length c.requires, c.in_ok-lock.ensures.first, ap length c.in_ok-lock.ensures.seen,
-      ap length c.in_ok-lock.ensures.mine, c.in_ok-turns.ensures.turns, c.in_ok-turns.ensures.own)
+    omega (
+      arith,
+      size,
+      ap length c.close.ensures.history,
+      ap length c.requires,
+      c.in_ok-lock.ensures.first,
+      ap length c.in_ok-lock.ensures.seen,
+      ap length c.in_ok-lock.ensures.mine,
+      c.in_ok-turns.ensures.turns,
+      c.in_ok-turns.ensures.own,
+    )
