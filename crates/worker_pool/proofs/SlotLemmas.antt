@@ -1,14 +1,14 @@
 -- Slots for the blocks of a diagram.
-use Rattle.std.proofs.Common.{◌≡◌, ℕ, suc, ◌<◌, ℤ, pos, List, [], ◌∷◌, length, get_or, set, All, Option, Some, None, IfSome, refl, sym, ap, subst, arith, ◌∙◌}
+use Rattle.std.proofs.Common.{◌≡◌, ℕ, suc, ◌<◌, ℤ, pos, List, [], ◌∷◌, length, get_or, set, All, Option, Some, None, sym, subst, arith, ◌∙◌}
 use Rattle.std.specs.Global.{Vec}
-use Rattle.std.specs.List.{AllZip, Contains}
+use Rattle.std.specs.List.{Contains}
 use Rattle.std.proofs.lemmas.List.{get_or_default}
 use Rattle.std.proofs.lemmas.List.Elements.{All-set}
 use Rattle.kh_types.specs.Code.{Code}
 use Rattle.cube_signs.specs.Blocks.{block_degrees}
 use Rattle.shared_block.specs.BlockHistories.{BlockHistory, block_with}
 use Rattle.worker_pool.specs.Slots.{AreEmpty, AreSlotsOf, IsSlotOf}
-use Rattle.worker_pool.proofs.Zips.{zip_at, zip_set, zip_size}
+use Rattle.worker_pool.proofs.Zips.{zip_at, zip_set}
 
 -- a degree that is read at one place is one of the diagram's
 pub contains_at : (code : Code) (degrees : List ℤ) (place : ℕ) (kept : ℤ) → degrees ≡ block_degrees code → place < length degrees

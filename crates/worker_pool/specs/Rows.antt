@@ -1,5 +1,5 @@
 -- Rows of seats: a worker's seats, one at each of many locks (this project's rule).
-use Rattle.std.specs.Prelude.{◌≡◌, ℕ, ◌+◌, List, [], ◌∷◌, ◌++◌, length, All}
+use Rattle.std.specs.Prelude.{◌≡◌, ◌+◌, List, [], ◌∷◌, ◌++◌, length, All}
 use Rattle.std.specs.Global.{Vec}
 use Rattle.std.specs.List.{AllZip}
 use Rattle.version_lock.specs.Calls.{LockFacts, SeatFacts, IsSeatOf}

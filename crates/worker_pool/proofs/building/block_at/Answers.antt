@@ -1,4 +1,4 @@
-use Rattle.std.proofs.Common.{rules, arith}
+use Rattle.std.proofs.Common.{arith}
 use Rattle.worker_pool.specs.Slots.{IsSlotOf}
 use Rattle.worker_pool.proofs.Zips.{zip_size}
 use Rattle.worker_pool.proofs.SlotLemmas.{slot_there, slots_emptied}

@@ -1,4 +1,4 @@
-use Rattle.std.proofs.Common.{rules, arith, ◌≡◌, subst, pos, [], IfOk, get_or, to_z, of_z, w16}
+use Rattle.std.proofs.Common.{rules, ◌≡◌, subst, pos, [], IfOk, get_or, to_z, of_z, w16}
 use Rattle.shared_block.specs.BlockHistories.{block_with}
 use Rattle.worker_pool.proofs.SlotLemmas.{contains_at}
 use Rattle.worker_pool.proofs.building.build_one.Goals as goal

@@ -1,5 +1,4 @@
-use Rattle.std.proofs.Common.{◌≡◌, All, take, map, []}
-use Rattle.shared_block.specs.BlockHistories.{block_with}
+use Rattle.std.proofs.Common.{◌≡◌, All, take}
 use Rattle.worker_pool.specs.Slots.{AreSlotsOf}
 use Rattle.homology_table.proofs.AllBlocks.{opened}
 use Rattle.worker_pool.proofs.building.picked.Given as goal

@@ -1,4 +1,4 @@
-use Rattle.std.proofs.Common.{◌≡◌, map, refl, ap}
+use Rattle.std.proofs.Common.{◌≡◌, map, refl}
 use Rattle.std.proofs.lemmas.Result.{IfOk-weaker}
 use Rattle.homology_table.specs.AllBlocks.{AreBlocksOf, opening_blocks}
 use Rattle.worker_pool.specs.Outcomes.{origin_of}

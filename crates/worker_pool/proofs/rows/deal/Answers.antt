@@ -1,4 +1,4 @@
-use Rattle.std.proofs.Common.{rules, arith}
+use Rattle.std.proofs.Common.{arith}
 use Rattle.worker_pool.specs.Rows.{Gains}
 use Rattle.worker_pool.proofs.Zips.{zip_more, zip_whole}
 use Rattle.worker_pool.proofs.rows.deal.Goals as goal
