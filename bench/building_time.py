@@ -1,6 +1,6 @@
 """What gdb runs for `bench/cube.py`: it measures how long a program is in the functions that build the blocks of a cube.
 
-The environment has its name, `PROGRAM`, the files that it reads and that the result is written to, `GIVEN` and `MEASURED`. It stops
+The environment has its name and words, `PROGRAM` and `WORDS`, the files that it reads and that the result is written to, `GIVEN` and `MEASURED`. It stops
 at each call of such a function from outside of them and where the call returns, some ten stops for a block, and adds up the processor
 time in between, the system's work for them included. The time of the stops does not count. Written are the nanoseconds, and how many
 calls there were of each function.
@@ -12,7 +12,7 @@ import subprocess
 import gdb
 
 PROGRAM = os.environ["PROGRAM"]
-BUILDERS = ("cube_signs::", "sparse_block::building::")
+BUILDERS = ("cube_signs::", "sparse_block::building::", "shared_block::shared_block::SharedBlock::of_cube::")
 
 
 def builders():
@@ -50,7 +50,8 @@ def time_of_call():
 
 def main():
     gdb.execute("set pagination off")
-    gdb.execute(f"starti < {os.environ['GIVEN']} > /dev/null", to_string=True)
+    gdb.execute(f"set args {os.environ['WORDS']} < {os.environ['GIVEN']} > /dev/null")
+    gdb.execute("starti", to_string=True)
     names = {base() + place: name for place, name in builders().items()}
     entries = [gdb.Breakpoint(f"*{place:#x}") for place in names]
     spent, calls = 0, {}

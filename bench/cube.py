@@ -5,7 +5,7 @@ crossings.
     bench/cube.py [RUNS] [--only WORD] [--field P] [--program PATH] OTHER
 
 The wanted limit: at most 4 times the other's time, on each diagram. `kh` has no command that only builds, so its functions that build
-(those of `cube_signs` and of the building of `sparse_block`: circles, edges, generators, columns and rows of all blocks) are timed in
+(those of `cube_signs`, of the building of `sparse_block`, and `SharedBlock::of_cube`: circles, edges, generators, columns and rows of all blocks) are timed in
 whole runs, with one worker. gdb stops the run where they are called and where they return, and adds up the processor time of its thread
 in between; allocation, page faults and all that these functions call count, cancelling and the release of a block do not. Calls that the
 compiler has put inline can not be timed: where a block has no call of its own, the script ends with an error.
@@ -39,7 +39,8 @@ def calls_of(calls, part):
 
 def timed_blocks(calls):
     """How many blocks have been timed, 0 where a part of the building has no call of its own."""
-    whole, parts = calls_of(calls, "Cube::block::"), calls_of(calls, "Cube::parts")
+    whole = calls_of(calls, "SharedBlock::of_cube") or calls_of(calls, "Cube::block::")
+    parts = calls_of(calls, "Cube::parts")
     rows = calls_of(calls, "building::build") + calls_of(calls, "building::all_rows")
     if not calls_of(calls, "Cube::new"):
         return 0
@@ -51,9 +52,9 @@ def building(program, words, text):
     with tempfile.NamedTemporaryFile("w") as given, tempfile.NamedTemporaryFile("r") as measured:
         given.write(text)
         given.flush()
-        files = {"PROGRAM": program, "GIVEN": given.name, "MEASURED": measured.name}
+        files = {"PROGRAM": program, "WORDS": " ".join(words), "GIVEN": given.name, "MEASURED": measured.name}
         script = os.path.join(HERE, "building_time.py")
-        debugger = ["gdb", "-nx", "-q", "-batch", "-x", script, "--args", program, *words]
+        debugger = ["gdb", "-nx", "-q", "-batch", "-x", script, program]
         done = subprocess.run(debugger, env={**os.environ, **files}, capture_output=True, text=True)
         result = json.loads(measured.read() or "{}")
     blocks = timed_blocks(result.get("calls", {}))
