@@ -137,56 +137,58 @@ fn repeated(alloc: Global, text: &str, times: usize, last: &str) -> Result<Vec<u
     Ok(bytes)
 }
 
+// Texts of so many equal pieces and a last one, at the limit on lines and above, and what stops their reading.
+const LONG_TEXTS: [(&str, usize, &str, Option<ScriptStop>); 10] = [
+    ("\n", SCRIPT_LINES, "", None),
+    ("commit 1\n", SCRIPT_LINES, "", None),
+    ("\n", SCRIPT_LINES - 1, "commit 1", None),
+    (
+        "\n",
+        SCRIPT_LINES - 1,
+        "undo",
+        Some(ScriptStop::Line { line: 4096 }),
+    ),
+    (
+        "\n",
+        SCRIPT_LINES,
+        "commit 1",
+        Some(ScriptStop::LineLimit { count: 4097 }),
+    ),
+    (
+        "\n",
+        SCRIPT_LINES,
+        " ",
+        Some(ScriptStop::LineLimit { count: 4097 }),
+    ),
+    (
+        "\n",
+        SCRIPT_LINES,
+        "\n",
+        Some(ScriptStop::LineLimit { count: 4097 }),
+    ),
+    (
+        "undo\n",
+        SCRIPT_LINES,
+        "",
+        Some(ScriptStop::Line { line: 1 }),
+    ),
+    (
+        "undo\n",
+        SCRIPT_LINES,
+        "undo",
+        Some(ScriptStop::LineLimit { count: 4097 }),
+    ),
+    (
+        "\n",
+        INPUT_BYTES,
+        "",
+        Some(ScriptStop::LineLimit { count: 65_536 }),
+    ),
+];
+
 #[test]
 fn counts_lines_up_to_the_limit(rt: HostRuntime) -> Result<(), Fail> {
-    let rows = [
-        ("\n", SCRIPT_LINES, "", None),
-        ("commit 1\n", SCRIPT_LINES, "", None),
-        ("\n", SCRIPT_LINES - 1, "commit 1", None),
-        (
-            "\n",
-            SCRIPT_LINES - 1,
-            "undo",
-            Some(ScriptStop::Line { line: 4096 }),
-        ),
-        (
-            "\n",
-            SCRIPT_LINES,
-            "commit 1",
-            Some(ScriptStop::LineLimit { count: 4097 }),
-        ),
-        (
-            "\n",
-            SCRIPT_LINES,
-            " ",
-            Some(ScriptStop::LineLimit { count: 4097 }),
-        ),
-        (
-            "\n",
-            SCRIPT_LINES,
-            "\n",
-            Some(ScriptStop::LineLimit { count: 4097 }),
-        ),
-        (
-            "undo\n",
-            SCRIPT_LINES,
-            "",
-            Some(ScriptStop::Line { line: 1 }),
-        ),
-        (
-            "undo\n",
-            SCRIPT_LINES,
-            "undo",
-            Some(ScriptStop::LineLimit { count: 4097 }),
-        ),
-        (
-            "\n",
-            INPUT_BYTES,
-            "",
-            Some(ScriptStop::LineLimit { count: 65_536 }),
-        ),
-    ];
-    for (text, times, last, wanted) in rows {
+    for (text, times, last, wanted) in LONG_TEXTS {
         let bytes = repeated(rt.alloc(), text, times, last)?;
         assert!(rt; bytes.len() <= INPUT_BYTES);
         let stop = read_schedule(rt.alloc(), &bytes).err();
