@@ -18,3 +18,4 @@ pub mod SameLemmas
 pub mod FinishLemmas
 pub mod AcrossLemmas
 pub mod SquareLemmas
+pub mod SpanLemmas

@@ -1,5 +1,5 @@
 -- A complex in which no difference shows has the copied parts, and its cancellation changes them alike.
-use Rattle.std.proofs.Common.{◌≡◌, ℕ, ◌<◌, ◌∙◌, inl, inr, List, pos, ◌+ℤ◌, length, map, get_or, ap, sym, subst, refl, arith}
+use Rattle.std.proofs.Common.{◌≡◌, ℕ, ◌<◌, ◌∙◌, ◌⊎◌, inl, inr, List, pos, ◌+ℤ◌, length, map, get_or, ap, sym, subst, refl, arith}
 use Rattle.std.specs.Prelude.{slice_index}
 use Rattle.std.proofs.lemmas.List.{length-map}
 use Rattle.kh_types.specs.Complex.{Complex, IsComplex, IsPivot, cancel}
@@ -11,6 +11,7 @@ use Rattle.sparse_block.specs.Complexes.{column_of, place_count, row_of}
 use Rattle.sparse_block.proofs.EntryLemmas.{value_at-entries_of}
 use Rattle.cancel_step.specs.Copies.{Copied, WasCopied, columns_across, line_across, rows_across}
 use Rattle.cancel_step.specs.Lines.{AreLines, entries_at, line_cleared}
+use Rattle.cancel_step.specs.Updates.{IsAlone}
 use Rattle.cancel_step.specs.Foreign.{IsOtherColumn, IsOtherRowAt, ShowsAt}
 use Rattle.cancel_step.proofs.EntryValues.{entries-agree, numbers-agree}
 use Rattle.cancel_step.proofs.ForeignLemmas.{none-shows, number-unless_other, same-unless_other}
@@ -151,3 +152,25 @@ module _ (p : ℕ) (complex : Complex) (parts : Copied) (is : IsComplex p comple
       (λ (lines : List PlacedLine). map (line_cleared p size (entries_at lines parts.pivot.row) parts.pivot.column) lines)
       rows-across_same
       ∙ rows-cleared p complex parts.pivot is pivot-same field size (subst (AreLines p size) rows-across_same lines)
+
+  -- a pivot that stands alone in the copied parts does so in the complex
+
+  pub alone-same : IsAlone parts → (length (entries_of (column_of complex parts.pivot.degree parts.pivot.column)) ≡ 1)
+      ⊎ (length (entries_of (row_of complex parts.pivot.degree parts.pivot.row)) ≡ 1)
+  alone-same alone =
+      let i = parts.pivot.degree in
+      let count : List PlacedLine → ℕ = λ lines. length lines in
+      elim alone [
+        | inl one ↦
+            inr
+            (sym
+            (ap count (columns-copied ∙ columns-across_same)
+            ∙ length-map (entries_of (row_of complex i parts.pivot.row)) (line_across (column_of complex i)))
+            ∙ one)
+        | inr one ↦
+            inl
+            (sym
+            (ap count (rows-copied ∙ rows-across_same)
+            ∙ length-map (entries_of (column_of complex i parts.pivot.column)) (line_across (row_of complex i)))
+            ∙ one)
+      ]

@@ -5,4 +5,6 @@ pub mod Foreign
 pub mod Histories
 pub mod Lines
 pub mod Merging
+pub mod Spans
+pub mod Updates
 pub mod Squares

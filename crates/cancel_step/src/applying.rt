@@ -9,6 +9,7 @@ ghost use Rattle.cancel_step.specs.Foreign.{IsForeign, IsLeast, ShowsAt};
 
 use crate::comparing::foreign_column;
 use crate::merging::merge;
+use crate::patched::Update;
 use crate::reading::{column_at, row_at, value_at};
 use crate::{Foreign, Patch, Pivot};
 use kh_types::NoMemory;
@@ -30,20 +31,30 @@ pub fn apply<F: PrimeField>(complex: &mut Complex<F>, patch: Patch<F>) -> Result
         × IsLeast (ShowsAt patch complex.old.complex) foreign.column) }
     ensures unchanged { OnErr result (complex.new ≡ complex.old) }
 {
-    element_laws::<F>();
-    complex_laws(complex);
-    let Patch {
-        look,
-        columns,
-        rows,
-    } = patch;
-    let pivot = look.pivot;
-    if let Some(column) = foreign_column(complex, &look) {
-        let degree = pivot.degree;
+    if let Some(column) = foreign_column(complex, &patch.look) {
+        let degree = patch.look.pivot.degree;
         return Err(Foreign { degree, column });
     }
-    exchange(complex, pivot, columns, rows);
+    apply_fitting(complex, patch);
     Ok(())
+}
+
+/// Cancels the pivot of a patch whose copied columns and rows are known to be those of the complex:
+/// they are not compared. Takes no memory.
+pub fn apply_fitting<F: PrimeField>(complex: &mut Complex<F>, patch: Patch<F>)
+    requires { ¬ IsForeign patch complex.old.complex }
+    ensures complex { complex.new.complex ≡ cancel F.P complex.old.complex patch.pivot }
+    ensures pivot { IsPivot complex.old.complex patch.pivot }
+    ensures names { complex.new.names ≡ complex.old.names }
+{
+    element_laws::<F>();
+    complex_laws(complex);
+    let Patch { look, update } = patch;
+    let pivot = look.pivot;
+    match update {
+        None => complex.drop_pair(pivot.degree, pivot.column, pivot.row),
+        Some(Update { columns, rows }) => exchange(complex, pivot, columns, rows),
+    }
 }
 
 /// Cancels a pivot in place, where nobody else holds a copy. The complex is unchanged where memory

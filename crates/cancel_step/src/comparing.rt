@@ -1,16 +1,18 @@
 //! Whether a complex has the columns and rows that were copied, and the least column that tells.
 
 ghost use Rattle.std.specs.Prelude.{◌≡◌, ◌↔◌, ℕ, true};
+ghost use Rattle.sparse_block.specs.Changes.{placed};
 ghost use Rattle.sparse_block.specs.Entries.{AreEntries};
 ghost use Rattle.cancel_step.specs.Foreign.{FindsLeast, IsOtherColumn, IsOtherRowAt, ShowsAt};
 ghost use Rattle.cancel_step.specs.Foreign.{ShowsBetween, ShowsIn, lesser_of};
 ghost use Rattle.cancel_step.specs.Lines.{AreLines};
 
 use crate::Look;
+use crate::copied_lines::CopiedLines;
 use crate::merging::first_difference;
 use crate::reading::{column_at, row_at};
 use prime_field::PrimeField;
-use sparse_block::{Complex, Entry, Line, complex_laws};
+use sparse_block::{Complex, Entry, complex_laws};
 
 /// The least column at which a difference between a look and a complex shows.
 pub(crate) fn foreign_column<F: PrimeField>(complex: &Complex<F>, look: &Look<F>) -> Option<u32>
@@ -24,8 +26,8 @@ pub(crate) fn foreign_column<F: PrimeField>(complex: &Complex<F>, look: &Look<F>
 fn other_line<F: PrimeField>(
     complex: &Complex<F>,
     degree: i16,
-    columns: &[Line],
-    rows: &[Line],
+    columns: &CopiedLines,
+    rows: &CopiedLines,
 ) -> Option<u32>
     requires { (p : ℕ) × (size : ℕ) × AreLines p size rows.now }
     ensures { FindsLeast (ShowsBetween complex.now.complex degree columns.now rows.now) result }
@@ -37,52 +39,61 @@ fn other_line<F: PrimeField>(
 }
 
 /// The least of the columns that are not those of the complex.
-fn in_columns<F: PrimeField>(complex: &Complex<F>, degree: i16, lines: &[Line]) -> Option<u32>
+fn in_columns<F: PrimeField>(complex: &Complex<F>, degree: i16, lines: &CopiedLines) -> Option<u32>
     ensures { FindsLeast (ShowsIn (IsOtherColumn complex.now.complex degree) lines.now) result }
 {
     let mut least = None;
-    'lines: for line in lines {
-        least = lesser(least, in_column(complex, degree, line));
+    'lines: for k in 0..lines.len() {
+        let (place, entries) = lines.at(k);
+        least = lesser(least, in_column(complex, degree, place, entries));
     }
     least
 }
 
 /// The place of a column, if it is not that of the complex.
-fn in_column<F: PrimeField>(complex: &Complex<F>, degree: i16, line: &Line) -> Option<u32>
-    ensures { FindsLeast (IsOtherColumn complex.now.complex degree line.now) result }
+fn in_column<F: PrimeField>(
+    complex: &Complex<F>,
+    degree: i16,
+    place: u32,
+    entries: &[Entry],
+) -> Option<u32>
+    ensures { FindsLeast (IsOtherColumn complex.now.complex degree (placed place entries.now)) result }
 {
-    if are_same(
-        line.entries.as_slice(),
-        column_at(complex, degree, line.place),
-    ) {
+    if are_same(entries, column_at(complex, degree, place)) {
         return None;
     }
-    Some(line.place)
+    Some(place)
 }
 
 /// The least column at which one of the rows has another value than that of the complex.
-fn in_rows<F: PrimeField>(complex: &Complex<F>, degree: i16, lines: &[Line]) -> Option<u32>
+fn in_rows<F: PrimeField>(complex: &Complex<F>, degree: i16, lines: &CopiedLines) -> Option<u32>
     requires { (p : ℕ) × (size : ℕ) × AreLines p size lines.now }
     ensures { FindsLeast (ShowsIn (IsOtherRowAt complex.now.complex degree) lines.now) result }
 {
     let mut least = None;
-    'lines: for line in lines {
-        least = lesser(least, in_row(complex, degree, line));
+    'lines: for k in 0..lines.len() {
+        let (place, entries) = lines.at(k);
+        least = lesser(least, in_row(complex, degree, place, entries));
     }
     least
 }
 
 /// The least column at which a row has another value than that of the complex.
-fn in_row<F: PrimeField>(complex: &Complex<F>, degree: i16, line: &Line) -> Option<u32>
-    requires { (p : ℕ) × (size : ℕ) × AreEntries p size line.now.entries }
-    ensures { FindsLeast (IsOtherRowAt complex.now.complex degree line.now) result }
+fn in_row<F: PrimeField>(
+    complex: &Complex<F>,
+    degree: i16,
+    place: u32,
+    entries: &[Entry],
+) -> Option<u32>
+    requires { (p : ℕ) × (size : ℕ) × AreEntries p size entries.now }
+    ensures { FindsLeast (IsOtherRowAt complex.now.complex degree (placed place entries.now)) result }
 {
     complex_laws(complex);
-    let row = row_at(complex, degree, line.place);
-    if are_same(line.entries.as_slice(), row) {
+    let row = row_at(complex, degree, place);
+    if are_same(entries, row) {
         return None;
     }
-    first_difference(line.entries.as_slice(), row)
+    first_difference(entries, row)
 }
 
 fn are_same(left: &[Entry], right: &[Entry]) -> bool

@@ -1,16 +1,16 @@
 //! Copies of what a cancellation reads and changes.
 
-ghost use Rattle.std.specs.Prelude.{◌≡◌, map, IfOk};
+ghost use Rattle.std.specs.Prelude.{◌≡◌, [], map, IfOk};
 ghost use Rattle.kh_types.specs.Complex.{IsPivot};
 ghost use Rattle.sparse_block.specs.Complexes.{column_of, row_of};
 ghost use Rattle.cancel_step.specs.Copies.{copied, line_across};
 
 use crate::Pivot;
+use crate::copied_lines::CopiedLines;
 use crate::reading::{column_at, row_at};
 use kh_types::NoMemory;
 use prime_field::PrimeField;
-use smallvec::SmallVec;
-use sparse_block::{Complex, Entry, Line, complex_laws};
+use sparse_block::{Complex, Entry, INLINE_ENTRIES, complex_laws};
 use std::alloc::Global;
 use std::marker::{Model, PhantomData};
 
@@ -19,8 +19,8 @@ use std::marker::{Model, PhantomData};
 #[derive(Drop)]
 pub struct Look<F: PrimeField> {
     pub(crate) pivot: Pivot,
-    pub(crate) columns: Vec<Line>,
-    pub(crate) rows: Vec<Line>,
+    pub(crate) columns: CopiedLines,
+    pub(crate) rows: CopiedLines,
     pub(crate) field: PhantomData<F>,
 }
 
@@ -29,10 +29,9 @@ impl<F: PrimeField> Model for Look<F> {
 
     ghost Value = { Copied };
 
-    ghost view = { λ look. parts_of look.pivot look.columns.items look.rows.items };
+    ghost view = { λ look. parts_of look.pivot look.columns look.rows };
 
-    ghost invariant = { λ look. WasCopied F.P (parts_of look.pivot look.columns.items
-        look.rows.items) };
+    ghost invariant = { λ look. WasCopied F.P (parts_of look.pivot look.columns look.rows) };
 }
 
 impl<F: PrimeField> Look<F> {
@@ -72,15 +71,14 @@ fn copied_columns<F: PrimeField>(
     complex: &Complex<F>,
     degree: i16,
     row: &[Entry],
-) -> Result<Vec<Line>, NoMemory>
-    ensures { IfOk result (λ lines.
-        lines.items ≡ map (line_across (column_of complex.now.complex degree)) row.now) }
+) -> Result<CopiedLines, NoMemory>
+    ensures { IfOk result (λ lines. lines
+        ≡ map (line_across (column_of complex.now.complex degree)) row.now) }
 {
-    let mut lines = Vec::with_capacity(alloc, row.len())?;
+    let mut lines = with_room(alloc, row.len())?;
     'entries: for entry in row {
         let place = entry.place;
-        let entries = SmallVec::from_slice(alloc, column_at(complex, degree, place))?;
-        lines.push(Line { place, entries })?;
+        lines.push(place, column_at(complex, degree, place))?;
     }
     Ok(lines)
 }
@@ -91,15 +89,21 @@ fn copied_rows<F: PrimeField>(
     complex: &Complex<F>,
     degree: i16,
     column: &[Entry],
-) -> Result<Vec<Line>, NoMemory>
-    ensures { IfOk result (λ lines.
-        lines.items ≡ map (line_across (row_of complex.now.complex degree)) column.now) }
+) -> Result<CopiedLines, NoMemory>
+    ensures { IfOk result (λ lines. lines
+        ≡ map (line_across (row_of complex.now.complex degree)) column.now) }
 {
-    let mut lines = Vec::with_capacity(alloc, column.len())?;
+    let mut lines = with_room(alloc, column.len())?;
     'entries: for entry in column {
         let place = entry.place;
-        let entries = SmallVec::from_slice(alloc, row_at(complex, degree, place))?;
-        lines.push(Line { place, entries })?;
+        lines.push(place, row_at(complex, degree, place))?;
     }
     Ok(lines)
+}
+
+/// No lines, with room for so many, if they are of the usual length.
+fn with_room(alloc: Global, lines: usize) -> Result<CopiedLines, NoMemory>
+    ensures { IfOk result (λ made. made ≡ []) }
+{
+    CopiedLines::with_room(alloc, lines, lines.saturating_mul(INLINE_ENTRIES))
 }

@@ -3,6 +3,7 @@
 
 mod applying;
 mod comparing;
+mod copied_lines;
 mod copying;
 mod finishing;
 pub mod laws;
@@ -16,7 +17,7 @@ mod search;
 mod tests;
 mod updating;
 
-pub use applying::{apply, cancel_in_place};
+pub use applying::{apply, apply_fitting, cancel_in_place};
 pub use copying::{Look, copy};
 pub use finishing::finish;
 pub use patched::Patch;

@@ -1,10 +1,14 @@
 //! What a cancellation makes of the columns and rows that it changes.
 
-ghost use Rattle.std.specs.Prelude.{◌≡◌, ◌≢◌, ℕ, map, IfOk};
+ghost use Rattle.std.specs.Prelude.{◌≡◌, ◌≢◌, ℕ, map, true, IfOk};
 ghost use Rattle.sparse_block.specs.Entries.{value_at};
+ghost use Rattle.cancel_step.specs.Copies.{WasPatched};
 ghost use Rattle.cancel_step.specs.Lines.{AreLines, entries_at, line_cleared};
+ghost use Rattle.cancel_step.specs.Updates.{IsAlone};
 
+use crate::copied_lines::CopiedLines;
 use crate::merging::merge;
+use crate::patched::Update;
 use crate::reading::value_at;
 use crate::{Look, Patch};
 use kh_types::NoMemory;
@@ -14,25 +18,45 @@ use smallvec::SmallVec;
 use sparse_block::{Entry, Line};
 use std::alloc::Global;
 
-/// Updates the columns and rows that were copied.
+/// Updates the columns and rows that were copied. A pivot that stands alone in its column or its row
+/// changes none.
 pub fn patch<F: PrimeField>(alloc: Global, look: Look<F>) -> Result<Patch<F>, NoMemory>
     ensures { IfOk result (λ patch. patch ≡ look) }
 {
-    element_laws::<F>();
-    let pivot = look.pivot;
-    let columns = lines_cleared::<F>(alloc, &look.columns, pivot.column, pivot.row)?;
-    let rows = lines_cleared::<F>(alloc, &look.rows, pivot.row, pivot.column)?;
+    if is_alone(&look) {
+        return Ok(Patch { look, update: None });
+    }
+    let update = updated(alloc, &look)?;
     Ok(Patch {
         look,
-        columns,
-        rows,
+        update: Some(update),
     })
+}
+
+/// Whether the pivot is the only entry of its row, or of its column.
+fn is_alone<F: PrimeField>(look: &Look<F>) -> bool
+    ensures { result ≡ true → IsAlone look.now }
+{
+    look.columns.len() == 1 || look.rows.len() == 1
+}
+
+/// The columns and rows that were copied, as they are after the cancellation.
+fn updated<F: PrimeField>(alloc: Global, look: &Look<F>) -> Result<Update, NoMemory>
+    ensures { IfOk result (λ made.
+        WasPatched F.P look.now made.columns.items made.rows.items) }
+{
+    element_laws::<F>();
+    let pivot = look.pivot;
+    let mut scratch = Vec::new(alloc);
+    let columns = lines_cleared::<F>(&mut scratch, &look.columns, pivot.column, pivot.row)?;
+    let rows = lines_cleared::<F>(&mut scratch, &look.rows, pivot.row, pivot.column)?;
+    Ok(Update { columns, rows })
 }
 
 /// Takes from each line the multiple of the pivot's line that clears the place across.
 fn lines_cleared<F: PrimeField>(
-    alloc: Global,
-    lines: &[Line],
+    scratch: &mut Vec<Entry>,
+    lines: &CopiedLines,
     own: u32,
     across: u32,
 ) -> Result<Vec<Line>, NoMemory>
@@ -43,28 +67,29 @@ fn lines_cleared<F: PrimeField>(
         ≡ map (line_cleared F.P size (entries_at lines.now own) across) lines.now) }
 {
     element_laws::<F>();
+    let alloc = *scratch.allocator();
     let pivot_line = line_at(lines, own);
     let pivot = F::of(value_at(pivot_line, across));
     let mut made = Vec::with_capacity(alloc, lines.len())?;
-    let mut scratch = Vec::new(alloc);
-    'lines: for line in lines {
-        let factor = quotient(F::of(value_at(&line.entries, across)), pivot);
-        merge(&mut scratch, &line.entries, factor, pivot_line)?;
-        let entries = SmallVec::from_slice(alloc, &scratch)?;
-        made.push(Line {
-            place: line.place,
-            entries,
-        })?;
+    'lines: for k in 0..lines.len() {
+        let (place, line) = lines.at(k);
+        let factor = quotient(F::of(value_at(line, across)), pivot);
+        merge(scratch, line, factor, pivot_line)?;
+        let entries = SmallVec::from_slice(alloc, scratch)?;
+        made.push(Line { place, entries })?;
     }
     Ok(made)
 }
 
 /// The entries of the line with a place; none where no line has it.
-fn line_at(lines: &[Line], place: u32) -> &[Entry]
+fn line_at(lines: &CopiedLines, place: u32) -> &[Entry]
     ensures { result.now ≡ entries_at lines.now place }
 {
-    match lines.iter().find(|line| line.place == place) {
-        Some(line) => line.entries.as_slice(),
-        None => &[],
+    'lines: for k in 0..lines.len() {
+        let (found, entries) = lines.at(k);
+        if found == place {
+            return entries;
+        }
     }
+    &[]
 }

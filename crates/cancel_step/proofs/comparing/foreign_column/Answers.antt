@@ -1,7 +1,6 @@
-use Rattle.std.proofs.Common.{◌≡◌, ◌∙◌, ℤ, List, ap, sym, subst, subst₂, arith, to_z, of_z, w16}
+use Rattle.std.proofs.Common.{◌≡◌, ◌∙◌, ℤ, List, ap, sym, subst, arith, to_z, of_z, w16}
 use Rattle.std.proofs.lemmas.Int.{ints}
 use Rattle.kh_types.specs.Complex.{Pivot}
-use Rattle.sparse_block.specs.Changes.{PlacedLine}
 use Rattle.sparse_block.specs.Complexes.{place_count}
 use Rattle.cancel_step.specs.Copies.{Copied}
 use Rattle.cancel_step.specs.Foreign.{FindsLeast, ShowsAt, ShowsBetween}
@@ -15,8 +14,8 @@ other_line-requires g c =
     let was = c.look.invariant in
     let pivot = c.look.inside.pivot in
     let size = place_count was.complex pivot.degree in
-    let are : AreLines p size c.deref-2.result.now =
-    subst (AreLines p size) (sym (c.deref-2.ensures.value ∙ ap (λ (parts : Copied). parts.rows) was.are_copied))
+    let are : AreLines p size c.look.inside.rows =
+    subst (AreLines p size) (sym (ap (λ (parts : Copied). parts.rows) was.are_copied))
     (rows-lines p was.complex pivot was.is_complex) in
     (p, size, are)
 
@@ -24,11 +23,8 @@ pub returns : goal.returns
 returns g c =
     let complex = c.args.complex.now.complex in
     let found = c.other_line.result in
+    let inside = c.look.inside in
     let same : to_z w16 (of_z w16 c.pivot.inside.degree) ≡ c.pivot.inside.degree = omega (arith, ints, c.pivot.ranges) in
     let is_degree = same ∙ ap (λ (pivot : Pivot). pivot.degree) c.pivot.view_is in
     subst (λ (parts : Copied). FindsLeast (ShowsAt parts complex) found) c.look.view_is
-    (subst₂
-    (λ (columns rows : List PlacedLine). FindsLeast (ShowsBetween complex c.look.inside.pivot.degree columns rows) found)
-    c.deref.ensures.value c.deref-2.ensures.value
-    (subst (λ (i : ℤ). FindsLeast (ShowsBetween complex i c.deref.result.now c.deref-2.result.now) found) is_degree
-    c.other_line.ensures))
+    (subst (λ (i : ℤ). FindsLeast (ShowsBetween complex i inside.columns inside.rows) found) is_degree c.other_line.ensures)

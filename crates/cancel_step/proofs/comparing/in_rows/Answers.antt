@@ -1,7 +1,7 @@
 use Rattle.std.proofs.Common.{◌≡◌, ◌+◌, ℤ, List, sym, subst, subst₂, arith, take, to_z, of_z, w16}
 use Rattle.std.proofs.lemmas.Int.{ints}
 use Rattle.std.proofs.lemmas.List.{take_all}
-use Rattle.sparse_block.specs.Changes.{PlacedLine}
+use Rattle.sparse_block.specs.Changes.{PlacedLine, placed}
 use Rattle.sparse_block.specs.Entries.{AreEntries}
 use Rattle.cancel_step.specs.Foreign.{FindsLeast, IsOtherRowAt, ShowsIn}
 use Rattle.cancel_step.proofs.ForeignLemmas.{finds-more}
@@ -10,25 +10,26 @@ use Rattle.cancel_step.proofs.comparing.in_rows.Goals as goal
 pub lines-preserved : goal.lines-preserved
 lines-preserved g c =
     let Shows = IsOtherRowAt c.args.complex.now.complex (to_z w16 (of_z w16 c.args.degree)) in
-    subst (FindsLeast (ShowsIn Shows (take (c.lines.line-index + 1) c.args.lines.now))) (sym c.lesser-least.ensures)
-    (finds-more Shows c.args.lines.now c.lines.line-index c.line-item.result c.line-item.result c.lines.least c.in_row.result
-    c.lines-test.true c.line-item.is c.lines.invariant c.in_row.ensures)
+    let line : PlacedLine = placed c.at-place.result.0 c.at-place.result.1.now in
+    subst (FindsLeast (ShowsIn Shows (take (c.lines.k + 1) c.args.lines.now))) (sym c.lesser-least.ensures)
+    (finds-more Shows c.args.lines.now c.lines.k line line c.lines.least c.in_row.result
+    (omega (arith, c.lines-test.true, c.len-k-end.ensures)) c.at-place.ensures c.lines.invariant c.in_row.ensures)
 
 pub returns : goal.returns
 returns g c =
     let complex = c.args.complex.now.complex in
     let same : to_z w16 (of_z w16 c.args.degree) ≡ c.args.degree = omega (arith, ints, c.ranges.degree) in
-    let whole = take_all c.lines.line-index c.args.lines.now c.lines-test.false in
+    let whole = take_all c.lines.k c.args.lines.now (omega (arith, c.lines-test.false, c.lines.auto.k-end)) in
     subst₂ (λ (i : ℤ) (lines : List PlacedLine). FindsLeast (ShowsIn (IsOtherRowAt complex i) lines) c.lines.least) same whole
     c.lines.invariant
 
 pub in_row-requires : goal.in_row-requires
 in_row-requires g c =
     let lines = c.args.lines.now in
-    let k = c.lines.line-index in
-    let item = c.line-item.result in (
+    let k = c.lines.k in
+    let line : PlacedLine = placed c.at-place.result.0 c.at-place.result.1.now in (
       c.requires.0,
       c.requires.1,
-      subst (λ (line : PlacedLine). AreEntries c.requires.0 c.requires.1 line.entries) (sym c.line-item.is)
-          (c.requires.2 k item c.lines-test.true),
+      subst (λ (line : PlacedLine). AreEntries c.requires.0 c.requires.1 line.entries) (sym c.at-place.ensures)
+          (c.requires.2 k line (omega (arith, c.lines-test.true, c.len-k-end.ensures))),
     )

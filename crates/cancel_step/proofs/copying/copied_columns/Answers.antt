@@ -11,5 +11,5 @@ returns g c =
     let complex = c.args.complex.now.complex in
     let same : to_z w16 (of_z w16 c.args.degree) ≡ c.args.degree = omega (arith, ints, c.ranges.degree) in
     let whole = take_all c.entries.entry-index c.args.row.now c.entries-test.false in
-    subst₂ (λ (i : ℤ) (row : List Entry). c.entries.lines.items ≡ map (line_across (column_of complex i)) row) same whole
+    subst₂ (λ (i : ℤ) (row : List Entry). c.entries.lines ≡ map (line_across (column_of complex i)) row) same whole
     c.entries.invariant

@@ -4,4 +4,4 @@ use Rattle.cancel_step.specs.Copies.{line_across}
 use Rattle.cancel_step.proofs.copying.copied_columns.Given as goal
 
 abbrev pub invariant-entries : goal.invariant-entries
-invariant-entries g l = l.lines.items ≡ map (line_across (column_of l.complex.complex l.degree)) (take l.entry-index l.row)
+invariant-entries g l = l.lines ≡ map (line_across (column_of l.complex.complex l.degree)) (take l.entry-index l.row)

@@ -15,9 +15,9 @@ invariant_of-result g c =
     let same : to_z w16 (of_z w16 inside.degree) ≡ inside.degree = omega (arith, ints, c.pivot.ranges) in
     let is_pivot = ap (λ (i : ℤ). pivot_at i inside.column inside.row) same ∙ c.pivot.view_is in
     let q : Pivot = pivot_at (to_z w16 (of_z w16 inside.degree)) inside.column inside.row in
-    let are_columns : c.in_ok-columns.columns.items ≡ columns_across complex q complex =
+    let are_columns : c.in_ok-columns.columns ≡ columns_across complex q complex =
     c.in_ok-columns.ensures ∙ ap (λ (row : List Entry). map (line_across (column_of complex q.degree)) row) c.row_at-row.ensures in
-    let are_rows : c.in_ok-rows.rows.items ≡ rows_across complex q complex =
+    let are_rows : c.in_ok-rows.rows ≡ rows_across complex q complex =
     c.in_ok-rows.ensures ∙ ap (λ (column : List Entry). map (line_across (row_of complex q.degree)) column) c.column_at-column.ensures in
     record {
       complex = complex;

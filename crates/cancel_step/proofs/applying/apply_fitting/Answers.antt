@@ -1,0 +1,105 @@
+use Rattle.std.proofs.Common.{◌≡◌, ◌∙◌, ◌⊎◌, ℤ, ap, sym, subst, length, arith, to_z, of_z, w16}
+use Rattle.std.specs.Prelude.{IfNone, IfSome, Option}
+use Rattle.std.proofs.lemmas.Int.{ints}
+use Rattle.kh_types.specs.Complex.{IsPivot, Pivot, cancel}
+use Rattle.sparse_block.specs.Changes.{pivot_at}
+use Rattle.sparse_block.specs.Complexes.{column_of, row_of}
+use Rattle.sparse_block.specs.Entries.{entries_of}
+use Rattle.cancel_step.specs.Copies.{Copied, WasPatched, parts_of}
+use Rattle.cancel_step.specs.Foreign.{IsForeign}
+use Rattle.cancel_step.specs.Updates.{IsAlone}
+use Rattle.cancel_step.specs.declared.patched.Update.{Update}
+use Rattle.cancel_step.proofs.SameLemmas.{alone-same, columns-patched, pivot-same, rows-patched}
+use Rattle.cancel_step.proofs.applying.apply_fitting.Goals as goal
+
+pub drop_pair-requires-clause-pivot : goal.drop_pair-requires-clause-pivot
+drop_pair-requires-clause-pivot g c =
+    let complex = c.args.complex.now.complex in
+    let look : Copied = parts_of c.look.inside.pivot c.look.inside.columns c.look.inside.rows in
+    let fits =
+    subst (λ (parts : Copied). ¬ IsForeign parts complex) (sym (c.look.view_is ∙ c.patch.view_is)) c.requires in
+    let inside = c.pivot.inside in
+    let same : to_z w16 (of_z w16 inside.degree) ≡ inside.degree = omega (arith, ints, c.pivot.ranges) in
+    subst (IsPivot complex) (sym (ap (λ (i : ℤ). pivot_at i inside.column inside.row) same ∙ c.pivot.view_is))
+    (pivot-same g.F.PrimeField.P complex look c.complex_laws.ensures.complex c.look.invariant (λ column shows. fits (column, shows)))
+
+pub drop_pair-requires-clause-alone : goal.drop_pair-requires-clause-alone
+drop_pair-requires-clause-alone g c =
+    let complex = c.args.complex.now.complex in
+    let look : Copied = parts_of c.look.inside.pivot c.look.inside.columns c.look.inside.rows in
+    let fits =
+    subst (λ (parts : Copied). ¬ IsForeign parts complex) (sym (c.look.view_is ∙ c.patch.view_is)) c.requires in
+    let inside = c.pivot.inside in
+    let same : to_z w16 (of_z w16 inside.degree) ≡ inside.degree = omega (arith, ints, c.pivot.ranges) in
+    let alone : IsAlone look =
+    subst IsAlone (sym c.look.view_is)
+    (subst (λ (update : Option Update). IfNone update (IsAlone c.patch.inside.look)) c.in-None.is c.patch.invariant.alone) in
+    let StandsAlone : Pivot → Type 0 =
+    λ pivot.
+    (length (entries_of (column_of complex pivot.degree pivot.column)) ≡ 1)
+    ⊎ (length (entries_of (row_of complex pivot.degree pivot.row)) ≡ 1) in
+    subst StandsAlone (sym (ap (λ (i : ℤ). pivot_at i inside.column inside.row) same ∙ c.pivot.view_is))
+    (alone-same g.F.PrimeField.P complex look c.complex_laws.ensures.complex c.look.invariant (λ column shows. fits (column, shows))
+    alone)
+
+pub returns-in-None-clause-pivot : goal.returns-in-None-clause-pivot
+returns-in-None-clause-pivot g c =
+    let complex = c.args.complex.now.complex in
+    let look : Copied = parts_of c.look.inside.pivot c.look.inside.columns c.look.inside.rows in
+    let is_look = c.look.view_is ∙ c.patch.view_is in
+    let fits = subst (λ (parts : Copied). ¬ IsForeign parts complex) (sym is_look) c.requires in
+    subst (λ (parts : Copied). IsPivot complex parts.pivot) is_look
+    (pivot-same g.F.PrimeField.P complex look c.complex_laws.ensures.complex c.look.invariant (λ column shows. fits (column, shows)))
+
+pub exchange-requires-clause-pivot : goal.exchange-requires-clause-pivot
+exchange-requires-clause-pivot g c =
+    let complex = c.args.complex.now.complex in
+    let look : Copied = parts_of c.look.inside.pivot c.look.inside.columns c.look.inside.rows in
+    let fits =
+    subst (λ (parts : Copied). ¬ IsForeign parts complex) (sym (c.look.view_is ∙ c.patch.view_is)) c.requires in
+    pivot-same g.F.PrimeField.P complex look c.complex_laws.ensures.complex c.look.invariant (λ column shows. fits (column, shows))
+
+pub exchange-requires-clause-columns : goal.exchange-requires-clause-columns
+exchange-requires-clause-columns g c =
+    let p = g.F.PrimeField.P in
+    let complex = c.args.complex.now.complex in
+    let look : Copied = parts_of c.look.inside.pivot c.look.inside.columns c.look.inside.rows in
+    let fits =
+    subst (λ (parts : Copied). ¬ IsForeign parts complex) (sym (c.look.view_is ∙ c.patch.view_is)) c.requires in
+    let made = c.in-Some.field-0 in
+    let patched : WasPatched p look made.columns.items made.rows.items =
+    subst (λ (parts : Copied). WasPatched p parts made.columns.items made.rows.items) (sym c.look.view_is)
+    (subst
+    (λ (update : Option Update).
+    IfSome update (λ made. WasPatched p c.patch.inside.look made.columns.items made.rows.items)) c.in-Some.is
+    c.patch.invariant.updated) in
+    patched.are_columns
+    ∙ columns-patched p complex look c.complex_laws.ensures.complex patched.from (λ column shows. fits (column, shows))
+    c.element_laws.ensures.field
+
+pub exchange-requires-clause-rows : goal.exchange-requires-clause-rows
+exchange-requires-clause-rows g c =
+    let p = g.F.PrimeField.P in
+    let complex = c.args.complex.now.complex in
+    let look : Copied = parts_of c.look.inside.pivot c.look.inside.columns c.look.inside.rows in
+    let fits =
+    subst (λ (parts : Copied). ¬ IsForeign parts complex) (sym (c.look.view_is ∙ c.patch.view_is)) c.requires in
+    let made = c.in-Some.field-0 in
+    let patched : WasPatched p look made.columns.items made.rows.items =
+    subst (λ (parts : Copied). WasPatched p parts made.columns.items made.rows.items) (sym c.look.view_is)
+    (subst
+    (λ (update : Option Update).
+    IfSome update (λ made. WasPatched p c.patch.inside.look made.columns.items made.rows.items)) c.in-Some.is
+    c.patch.invariant.updated) in
+    patched.are_rows
+    ∙ rows-patched p complex look c.complex_laws.ensures.complex patched.from (λ column shows. fits (column, shows))
+    c.element_laws.ensures.field
+
+pub returns-clause-pivot : goal.returns-clause-pivot
+returns-clause-pivot g c =
+    let complex = c.args.complex.now.complex in
+    let look : Copied = parts_of c.look.inside.pivot c.look.inside.columns c.look.inside.rows in
+    let is_look = c.look.view_is ∙ c.patch.view_is in
+    let fits = subst (λ (parts : Copied). ¬ IsForeign parts complex) (sym is_look) c.requires in
+    subst (λ (parts : Copied). IsPivot complex parts.pivot) is_look
+    (pivot-same g.F.PrimeField.P complex look c.complex_laws.ensures.complex c.look.invariant (λ column shows. fits (column, shows)))
