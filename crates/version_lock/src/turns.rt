@@ -16,6 +16,7 @@ use atomic_table::{Seat, Shared};
 use kh_types::NoMemory;
 use std::alloc::Global;
 use std::sync::Wait;
+use std::sync::atomic::{AtomicU64, Ordering};
 
 /// A seat at the table of a lock over a B.
 pub(crate) type TableSeat<B> = Seat<B, View<<B as Held>::Origin, <B as Held>::Entry>>;
@@ -28,8 +29,13 @@ pub(crate) type LockTable<B> = Shared<
     TurnRule<B>,
 >;
 
-/// Takes the turn and the value. It waits where another seat has the turn.
-pub(crate) fn take_turn<B: Held, R: Wait>(rt: &R, table: &LockTable<B>, seat: &mut TableSeat<B>)
+/// Takes the turn and the value. It waits where another seat has the turn, and is counted meanwhile.
+pub(crate) fn take_turn<B: Held, R: Wait>(
+    rt: &R,
+    table: &LockTable<B>,
+    waiting: &AtomicU64,
+    seat: &mut TableSeat<B>,
+)
     requires table { (seat.old.table_id ≡ table.now.table_id) × (table.now.table_id.words ≡ 2) }
     requires idle { (seat.old.me.1 ≡ []) × (seat.old.me.0.held ≡ None) × (1 ≤ seat.old.me.0.share) }
     ensures table { (seat.new.table_id ≡ seat.old.table_id) × (seat.new.id ≡ seat.old.id) }
@@ -39,7 +45,9 @@ pub(crate) fn take_turn<B: Held, R: Wait>(rt: &R, table: &LockTable<B>, seat: &m
         if table.compare_exchange::<Try<B>>(seat, 0, 0, 1) == 0 {
             return;
         }
+        waiting.fetch_add(1, Ordering::SeqCst);
         table.park(rt, 0, 1);
+        waiting.fetch_sub(1, Ordering::SeqCst);
     }
     unreachable!()
 }
@@ -90,7 +98,7 @@ pub(crate) fn read_version<B: Held>(table: &LockTable<B>, seat: &mut TableSeat<B
 }
 
 /// Gives the turn up with the value, whose history the seat has seen.
-pub(crate) fn release<B: Held>(table: &LockTable<B>, seat: &mut TableSeat<B>)
+pub(crate) fn release<B: Held>(table: &LockTable<B>, waiting: &AtomicU64, seat: &mut TableSeat<B>)
     requires table { (seat.old.table_id ≡ table.now.table_id) × (table.now.table_id.words ≡ 2) ×
         (table.now.table_id.slots ≡ 1) }
     requires out { Holds (λ value. (seat.old.me.0.held ≡ Some (B.history value)) ×
@@ -102,11 +110,11 @@ pub(crate) fn release<B: Held>(table: &LockTable<B>, seat: &mut TableSeat<B>)
     )) seat.old.me }
 {
     table.store::<Release>(seat, 0, 0);
-    table.wake_one(0);
+    wake(table, waiting);
 }
 
 /// The same, and the seat has seen no more than before it had the turn.
-pub(crate) fn withdraw<B: Held>(table: &LockTable<B>, seat: &mut TableSeat<B>)
+pub(crate) fn withdraw<B: Held>(table: &LockTable<B>, waiting: &AtomicU64, seat: &mut TableSeat<B>)
     requires table { (seat.old.table_id ≡ table.now.table_id) × (table.now.table_id.words ≡ 2) ×
         (table.now.table_id.slots ≡ 1) }
     requires out { Holds (λ value. (seat.old.me.0.held ≡ Some (B.history value)) ×
@@ -116,7 +124,17 @@ pub(crate) fn withdraw<B: Held>(table: &LockTable<B>, seat: &mut TableSeat<B>)
     ensures freed { seat.new.me ≡ (freed seat.old.me.0 seat.old.me.0.seen, []) }
 {
     table.store::<Withdraw>(seat, 0, 0);
-    table.wake_one(0);
+    wake(table, waiting);
+}
+
+/// Wakes one of the seats that wait for the turn, if there is one. A seat that is counted only
+/// afterwards finds the turn given up, and does not sleep.
+fn wake<B: Held>(table: &LockTable<B>, waiting: &AtomicU64)
+    requires { table.now.table_id.words ≡ 2 }
+{
+    if waiting.load(Ordering::SeqCst) > 0 {
+        table.wake_one(0);
+    }
 }
 
 /// Enters what the value has gained into the history, and raises the version.
@@ -138,6 +156,7 @@ pub(crate) fn look<B: Held, R: Wait>(
     rt: &R,
     alloc: Global,
     table: &LockTable<B>,
+    waiting: &AtomicU64,
     seat: &mut TableSeat<B>,
     hint: u32,
 ) -> Result<(u64, Option<B::Look>), NoMemory>
@@ -151,15 +170,15 @@ pub(crate) fn look<B: Held, R: Wait>(
         IfSome r.1 (λ look. (¬ B.done start log) × B.look_fits look start log)) }
     ensures memory { IfErr result (λ _. seat.new.me ≡ seat.old.me) }
 {
-    take_turn(rt, table, seat);
+    take_turn(rt, table, waiting, seat);
     match look_at_value(alloc, table, seat, hint) {
         Ok(found) => {
             let now = read_version(table, seat);
-            release(table, seat);
+            release(table, waiting, seat);
             Ok((now, found))
         }
         Err(failed) => {
-            withdraw(table, seat);
+            withdraw(table, waiting, seat);
             Err(failed)
         }
     }
@@ -169,6 +188,7 @@ pub(crate) fn look<B: Held, R: Wait>(
 pub(crate) fn commit<B: Held, R: Wait>(
     rt: &R,
     table: &LockTable<B>,
+    waiting: &AtomicU64,
     seat: &mut TableSeat<B>,
     looked: u64,
     patch: B::Patch,
@@ -183,15 +203,15 @@ pub(crate) fn commit<B: Held, R: Wait>(
         (seat.new.me.1 ≡ []) }
     ensures commit { Commits (B.entry patch) seat.old.me.0 result seat.new.me.0 }
 {
-    take_turn(rt, table, seat);
+    take_turn(rt, table, waiting, seat);
     let now = read_version(table, seat);
     if now == looked {
         take_patch(table, seat, patch);
         publish(table, seat, now);
-        release(table, seat);
+        release(table, waiting, seat);
         CommitSeen::Committed { version: now + 1 }
     } else {
-        release(table, seat);
+        release(table, waiting, seat);
         CommitSeen::Stale { looked, now }
     }
 }

@@ -18,6 +18,7 @@ use std::alloc::Global;
 use std::marker::Model;
 use std::snapshot::Snapshot;
 use std::sync::Wait;
+use std::sync::atomic::AtomicU64;
 
 /// A value that threads take turns at. It keeps its origin, the length of the history that it was
 /// made with (`first`), and its number of seats.
@@ -25,6 +26,7 @@ use std::sync::Wait;
 pub struct Versioned<B: Held> {
     table: Table<B, View<B::Origin, B::Entry>, Opening<B>, TurnRule<B>, Global>,
     seats: u32,
+    waiting: AtomicU64,
 }
 
 impl<B: Held> Model for Versioned<B> {
@@ -64,7 +66,11 @@ impl<B: Held> Versioned<B> {
         slots.push_reserved(value);
         match Table::new(alloc, &[0, looked], slots, &about) {
             Ok((table, seat)) => Ok((
-                Versioned { table, seats },
+                Versioned {
+                    table,
+                    seats,
+                    waiting: AtomicU64::new(0),
+                },
                 WorkSeat {
                     seat,
                     looked,
@@ -97,7 +103,14 @@ impl<B: Held> Versioned<B> {
             B.look_fits look self.now.origin seat.new.seen)) }
         ensures memory { IfErr result (λ _. seat.new ≡ seat.old) }
     {
-        let (looked, found) = look(rt, alloc, &self.table.shared, &mut seat.seat, hint)?;
+        let (looked, found) = look(
+            rt,
+            alloc,
+            &self.table.shared,
+            &self.waiting,
+            &mut seat.seat,
+            hint,
+        )?;
         seat.looked = looked;
         Ok(found)
     }
@@ -119,7 +132,14 @@ impl<B: Held> Versioned<B> {
         ensures ascending { IsAscending seat.new.mine }
         ensures commit { CommitsTo (B.entry patch) seat.old result seat.new }
     {
-        let seen = commit(rt, &self.table.shared, &mut seat.seat, seat.looked, patch);
+        let seen = commit(
+            rt,
+            &self.table.shared,
+            &self.waiting,
+            &mut seat.seat,
+            seat.looked,
+            patch,
+        );
         seat.looked = match &seen {
             CommitSeen::Committed { version } => *version,
             CommitSeen::Stale { looked: _, now } => *now,
@@ -205,7 +225,11 @@ impl<B: Held> Versioned<B> {
         ensures first { self.first ≤ length seat.seen }
         ensures mine { seat.mine ≡ range_with_len self.first (length seat.seen - self.first) }
     {
-        let Versioned { table, seats: _ } = self;
+        let Versioned {
+            table,
+            seats: _,
+            waiting: _,
+        } = self;
         let WorkSeat {
             seat,
             looked: _,
