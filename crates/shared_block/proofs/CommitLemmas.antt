@@ -131,14 +131,6 @@ copy-committed p held copy is foreign =
     open-copy (complex_of p held) copy.parts.pivot foreign.0
     (subst (λ (parts : Copied). ShowsAt parts (complex_of p held) foreign.0) is.parts foreign.1)
 
--- so a commit of such a copy is taken
-pub after-fitting : (p : ℕ) (before after : BlockHistory) (copy : BlockCopy) (answer : CommitAnswer) → IsCopyOf p before copy
-    → (IsStale answer → IsOld before copy) → (IsForeignAnswer answer → IsForeign copy.parts (complex_of p before))
-    → Answers p before copy answer after → after ≡ with_pivot before copy.parts.pivot
-after-fitting p before after copy (Committed version) is stale foreign answers = answers.0
-after-fitting p before after copy (Stale looked now) is stale foreign answers = absurd (stale tt is.version)
-after-fitting p before after copy (Foreign degree column) is stale foreign answers = absurd (copy-committed p before copy is (foreign tt))
-
 -- a turn of finishing
 
 pub turn-smaller : (p : ℕ) (held seen after : BlockHistory) (room : ℕ) (complex : Complex) (pivot : Pivot) → IsField p

@@ -46,7 +46,7 @@ impl<F: PrimeField + Send> Held for SharedBlock<F> {
     }
 
     fn take(&mut self, patch: BlockPatch<F>) {
-        let _ = self.commit(patch);
+        self.take_fitting(patch);
     }
 
     ghost look_is_short = { λ look origin history fits. fits.short };

@@ -8,10 +8,11 @@ ghost use Rattle.cancel_step.specs.Foreign.{IsForeign};
 ghost use Rattle.cancel_step.specs.RankSums.{live_places};
 ghost use Rattle.shared_block.specs.BlockHistories.{HasLegalHistory, IsCopyOf, complex_of};
 ghost use Rattle.shared_block.specs.Commits.{Answers, IsForeignAnswer, IsOld, IsStale};
+ghost use Rattle.shared_block.specs.Commits.{with_pivot};
 
 use crate::building::live_places;
 use crate::{BlockLook, BlockPatch, CommitAnswer};
-use cancel_step::{Foreign, Pivot, apply, copy, hint_of, look};
+use cancel_step::{Foreign, Pivot, apply, apply_fitting, copy, hint_of, look};
 use kh_types::{Diagram, NoMemory};
 use prime_field::PrimeField;
 use prime_field::laws::element_laws;
@@ -105,6 +106,18 @@ impl<F: PrimeField> SharedBlock<F> {
             }
             Err(Foreign { degree, column }) => CommitAnswer::Foreign { degree, column },
         }
+    }
+
+    /// Cancels the pivot of a patch of a look at the block as it is, which is not compared again. It
+    /// takes no memory.
+    pub(crate) fn take_fitting(&mut self, patch: BlockPatch<F>)
+        requires { IsCopyOf F.P self.old patch }
+        ensures { self.new ≡ with_pivot self.old patch.parts.pivot }
+    {
+        element_laws::<F>();
+        let pivot = patch.patch.pivot();
+        apply_fitting(&mut self.complex, patch.patch);
+        self.history.push_reserved(pivot);
     }
 
     /// How many generators are alive.
