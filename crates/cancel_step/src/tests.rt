@@ -169,6 +169,29 @@ fn all_pivots_are_cancelled(rt: HostRuntime) -> Result<(), Fail> {
     Ok(())
 }
 
+/// Each row is a complex, whose pivots are cancelled by patches and in place. The third pivot stands
+/// alone in its row and its column.
+#[test]
+fn patches_do_what_is_done_in_place(rt: HostRuntime) -> Result<(), Fail> {
+    let alloc = rt.alloc();
+    for (other_x, other_y) in [(false, false), (true, false), (false, true), (true, true)] {
+        let mut complex = square(alloc, other_x, other_y)?;
+        let mut other = square(alloc, other_x, other_y)?;
+        for _ in 0..3 {
+            if let Some(found) = look(&complex, 0) {
+                let patch = patch(alloc, copy(alloc, &complex, found)?)?;
+                assert_eq!(rt; apply(&mut complex, patch), Ok(()), "{other_x} {other_y}");
+            }
+            if let Some(found) = look(&other, 0) {
+                cancel_in_place(alloc, &mut other, found)?;
+            }
+            assert_eq!(rt; numbers(&complex), numbers(&other), "{other_x} {other_y}");
+        }
+        assert!(rt; complex.is_zero(), "{other_x} {other_y}");
+    }
+    Ok(())
+}
+
 /// Each row is a complex to which a patch of the first one is applied, and the least column that
 /// differs: where x differs the copied column 1, else the copied row 0 at column 2.
 #[test]
