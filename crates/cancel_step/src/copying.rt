@@ -1,6 +1,6 @@
 //! Copies of what a cancellation reads and changes.
 
-ghost use Rattle.std.specs.Prelude.{◌≡◌, [], map, IfOk};
+ghost use Rattle.std.specs.Prelude.{◌≡◌, map, IfOk};
 ghost use Rattle.kh_types.specs.Complex.{IsPivot};
 ghost use Rattle.sparse_block.specs.Complexes.{column_of, row_of};
 ghost use Rattle.cancel_step.specs.Copies.{copied, line_across};
@@ -10,7 +10,7 @@ use crate::copied_lines::CopiedLines;
 use crate::reading::{column_at, row_at};
 use kh_types::NoMemory;
 use prime_field::PrimeField;
-use sparse_block::{Complex, Entry, INLINE_ENTRIES, complex_laws};
+use sparse_block::{Complex, Entry, complex_laws};
 use std::alloc::Global;
 use std::marker::{Model, PhantomData};
 
@@ -75,7 +75,8 @@ fn copied_columns<F: PrimeField>(
     ensures { IfOk result (λ lines. lines
         ≡ map (line_across (column_of complex.now.complex degree)) row.now) }
 {
-    let mut lines = with_room(alloc, row.len())?;
+    let count = entries_of_columns(complex, degree, row);
+    let mut lines = CopiedLines::with_room(alloc, row.len(), count)?;
     'entries: for entry in row {
         let place = entry.place;
         lines.push(place, column_at(complex, degree, place))?;
@@ -93,7 +94,8 @@ fn copied_rows<F: PrimeField>(
     ensures { IfOk result (λ lines. lines
         ≡ map (line_across (row_of complex.now.complex degree)) column.now) }
 {
-    let mut lines = with_room(alloc, column.len())?;
+    let count = entries_of_rows(complex, degree, column);
+    let mut lines = CopiedLines::with_room(alloc, column.len(), count)?;
     'entries: for entry in column {
         let place = entry.place;
         lines.push(place, row_at(complex, degree, place))?;
@@ -101,9 +103,20 @@ fn copied_rows<F: PrimeField>(
     Ok(lines)
 }
 
-/// No lines, with room for so many, if they are of the usual length.
-fn with_room(alloc: Global, lines: usize) -> Result<CopiedLines, NoMemory>
-    ensures { IfOk result (λ made. made ≡ []) }
-{
-    CopiedLines::with_room(alloc, lines, lines.saturating_mul(INLINE_ENTRIES))
+/// How many entries the columns have at the places of a row's entries. No clause rests on it.
+fn entries_of_columns<F: PrimeField>(complex: &Complex<F>, degree: i16, row: &[Entry]) -> usize {
+    let mut count = 0usize;
+    'entries: for entry in row {
+        count = count.saturating_add(column_at(complex, degree, entry.place).len());
+    }
+    count
+}
+
+/// How many entries the rows have at the places of a column's entries. No clause rests on it.
+fn entries_of_rows<F: PrimeField>(complex: &Complex<F>, degree: i16, column: &[Entry]) -> usize {
+    let mut count = 0usize;
+    'entries: for entry in column {
+        count = count.saturating_add(row_at(complex, degree, entry.place).len());
+    }
+    count
 }

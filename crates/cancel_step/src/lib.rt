@@ -22,5 +22,5 @@ pub use copying::{Look, copy};
 pub use finishing::finish;
 pub use patched::Patch;
 pub use pivot::{Foreign, Pivot};
-pub use search::{hint_of, look};
+pub use search::{Found, find, look};
 pub use updating::patch;

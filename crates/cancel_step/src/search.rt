@@ -14,31 +14,38 @@ use crate::reading::last_row;
 use prime_field::PrimeField;
 use sparse_block::{Complex, complex_laws};
 
+/// A pivot, and where the search met it.
+#[derive(Clone, Copy, Debug, PartialEq, Eq)]
+pub struct Found {
+    /// The pivot.
+    pub pivot: Pivot,
+    /// A hint for the next search, which then begins at the pivot's column: how many columns come
+    /// before it, as far as a u32 counts them. No clause rests on it.
+    pub hint: u32,
+}
+
 /// An entry other than zero, searched from a hint on: the number of columns that are left out at
 /// first. The search goes round once; a number past the last column begins at the first.
 pub fn look<F: PrimeField>(complex: &Complex<F>, hint: u32) -> Option<Pivot>
     ensures some { IfSome result (λ pivot. IsPivot complex.now.complex pivot) }
     ensures none { (result ≡ None) ↔ (is_zero complex.now.complex ≡ true) }
 {
-    let start = start_of(complex, hint);
-    match search_from(complex, start) {
-        Some(pivot) => Some(pivot),
-        None => search_from(complex, FIRST),
+    match find(complex, hint) {
+        Some(found) => Some(found.pivot),
+        None => None,
     }
 }
 
-/// The hint from which a search meets this pivot's column first, as far as a u32 counts columns. No
-/// clause rests on it.
-pub fn hint_of<F: PrimeField>(complex: &Complex<F>, pivot: Pivot) -> u32 {
-    let mut passed = 0;
-    'degrees: for number in 0..degree_count(complex) {
-        let degree = degree_down(complex, number);
-        if degree <= pivot.degree {
-            break;
-        }
-        passed += u64::from(complex.places(degree));
+/// The same, with a hint for the next search.
+pub fn find<F: PrimeField>(complex: &Complex<F>, hint: u32) -> Option<Found>
+    ensures some { IfSome result (λ found. IsPivot complex.now.complex found.pivot) }
+    ensures none { (result ≡ None) ↔ (is_zero complex.now.complex ≡ true) }
+{
+    let start = start_of(complex, hint);
+    match search_from(complex, start) {
+        Some(found) => Some(found),
+        None => search_from(complex, FIRST),
     }
-    (passed + u64::from(pivot.column)).min(u64::from(u32::MAX)) as u32
 }
 
 /// A column, by the number of its degree from the greatest on, and its place.
@@ -46,12 +53,15 @@ pub fn hint_of<F: PrimeField>(complex: &Complex<F>, pivot: Pivot) -> u32 {
 struct Start {
     number: u16,
     column: u32,
+    /// How many columns the degrees before have.
+    before: u32,
 }
 
 /// The first column of the greatest degree.
 const FIRST: Start = Start {
     number: 0,
     column: 0,
+    before: 0,
 };
 
 /// The column at which a search begins.
@@ -63,6 +73,7 @@ fn start_of<F: PrimeField>(complex: &Complex<F>, hint: u32) -> Start {
             return Start {
                 number,
                 column: left,
+                before: hint.saturating_sub(left),
             };
         }
         left -= places;
@@ -71,18 +82,22 @@ fn start_of<F: PrimeField>(complex: &Complex<F>, hint: u32) -> Start {
 }
 
 /// The last entry of the first column with an entry, from a column on to the end.
-fn search_from<F: PrimeField>(complex: &Complex<F>, start: Start) -> Option<Pivot>
-    ensures some { IfSome result (λ pivot. IsPivot complex.now.complex pivot) }
+fn search_from<F: PrimeField>(complex: &Complex<F>, start: Start) -> Option<Found>
+    ensures some { IfSome result (λ found. IsPivot complex.now.complex found.pivot) }
     ensures none { result ≡ None → start.number ≡ 0 → start.column ≡ 0
         → is_zero complex.now.complex ≡ true }
 {
     complex_laws(complex);
     let mut from = start.column;
+    let mut before = start.before;
     'degrees: for number in start.number..degree_count(complex) {
-        if let Some(pivot) = search_degree(complex, degree_down(complex, number), from) {
-            return Some(pivot);
+        let degree = degree_down(complex, number);
+        if let Some(pivot) = search_degree(complex, degree, from) {
+            let hint = before.saturating_add(pivot.column);
+            return Some(Found { pivot, hint });
         }
         from = 0;
+        before = before.saturating_add(complex.places(degree));
     }
     None
 }

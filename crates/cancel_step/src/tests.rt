@@ -7,7 +7,7 @@ ghost use Rattle.sparse_block.specs.Complexes.{HaveEntries, SquaresToZero};
 ghost use Rattle.sparse_block.specs.Inside.{entries_in, lines_in, lists_in};
 ghost use Rattle.cancel_step.specs.Squares.{square, square_columns, square_names};
 
-use crate::{Foreign, Pivot, apply, cancel_in_place, copy, finish, hint_of, look, patch};
+use crate::{Foreign, Pivot, apply, cancel_in_place, copy, find, finish, look, patch};
 use kh_types::NoMemory;
 use prime_field::{F5, PrimeField};
 use smallvec::SmallVec;
@@ -221,9 +221,9 @@ fn foreign_patches_carry_the_least_column(rt: HostRuntime) -> Result<(), Fail> {
 fn searches_go_round(rt: HostRuntime) -> Result<(), Fail> {
     let alloc = rt.alloc();
     let mut complex = square(alloc, false, false)?;
-    if let Some(last) = look(&complex, 5) {
-        assert_eq!(rt; (last, hint_of(&complex, last)), (pivot(2, 2), 5));
-        cancel_in_place(alloc, &mut complex, last)?;
+    if let Some(last) = find(&complex, 5) {
+        assert_eq!(rt; (last.pivot, last.hint), (pivot(2, 2), 5));
+        cancel_in_place(alloc, &mut complex, last.pivot)?;
     }
     for (hint, found) in [
         (0, pivot(0, 1)),

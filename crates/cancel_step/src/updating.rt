@@ -18,6 +18,9 @@ use smallvec::SmallVec;
 use sparse_block::{Entry, Line};
 use std::alloc::Global;
 
+/// How many entries a line has at most, mostly: there is room for so many from the first.
+const USUAL_ENTRIES: usize = 64;
+
 /// Updates the columns and rows that were copied. A pivot that stands alone in its column or its row
 /// changes none.
 pub fn patch<F: PrimeField>(alloc: Global, look: Look<F>) -> Result<Patch<F>, NoMemory>
@@ -47,7 +50,7 @@ fn updated<F: PrimeField>(alloc: Global, look: &Look<F>) -> Result<Update, NoMem
 {
     element_laws::<F>();
     let pivot = look.pivot;
-    let mut scratch = Vec::new(alloc);
+    let mut scratch = Vec::with_capacity(alloc, USUAL_ENTRIES)?;
     let columns = lines_cleared::<F>(&mut scratch, &look.columns, pivot.column, pivot.row)?;
     let rows = lines_cleared::<F>(&mut scratch, &look.rows, pivot.row, pivot.column)?;
     Ok(Update { columns, rows })

@@ -7,3 +7,4 @@ pub mod JonesLemmas
 pub mod Headlines
 pub mod Written
 pub mod Workers
+pub mod PartLemmas

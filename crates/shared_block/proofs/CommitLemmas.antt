@@ -133,12 +133,10 @@ copy-committed p held copy is foreign =
 
 -- a turn of finishing
 
-pub turn-smaller : (p : ℕ) (held seen after : BlockHistory) (room : ℕ) (complex : Complex) (pivot : Pivot) → IsField p
-    → IsKept p held room complex → held ≡ seen → IsPivot (complex_of p seen) pivot → after ≡ with_pivot seen pivot
+pub turn-smaller : (p : ℕ) (seen after : BlockHistory) (pivot : Pivot) → IsField p → IsTrue (accepted seen.diagram)
+    → HasLegalHistory p seen → IsPivot (complex_of p seen) pivot → after ≡ with_pivot seen pivot
     → live_places (complex_of p after) < live_places (complex_of p seen)
-turn-smaller p held seen after room complex pivot field kept is_seen is_pivot is_after =
-    let accepted_there = subst (λ (h : BlockHistory). IsTrue (accepted h.diagram)) is_seen kept.accepted in
-    let legal_there = subst (λ (h : BlockHistory). HasLegalHistory p h) is_seen kept.legal in
+turn-smaller p seen after pivot field accepted_there legal_there is_pivot is_after =
     let falls = live_places-with_pivot p seen pivot field accepted_there legal_there is_pivot in
     let same = ap (λ (h : BlockHistory). live_places (complex_of p h)) is_after in
     omega (arith, falls, same)

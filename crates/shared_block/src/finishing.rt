@@ -8,7 +8,7 @@ ghost use Rattle.shared_block.specs.Commits.{with_pivot};
 
 use crate::SharedBlock;
 use crate::laws::block_laws;
-use cancel_step::{Pivot, cancel_in_place, hint_of, look};
+use cancel_step::{Found, Pivot, cancel_in_place, find};
 use kh_types::NoMemory;
 use prime_field::PrimeField;
 use prime_field::laws::element_laws;
@@ -26,19 +26,20 @@ impl<F: PrimeField> SharedBlock<F> {
         element_laws::<F>();
         block_laws(self);
         let mut hint = 0;
-        'turns: while let Some(pivot) = self.next(hint) {
-            hint = hint_of(&self.complex, pivot);
-            self.cancel(alloc, pivot)?;
+        'turns: while let Some(found) = self.next(hint) {
+            block_laws(self);
+            hint = found.hint;
+            self.cancel(alloc, found.pivot)?;
         }
         Ok(())
     }
 
     /// A pivot that may be cancelled next; `None` exactly where the complex is zero.
-    fn next(&self, hint: u32) -> Option<Pivot>
+    fn next(&self, hint: u32) -> Option<Found>
         ensures none { (result ≡ None) ↔ (is_zero (complex_of F.P self.now) ≡ true) }
-        ensures pivot { IfSome result (IsPivot (complex_of F.P self.now)) }
+        ensures pivot { IfSome result (λ found. IsPivot (complex_of F.P self.now) found.pivot) }
     {
-        look(&self.complex, hint)
+        find(&self.complex, hint)
     }
 
     /// Cancels a pivot, which enters the history. The block is unchanged where memory runs out.

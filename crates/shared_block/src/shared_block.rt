@@ -12,7 +12,7 @@ ghost use Rattle.shared_block.specs.Commits.{with_pivot};
 
 use crate::building::live_places;
 use crate::{BlockLook, BlockPatch, CommitAnswer};
-use cancel_step::{Foreign, Pivot, apply, apply_fitting, copy, hint_of, look};
+use cancel_step::{Foreign, Pivot, apply, apply_fitting, copy, find};
 use kh_types::{Diagram, NoMemory};
 use prime_field::PrimeField;
 use prime_field::laws::element_laws;
@@ -72,11 +72,11 @@ impl<F: PrimeField> SharedBlock<F> {
             (found ≡ None) ↔ (is_zero (complex_of F.P self.now) ≡ true)) }
         ensures look { IfOk result (λ found. IfSome found (IsCopyOf F.P self.now)) }
     {
-        match look(&self.complex, hint) {
-            Some(pivot) => Ok(Some(BlockLook {
+        match find(&self.complex, hint) {
+            Some(found) => Ok(Some(BlockLook {
                 version: self.version(),
-                hint: hint_of(&self.complex, pivot),
-                look: copy(alloc, &self.complex, pivot)?,
+                hint: found.hint,
+                look: copy(alloc, &self.complex, found.pivot)?,
             })),
             None => Ok(None),
         }

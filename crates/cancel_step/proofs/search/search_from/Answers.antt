@@ -14,8 +14,8 @@ degrees-preserved g c at_first at_column =
       λ number within column.
           elim (leb_tells c.degrees.number number) [
             | inl last ↦
-                let is_degree : high_of complex -ℤ pos c.degrees.number ≡ to_z w16 (of_z w16 c.degree_down.result) =
-                omega (arith, ints, c.degree_down.ensures, c.degree_down.type_inv) in
+                let is_degree : high_of complex -ℤ pos c.degrees.number ≡ to_z w16 (of_z w16 c.degree_down-degree.result) =
+                omega (arith, ints, c.degree_down-degree.ensures, c.degree_down-degree.type_inv) in
                 let same : number ≡ c.degrees.number = omega (arith, within, last.1) in
                 ap (λ (n : ℕ). entries_of (column_of complex (high_of complex -ℤ pos n) column)) same
                 ∙ ap (λ (i : ℤ). entries_of (column_of complex i column)) is_degree
