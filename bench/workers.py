@@ -3,14 +3,18 @@
 
     bench/workers.py [RUNS] [--workers N] [--model OTHER]
 
-Runs with N workers (4 at first) and with one are alternated. For each diagram it prints the least wall and user times of both, how many
-times faster N workers are, and the ratio of user times; then a trefoil with 64 workers against one. OTHER is a program that takes the same turns
+Runs with N workers (4 at first) and with one are alternated. For each diagram it prints the least wall and user times of both (user times are
+the system's too), how many times faster N workers are, and the ratio of user times; and, since a machine's cores share its memory, what N separate
+runs with one worker each come to at once: their ratio of user times, and how many times faster they are than one after another, the most
+that the machine lets N workers hope for. Then a trefoil with 64 workers against one. OTHER is a program that takes the same turns
 (`--braid "STRANDS LETTERS.."`) and says how long one took in its word after `us/turn`; with it the turns of four workers are compared. On
 idle cores alone the wall times tell something; the load is printed. Build the program first, by `./kh`. The gate does not run it.
 """
 import argparse
 import os
 import subprocess
+import tempfile
+import time
 
 from braids import braids, planar_diagram
 from homology import PROGRAM, TREFOIL, run
@@ -22,6 +26,22 @@ def least(words, text, runs):
     """The least user and wall times of some runs, the most memory, and what was written."""
     seen = [run(words, text) for _ in range(runs)]
     return min(r[1] for r in seen), min(r[2] for r in seen), max(r[3] for r in seen), seen[0][0]
+
+
+def at_once(text, copies):
+    """The wall time of so many runs with one worker at once, and the user time of each of them, in seconds."""
+    with tempfile.NamedTemporaryFile("w", suffix=".pd") as given:
+        given.write(text)
+        given.flush()
+        start = time.monotonic()
+        programs = []
+        for _ in range(copies):
+            with open(given.name, encoding="utf-8") as source:
+                programs.append(subprocess.Popen([PROGRAM, "homology"], stdin=source, stdout=subprocess.DEVNULL))
+        used = [os.wait4(program.pid, 0)[2] for program in programs]
+        for program in programs:
+            program.returncode = 0
+        return time.monotonic() - start, sum(u.ru_utime + u.ru_stime for u in used) / copies
 
 
 def model_turn(program, strands, letters):
@@ -47,6 +67,8 @@ def main(arguments):
             f" {wall:.2f} s wall {user:.2f} s user {memory:.0f} MB, {wall_one / wall:.2f} times faster, user ratio {user / user_one:.2f},"
             f" {'same' if wrote == wrote_too else 'DIFFERENT'}"
         )
+        wall_copies, user_copies = at_once(text, arguments.workers)
+        line += f", {arguments.workers} runs at once {arguments.workers * wall_one / wall_copies:.2f} times faster, user ratio {user_copies / user_one:.2f}"
         if arguments.model:
             micros, turns = model_turn(arguments.model, strands, letters)
             line += f", other {micros:.2f} us a turn for {turns} turns"
