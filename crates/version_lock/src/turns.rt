@@ -15,6 +15,7 @@ use crate::steps::{Affirm, Commit, JoinShares, Measure, Release, SplitShare, Try
 use atomic_table::{Seat, Shared};
 use kh_types::NoMemory;
 use std::alloc::Global;
+use std::hint::spin_loop;
 use std::sync::Wait;
 use std::sync::atomic::{AtomicU64, Ordering};
 
@@ -29,7 +30,12 @@ pub(crate) type LockTable<B> = Shared<
     TurnRule<B>,
 >;
 
-/// Takes the turn and the value. It waits where another seat has the turn, and is counted meanwhile.
+/// How often a seat looks whether the turn is given up, before it sleeps: about as long as a turn
+/// takes.
+const TRIES: u32 = 32;
+
+/// Takes the turn and the value. It waits where another seat has the turn, and is counted while it
+/// sleeps.
 pub(crate) fn take_turn<B: Held, R: Wait>(
     rt: &R,
     table: &LockTable<B>,
@@ -45,11 +51,27 @@ pub(crate) fn take_turn<B: Held, R: Wait>(
         if table.compare_exchange::<Try<B>>(seat, 0, 0, 1) == 0 {
             return;
         }
+        if is_soon_free(table) {
+            continue;
+        }
         waiting.fetch_add(1, Ordering::SeqCst);
         table.park(rt, 0, 1);
         waiting.fetch_sub(1, Ordering::SeqCst);
     }
     unreachable!()
+}
+
+/// Whether the turn is given up in a little while.
+fn is_soon_free<B: Held>(table: &LockTable<B>) -> bool
+    requires { table.now.table_id.words ≡ 2 }
+{
+    'tries: for _ in 0..TRIES {
+        if table.peek(0) == 0 {
+            return true;
+        }
+        spin_loop();
+    }
+    false
 }
 
 /// Looks at the value that is out with the seat.

@@ -12,11 +12,15 @@ use prime_field::PrimeField;
 use shared_block::SharedBlock;
 use std::alloc::Global;
 use std::sync::Wait;
-use std::thread::yield_now;
+use std::sync::atomic::AtomicU64;
+use std::time::Duration;
 use version_lock::{CommitSeen, Versioned, WorkSeat};
 
-/// How often a worker lets others go first, at most, after one commit that was stale.
-const MOST_PAUSES: u32 = 4096;
+/// How long a worker lets others go first after a commit that was stale, in microseconds: the first
+/// time, and at most.
+const FIRST_PAUSE: u64 = 100;
+
+const LONGEST_PAUSE: u64 = 4000;
 
 /// Takes turns at a block until a look finds it zero, and answers their number. A turn is a look, a
 /// patch, one call of the gate and a commit; it brings the seat at least one pivot more to know, of
@@ -41,7 +45,7 @@ pub fn work<R: Wait, F: PrimeField + Send, G: Gate>(
 {
     let mut turns = 0u64;
     let mut hint = 0u32;
-    let mut pauses = 1u32;
+    let mut pause = FIRST_PAUSE;
     'turns: for _ in rt.forever() {
         let Some(look) = lock.look_with(rt, alloc, seat, hint)? else {
             return Ok(turns);
@@ -50,21 +54,20 @@ pub fn work<R: Wait, F: PrimeField + Send, G: Gate>(
         let patch = look.patch(alloc)?;
         turns += 1;
         gate.before_commit(worker, turns);
-        pauses = paused(lock.commit_with(rt, seat, patch), pauses);
+        pause = paused(rt, lock.commit_with(rt, seat, patch), pause);
     }
     unreachable!()
 }
 
-/// Lets others go first after a stale commit, twice as long after each in a row: how long after the
-/// next.
-fn paused(seen: CommitSeen, pauses: u32) -> u32 {
+/// Lets others go first after a stale commit, for so many microseconds, and twice as long after each
+/// in a row: how long after the next.
+fn paused<R: Wait>(rt: &R, seen: CommitSeen, pause: u64) -> u64 {
     match seen {
-        CommitSeen::Committed { version: _ } => 1,
+        CommitSeen::Committed { version: _ } => FIRST_PAUSE,
         CommitSeen::Stale { looked: _, now: _ } => {
-            'pauses: for _ in 0..pauses {
-                yield_now();
-            }
-            pauses.saturating_mul(2).min(MOST_PAUSES)
+            let nobody_wakes = AtomicU64::new(0);
+            nobody_wakes.park_timeout(rt, 0, Duration::from_micros(pause));
+            pause.saturating_mul(2).min(LONGEST_PAUSE)
         }
     }
 }
