@@ -3,10 +3,10 @@
 
     bench/workers.py [RUNS] [--workers N] [--model OTHER]
 
-Runs with N workers (4 at first) and with one are alternated. For each diagram it prints the least wall and user times of both (user times are
-the system's too), how many times faster N workers are, and the ratio of user times; and, since a machine's cores share its memory, what N separate
-runs with one worker each come to at once: their ratio of user times, and how many times faster they are than one after another, the most
-that the machine lets N workers hope for. Then a trefoil with 64 workers against one. OTHER is a program that takes the same turns
+Some runs with one worker are followed by as many with N workers (4 at first). For each diagram it prints the least wall and user times of
+both (the system's part is in the user times), how many times faster N workers are, and the ratio of user times; and for comparison,
+since a machine's cores share its memory, what N separate runs with one worker come to at once: how many times faster they are than one
+after another, and their ratio of user times. Then a trefoil with 64 workers against one. OTHER is a program that takes the same turns
 (`--braid "STRANDS LETTERS.."`) and says how long one took in its word after `us/turn`; with it the turns of four workers are compared. On
 idle cores alone the wall times tell something; the load is printed. Build the program first, by `./kh`. The gate does not run it.
 """

@@ -57,7 +57,8 @@ fn in_column<F: PrimeField>(
     place: u32,
     entries: &[Entry],
 ) -> Option<u32>
-    ensures { FindsLeast (IsOtherColumn complex.now.complex degree (placed place entries.now)) result }
+    ensures { FindsLeast
+        (IsOtherColumn complex.now.complex degree (placed place entries.now)) result }
 {
     if are_same(entries, column_at(complex, degree, place)) {
         return None;
@@ -86,7 +87,8 @@ fn in_row<F: PrimeField>(
     entries: &[Entry],
 ) -> Option<u32>
     requires { (p : ℕ) × (size : ℕ) × AreEntries p size entries.now }
-    ensures { FindsLeast (IsOtherRowAt complex.now.complex degree (placed place entries.now)) result }
+    ensures { FindsLeast
+        (IsOtherRowAt complex.now.complex degree (placed place entries.now)) result }
 {
     complex_laws(complex);
     let row = row_at(complex, degree, place);

@@ -19,8 +19,8 @@ pub(crate) struct Span {
     pub(crate) end: usize,
 }
 
-/// Columns or rows of a differential, whose entries stand one behind another in one list, so that a
-/// copy of many lines takes memory twice. Contracts see the list of the lines.
+/// Columns, or rows, of a differential, whose entries stand in one list, so that a copy of many
+/// lines takes memory but twice. Contracts see the list of the lines.
 #[derive(Drop)]
 pub(crate) struct CopiedLines {
     pub(crate) spans: Vec<Span>,

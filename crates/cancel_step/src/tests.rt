@@ -169,8 +169,8 @@ fn all_pivots_are_cancelled(rt: HostRuntime) -> Result<(), Fail> {
     Ok(())
 }
 
-/// Each row is a complex, whose pivots are cancelled by patches and in place. The third pivot stands
-/// alone in its row and its column.
+/// Each row is a complex, whose pivots are cancelled by patches and in place. The third pivot,
+/// where there is one, stands alone in its row and its column.
 #[test]
 fn patches_do_what_is_done_in_place(rt: HostRuntime) -> Result<(), Fail> {
     let alloc = rt.alloc();

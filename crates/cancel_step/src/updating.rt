@@ -18,11 +18,11 @@ use smallvec::SmallVec;
 use sparse_block::{Entry, Line};
 use std::alloc::Global;
 
-/// How many entries a line has at most, mostly: there is room for so many from the first.
+/// For how many entries of a line there is room from the first. Few lines have more.
 const USUAL_ENTRIES: usize = 64;
 
-/// Updates the columns and rows that were copied. A pivot that stands alone in its column or its row
-/// changes none.
+/// Updates the columns and rows that were copied. For a pivot that stands alone in its column or
+/// its row nothing is computed: its cancellation only takes entries out.
 pub fn patch<F: PrimeField>(alloc: Global, look: Look<F>) -> Result<Patch<F>, NoMemory>
     ensures { IfOk result (λ patch. patch ≡ look) }
 {

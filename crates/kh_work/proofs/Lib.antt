@@ -8,3 +8,4 @@ pub mod Headlines
 pub mod Written
 pub mod Workers
 pub mod PartLemmas
+pub mod WorkerCounts

@@ -10,25 +10,26 @@ use Rattle.std.proofs.lemmas.List.Elements.{All-head, All-tail}
 use Rattle.std.proofs.lemmas.List.Sums.{take_while-cons}
 use Rattle.kh_work.specs.Parts.{code_part, goes_on, script_part}
 
-abbrev pub IsOther : ℕ → Type 0
-IsOther byte = byte ≢ 59
+-- a byte is no semicolon
+abbrev pub IsNoSemicolon : ℕ → Type 0
+IsNoSemicolon byte = byte ≢ 59
 
-goes-on : (byte : ℕ) → IsOther byte → goes_on byte ≡ true
+goes-on : (byte : ℕ) → IsNoSemicolon byte → goes_on byte ≡ true
 goes-on byte other = elim (eqb_tells byte 59) [ inl here ↦ absurd (other here.1) | inr there ↦ ap not there.0 ]
 
 -- the part before what ends it
-code-before : (code rest : List ℕ) → All IsOther code → code_part rest ≡ [] → code_part (code ++ rest) ≡ code
+code-before : (code rest : List ℕ) → All IsNoSemicolon code → code_part rest ≡ [] → code_part (code ++ rest) ≡ code
 code-before [] rest are ends = ends
 code-before (byte ∷ code) rest are ends =
     take_while-cons goes_on byte (code ++ rest)
     ∙ ap (λ (test : Bool). cond test (byte ∷ take_while goes_on (code ++ rest)) [])
-    (goes-on byte (All-head IsOther byte code are))
-    ∙ ap (λ (bytes : List ℕ). byte ∷ bytes) (code-before code rest (All-tail IsOther byte code are) ends)
+    (goes-on byte (All-head IsNoSemicolon byte code are))
+    ∙ ap (λ (bytes : List ℕ). byte ∷ bytes) (code-before code rest (All-tail IsNoSemicolon byte code are) ends)
 
 script-from : (bytes code : List ℕ) → code_part bytes ≡ code → script_part bytes ≡ drop (length code + 1) bytes
 script-from bytes code is_code = ap (λ (part : List ℕ). drop (length part + 1) bytes) is_code
 
-pub cut-at_semicolon : (code script : List ℕ) → All IsOther code
+pub cut-at_semicolon : (code script : List ℕ) → All IsNoSemicolon code
     → (code_part (code ++ 59 ∷ script) ≡ code) × (script_part (code ++ 59 ∷ script) ≡ script)
 cut-at_semicolon code script are =
     let is_code = code-before code (59 ∷ script) are (take_while-cons goes_on 59 script) in (
@@ -36,7 +37,7 @@ cut-at_semicolon code script are =
       script-from (code ++ 59 ∷ script) code is_code ∙ drop-append-add code (59 ∷ script) 1,
     )
 
-pub whole-without : (code : List ℕ) → All IsOther code → (code_part code ≡ code) × (script_part code ≡ [])
+pub whole-without : (code : List ℕ) → All IsNoSemicolon code → (code_part code ≡ code) × (script_part code ≡ [])
 whole-without code are =
     let is_code = subst (λ (bytes : List ℕ). code_part bytes ≡ code) (append-nil code) (code-before code [] are refl) in (
       is_code,

@@ -1,5 +1,5 @@
 -- The command that the words after the program's name give. All of it is this project's rule.
-use Rattle.std.specs.Prelude.{ℕ, ◌≤◌, nat_le, ◌&&◌, List, [], ◌∷◌, codes, is_some, if◌then◌else◌, Option, Some, None, option_map, option_and_then, unwrap_or}
+use Rattle.std.specs.Prelude.{ℕ, ◌+◌, ◌/◌, ◌%◌, ◌≤◌, nat_le, nat_lt, ◌&&◌, List, [], ◌∷◌, codes, is_some, if◌then◌else◌, Option, Some, None, option_map, option_and_then, unwrap_or}
 use Rattle.std.specs.Str.{bytes_eq}
 use Rattle.shared_block.specs.declared.limits.TheConstants.{WORKERS}
 use Rattle.undo_stack.specs.Steps.{number_of}
@@ -48,6 +48,10 @@ AreWorkers count = (1 ≤ count) × (count ≤ WORKERS)
 abbrev pub workers_of : List ℕ → Option ℕ
 workers_of value =
     option_and_then (λ count. if nat_le 1 count && nat_le count WORKERS then Some count else None) (number_of 2 value)
+
+-- a number below 100 in its least digits, 0 as one
+abbrev pub decimal : ℕ → List ℕ
+decimal count = if nat_lt count 10 then (48 + count) ∷ [] else (48 + count / 10) ∷ (48 + count % 10) ∷ []
 
 -- no option is given
 abbrev pub no_options : Options

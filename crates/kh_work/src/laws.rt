@@ -2,6 +2,7 @@
 
 ghost use Rattle.std.specs.Prelude.{◌≡◌, ◌≢◌, ◌≤◌, [], ◌∷◌, ◌++◌, ℕ, List, All, length, codes};
 ghost use Rattle.std.specs.Prelude.{IsTrue, None, Ok, Some};
+ghost use Rattle.std.specs.Str.Parse.{digits_value};
 ghost use Rattle.circle_smoothing.specs.GeneratorCounts.{generator_count};
 ghost use Rattle.circle_smoothing.specs.declared.limits.TheConstants.{GENERATORS};
 ghost use Rattle.commit_core.specs.Answering.{answers};
@@ -15,7 +16,7 @@ ghost use Rattle.kh_work.specs.declared.command.Field.{Field};
 ghost use Rattle.kh_work.specs.declared.command.Task.{Task};
 ghost use Rattle.kh_work.specs.declared.status.Status.{Status};
 ghost use Rattle.kh_work.specs.Replies.{Reply, reply_of};
-ghost use Rattle.kh_work.specs.Commands.{AreWorkers, command_of, size_of, workers_of};
+ghost use Rattle.kh_work.specs.Commands.{AreWorkers, command_of, decimal, size_of, workers_of};
 ghost use Rattle.kh_work.specs.Inputs.{IsCodeRead};
 ghost use Rattle.kh_work.specs.Jones.{jones_line};
 ghost use Rattle.kh_work.specs.Parts.{code_part, script_part};
@@ -40,7 +41,8 @@ pub fn workers_do_not_change_answers()
         → IsAnswer words bytes reply → IsAnswer other bytes reply }
 {}
 
-/// An input is cut at its first semicolon, byte 59: the code is before it and the script behind it. Without one all is code.
+/// An input is cut at its first semicolon, byte 59: the code is before it and the script behind it.
+/// Without one all is code.
 pub fn inputs_are_cut_at_the_first_semicolon()
     ensures behind { (code script : List ℕ) → All (λ byte. byte ≢ 59) code
         → (code_part (code ++ 59 ∷ script) ≡ code) × (script_part (code ++ 59 ∷ script) ≡ script) }
@@ -48,12 +50,14 @@ pub fn inputs_are_cut_at_the_first_semicolon()
         → (code_part code ≡ code) × (script_part code ≡ []) }
 {}
 
-/// A number of workers is from 1 to the limit, and is written in one digit or two.
+/// A number of workers is from 1 to the limit, and each of these is written in one digit or two.
 pub fn workers_are_counted_to_the_limit()
-    ensures range { (value : List ℕ) (count : ℕ) → workers_of value ≡ Some count → AreWorkers count }
-    ensures least { (workers_of (codes "1") ≡ Some 1) × (workers_of (codes "01") ≡ Some 1) }
-    ensures most { (workers_of (codes "64") ≡ Some 64) × (workers_of (codes "65") ≡ None) }
-    ensures none { (workers_of (codes "0") ≡ None) × (workers_of (codes "001") ≡ None)
+    ensures range { (value : List ℕ) (count : ℕ) → workers_of value ≡ Some count
+        → AreWorkers count }
+    ensures digits { (value : List ℕ) (count : ℕ) → workers_of value ≡ Some count
+        → (digits_value 10 value ≡ count) × (length value ≤ 2) }
+    ensures each { (count : ℕ) → AreWorkers count → workers_of (decimal count) ≡ Some count }
+    ensures shown { (workers_of (codes "01") ≡ Some 1) × (workers_of (codes "001") ≡ None)
         × (workers_of (codes "+1") ≡ None) × (workers_of [] ≡ None) }
 {}
 

@@ -1,11 +1,11 @@
 -- What cancellations and commits leave of a block.
-use Rattle.std.proofs.Common.{◌≡◌, ◌≢◌, ℕ, ◌+◌, ◌*◌, ◌/◌, ◌%◌, ◌<◌, ◌≤◌, ◌^◌, ◌∙◌, List, [], ◌∷◌, ◌++◌, ℤ, length, map, get_or, inl, inr, append_assoc, IsTrue, refl, sym, ap, subst, subst₂, arith}
+use Rattle.std.proofs.Common.{◌≡◌, ℕ, ◌+◌, ◌/◌, ◌<◌, ◌∙◌, List, [], ◌∷◌, ◌++◌, ℤ, length, map, get_or, inl, inr, append_assoc, IsTrue, sym, ap, subst, subst₂, arith}
 use Rattle.std.specs.List.{Any}
 use Rattle.std.proofs.lemmas.List.{get_or-map, length-append, length-map}
 use mathlib.Core.List.{IsPrefix}
 use Rattle.kh_types.specs.Acceptance.{accepted}
-use Rattle.kh_types.specs.Complex.{Complex, IsComplex, IsPivot, Pivot, cancel, is_zero}
-use Rattle.kh_types.specs.History.{IsLegal, block, replay}
+use Rattle.kh_types.specs.Complex.{Complex, IsComplex, IsPivot, Pivot, cancel}
+use Rattle.kh_types.specs.History.{block}
 use Rattle.prime_field.specs.Residues.{IsField}
 use Rattle.cube_signs.proofs.BlockComplexes.{IsComplex-block}
 use Rattle.sparse_block.specs.declared.entry.Entry.{Entry}
@@ -18,10 +18,8 @@ use Rattle.cancel_step.specs.Foreign.{IsForeign, IsOtherColumn, IsOtherRowAt, Sh
 use Rattle.cancel_step.specs.RankSums.{live_places}
 use Rattle.cancel_step.proofs.HistoryLemmas.{complex-replay, legal-push, replay-push}
 use Rattle.cancel_step.proofs.RankSumLemmas.{live_places-cancel}
-use Rattle.shared_block.specs.BlockHistories.{BlockCopy, BlockHistory, Fits, HasLegalHistory, IsCopyOf, IsKept, block_with, complex_of}
-use Rattle.shared_block.specs.Commits.{Answers, IsForeignAnswer, IsOld, IsStale, with_pivot}
-use Rattle.shared_block.specs.declared.commit_answer.CommitAnswer.{CommitAnswer}
-use Rattle.shared_block.specs.declared.commit_answer.CommitAnswer.TheVariants.{Committed, Stale, Foreign}
+use Rattle.shared_block.specs.BlockHistories.{BlockCopy, BlockHistory, HasLegalHistory, IsCopyOf, IsKept, block_with, complex_of}
+use Rattle.shared_block.specs.Commits.{with_pivot}
 
 -- the complex that a legal history leaves of the block of an accepted code is a complex
 pub complex-left : (p : ℕ) (held : BlockHistory) → IsField p → IsTrue (accepted held.diagram) → HasLegalHistory p held

@@ -1,9 +1,9 @@
 -- The places alive of a complex, degree by degree.
-use Rattle.std.proofs.Common.{◌≡◌, ℕ, ◌+◌, ◌*◌, ◌<◌, ◌≤◌, ◌∙◌, List, [], ◌∷◌, ◌++◌, ℤ, pos, ◌+ℤ◌, length, take, take_all, get_or, refl, sym, ap, ap₂, arith}
+use Rattle.std.proofs.Common.{◌≡◌, ℕ, ◌+◌, ◌<◌, ◌≤◌, ◌∙◌, [], ◌∷◌, ℤ, pos, ◌+ℤ◌, length, take, take_all, get_or, sym, ap, ap₂, arith}
 use Rattle.std.specs.List.{count_by, sum_by}
 use Rattle.std.proofs.lemmas.List.{take_more}
 use Rattle.std.proofs.lemmas.List.Sums.{sum_by-append, sum_by-cons}
-use Rattle.kh_types.specs.Complex.{Complex, Degree, alive_count, degree_of, empty_degree}
+use Rattle.kh_types.specs.Complex.{Complex, Degree, alive_count, empty_degree}
 use Rattle.sparse_block.proofs.CancelledComplexes.{degree_of-number}
 use Rattle.cancel_step.specs.RankSums.{live_places}
 use Rattle.shared_block.specs.Places.{live_places_to}

@@ -1,7 +1,7 @@
 -- What a commit to a block answers, and what it leaves (this project's rule).
-use Rattle.std.specs.Prelude.{◌≡◌, ◌≢◌, ℕ, ◌+◌, List, [], ◌∷◌, ◌++◌, length}
+use Rattle.std.specs.Prelude.{◌≡◌, ◌≢◌, ℕ, ◌+◌, [], ◌∷◌, ◌++◌, length}
 use Rattle.kh_types.specs.Complex.{Pivot}
-use Rattle.cancel_step.specs.Foreign.{IsForeign, IsLeast, ShowsAt}
+use Rattle.cancel_step.specs.Foreign.{IsLeast, ShowsAt}
 use Rattle.shared_block.specs.BlockHistories.{BlockCopy, BlockHistory, block_with, complex_of}
 use Rattle.shared_block.specs.declared.commit_answer.CommitAnswer.{CommitAnswer}
 use Rattle.shared_block.specs.declared.commit_answer.CommitAnswer.TheVariants.{Committed, Stale, Foreign}

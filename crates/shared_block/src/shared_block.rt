@@ -108,8 +108,8 @@ impl<F: PrimeField> SharedBlock<F> {
         }
     }
 
-    /// Cancels the pivot of a patch of a look at the block as it is, which is not compared again. It
-    /// takes no memory.
+    /// Cancels the pivot of a patch of a look at the block as it is, which is not compared again.
+    /// It takes no memory.
     pub(crate) fn take_fitting(&mut self, patch: BlockPatch<F>)
         requires { IsCopyOf F.P self.old patch }
         ensures { self.new ≡ with_pivot self.old patch.parts.pivot }

@@ -30,8 +30,7 @@ pub(crate) type LockTable<B> = Shared<
     TurnRule<B>,
 >;
 
-/// How often a seat looks whether the turn is given up, before it sleeps: about as long as a turn
-/// takes.
+/// How often a seat looks whether the turn is given up, before it sleeps: chosen by measurement.
 const TRIES: u32 = 32;
 
 /// Takes the turn and the value. It waits where another seat has the turn, and is counted while it
@@ -150,7 +149,7 @@ pub(crate) fn withdraw<B: Held>(table: &LockTable<B>, waiting: &AtomicU64, seat:
 }
 
 /// Wakes one of the seats that wait for the turn, if there is one. A seat that is counted only
-/// afterwards finds the turn given up, and does not sleep.
+/// after this looked sleeps only if another has taken the turn since, and that one wakes it.
 fn wake<B: Held>(table: &LockTable<B>, waiting: &AtomicU64)
     requires { table.now.table_id.words ≡ 2 }
 {

@@ -26,6 +26,7 @@ use std::sync::atomic::AtomicU64;
 pub struct Versioned<B: Held> {
     table: Table<B, View<B::Origin, B::Entry>, Opening<B>, TurnRule<B>, Global>,
     seats: u32,
+    /// How many seats sleep until the turn is given up, or are about to.
     waiting: AtomicU64,
 }
 

@@ -14,7 +14,7 @@ use crate::building::built_blocks;
 use crate::gate::Gate;
 use crate::outcome::{Cancelled, PoolStop};
 use crate::rows::{Pool, closed, opened};
-use crate::sharing::work_rows;
+use crate::sharing::{Course, work_rows};
 use cube_signs::check_size;
 use homology_table::{blocks_of, finish_all, table_of};
 use kh_types::{Diagram, NoMemory};
@@ -94,14 +94,14 @@ fn shared<R: Threads + Wait + Sync, F: PrimeField + Send + Sync, G: Gate + Sync>
     requires { workers ≤ WORKERS }
     ensures { IfOk result (λ after. map origin_of after.items ≡ map origin_of blocks.items) }
 {
-    let order = largest_first(alloc, &blocks)?;
+    let course = Course::new(alloc, largest_first(alloc, &blocks)?)?;
     let count = workers.min(blocks.len());
     let Pool {
         locks,
         kept,
         mut rows,
     } = opened(alloc, blocks, count)?;
-    work_rows(rt, alloc, &locks, &order, rows.as_mut_slice(), gate);
+    work_rows(rt, alloc, &locks, &course, rows.as_mut_slice(), gate);
     closed(alloc, Pool { locks, kept, rows })
 }
 

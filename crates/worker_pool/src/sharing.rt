@@ -6,22 +6,61 @@ ghost use Rattle.worker_pool.specs.Rows.{IsRowOf};
 
 use crate::gate::Gate;
 use crate::turns::work;
+use kh_types::NoMemory;
 use prime_field::PrimeField;
 use shared_block::SharedBlock;
 use std::alloc::Global;
 use std::sync::Wait;
-use std::sync::atomic::{AtomicU64, Ordering};
+use std::sync::atomic::{AtomicBool, AtomicU64, Ordering};
 use std::thread;
 use std::thread::Threads;
 use version_lock::{Versioned, WorkSeat};
 
-/// Has each row worked at by a thread of its own. The places of the locks are given in the order in
-/// which they are to be begun.
+/// What workers share beside the blocks: the order in which blocks are begun, how many are, and
+/// which a worker has seen to be zero.
+#[derive(Drop)]
+pub(crate) struct Course {
+    order: Vec<usize>,
+    begun: AtomicU64,
+    zero: Vec<AtomicBool>,
+}
+
+impl Course {
+    /// Nothing is begun. The places of the locks are given in the order in which they are to be.
+    pub(crate) fn new(alloc: Global, order: Vec<usize>) -> Result<Course, NoMemory> {
+        let mut zero = Vec::with_capacity(alloc, order.len())?;
+        'places: for _ in 0..order.len() {
+            zero.push(AtomicBool::new(false))?;
+        }
+        Ok(Course {
+            order,
+            begun: AtomicU64::new(0),
+            zero,
+        })
+    }
+
+    /// Whether a worker has seen the block at a place to be zero.
+    fn is_zero(&self, place: usize) -> bool {
+        match self.zero.get(place) {
+            Some(zero) => zero.load(Ordering::SeqCst),
+            None => false,
+        }
+    }
+
+    /// Says that the block at a place has been seen to be zero.
+    fn see_zero(&self, place: usize) {
+        if let Some(zero) = self.zero.get(place) {
+            zero.store(true, Ordering::SeqCst);
+        }
+    }
+}
+
+/// Has each row worked at by a thread of its own.
 pub(crate) fn work_rows<R: Threads + Wait + Sync, F: PrimeField + Send + Sync, G: Gate + Sync>(
     rt: &R,
     alloc: Global,
     locks: &[Versioned<SharedBlock<F>>],
-    order: &[usize],
+    course: &Course,
     rows: &mut [Vec<WorkSeat<SharedBlock<F>>>],
     gate: &G,
 )
@@ -33,7 +72,6 @@ pub(crate) fn work_rows<R: Threads + Wait + Sync, F: PrimeField + Send + Sync, G
     if threads == 0 {
         return;
     }
-    let begun = AtomicU64::new(0);
     thread::for_each_mut(
         rt,
         rows,
@@ -43,16 +81,7 @@ pub(crate) fn work_rows<R: Threads + Wait + Sync, F: PrimeField + Send + Sync, G
             ensures { IsRowOf locks.entry.now row.exit.now.items }
         {
             let worker = place as u32 + 1;
-            work_row(
-                rt,
-                alloc,
-                locks,
-                order,
-                &begun,
-                row.as_mut_slice(),
-                worker,
-                gate,
-            )
+            work_row(rt, alloc, locks, course, row.as_mut_slice(), worker, gate)
         },
     );
 }
@@ -62,8 +91,7 @@ fn work_row<R: Wait, F: PrimeField + Send, G: Gate>(
     rt: &R,
     alloc: Global,
     locks: &[Versioned<SharedBlock<F>>],
-    order: &[usize],
-    begun: &AtomicU64,
+    course: &Course,
     seats: &mut [WorkSeat<SharedBlock<F>>],
     worker: u32,
     gate: &G,
@@ -71,18 +99,23 @@ fn work_row<R: Wait, F: PrimeField + Send, G: Gate>(
     requires { IsRowOf locks.now seats.old }
     ensures { IsRowOf locks.now seats.new }
 {
-    'begun: for _ in 0..order.len() {
-        let Some(place) = next_place(order, begun) else {
+    'begun: for _ in 0..locks.len() {
+        let Some(place) = next_place(&course.order, &course.begun) else {
             break;
         };
         if !work_at(rt, alloc, locks, seats, place, worker, gate) {
             return;
         }
+        course.see_zero(place);
     }
     'helped: for place in 0..locks.len() {
+        if course.is_zero(place) {
+            continue;
+        }
         if !work_at(rt, alloc, locks, seats, place, worker, gate) {
             return;
         }
+        course.see_zero(place);
     }
 }
 

@@ -16,10 +16,10 @@ use std::sync::atomic::AtomicU64;
 use std::time::Duration;
 use version_lock::{CommitSeen, Versioned, WorkSeat};
 
-/// How long a worker lets others go first after a commit that was stale, in microseconds: the first
-/// time, and at most.
+/// How long a worker sleeps after a commit that was stale, in microseconds, the first time.
 const FIRST_PAUSE: u64 = 100;
 
+/// How long it sleeps at most, in microseconds.
 const LONGEST_PAUSE: u64 = 4000;
 
 /// Takes turns at a block until a look finds it zero, and answers their number. A turn is a look, a
@@ -59,8 +59,8 @@ pub fn work<R: Wait, F: PrimeField + Send, G: Gate>(
     unreachable!()
 }
 
-/// Lets others go first after a stale commit, for so many microseconds, and twice as long after each
-/// in a row: how long after the next.
+/// Lets others go first after a stale commit: sleeps for so many microseconds, and answers how many
+/// it will be after the next. They are twice as many after each one in a row.
 fn paused<R: Wait>(rt: &R, seen: CommitSeen, pause: u64) -> u64 {
     match seen {
         CommitSeen::Committed { version: _ } => FIRST_PAUSE,

@@ -5,6 +5,10 @@ ghost use native.Mathlib.Omega.{arith};
 use crate::held::Held;
 use kh_types::NoMemory;
 use std::alloc::Global;
+use std::hint::spin_loop;
+
+/// How often a look pauses: several times as often as a seat tries before it sleeps.
+const SPINS: u32 = 1000;
 
 /// Numbers, and for how many of them there is room.
 #[derive(Drop)]
@@ -60,7 +64,11 @@ impl Held for Numbers {
         self.items.len() as u64
     }
 
+    /// It takes its time, so that other seats sleep meanwhile.
     fn look_at(&self, _alloc: Global, _hint: u32) -> Result<Option<usize>, NoMemory> {
+        'while_others_wait: for _ in 0..SPINS {
+            spin_loop();
+        }
         if self.room <= self.items.len() {
             return Ok(None);
         }

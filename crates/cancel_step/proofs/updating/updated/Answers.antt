@@ -3,7 +3,7 @@ use Rattle.kh_types.specs.Complex.{Pivot, cancel}
 use Rattle.sparse_block.specs.Changes.{PlacedLine}
 use Rattle.sparse_block.specs.Complexes.{place_count}
 use Rattle.sparse_block.specs.Entries.{value_at}
-use Rattle.cancel_step.specs.Copies.{Copied, WasPatched, columns_across, parts_of, rows_across}
+use Rattle.cancel_step.specs.Copies.{Copied, WasPatched, columns_across, rows_across}
 use Rattle.cancel_step.specs.Lines.{AreLines, entries_at, line_cleared}
 use Rattle.cancel_step.proofs.CopiedLemmas.{columns-cleared, columns-lines, pivot-in_column, pivot-in_row, rows-cleared, rows-lines}
 use Rattle.cancel_step.proofs.updating.updated.Goals as goal

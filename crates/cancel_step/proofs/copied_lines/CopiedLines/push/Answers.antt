@@ -1,5 +1,4 @@
-use Rattle.std.proofs.Common.{◌≡◌, ℕ, ◌+◌, ◌∙◌, List, [], ◌∷◌, ◌++◌, length, ap, ap₂, arith}
-use Rattle.std.proofs.lemmas.List.{length-append}
+use Rattle.std.proofs.Common.{◌≡◌, ℕ, ◌+◌, ◌∙◌, List, [], ◌∷◌, ◌++◌, length, ap, ap₂}
 use Rattle.sparse_block.specs.Changes.{PlacedLine, placed}
 use Rattle.cancel_step.specs.declared.copied_lines.Span.{Span}
 use Rattle.cancel_step.specs.Spans.{lines_in}

@@ -1,7 +1,7 @@
 use Rattle.std.proofs.Common.{◌≡◌, ◌∙◌, ◌∷◌, ◌++◌, [], ap, sym, subst, subst₂, refl, arith, vec_capacity}
 use Rattle.std.proofs.lemmas.Bool.{false≢true}
 use Rattle.std.proofs.lemmas.Int.{ints}
-use Rattle.kh_types.specs.Complex.{Complex, IsPivot, Pivot}
+use Rattle.kh_types.specs.Complex.{Complex, Pivot}
 use Rattle.cancel_step.specs.Copies.{Copied}
 use Rattle.cancel_step.specs.Foreign.{IsForeign, IsLeast, ShowsAt}
 use Rattle.shared_block.specs.BlockHistories.{BlockCopy, block_with, complex_of}

@@ -1,7 +1,7 @@
 use Rattle.std.proofs.Common.{◌≡◌}
 use mathlib.Core.List.{IsPrefix}
 use Rattle.cancel_step.specs.RankSums.{live_places}
-use Rattle.shared_block.specs.BlockHistories.{HasLegalHistory, complex_of}
+use Rattle.shared_block.specs.BlockHistories.{complex_of}
 use Rattle.shared_block.proofs.shared_block.SharedBlock.finish.Given as goal
 
 abbrev pub invariant-turns : goal.invariant-turns
