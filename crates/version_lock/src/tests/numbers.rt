@@ -8,7 +8,7 @@ use std::alloc::Global;
 use std::hint::spin_loop;
 
 /// How often a look pauses: several times as often as a seat tries before it sleeps.
-const SPINS: u32 = 1000;
+const SPINS: u32 = 20_000;
 
 /// Numbers, and for how many of them there is room.
 #[derive(Drop)]
