@@ -1,0 +1,2 @@
+//! Tests of codes and their texts: what no clause says of readers, printers, acceptance, components and faces.
+#![tactic(auto)]

@@ -1,0 +1,2 @@
+//! Tests of the cube: what no clause says of circles, blocks, cancellations, workers, tables and polynomials.
+#![tactic(auto)]
