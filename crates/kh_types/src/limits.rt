@@ -1,13 +1,13 @@
 //! The sizes within which the program works. All of them are this project's rule.
 
 /// The most crossings of a diagram.
-pub const CROSSINGS: usize = 16;
+pub const CROSSINGS: usize = 20;
 
 /// The most arcs of a diagram: each crossing has four ends of arcs, and each arc two ends.
 pub const ARCS: usize = 2 * CROSSINGS;
 
 /// The most components and crossingless loops of a diagram, counted together.
-pub const COMPONENTS: usize = 24;
+pub const COMPONENTS: usize = 28;
 
 /// The most circles of a state: one for each component or loop, and one more at most for each crossing, which is a law.
 pub const CIRCLES: usize = CROSSINGS + COMPONENTS;

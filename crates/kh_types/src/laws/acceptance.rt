@@ -19,7 +19,7 @@ pub fn known_codes_are_accepted()
     ensures four { accepted figure_eight ≡ true }
     ensures apart { accepted two_curls ≡ true }
     ensures over { accepted over_circle ≡ true }
-    ensures many_loops { accepted (record empty_link { loops = 24 }) ≡ true }
+    ensures many_loops { accepted (record empty_link { loops = 28 }) ≡ true }
 {}
 
 /// Counts, signs, heads and tails of known codes. A circle of two arcs that is over at both its crossings goes from the smaller
@@ -63,8 +63,8 @@ pub fn codes_break_these_rules_first()
         ≡ Some (Over 1) }
     ensures two_arc { first_fault (without_loops (slots_with 1 4 2 3 ∷ slots_with 1 4 2 3 ∷ []))
         ≡ Some (TwoArc 2) }
-    ensures components { first_fault (record empty_link { loops = 25 }) ≡ Some (Components 25) }
-    ensures component_counts { first_fault (record curl { loops = 24 }) ≡ Some (Components 25) }
+    ensures components { first_fault (record empty_link { loops = 29 }) ≡ Some (Components 29) }
+    ensures component_counts { first_fault (record curl { loops = 28 }) ≡ Some (Components 29) }
     // Of the pairs of under passes at the crossings 1 and 4, and 2 and 3, the one whose second comes first.
     ensures least_second { first_fault
         (without_loops (slots_with 1 5 2 6 ∷ slots_with 3 7 4 8 ∷ slots_with 3 8 4 7

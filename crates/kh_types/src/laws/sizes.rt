@@ -12,9 +12,9 @@ ghost use Rattle.kh_types.specs.Table.{IsWithin, dimension, row_at, table};
 
 /// The limits. Those on arcs, circles and exponents follow from those on crossings and components.
 pub fn limits()
-    ensures crossings { CROSSINGS ≡ 16 }
+    ensures crossings { CROSSINGS ≡ 20 }
     ensures arcs { ARCS ≡ 2 * CROSSINGS }
-    ensures components { COMPONENTS ≡ 24 }
+    ensures components { COMPONENTS ≡ 28 }
     ensures circles { CIRCLES ≡ CROSSINGS + COMPONENTS }
     ensures exponent { EXPONENT ≡ CIRCLES + 2 * CROSSINGS }
     ensures loops { LOOPS ≡ 8 }
