@@ -99,6 +99,8 @@ fn clear(lines: &mut [Vec<Entries>], across: &mut [Vec<Entries>], k: usize, plac
     clear_line(&mut lines[k], &mut across[k], place);
 }
 
+/// Empties a line, and takes its entries out of the lines across. The line keeps its memory for
+/// entries to come.
 fn clear_line(lines: &mut [Entries], across: &mut [Entries], place: u32)
     requires place { place < length lines.old }
     requires crossed { (p : ℕ) × AreCrossed p (entries_in lines.old) (entries_in across.old) }
@@ -106,8 +108,10 @@ fn clear_line(lines: &mut [Entries], across: &mut [Entries], place: u32)
     ensures across { entries_in across.new ≡ map (without place) (entries_in across.old) }
 {
     let empty = SmallVec::new(*lines[place as usize].allocator());
-    let line = mem::replace(&mut lines[place as usize], empty);
+    let mut line = mem::replace(&mut lines[place as usize], empty);
     remove_from_each(across, line.as_slice(), place);
+    line.clear();
+    lines[place as usize] = line;
 }
 
 /// Takes the entry at a place out of each line that has one: those that these entries name.

@@ -1,4 +1,4 @@
-use Rattle.std.proofs.Common.{◌≡◌, ◌∙◌, ℕ, List, [], ap, sym, length, arith, subst}
+use Rattle.std.proofs.Common.{◌≡◌, ◌∙◌, ℕ, List, [], ap, sym, length, arith, subst, set-set}
 use Rattle.std.specs.Prelude.{slice_index_or}
 use Rattle.std.proofs.lemmas.List.{length-map}
 use Rattle.sparse_block.specs.declared.entry.Entry.{Entry}
@@ -32,5 +32,6 @@ remove_from_each-requires-clause-others c other none =
 
 pub returns-clause-lines : goal.returns-clause-lines
 returns-clause-lines c =
-    entries_in-set c.args.lines.now c.args.place c.replace-line.new.dest []
-    (ap items c.replace-line.ensures.after ∙ c.new-empty.ensures.items)
+    let lines = c.args.lines.now in
+    ap entries_in (set-set lines c.args.place c.replace-line.new.dest c.clear.new.self)
+    ∙ entries_in-set lines c.args.place c.clear.new.self [] c.clear.ensures.items
