@@ -1,10 +1,9 @@
--- The code that labels and signs stand for (Knot Atlas, "Gauss Codes"; the numbers of arcs are this project's rule).
-use Rattle.std.specs.Prelude.{ℕ, ◌+◌, List, [], ◌∷◌, ◌++◌, length, map, nat_eq, ◌&&◌, Bool, ℤ, pos, neg_ℤ, int_lt, if◌then◌else◌, unwrap_or}
-use Rattle.std.specs.List.{find, range_with_len}
+-- Components as lists of labels, and the passes and crossings that they stand for, with signs (Knot Atlas, "Gauss Codes"; the numbers
+-- of arcs are this project's rule).
+use Rattle.std.specs.Prelude.{ℕ, ◌+◌, ◌/◌, List, [], ◌∷◌, ◌++◌, length, map, nat_eq, ◌&&◌, Bool, ℤ, pos, neg_ℤ, int_lt, if◌then◌else◌, unwrap_or}
+use Rattle.std.specs.List.{find, flat_map, range_with_len}
 use Rattle.std.specs.Ordering.{int_eq}
-use Rattle.kh_types.specs.Code.{Code}
-use Rattle.gauss_code.specs.Listings.{Body, groups_of, crossing_count, loop_count}
-use Rattle.gauss_code.specs.Labels.{number_at}
+use Rattle.code_passes.specs.Labels.{number_at}
 
 -- a pass of a component at a crossing: its label is the number of the crossing where it passes over, and minus the number where
 -- it passes under; it enters on an arc, and leaves on an arc
@@ -62,9 +61,14 @@ abbrev pub slots_at : List Pass → List ℤ → ℕ → List ℕ
 slots_at passes signs at =
     slots_between (pass_of passes (neg_ℤ (pos (at + 1)))) (pass_of passes (pos (at + 1))) (number_at signs at)
 
--- the code of a body and signs: its crossings by their numbers, and its loops
-abbrev pub code_of : Body → List ℤ → Code
-code_of body signs = record {
-  crossings = map (slots_at (all_passes 1 (groups_of body)) signs) (range_with_len 0 (crossing_count body));
-  loops = loop_count body;
-}
+-- the labels of some components
+abbrev pub all_labels : List (List ℤ) → List ℤ
+all_labels groups = flat_map (λ labels. labels) groups
+
+-- the number of crossings of components
+abbrev pub crossings_in : List (List ℤ) → ℕ
+crossings_in groups = length (all_labels groups) / 2
+
+-- the crossings of some components and signs
+abbrev pub crossings_of : List (List ℤ) → List ℤ → List (List ℕ)
+crossings_of groups signs = map (slots_at (all_passes 1 groups) signs) (range_with_len 0 (crossings_in groups))

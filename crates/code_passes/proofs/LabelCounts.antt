@@ -9,8 +9,8 @@ use Rattle.std.proofs.Math.Path.{fun_ext}
 use Rattle.std.proofs.lemmas.List.{take_all}
 use Rattle.std.proofs.lemmas.List.Elements.{All-from_get_or, recursion_from_All}
 use Rattle.std.proofs.lemmas.List.Sums.{sum_by_more}
-use Rattle.gauss_code.specs.Labels.{number_at, is_bad_label, bad_label}
-use Rattle.gauss_code.proofs.Sums.{value_if, only_at, sum-only, sum_by-alike, sum_by-range_alike, sum_by-plus, sum_by-ones, sum_by-exchanged, sum-at_most_two, each-two, count_by-none}
+use Rattle.code_passes.specs.Labels.{number_at, is_bad_label, bad_label}
+use Rattle.code_passes.proofs.Sums.{value_if, only_at, sum-only, sum_by-alike, sum_by-range_alike, sum_by-plus, sum_by-ones, sum_by-exchanged, sum-at_most_two, each-two, count_by-none}
 
 -- a label names one of some crossings
 abbrev pub Names : ℕ → ℤ → Type 0

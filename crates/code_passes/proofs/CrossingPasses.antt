@@ -6,17 +6,13 @@ use Rattle.std.specs.Ordering.{int_eq}
 use Rattle.std.proofs.lemmas.Bool.{eqb-true}
 use Rattle.std.proofs.lemmas.Bool.Decides.{Decides-int_eq}
 use Rattle.std.proofs.lemmas.List.Elements.{All-from_get_or, All-from_recursion, All-get_or, recursion_from_All}
-use Rattle.gauss_code.specs.Labels.{bad_label}
-use Rattle.gauss_code.specs.Passes.{Pass, all_passes, no_pass, pass_of}
-use Rattle.gauss_code.proofs.Sums.{value_if, sum_by-range_alike, sum_by-plus}
-use Rattle.gauss_code.proofs.LabelCounts.{Names, over_at, under_at, over_at-is, under_at-is, at_crossing, int_eq-same, sum-by_crossings, stands, labels-name, stands-under, stands-over}
-use Rattle.gauss_code.proofs.ComponentPasses.{all_labels, All-labels}
-use Rattle.gauss_code.proofs.ArcCounts.{sum_by-labels, sum-enters}
-use Rattle.gauss_code.proofs.Found.{found, found-passes, found-holds, sum-found, found-only}
-
--- the number of crossings of components
-abbrev pub crossings_in : List (List ℤ) → ℕ
-crossings_in groups = length (all_labels groups) / 2
+use Rattle.code_passes.specs.Labels.{bad_label}
+use Rattle.code_passes.specs.Passes.{Pass, all_passes, no_pass, pass_of, all_labels, crossings_in}
+use Rattle.code_passes.proofs.Sums.{value_if, sum_by-range_alike, sum_by-plus}
+use Rattle.code_passes.proofs.LabelCounts.{Names, over_at, under_at, over_at-is, under_at-is, at_crossing, int_eq-same, sum-by_crossings, stands, labels-name, stands-under, stands-over}
+use Rattle.code_passes.proofs.ComponentPasses.{All-labels}
+use Rattle.code_passes.proofs.ArcCounts.{sum_by-labels, sum-enters}
+use Rattle.code_passes.proofs.Found.{found, found-passes, found-holds, sum-found, found-only}
 
 -- whether a pass has a label
 abbrev has_label : ℤ → Pass → Bool

@@ -5,30 +5,29 @@ use Rattle.std.specs.Ordering.{int_eq}
 use Rattle.std.proofs.lemmas.Bool.{eqb-true}
 use Rattle.kh_types.specs.Code.{arc_in, slots_of, IsArc, IsCrossing}
 use Rattle.kh_types.specs.Components.{components_of, arcs_in, next}
-use Rattle.kh_types.specs.Directions.{first_under, passes_under, is_positive_by_next, is_positive_of_two, is_positive, HasNoSingleArcs}
+use Rattle.kh_types.specs.Directions.{first_under, passes_under, is_positive_by_next, is_positive_of_two, is_positive}
 use Rattle.kh_types.specs.Accepted.{IsDirected}
 use Rattle.kh_types.proofs.NextArcs.{component, size_at, HasPlace-directed, component-next, next-twice}
 use Rattle.kh_types.proofs.PassPairs.{IsArc-at}
 use Rattle.kh_types.proofs.DirectedPasses.{is_positive-under}
-use Rattle.gauss_code.specs.Labels.{number_at, bad_label}
-use Rattle.gauss_code.specs.Passes.{Pass}
-use Rattle.gauss_code.proofs.SignRules.{Goes, Goes-between, large-rule, by_next, by_under, other_arc, not_back, find-first, under-over}
-use Rattle.gauss_code.proofs.LabelCounts.{over_at}
-use Rattle.gauss_code.proofs.ComponentPasses.{all_labels, label_from, IsPassOf, IsPassOf-all}
-use Rattle.gauss_code.proofs.CrossingPasses.{crossings_in, under_pass, over_pass, over-holds, label-over}
-use Rattle.gauss_code.proofs.TextCrossings.{crossings_of, slots-at}
-use Rattle.gauss_code.proofs.TextComponents.{next-passes}
-use Rattle.gauss_code.proofs.DirectedText.{place-below, IsArc-enters, IsArc-leaves, label-enters, IsDirected-crossings}
+use Rattle.code_passes.specs.Labels.{number_at, bad_label}
+use Rattle.code_passes.specs.Passes.{Pass, all_labels, crossings_in, crossings_of}
+use Rattle.code_passes.proofs.SignRules.{Goes, Goes-between, large-rule, by_next, by_under, other_arc, not_back, find-first, under-over}
+use Rattle.code_passes.proofs.LabelCounts.{over_at}
+use Rattle.code_passes.proofs.ComponentPasses.{label_from, IsPassOf, IsPassOf-all}
+use Rattle.code_passes.proofs.CrossingPasses.{under_pass, over_pass, over-holds, label-over}
+use Rattle.code_passes.proofs.TextCrossings.{slots-at}
+use Rattle.code_passes.proofs.TextComponents.{next-passes}
+use Rattle.code_passes.proofs.DirectedText.{place-below, IsArc-enters, IsArc-leaves, label-enters, IsDirected-crossings}
 
--- the components and signs of a text of which no label is bad, and whose code has no single arcs
+-- the components and signs of a text of which no label is bad
 pub record GoodText : Type 0 where
   pub groups : List (List ℤ)
   pub signs : List ℤ
   pub none : bad_label (all_labels groups) ≡ None
-  pub moves : HasNoSingleArcs (crossings_of groups signs)
 
 module _ (text : GoodText) where
-  open text use {groups, signs, none, moves}
+  open text use {groups, signs, none}
 
   abbrev crossings : List (List ℕ)
   crossings = crossings_of groups signs
@@ -98,17 +97,17 @@ module _ (text : GoodText) where
       rule (λ at_from. ap (next crossings) at_from ∙ sym on.follows) (λ at_to. ap (next crossings) at_to) apart goes
 
   -- in a component of two arcs
-  pub apart : (from to : ℕ) → Goes_on from to → to ≢ from
-  apart from to on stays = moves from on.from_is (sym on.follows ∙ stays)
+  pub apart : (from to : ℕ) → Goes_on from to → next crossings from ≢ from → to ≢ from
+  apart from to on moves stays = moves (sym on.follows ∙ stays)
 
-  pub in_two : (from to x : ℕ) → Goes_on from to → size_at crossings from ≤ 2 → IsArc crossings x
+  pub in_two : (from to x : ℕ) → Goes_on from to → next crossings from ≢ from → size_at crossings from ≤ 2 → IsArc crossings x
       → component crossings x ≡ component crossings from → (x ≡ from) ⊎ (x ≡ to)
-  in_two from to x on small is same =
+  in_two from to x on moves small is same =
       let place = HasPlace-directed crossings directed from on.from_is in
       let x_place = HasPlace-directed crossings directed x is in
       let alike : size_at crossings x ≡ size_at crossings from = ap (arcs_in (components_of crossings)) same in
       other_arc (component crossings from) (size_at crossings from) from to x small place.from place.below
-      (λ within. on.follows ∙ place.inside within) (λ behind. on.follows ∙ place.last behind) (apart from to on)
+      (λ within. on.follows ∙ place.inside within) (λ behind. on.follows ∙ place.last behind) (apart from to on moves)
       (omega (arith, x_place.from, same)) (omega (arith, x_place.below, same, alike))
 
   pub next-back : (from to : ℕ) → Goes_on from to → size_at crossings from ≤ 2 → next crossings to ≡ from
@@ -120,12 +119,12 @@ module _ (text : GoodText) where
       ∙ label-over groups none place below
 
   -- one that passes under somewhere
-  pub positive-under : (crossing under from to place : ℕ) (listed : Bool) → Goes_on from to
+  pub positive-under : (crossing under from to place : ℕ) (listed : Bool) → Goes_on from to → next crossings from ≢ from
       → Goes listed (arc_in (slots_of crossings crossing) 1) (arc_in (slots_of crossings crossing) 3) from to
       → size_at crossings from ≤ 2 → label_from 1 groups from ≡ over_at place
       → first_under crossings (components_of crossings) (component crossings (arc_in (slots_of crossings crossing) 1)) ≡ Some under
       → is_positive crossings crossing ≡ listed
-  positive-under crossing under from to place listed on goes small label found =
+  positive-under crossing under from to place listed on moves goes small label found =
       let slots = slots_of crossings crossing in
       let components = components_of crossings in
       let one = arc_in slots 1 in
@@ -136,12 +135,12 @@ module _ (text : GoodText) where
       let enters = arc_in (slots_of crossings under) 0 in
       let inside : component crossings enters ≡ component crossings from =
       eqb-true (component crossings enters) (component crossings one) first.passes ∙ same in
-      elim (in_two from to enters on small (IsArc-at crossings under 0 directed is (omega arith)) inside) [
+      elim (in_two from to enters on moves small (IsArc-at crossings under 0 directed is (omega arith)) inside) [
         | inl is_from ↦ absurd
             (under-over (under - 1) place (label-enters groups signs none under is ∙ ap (label_from 1 groups) is_from ∙ label))
         | inr is_to ↦
             let end : arc_in (slots_of crossings under) 2 ≡ from =
             directed.under under is ∙ ap (next crossings) is_to ∙ next-back from to on small in
             by_under (is_positive crossings crossing) listed one (arc_in slots 3) from to (arc_in (slots_of crossings under) 2)
-            (is_positive-under crossings crossing under (omega (arith, size, small)) found) end (apart from to on) goes
+            (is_positive-under crossings crossing under (omega (arith, size, small)) found) end (apart from to on moves) goes
       ]

@@ -15,11 +15,11 @@ use Rattle.kh_types.proofs.PassPairs.{IsArc-at, dart_with}
 use Rattle.kh_types.proofs.NextArcs.{component, component-next, HasPlace-directed}
 use Rattle.kh_types.proofs.DirectedPasses.{head-cases, is_positive-order, over-negative, over-positive}
 use Rattle.kh_types.proofs.Heads.{IsPass-under, IsPass-over}
-use Rattle.gauss_code.specs.Passes.{is_over, turned}
-use Rattle.gauss_code.specs.Printing.{component_labels, label_of}
-use Rattle.gauss_code.proofs.ArcLabels.{HasEnds-arc, IsOriented}
-use Rattle.gauss_code.proofs.CutArcs.{IsFirst, component-in, end-within, size}
-use Rattle.gauss_code.proofs.Searches.{find-first, matched_false, matched_true, test_fails}
+use Rattle.code_passes.specs.Passes.{is_over, turned}
+use Rattle.code_passes.specs.ComponentLabels.{component_labels, label_of}
+use Rattle.code_passes.proofs.ArcLabels.{HasEnds-arc, IsOriented}
+use Rattle.code_passes.proofs.CutArcs.{IsFirst, component-in, end-within, size}
+use Rattle.code_passes.proofs.Searches.{find-first, matched_false, matched_true, test_fails}
 
 -- a component of two arcs that is over at both, by the heads of its two arcs
 record IsOverBoth (crossings : List (List ℕ)) (first : ℕ) : Type 0 where

@@ -9,11 +9,11 @@ use Rattle.kh_types.specs.Classes.{Respects, AreBelow, IsNamed}
 use Rattle.kh_types.specs.Components.{passes_of, components_of, component_of, next}
 use Rattle.kh_types.proofs.ClassLemmas.{classes-together, classes-finest}
 use Rattle.kh_types.proofs.JoinedClasses.{IsNamed-classes_of}
-use Rattle.gauss_code.specs.Labels.{bad_label}
-use Rattle.gauss_code.specs.Passes.{Pass, all_passes}
-use Rattle.gauss_code.proofs.ComponentPasses.{all_labels, after_arc, after_arc-inside, start_from, start-le, start-past, IsStart-arc, IsPassOf, IsPassOf-all, All-weaker}
-use Rattle.gauss_code.proofs.CrossingPasses.{entering, enters-entering, entering-holds}
-use Rattle.gauss_code.proofs.TextCrossings.{crossings_of, arc_count-crossings, pairs-of_passes, passes-of_pairs}
+use Rattle.code_passes.specs.Labels.{bad_label}
+use Rattle.code_passes.specs.Passes.{Pass, all_passes, all_labels, crossings_of}
+use Rattle.code_passes.proofs.ComponentPasses.{after_arc, after_arc-inside, start_from, start-le, start-past, IsStart-arc, IsPassOf, IsPassOf-all, All-weaker}
+use Rattle.code_passes.proofs.CrossingPasses.{entering, enters-entering, entering-holds}
+use Rattle.code_passes.proofs.TextCrossings.{arc_count-crossings, pairs-of_passes, passes-of_pairs}
 
 -- the first arc of the component of an arc
 abbrev pub start_of : List (List ℤ) → ℕ → ℕ

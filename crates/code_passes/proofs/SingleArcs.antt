@@ -5,10 +5,11 @@ use Rattle.std.specs.List.{AllByRecursion}
 use Rattle.std.proofs.lemmas.Bool.{cases_lt}
 use Rattle.std.proofs.lemmas.Bool.Decides.{nat_tests}
 use Rattle.kh_types.specs.Directions.{HasNoSingleArcs}
-use Rattle.gauss_code.specs.Labels.{bad_label}
-use Rattle.gauss_code.proofs.ComponentPasses.{all_labels, length-labels_more, start_from, start-here, start-later, after_arc}
-use Rattle.gauss_code.proofs.TextCrossings.{crossings_of, arc_count-crossings}
-use Rattle.gauss_code.proofs.TextComponents.{start_of, next-is}
+use Rattle.code_passes.specs.Labels.{bad_label}
+use Rattle.code_passes.proofs.ComponentPasses.{length-labels_more, start_from, start-here, start-later, after_arc}
+use Rattle.code_passes.proofs.TextCrossings.{arc_count-crossings}
+use Rattle.code_passes.proofs.TextComponents.{start_of, next-is}
+use Rattle.code_passes.specs.Passes.{all_labels, crossings_of}
 
 -- the arc behind the first arc of a component is in the component
 start-second : (first : ℕ) (groups : List (List ℤ)) (arc : ℕ) → AllByRecursion (λ (labels : List ℤ). length labels ≢ 1) groups

@@ -6,8 +6,8 @@ use Rattle.std.specs.Ordering.{int_eq}
 use Rattle.std.proofs.lemmas.Bool.{both_ways, cases_Bool, cases_eq}
 use Rattle.std.proofs.lemmas.Bool.Decides.{nat_tests}
 use Rattle.kh_types.specs.Code.{arc_in}
-use Rattle.gauss_code.specs.Passes.{Pass, slots_between}
-use Rattle.gauss_code.proofs.LabelCounts.{under_at, over_at, under_at-is, over_at-is}
+use Rattle.code_passes.specs.Passes.{Pass, slots_between}
+use Rattle.code_passes.proofs.LabelCounts.{under_at, over_at, under_at-is, over_at-is}
 
 -- an over pass goes from one arc to another: from slot 3 to slot 1 where it is listed as positive, else from slot 1 to slot 3
 abbrev pub Goes : Bool → ℕ → ℕ → ℕ → ℕ → Type 0

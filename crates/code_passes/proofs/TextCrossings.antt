@@ -7,15 +7,10 @@ use Rattle.std.proofs.lemmas.List.FromFn.{length-map-range_with_len, get_or-map-
 use Rattle.kh_types.specs.Code.{arc_in, arc_count, slots_of, IsCrossing}
 use Rattle.kh_types.specs.Components.{passes_of}
 use Rattle.kh_types.proofs.PassPairs.{passes-all}
-use Rattle.gauss_code.specs.Labels.{number_at, bad_label}
-use Rattle.gauss_code.specs.Passes.{Pass, all_passes, slots_between, slots_at}
-use Rattle.gauss_code.proofs.LabelCounts.{length-labels}
-use Rattle.gauss_code.proofs.ComponentPasses.{all_labels}
-use Rattle.gauss_code.proofs.CrossingPasses.{crossings_in, under_pass, over_pass, under-holds, over-holds, all-passes_hold}
-
--- the crossings of some components and signs
-abbrev pub crossings_of : List (List ℤ) → List ℤ → List (List ℕ)
-crossings_of groups signs = map (slots_at (all_passes 1 groups) signs) (range_with_len 0 (crossings_in groups))
+use Rattle.code_passes.specs.Labels.{number_at, bad_label}
+use Rattle.code_passes.specs.Passes.{Pass, all_passes, slots_between, slots_at, all_labels, crossings_in, crossings_of}
+use Rattle.code_passes.proofs.LabelCounts.{length-labels}
+use Rattle.code_passes.proofs.CrossingPasses.{under_pass, over_pass, under-holds, over-holds, all-passes_hold}
 
 pub length-crossings : (groups : List (List ℤ)) (signs : List ℤ) → length (crossings_of groups signs) ≡ crossings_in groups
 length-crossings groups signs = length-map-range_with_len (slots_at (all_passes 1 groups) signs) 0 (crossings_in groups)

@@ -12,7 +12,7 @@ use Rattle.kh_types.specs.Components.{components_of, arcs_in, first_arcs}
 use Rattle.kh_types.specs.Accepted.{IsDirected}
 use Rattle.kh_types.proofs.Ranges.{range-append}
 use Rattle.kh_types.proofs.NextArcs.{component, HasPlace-directed, IsNamed-components_of, component-inside}
-use Rattle.orient_arcs.proofs.ComponentLemmas.{IsFirstOf-directed, components_size}
+use Rattle.code_passes.proofs.LeastArcs.{IsFirstOf-directed, components_size}
 
 -- how many arcs the component has that an arc is the first of
 abbrev pub size : List (List ℕ) → ℕ → ℕ

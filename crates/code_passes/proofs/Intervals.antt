@@ -6,11 +6,11 @@ use Rattle.std.proofs.lemmas.Bool.{cases_Bool, cases_lt, eqb-true}
 use Rattle.std.proofs.lemmas.List.Sums.{sum_by-cons}
 use Rattle.kh_types.specs.Components.{components_of, component_of, arcs_in}
 use Rattle.kh_types.specs.Accepted.{IsInterval}
-use Rattle.gauss_code.specs.Labels.{bad_label}
-use Rattle.gauss_code.proofs.Sums.{value_if}
-use Rattle.gauss_code.proofs.ComponentPasses.{all_labels, length-labels_more, start_from, start-here, start-later, start-from_first, start-le, IsStart-arc, then_if}
-use Rattle.gauss_code.proofs.TextCrossings.{crossings_of}
-use Rattle.gauss_code.proofs.TextComponents.{start_of, component-is}
+use Rattle.code_passes.specs.Labels.{bad_label}
+use Rattle.code_passes.proofs.Sums.{value_if}
+use Rattle.code_passes.proofs.ComponentPasses.{length-labels_more, start_from, start-here, start-later, start-from_first, start-le, IsStart-arc, then_if}
+use Rattle.code_passes.proofs.TextComponents.{start_of, component-is}
+use Rattle.code_passes.specs.Passes.{all_labels, crossings_of}
 
 -- the arcs of the component of an arc end before this number
 pub record HasEnd (first : ℕ) (groups : List (List ℤ)) (arc end : ℕ) : Type 0 where

@@ -8,12 +8,8 @@ use Rattle.std.proofs.lemmas.Bool.Decides.{nat_tests}
 use Rattle.std.proofs.lemmas.List.{length-append}
 use Rattle.std.proofs.lemmas.List.Elements.{All-from_recursion, All-get_or}
 use Rattle.kh_types.proofs.Lists.{AllByRecursion-append, AllByRecursion-first, AllByRecursion-second}
-use Rattle.gauss_code.specs.Labels.{number_at}
-use Rattle.gauss_code.specs.Passes.{Pass, is_over, turned, pass_at, passes_from, all_passes}
-
--- the labels of some components
-abbrev pub all_labels : List (List ℤ) → List ℤ
-all_labels groups = flat_map (λ labels. labels) groups
+use Rattle.code_passes.specs.Labels.{number_at}
+use Rattle.code_passes.specs.Passes.{Pass, is_over, turned, pass_at, passes_from, all_passes, all_labels}
 
 -- a turned component has the same labels
 

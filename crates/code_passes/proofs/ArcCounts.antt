@@ -7,10 +7,10 @@ use Rattle.std.proofs.lemmas.Bool.Decides.{nat_tests}
 use Rattle.std.proofs.lemmas.List.{ext_get_or}
 use Rattle.std.proofs.lemmas.List.FromFn.{length-map-range_with_len, get_or-map-range_with_len}
 use Rattle.std.proofs.lemmas.List.Sums.{sum_by-cons, sum_by-append}
-use Rattle.gauss_code.specs.Labels.{number_at}
-use Rattle.gauss_code.specs.Passes.{Pass, turned, pass_at, passes_from, all_passes}
-use Rattle.gauss_code.proofs.Sums.{value_if, only_at, sum-only, sum_by-range_alike, sum_by-none}
-use Rattle.gauss_code.proofs.ComponentPasses.{all_labels, length-turned, sum_by-turned, length-labels_more}
+use Rattle.code_passes.specs.Labels.{number_at}
+use Rattle.code_passes.specs.Passes.{Pass, turned, pass_at, passes_from, all_passes, all_labels}
+use Rattle.code_passes.proofs.Sums.{value_if, only_at, sum-only, sum_by-range_alike, sum_by-none}
+use Rattle.code_passes.proofs.ComponentPasses.{length-turned, sum_by-turned, length-labels_more}
 
 pub sum_by-map : {X Y : Type 0} (f : Y → ℕ) (g : X → Y) (xs : List X) → sum_by f (map g xs) ≡ sum_by (λ x. f (g x)) xs
 sum_by-map f g [] = refl

@@ -3,9 +3,9 @@ use Rattle.std.proofs.Common.{◌≡◌, ◌≢◌, ℕ, inl, inr, ◌⊎◌, �
 use Rattle.std.specs.Prelude.{int_lt, ◌&&◌, if◌then◌else◌}
 use Rattle.std.proofs.lemmas.Bool.{cases_lt}
 use Rattle.std.proofs.lemmas.Bool.Decides.{nat_tests}
-use Rattle.gauss_code.specs.Labels.{number_at}
-use Rattle.gauss_code.specs.Passes.{is_over, turned}
-use Rattle.gauss_code.proofs.ComponentPasses.{all_labels, length-labels_more, start_from, label_from, start-here, start-later, start-from_first, then_if, else_if}
+use Rattle.code_passes.specs.Labels.{number_at}
+use Rattle.code_passes.specs.Passes.{is_over, turned, all_labels}
+use Rattle.code_passes.proofs.ComponentPasses.{length-labels_more, start_from, label_from, start-here, start-later, start-from_first, then_if, else_if}
 
 not_both : (x y : ℤ) → int_lt y x ≡ true → int_lt x y ≡ false
 not_both (pos m) (pos n) less = grind (arith, nat_tests)

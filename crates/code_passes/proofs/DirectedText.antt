@@ -7,17 +7,17 @@ use Rattle.kh_types.specs.Code.{arc_in, slots_of, IsArc, IsCrossing}
 use Rattle.kh_types.specs.Components.{components_of, component_of, next}
 use Rattle.kh_types.specs.Darts.{arc_of, times, IsDart}
 use Rattle.kh_types.specs.Accepted.{IsDirected, IsInterval}
-use Rattle.gauss_code.specs.Labels.{bad_label}
-use Rattle.gauss_code.specs.Passes.{Pass, all_passes}
-use Rattle.gauss_code.proofs.Sums.{value_if, sum_by-range_alike, sum_by-plus}
-use Rattle.gauss_code.proofs.LabelCounts.{under_at, under_at-is}
-use Rattle.gauss_code.proofs.ComponentPasses.{all_labels, label_from, IsPassOf, IsPassOf-all}
-use Rattle.gauss_code.proofs.ArcCounts.{enters_on, leaves_on, sum-enters, sum-leaves}
-use Rattle.gauss_code.proofs.CrossingPasses.{crossings_in, under_pass, over_pass, under-holds, over-holds, label-under, sum-crossings}
-use Rattle.gauss_code.proofs.TextCrossings.{crossings_of, length-crossings, arc_count-crossings, HasSlots, HasSlots-at, HasSlots-of}
-use Rattle.gauss_code.proofs.TextComponents.{component-is, next-passes}
-use Rattle.gauss_code.proofs.Intervals.{IsInterval-component}
-use Rattle.gauss_code.proofs.DartCounts.{times_in, times-crossings}
+use Rattle.code_passes.specs.Labels.{bad_label}
+use Rattle.code_passes.specs.Passes.{Pass, all_passes, all_labels, crossings_in, crossings_of}
+use Rattle.code_passes.proofs.Sums.{value_if, sum_by-range_alike, sum_by-plus}
+use Rattle.code_passes.proofs.LabelCounts.{under_at, under_at-is}
+use Rattle.code_passes.proofs.ComponentPasses.{label_from, IsPassOf, IsPassOf-all}
+use Rattle.code_passes.proofs.ArcCounts.{enters_on, leaves_on, sum-enters, sum-leaves}
+use Rattle.code_passes.proofs.CrossingPasses.{under_pass, over_pass, under-holds, over-holds, label-under, sum-crossings}
+use Rattle.code_passes.proofs.TextCrossings.{length-crossings, arc_count-crossings, HasSlots, HasSlots-at, HasSlots-of}
+use Rattle.code_passes.proofs.TextComponents.{component-is, next-passes}
+use Rattle.code_passes.proofs.Intervals.{IsInterval-component}
+use Rattle.code_passes.proofs.DartCounts.{times_in, times-crossings}
 
 -- how often an arc is an end of a pass
 abbrev ends_on : ℕ → Pass → ℕ

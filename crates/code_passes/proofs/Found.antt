@@ -4,7 +4,7 @@ use Rattle.std.specs.Prelude.{Some}
 use Rattle.std.specs.List.{find, sum_by, count_by, AllByRecursion}
 use Rattle.std.proofs.lemmas.Bool.{cases_Bool}
 use Rattle.std.proofs.lemmas.List.Sums.{sum_by-cons, get_or-le-sum_by}
-use Rattle.gauss_code.proofs.Sums.{value_if}
+use Rattle.code_passes.proofs.Sums.{value_if}
 
 -- the element that a search finds, and a default where it finds none
 abbrev pub found : {X : Type 0} → (X → Bool) → List X → X → X

@@ -9,7 +9,7 @@ use Rattle.kh_types.specs.Directions.{is_positive, is_head, head_of, HasEnds, Ha
 use Rattle.kh_types.specs.Accepted.{IsDirected}
 use Rattle.kh_types.proofs.DirectedPasses.{same_dart, head-cases}
 use Rattle.kh_types.proofs.Heads.{HasEnds-directed, IsPass-under}
-use Rattle.gauss_code.specs.Printing.{label_at, label_of}
+use Rattle.code_passes.specs.ComponentLabels.{label_at, label_of}
 
 -- a directed code, no component of which has a single arc
 pub record IsOriented (crossings : List (List ℕ)) : Type 0 where

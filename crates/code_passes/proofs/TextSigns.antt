@@ -1,28 +1,31 @@
 -- Where no component has a single arc, each crossing of the code of a text has the sign that the text lists.
+use Rattle.kh_types.specs.Directions.{HasNoSingleArcs}
+use Rattle.code_passes.specs.Labels.{bad_label}
+use Rattle.std.proofs.Common.{ℤ}
 use Rattle.std.proofs.Common.{◌≡◌, ◌≢◌, ℕ, inl, inr, ◌⊎◌, ◌+◌, ◌-◌, ◌<◌, ◌≤◌, ◌∙◌, List, length, refl, sym, ap, arith, true, false, pos}
 use Rattle.std.specs.Prelude.{Option, Some, None, nat_eq, int_lt}
 use Rattle.std.specs.Ordering.{int_eq}
 use Rattle.std.proofs.lemmas.Bool.{both_ways, cases_lt, eq-eqb, eqb-true}
 use Rattle.std.proofs.lemmas.Bool.Decides.{nat_tests}
 use Rattle.kh_types.specs.Code.{arc_in, slots_of, IsArc, IsCrossing}
-use Rattle.kh_types.specs.Components.{components_of, arcs_in}
+use Rattle.kh_types.specs.Components.{components_of, arcs_in, next}
 use Rattle.kh_types.specs.Directions.{first_under, first_over, passes_under, passes_over, is_positive}
 use Rattle.kh_types.proofs.NextArcs.{component, size_at, HasPlace-directed, component-next}
 use Rattle.kh_types.proofs.DirectedPasses.{is_positive-order}
-use Rattle.gauss_code.specs.Labels.{number_at}
-use Rattle.gauss_code.specs.Passes.{Pass, is_over}
-use Rattle.gauss_code.proofs.SignRules.{by_order, find-first, over-same}
-use Rattle.gauss_code.proofs.LabelCounts.{over_at, find-none_at}
-use Rattle.gauss_code.proofs.ComponentPasses.{all_labels, start_from, start-past, label_from}
-use Rattle.gauss_code.proofs.CrossingPasses.{crossings_in, under_pass, over_pass, all-passes_hold, entering, enters-entering, entering-holds}
-use Rattle.gauss_code.proofs.TextCrossings.{crossings_of, length-crossings, arc_count-crossings, HasSlots-of}
-use Rattle.gauss_code.proofs.TextComponents.{component-is}
-use Rattle.gauss_code.proofs.TurnedLabels.{two_over-rise}
-use Rattle.gauss_code.proofs.DirectedText.{place-below}
-use Rattle.gauss_code.proofs.OverPasses.{GoodText, Goes_on, directed, over-goes_on, goes-at, component-slot, positive-large, apart, in_two, label-enters_over, positive-under}
+use Rattle.code_passes.specs.Labels.{number_at}
+use Rattle.code_passes.specs.Passes.{Pass, is_over, all_labels, crossings_in, crossings_of}
+use Rattle.code_passes.proofs.SignRules.{by_order, find-first, over-same}
+use Rattle.code_passes.proofs.LabelCounts.{over_at, find-none_at}
+use Rattle.code_passes.proofs.ComponentPasses.{start_from, start-past, label_from}
+use Rattle.code_passes.proofs.CrossingPasses.{under_pass, over_pass, all-passes_hold, entering, enters-entering, entering-holds}
+use Rattle.code_passes.proofs.TextCrossings.{length-crossings, arc_count-crossings, HasSlots-of}
+use Rattle.code_passes.proofs.TextComponents.{component-is}
+use Rattle.code_passes.proofs.TurnedLabels.{two_over-rise}
+use Rattle.code_passes.proofs.DirectedText.{place-below}
+use Rattle.code_passes.proofs.OverPasses.{GoodText, Goes_on, directed, over-goes_on, goes-at, component-slot, positive-large, apart, in_two, label-enters_over, positive-under}
 
 module _ (text : GoodText) where
-  open text use {groups, signs, none, moves}
+  open text use {groups, signs, none}
 
   abbrev crossings : List (List ℕ)
   crossings = crossings_of groups signs
@@ -73,16 +76,16 @@ module _ (text : GoodText) where
   number-of place below = record { positive = omega arith; within = omega (arith, below, length-crossings groups signs) }
 
   -- its arcs are the first and the next, in one order or the other, and the lesser crossing comes first
-  both-rise : (from to place other : ℕ) → Goes_on text from to → size_at crossings from ≤ 2 → label_from 1 groups from ≡ over_at place
+  both-rise : (from to place other : ℕ) → Goes_on text from to → next crossings from ≢ from → size_at crossings from ≤ 2 → label_from 1 groups from ≡ over_at place
       → label_from 1 groups to ≡ over_at other → place ≢ other → ((from < to) × (place < other)) ⊎ ((to < from) × (other < place))
-  both-rise from to place other on small label other_label differ =
+  both-rise from to place other on moves small label other_label differ =
       let components = components_of crossings in
       let at = HasPlace-directed crossings (directed text) from on.from_is in
       let together : component crossings to ≡ component crossings from =
       ap (component crossings) on.follows ∙ component-next crossings (directed text) from on.from_is in
       let alike : size_at crossings to ≡ size_at crossings from = ap (arcs_in components) together in
       elim (ends (component crossings from) (size_at crossings from) from to small at.from at.below
-      (λ within. on.follows ∙ at.inside within) (λ behind. on.follows ∙ at.last behind) (apart text from to on)) [
+      (λ within. on.follows ∙ at.inside within) (λ behind. on.follows ∙ at.last behind) (apart text from to on moves)) [
         | inl up ↦
             let le = rises from to place other on.from_is on.to_is (sym up.0) (up.1 ∙ ap (λ x. x + 1) (sym up.0)) (together ∙ sym up.0)
             small
@@ -100,10 +103,10 @@ module _ (text : GoodText) where
       ends first size a b small after below inside last differ = grind arith
 
   -- what is over in such a component is one of the two passes
-  over-one_of : (first from to place other : ℕ) → Goes_on text from to → size_at crossings from ≤ 2
+  over-one_of : (first from to place other : ℕ) → Goes_on text from to → next crossings from ≢ from → size_at crossings from ≤ 2
       → label_from 1 groups from ≡ over_at place → label_from 1 groups to ≡ over_at other → IsCrossing crossings first
       → component crossings (arc_in (slots_of crossings first) 1) ≡ component crossings from → (first - 1 ≡ place) ⊎ (first - 1 ≡ other)
-  over-one_of first from to place other on small label other_label is same =
+  over-one_of first from to place other on moves small label other_label is same =
       let slots = slots_of crossings first in
       let below = place-below groups signs none first is in
       let over = over_pass groups (first - 1) in
@@ -111,19 +114,20 @@ module _ (text : GoodText) where
       let inside = sym (component-slot text (int_eq (number_at signs (first - 1)) (pos 1)) (arc_in slots 1) (arc_in slots 3) over.enters
       over.leaves over_on (goes-at text first is)) ∙ same in
       let over_label = sym (label-enters_over text (first - 1) below) in
-      elim (in_two text from to over.enters on small over_on.from_is inside) [
+      elim (in_two text from to over.enters on moves small over_on.from_is inside) [
         | inl is_from ↦ inl (over-same (first - 1) place (over_label ∙ ap (label_from 1 groups) is_from ∙ label))
         | inr is_to ↦ inr (over-same (first - 1) other (over_label ∙ ap (label_from 1 groups) is_to ∙ other_label))
       ]
 
   -- so where it passes under nowhere, the crossing has the sign that is listed
   positive-over : (crossing other first : ℕ) → IsCrossing crossings crossing → other < crossings_in groups
+      → next crossings (over_pass groups (crossing - 1)).enters ≢ (over_pass groups (crossing - 1)).enters
       → size_at crossings (over_pass groups (crossing - 1)).enters ≤ 2
       → (over_pass groups other).enters ≡ (over_pass groups (crossing - 1)).leaves
       → first_under crossings (components_of crossings) (component crossings (arc_in (slots_of crossings crossing) 1)) ≡ None
       → first_over crossings (components_of crossings) (component crossings (arc_in (slots_of crossings crossing) 1)) ≡ Some first
       → is_positive crossings crossing ≡ int_eq (number_at signs (crossing - 1)) (pos 1)
-  positive-over crossing other first is below small enters nowhere found =
+  positive-over crossing other first is below moves small enters nowhere found =
       let components = components_of crossings in
       let listed = int_eq (number_at signs (crossing - 1)) (pos 1) in
       let slots = slots_of crossings crossing in
@@ -138,7 +142,7 @@ module _ (text : GoodText) where
       let label = label-enters_over text (crossing - 1) place_within in
       let other_label = ap (label_from 1 groups) (sym enters) ∙ label-enters_over text other below in
       let differ : crossing - 1 ≢ other =
-      λ is_other. apart text from to on (sym enters ∙ ap (λ place. (over_pass groups place).enters) (sym is_other)) in
+      λ is_other. apart text from to on moves (sym enters ∙ ap (λ place. (over_pass groups place).enters) (sym is_other)) in
       let search = find-first (passes_over crossings components (component crossings one)) 1 (length crossings) first found in
       let is_first : IsCrossing crossings first = record { positive = search.from; within = omega (arith, search.below) } in
       let inside = eqb-true (component crossings (arc_in (slots_of crossings first) 1)) (component crossings one) search.passes ∙ same in
@@ -156,11 +160,11 @@ module _ (text : GoodText) where
       (is_positive-order crossings crossing first (omega (arith, size, small)) nowhere found)
       (search.first crossing is.positive (eq-eqb (component crossings one) (component crossings one) refl))
       (search.first (other + 1) (omega arith) (eq-eqb (component crossings (arc_in other_slots 1)) (component crossings one) other_same))
-      (elim (over-one_of first from to (crossing - 1) other on small label other_label is_first inside) [
+      (elim (over-one_of first from to (crossing - 1) other on moves small label other_label is_first inside) [
         | inl is_crossing ↦ inl (omega (arith, is_crossing, search.from, is.positive))
         | inr is_other ↦ inr (omega (arith, is_other, search.from))
       ])
-      (elim (both-rise from to (crossing - 1) other on small label other_label differ) [
+      (elim (both-rise from to (crossing - 1) other on moves small label other_label differ) [
         | inl up ↦ inl (up.0, omega (arith, up.1, is.positive))
         | inr down ↦ inr (down.0, omega (arith, down.1, is.positive))
       ])
@@ -209,10 +213,12 @@ module _ (text : GoodText) where
       (eq-eqb (component crossings zero_slot) (component crossings one) under_same)
 
   -- in a component of at most two arcs
-  positive-small : (crossing : ℕ) → IsCrossing crossings crossing → size_at crossings (over_pass groups (crossing - 1)).enters ≤ 2
+  positive-small : (crossing : ℕ) → IsCrossing crossings crossing
+      → next crossings (over_pass groups (crossing - 1)).enters ≢ (over_pass groups (crossing - 1)).enters
+      → size_at crossings (over_pass groups (crossing - 1)).enters ≤ 2
       → is_positive crossings crossing ≡ int_eq (number_at signs (crossing - 1)) (pos 1)
   unfolding Meets
-  positive-small crossing is small =
+  positive-small crossing is moves small =
       by (first_under crossings (components_of crossings) (component crossings (arc_in (slots_of crossings crossing) 1))) refl
     where
       by : (found : Option ℕ)
@@ -222,7 +228,7 @@ module _ (text : GoodText) where
           let over = over_pass groups (crossing - 1) in
           let within = place-below groups signs none crossing is in
           positive-under text crossing under over.enters over.leaves (crossing - 1) (int_eq (number_at signs (crossing - 1)) (pos 1))
-          (over-goes_on text (crossing - 1) within) (goes-at text crossing is) small (label-enters_over text (crossing - 1) within) found
+          (over-goes_on text (crossing - 1) within) moves (goes-at text crossing is) small (label-enters_over text (crossing - 1) within) found
       by None nowhere =
           let over = over_pass groups (crossing - 1) in
           let on = over-goes_on text (crossing - 1) (place-below groups signs none crossing is) in
@@ -234,18 +240,29 @@ module _ (text : GoodText) where
             | inl is_under ↦ absurd
                 (no-under crossing meets.0 is meets.1 (ap (λ (pass : Pass). pass.enters) (sym is_under) ∙ enters) nowhere)
             | inr is_over ↦
-                positive-over crossing meets.0 first.0 is meets.1 small (ap (λ (pass : Pass). pass.enters) (sym is_over) ∙ enters) nowhere
+                positive-over crossing meets.0 first.0 is meets.1 moves small (ap (λ (pass : Pass). pass.enters) (sym is_over) ∙ enters) nowhere
                 first.1
           ]
 
   -- each crossing is positive exactly where the text lists it as positive
   pub is_positive-listed : (crossing : ℕ) → IsCrossing crossings crossing
+      → next crossings (over_pass groups (crossing - 1)).enters ≢ (over_pass groups (crossing - 1)).enters
       → is_positive crossings crossing ≡ int_eq (number_at signs (crossing - 1)) (pos 1)
-  is_positive-listed crossing is =
+  is_positive-listed crossing is moves =
       let over = over_pass groups (crossing - 1) in
       elim (cases_lt 2 (size_at crossings over.enters)) [
         | inl large ↦
             positive-large text crossing over.enters over.leaves (int_eq (number_at signs (crossing - 1)) (pos 1))
             (over-goes_on text (crossing - 1) (place-below groups signs none crossing is)) (goes-at text crossing is) large
-        | inr small ↦ positive-small crossing is small
+        | inr small ↦ positive-small crossing is moves small
       ]
+
+-- where no arc is a component alone, no pass enters and leaves on one arc, and all signs are those that are listed
+pub is_positive-moves : (groups : List (List ℤ)) (signs : List ℤ) → bad_label (all_labels groups) ≡ None
+    → HasNoSingleArcs (crossings_of groups signs) → (crossing : ℕ) → IsCrossing (crossings_of groups signs) crossing
+    → is_positive (crossings_of groups signs) crossing ≡ int_eq (number_at signs (crossing - 1)) (pos 1)
+is_positive-moves groups signs none moves crossing is =
+    let text : GoodText = record { groups = groups; signs = signs; none = none } in
+    is_positive-listed text crossing is
+    (moves (over_pass groups (crossing - 1)).enters
+    (over-goes_on text (crossing - 1) (place-below groups signs none crossing is)).from_is)
