@@ -1,2 +1,9 @@
 pub mod Numbers
 pub mod Inside
+pub mod Parts
+pub mod Renumbered
+pub mod Alike
+pub mod WorkedParts
+pub mod Glue
+pub mod RawParts
+pub mod Steps
