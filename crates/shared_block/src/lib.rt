@@ -24,3 +24,4 @@ pub use block_patch::BlockPatch;
 pub use commit_answer::CommitAnswer;
 pub use limits::WORKERS;
 pub use shared_block::SharedBlock;
+pub use table::{homology_table, table_of};
