@@ -14,3 +14,4 @@ pub mod KeptNumbers
 pub mod EdgeAnswers
 pub mod GeneratorLemmas
 pub mod EdgeNumbers
+pub mod BranchLemmas

@@ -5,3 +5,4 @@ pub mod GeneratorCounts
 pub mod Steps
 pub mod Numbered
 pub mod Prepared
+pub mod Branches

@@ -2,6 +2,7 @@
 //! generators.
 #![tactic(auto)]
 
+mod branches;
 mod change;
 mod finding;
 pub mod laws;
