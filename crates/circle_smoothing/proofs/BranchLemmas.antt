@@ -1,5 +1,5 @@
 -- States on a branch: how many are counted at a place, and what is counted where the branch parts in two.
-use Rattle.std.proofs.Common.{◌≡◌, ◌≢◌, ℕ, zero, suc, ◌+◌, ◌-◌, ◌*◌, ◌/◌, ◌%◌, ◌^◌, ◌<◌, ◌≤◌, ◌∙◌, List, [], ◌∷◌, ◌++◌, length, get_or, ap, ap₂, sym, subst, refl, arith, Bool, true, false, cond, inl, inr, eq-eqb}
+use Rattle.std.proofs.Common.{◌≡◌, ◌≢◌, ℕ, zero, suc, ◌+◌, ◌-◌, ◌*◌, ◌/◌, ◌%◌, ◌^◌, ◌<◌, ◌≤◌, ◌∙◌, List, [], ◌∷◌, ◌++◌, map, length, get_or, ap, ap₂, sym, subst, refl, arith, Bool, true, false, cond, inl, inr, eq-eqb}
 use Rattle.std.proofs.lemmas.Bool.{ne_eqb}
 use Rattle.std.specs.Prelude.{nat_eq, slice_index}
 use Rattle.std.specs.List.{count_by, enumerate_from, flat_map, fold, range_with_len, sum_by}
@@ -9,7 +9,7 @@ use Rattle.std.proofs.Math.Path.{fun_ext}
 use Rattle.std.proofs.lemmas.Bool.{cases_eq}
 use Rattle.std.proofs.lemmas.Bool.Decides.{nat_tests}
 use Rattle.std.proofs.lemmas.List.{get_or-set_same, get_or-set_other}
-use Rattle.std.proofs.lemmas.List.FromFn.{length-range_with_len}
+use Rattle.std.proofs.lemmas.List.FromFn.{fill_by_all, length-range_with_len}
 use Rattle.std.proofs.lemmas.List.Sums.{count_by-le-length, fold-append, sum_by-cons}
 use Rattle.std.proofs.lemmas.Nat.{pow-add}
 use Rattle.kh_types.specs.Bits.{bit, ones}
@@ -216,3 +216,12 @@ counted-parted crossings first rest taken zero_taken one_taken classes zero_clas
     (ap₂ (λ x y. x + y)
     (ap₂ (λ (t : ℕ) (after : List ℕ). branch_count rest t after place) zero_is zero_joined)
     (ap₂ (λ (t : ℕ) (after : List ℕ). branch_count rest t after place) one_is one_joined))
+
+-- a list of the numbers below its length
+pub numbers-all : (numbers : List ℕ) (n : ℕ) → length numbers ≡ n → ((place : ℕ) → place < n → get_or numbers place 0 ≡ place)
+    → numbers ≡ range_with_len 0 n
+numbers-all numbers n size each = fill_by_all (λ k. k) numbers n 0 size each ∙ map-self (range_with_len 0 n)
+  where
+    map-self : (xs : List ℕ) → map (λ k. k) xs ≡ xs
+    map-self [] = refl
+    map-self (x ∷ xs) = ap (λ (ys : List ℕ). x ∷ ys) (map-self xs)

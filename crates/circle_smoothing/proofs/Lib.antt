@@ -15,3 +15,4 @@ pub mod EdgeAnswers
 pub mod GeneratorLemmas
 pub mod EdgeNumbers
 pub mod BranchLemmas
+pub mod KindLemmas

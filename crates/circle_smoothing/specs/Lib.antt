@@ -6,3 +6,4 @@ pub mod Steps
 pub mod Numbered
 pub mod Prepared
 pub mod Branches
+pub mod Kinds

@@ -38,6 +38,33 @@ pub struct Branch {
     classes: [u8; MEMBERS],
 }
 
+impl Branch {
+    /// The branch of all states, on which no crossing has chosen yet.
+    pub fn of_all() -> Branch
+        ensures branch { IsBranch result }
+        ensures ones { result.ones ≡ 0 }
+        ensures joins { result.joins ≡ 0 }
+        ensures classes { result.classes ≡ range_with_len 0 MEMBERS }
+    {
+        Branch {
+            ones: 0,
+            joins: 0,
+            classes: numbers(),
+        }
+    }
+}
+
+/// The numbers below MEMBERS, each in a class of its own.
+fn numbers() -> [u8; MEMBERS]
+    ensures { result ≡ range_with_len 0 MEMBERS }
+{
+    let mut numbers = [0; MEMBERS];
+    'numbers: for number in 0..MEMBERS {
+        numbers[number] = number as u8;
+    }
+    numbers
+}
+
 /// Counts the states that go on a branch, each at the place of its ones and its joins.
 pub fn count_branch(counts: &mut [u32], crossings: &[Crossing], branch: &Branch)
     requires size { length counts.old ≡ COUNTS }

@@ -5,6 +5,7 @@
 mod branches;
 mod change;
 mod finding;
+mod kinds;
 pub mod laws;
 mod limits;
 mod numbered;
@@ -17,6 +18,7 @@ mod walk;
 
 pub use change::Edge;
 pub use finding::{circles, edge, generator_count};
+pub use kinds::StateKinds;
 pub use limits::GENERATORS;
 pub use numbered::Circles;
 pub use prepared::Smoothings;
