@@ -14,3 +14,5 @@ pub mod KeptNumbers
 pub mod EdgeAnswers
 pub mod GeneratorLemmas
 pub mod EdgeNumbers
+pub mod BranchLemmas
+pub mod KindLemmas

@@ -5,3 +5,5 @@ pub mod GeneratorCounts
 pub mod Steps
 pub mod Numbered
 pub mod Prepared
+pub mod Branches
+pub mod Kinds

@@ -2,8 +2,10 @@
 //! generators.
 #![tactic(auto)]
 
+mod branches;
 mod change;
 mod finding;
+mod kinds;
 pub mod laws;
 mod limits;
 mod numbered;
@@ -16,6 +18,7 @@ mod walk;
 
 pub use change::Edge;
 pub use finding::{circles, edge, generator_count};
+pub use kinds::StateKinds;
 pub use limits::GENERATORS;
 pub use numbered::Circles;
 pub use prepared::Smoothings;
