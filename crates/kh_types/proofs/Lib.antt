@@ -27,3 +27,13 @@ pub mod TwoHeads
 pub mod OneHead
 pub mod Heads
 pub mod WalkLemmas
+pub mod Residues
+pub mod Sums
+pub mod FactorLemmas
+pub mod PivotLemmas
+pub mod DependentRows
+pub mod Removed
+pub mod Reduced
+pub mod PlainRank
+pub mod MatrixEntries
+pub mod RankLaws

@@ -24,3 +24,6 @@ pub mod WorkedHistories
 pub mod Walks
 pub mod Filling
 pub mod Inside
+pub mod Residues
+pub mod Products
+pub mod MatrixRanks

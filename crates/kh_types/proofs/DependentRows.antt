@@ -3,13 +3,13 @@ use Rattle.std.proofs.Common.{◌≡◌, ℕ, zero, suc, ◌+◌, ◌-◌, ◌*�
 use Rattle.std.specs.Prelude.{nat_eq, if◌then◌else◌}
 use Rattle.std.proofs.lemmas.Bool.Decides.{eqb_tells}
 use Rattle.kh_types.specs.Rank.{inverse}
-use Rattle.prime_field.specs.Residues.{IsField}
-use Rattle.plain_matrix.specs.Products.{Same, sum_below, product_at, Factors}
-use Rattle.plain_matrix.specs.Ranks.{HasRank, IsDependent}
-use Rattle.plain_matrix.proofs.Residues.{same-inverse, same-equal, same-scaled, same-minus}
-use Rattle.plain_matrix.proofs.Sums.{sum_below-same, sum_below-equal, sum_below-scaled, sum_below-exchanged}
-use Rattle.plain_matrix.proofs.FactorLemmas.{first-replaced}
-use Rattle.plain_matrix.proofs.PivotLemmas.{rank-like, rank-transposed}
+use Rattle.kh_types.specs.Residues.{HasInverses, Same}
+use Rattle.kh_types.specs.Products.{sum_below, product_at, Factors}
+use Rattle.kh_types.specs.MatrixRanks.{HasRank, IsDependent}
+use Rattle.kh_types.proofs.Residues.{same-inverse, same-equal, same-scaled, same-minus}
+use Rattle.kh_types.proofs.Sums.{sum_below-same, sum_below-equal, sum_below-scaled, sum_below-exchanged}
+use Rattle.kh_types.proofs.FactorLemmas.{first-replaced}
+use Rattle.kh_types.proofs.PivotLemmas.{rank-like, rank-transposed}
 
 -- a combination of rows of the first factor gives that of rows of the product
 pub product-combined : (m s : ℕ) (c : ℕ → ℕ) (left right : ℕ → ℕ → ℕ) (j : ℕ)
@@ -86,7 +86,7 @@ sum_below-apart (suc m) (suc a) f g below is_zero others =
     (λ l differs. others (suc l) (λ same. differs (omega arith))) in
     omega arith
 
-pub factors-row_back : (p s m a : ℕ) (M : ℕ → ℕ → ℕ) → IsField p → IsDependent p m a M → Factors p (row_cleared a M) s
+pub factors-row_back : (p s m a : ℕ) (M : ℕ → ℕ → ℕ) → HasInverses p → IsDependent p m a M → Factors p (row_cleared a M) s
     → Factors p M s
 factors-row_back p s m a M field dependent =
     let x = dependent.factor in
@@ -114,13 +114,13 @@ factors-row_back p s m a M field dependent =
     times c x z = omega arith
 
 -- a row that depends on others does not count
-pub rank-row_cleared : (p r m a : ℕ) (M : ℕ → ℕ → ℕ) → IsField p → IsDependent p m a M → HasRank p M r
+pub rank-row_cleared : (p r m a : ℕ) (M : ℕ → ℕ → ℕ) → HasInverses p → IsDependent p m a M → HasRank p M r
     → HasRank p (row_cleared a M) r
 rank-row_cleared p r m a M field dependent =
     rank-like p r M (row_cleared a M) (λ s. factors-row_cleared p s a M) (λ s. factors-row_back p s m a M field dependent)
 
 -- nor does such a column
-pub rank-column_cleared : (p r m a : ℕ) (M : ℕ → ℕ → ℕ) → IsField p → IsDependent p m a (λ i j. M j i) → HasRank p M r
+pub rank-column_cleared : (p r m a : ℕ) (M : ℕ → ℕ → ℕ) → HasInverses p → IsDependent p m a (λ i j. M j i) → HasRank p M r
     → HasRank p (column_cleared a M) r
 rank-column_cleared p r m a M field dependent has =
     rank-transposed p r (row_cleared a (λ i j. M j i))

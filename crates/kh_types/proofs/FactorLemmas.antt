@@ -2,10 +2,10 @@
 use Rattle.std.proofs.Common.{◌≡◌, ℕ, zero, suc, ◌+◌, ◌-◌, ◌*◌, ◌%◌, ◌<◌, ◌∙◌, inl, inr, refl, ap, sym, arith}
 use Rattle.std.proofs.lemmas.Bool.Decides.{eqb_tells}
 use Rattle.kh_types.specs.Rank.{inverse}
-use Rattle.prime_field.specs.Residues.{IsField}
-use Rattle.plain_matrix.specs.Products.{Same, sum_below, product_at, Factors}
-use Rattle.plain_matrix.proofs.Residues.{same-inverse, same-equal, same-add, same-mul, same-scaled, same-minus, same-rest}
-use Rattle.plain_matrix.proofs.Sums.{sum_below-equal, sum_below-add, sum_below-scaled}
+use Rattle.kh_types.specs.Residues.{HasInverses, Same}
+use Rattle.kh_types.specs.Products.{sum_below, product_at, Factors}
+use Rattle.kh_types.proofs.Residues.{same-inverse, same-equal, same-add, same-mul, same-scaled, same-minus, same-rest}
+use Rattle.kh_types.proofs.Sums.{sum_below-equal, sum_below-add, sum_below-scaled}
 
 -- one value in front of others
 abbrev in_front : ℕ → (ℕ → ℕ) → ℕ → ℕ
@@ -85,7 +85,7 @@ first-not_needed p s y x B Y positive inverts zeros =
     turn m first y kept others = omega arith
 
 -- a product factors through one less, where a multiple of the rows of its second factor is 0, and has a factor that is not
-pub product-fewer : (p s : ℕ) → IsField p → (x z : ℕ → ℕ) (B Y : ℕ → ℕ → ℕ) → ¬ Same p (sum_below s (λ k. x k * z k)) 0
+pub product-fewer : (p s : ℕ) → HasInverses p → (x z : ℕ → ℕ) (B Y : ℕ → ℕ → ℕ) → ¬ Same p (sum_below s (λ k. x k * z k)) 0
     → ((j : ℕ) → Same p (sum_below s (λ k. x k * Y k j)) 0) → (t : ℕ) × (s ≡ suc t) × Factors p (product_at s B Y) t
 product-fewer p zero field x z B Y other zeros = absurd (other refl)
 product-fewer p (suc s) field x z B Y other zeros =

@@ -1,45 +1,30 @@
 -- The laws of the plain rank: it falls by one with any pivot, and it is kept where a row or a column that depends on others is
--- put to 0, where rows and columns change places, and where rows change their order.
-use Rattle.std.proofs.Common.{◌≡◌, ℕ, suc, ◌%◌, ◌<◌, ◌≢◌, ◌∙◌, inl, inr, List, length, ap, sym, arith}
+-- put to 0, and where rows and columns change places.
+use Rattle.std.proofs.Common.{◌≡◌, ℕ, suc, ◌<◌, ◌≢◌, inl, inr, List, length, arith}
 use Rattle.std.proofs.lemmas.Bool.Decides.{leb_tells}
 use Rattle.kh_types.specs.Rank.{rank}
 use Rattle.kh_types.specs.Complex.{Pivot, entry_in, cancelled_matrix, without_row, without_column}
-use Rattle.prime_field.specs.Residues.{IsField}
-use Rattle.plain_matrix.specs.Products.{Factors}
-use Rattle.plain_matrix.specs.Ranks.{HasRank, IsDependent, IsAmong}
-use Rattle.plain_matrix.specs.Matrices.{IsMatrix}
-use Rattle.plain_matrix.specs.Steps.{IsElimination}
-use Rattle.plain_matrix.specs.Steps.IsElimination.{over, step}
-use Rattle.plain_matrix.proofs.Residues.{same-equal}
-use Rattle.plain_matrix.proofs.PivotLemmas.{rank-like, rank-same, rank-pivot, rank-zeros, rank-transposed, rank-determined}
-use Rattle.plain_matrix.proofs.DependentRows.{rank-row_cleared, rank-column_cleared, row_cleared, column_cleared}
-use Rattle.plain_matrix.proofs.PlainRank.{rank-least, other-below}
-use Rattle.plain_matrix.proofs.Entries.{entry-past_rows, entry_cancelled, entry_cancelled-below, entry-cancelled_matrix, leaves-entry_cancelled, entry-without_row, entry-without_column, matrix-without_row, matrix-without_column, matrix-with_entries}
-
--- the number of steps of any elimination is the rank
-pub rank-eliminated : (p r : ℕ) (M : ℕ → ℕ → ℕ) → IsField p → IsElimination p M r → HasRank p M r
-rank-eliminated p r M field (over zeros) = rank-zeros p M zeros
-rank-eliminated p r M field (step {rest = N} {row = a} {column = b} {steps = n} leaves rest) =
-    rank-pivot p n M N a b field leaves (rank-eliminated p n N field rest)
+use Rattle.kh_types.specs.Residues.{HasInverses}
+use Rattle.kh_types.specs.MatrixRanks.{HasRank, IsDependent, IsMatrix}
+use Rattle.kh_types.proofs.Residues.{same-equal}
+use Rattle.kh_types.proofs.PivotLemmas.{rank-same, rank-pivot, rank-transposed, rank-determined}
+use Rattle.kh_types.proofs.DependentRows.{rank-row_cleared, rank-column_cleared, row_cleared, column_cleared}
+use Rattle.kh_types.proofs.PlainRank.{rank-least, other-below}
+use Rattle.kh_types.proofs.MatrixEntries.{entry-past_rows, entry_cancelled, entry_cancelled-below, entry-cancelled_matrix, leaves-entry_cancelled, entry-without_row, entry-without_column, matrix-without_row, matrix-without_column, matrix-with_entries}
 
 -- a number that is the rank is the plain rank
-pub rank-plain : (p n r : ℕ) (rows : List (List ℕ)) → IsField p → IsMatrix p n rows → HasRank p (entry_in rows) r → rank p rows ≡ r
+pub rank-plain : (p n r : ℕ) (rows : List (List ℕ)) → HasInverses p → IsMatrix p n rows → HasRank p (entry_in rows) r → rank p rows ≡ r
 rank-plain p n r rows field is has = rank-determined p (rank p rows) r (entry_in rows) (rank-least p n rows field is) has
 
--- so it is the plain rank
-pub rank-pivots : (p n r : ℕ) (rows : List (List ℕ)) → IsField p → IsMatrix p n rows → IsElimination p (entry_in rows) r
-    → rank p rows ≡ r
-rank-pivots p n r rows field is eliminated = rank-plain p n r rows field is (rank-eliminated p r (entry_in rows) field eliminated)
-
 -- the same entries, by whatever function
-pub rank-entries : (p n : ℕ) (entry : ℕ → ℕ → ℕ) (rows : List (List ℕ)) → IsField p → IsMatrix p n rows
+pub rank-entries : (p n : ℕ) (entry : ℕ → ℕ → ℕ) (rows : List (List ℕ)) → HasInverses p → IsMatrix p n rows
     → ((i j : ℕ) → entry_in rows i j ≡ entry i j) → HasRank p entry (rank p rows)
 rank-entries p n entry rows field is entries =
     rank-same p (rank p rows) (entry_in rows) entry (λ i j. same-equal p (entry_in rows i j) (entry i j) (entries i j))
     (rank-least p n rows field is)
 
 -- any entry other than 0 is a pivot: the rank is 1 more than that of what its cancellation leaves
-pub rank-cancelled_matrix : (p n : ℕ) (pivot : Pivot) (rows : List (List ℕ)) → IsField p → IsMatrix p n rows
+pub rank-cancelled_matrix : (p n : ℕ) (pivot : Pivot) (rows : List (List ℕ)) → HasInverses p → IsMatrix p n rows
     → entry_in rows pivot.row pivot.column ≢ 0 → rank p rows ≡ suc (rank p (cancelled_matrix p pivot rows))
 rank-cancelled_matrix p n pivot rows field is other =
     let positive : 0 < p = omega (arith, field.above_one) in
@@ -60,7 +45,7 @@ rank-cancelled_matrix p n pivot rows field is other =
     (rank-entries p n (entry_cancelled p a b (entry_in rows)) (cancelled_matrix p pivot rows) field left entries))
 
 -- a row that depends on others may be put to 0
-pub rank-without_row : (p n m dead : ℕ) (rows : List (List ℕ)) → IsField p → IsMatrix p n rows
+pub rank-without_row : (p n m dead : ℕ) (rows : List (List ℕ)) → HasInverses p → IsMatrix p n rows
     → IsDependent p m dead (entry_in rows) → rank p (without_row dead rows) ≡ rank p rows
 rank-without_row p n m dead rows field is dependent =
     rank-determined p (rank p (without_row dead rows)) (rank p rows) (row_cleared dead (entry_in rows))
@@ -69,7 +54,7 @@ rank-without_row p n m dead rows field is dependent =
     (rank-row_cleared p (rank p rows) m dead (entry_in rows) field dependent (rank-least p n rows field is))
 
 -- and so may such a column
-pub rank-without_column : (p n m dead : ℕ) (rows : List (List ℕ)) → IsField p → IsMatrix p n rows
+pub rank-without_column : (p n m dead : ℕ) (rows : List (List ℕ)) → HasInverses p → IsMatrix p n rows
     → IsDependent p m dead (λ i j. entry_in rows j i) → rank p (without_column dead rows) ≡ rank p rows
 rank-without_column p n m dead rows field is dependent =
     rank-determined p (rank p (without_column dead rows)) (rank p rows) (column_cleared dead (entry_in rows))
@@ -78,26 +63,9 @@ rank-without_column p n m dead rows field is dependent =
     (rank-column_cleared p (rank p rows) m dead (entry_in rows) field dependent (rank-least p n rows field is))
 
 -- the rank of a matrix with rows for columns
-pub rank-transposed_rows : (p n m : ℕ) (rows turned : List (List ℕ)) → IsField p → IsMatrix p n rows → IsMatrix p m turned
+pub rank-transposed_rows : (p n m : ℕ) (rows turned : List (List ℕ)) → HasInverses p → IsMatrix p n rows → IsMatrix p m turned
     → ((i j : ℕ) → entry_in turned i j ≡ entry_in rows j i) → rank p turned ≡ rank p rows
 rank-transposed_rows p n m rows turned field is turned_is entries =
     rank-determined p (rank p turned) (rank p rows) (λ i j. entry_in rows j i)
     (rank-entries p m (λ i j. entry_in rows j i) turned field turned_is entries)
     (rank-transposed p (rank p rows) (entry_in rows) (rank-least p n rows field is))
-
-factors-among : (p s : ℕ) (rows others : List (List ℕ)) → IsAmong rows others → Factors p (entry_in others) s
-    → Factors p (entry_in rows) s
-factors-among p s rows others among f =
-    record {
-      left = λ i k. f.left (among.place i) k;
-      right = f.right;
-      product = λ i j. f.product (among.place i) j ∙ ap (λ z. z % p) (sym (among.same i j));
-    }
-
--- the order of the rows does not matter, nor do rows of zeros and rows that stand twice
-pub rank-rows : (p n m : ℕ) (rows others : List (List ℕ)) → IsField p → IsMatrix p n rows → IsMatrix p m others
-    → IsAmong rows others → IsAmong others rows → rank p rows ≡ rank p others
-rank-rows p n m rows others field is others_is there back =
-    rank-plain p n (rank p others) rows field is
-    (rank-like p (rank p others) (entry_in others) (entry_in rows) (λ s. factors-among p s rows others there)
-    (λ s. factors-among p s others rows back) (rank-least p m others field others_is))

@@ -1,13 +1,12 @@
 -- A matrix has rank 1 more than what any pivot leaves of it.
 use Rattle.std.proofs.Common.{◌≡◌, ℕ, zero, suc, ◌+◌, ◌-◌, ◌*◌, ◌%◌, ◌<◌, ◌∙◌, refl, ap, sym, arith}
 use Rattle.std.proofs.Math.Nat.{mod-eq_of_lt, zero-mod}
-use Rattle.prime_field.specs.Residues.{IsField}
-use Rattle.plain_matrix.specs.Products.{Same, product_at, Factors}
-use Rattle.plain_matrix.specs.Ranks.{HasRank}
-use Rattle.plain_matrix.specs.Steps.{Leaves}
-use Rattle.plain_matrix.proofs.Residues.{same-unit_left, same-unit_right, same-equal, same-add, same-mul, same-scaled, same-multiple, same-cancel}
-use Rattle.plain_matrix.proofs.Sums.{sum_below-equal, sum_below-add, sum_below-scaled}
-use Rattle.plain_matrix.proofs.FactorLemmas.{factors-same, factors-added, factors-transposed, product-fewer}
+use Rattle.kh_types.specs.Residues.{HasInverses, Same}
+use Rattle.kh_types.specs.Products.{product_at, Factors}
+use Rattle.kh_types.specs.MatrixRanks.{HasRank, Leaves}
+use Rattle.kh_types.proofs.Residues.{same-unit_left, same-unit_right, same-equal, same-add, same-mul, same-scaled, same-multiple, same-cancel}
+use Rattle.kh_types.proofs.Sums.{sum_below-equal, sum_below-add, sum_below-scaled}
+use Rattle.kh_types.proofs.FactorLemmas.{factors-same, factors-added, factors-transposed, product-fewer}
 
 -- what a pivot leaves factors through one less
 pub factors-pivot : (p s : ℕ) (M N : ℕ → ℕ → ℕ) (a b : ℕ) → Leaves p M N a b → Factors p N s → Factors p M (suc s)
@@ -67,7 +66,7 @@ product-cleared p s M N a b positive leaves f i j =
     ∙ same-multiple p (N i j) (M i b * way)
 
 -- a matrix with a pivot factors through no less than 1 more than what the pivot leaves
-pub factors-left : (p s : ℕ) (M N : ℕ → ℕ → ℕ) (a b : ℕ) → IsField p → Leaves p M N a b → Factors p M s
+pub factors-left : (p s : ℕ) (M N : ℕ → ℕ → ℕ) (a b : ℕ) → HasInverses p → Leaves p M N a b → Factors p M s
     → (t : ℕ) × (s ≡ suc t) × Factors p N t
 factors-left p s M N a b field leaves f =
     let positive : 0 < p = omega (arith, field.above_one) in
@@ -103,7 +102,7 @@ rank-transposed p r M =
     rank-like p r M (λ i j. M j i) (λ s. factors-transposed p s M) (λ s. factors-transposed p s (λ i j. M j i))
 
 -- a pivot leaves a matrix of rank 1 less
-pub rank-pivot : (p r : ℕ) (M N : ℕ → ℕ → ℕ) (a b : ℕ) → IsField p → Leaves p M N a b → HasRank p N r → HasRank p M (suc r)
+pub rank-pivot : (p r : ℕ) (M N : ℕ → ℕ → ℕ) (a b : ℕ) → HasInverses p → Leaves p M N a b → HasRank p N r → HasRank p M (suc r)
 rank-pivot p r M N a b field leaves has =
     record {
       factors = factors-pivot p r M N a b leaves has.factors;

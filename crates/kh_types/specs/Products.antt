@@ -1,9 +1,6 @@
 -- Products of matrices modulo p. A matrix is here its entries by row and column, with 0 past its end, so that it needs no size.
-use Rattle.std.specs.Prelude.{◌≡◌, ℕ, zero, suc, ◌+◌, ◌*◌, ◌%◌}
-
--- x and y have the same remainder modulo p
-abbrev pub Same : ℕ → ℕ → ℕ → Type 0
-Same p x y = x % p ≡ y % p
+use Rattle.std.specs.Prelude.{ℕ, zero, suc, ◌+◌, ◌*◌}
+use Rattle.kh_types.specs.Residues.{Same}
 
 -- the sum of f at the numbers below n
 abbrev pub sum_below : ℕ → (ℕ → ℕ) → ℕ

@@ -1,10 +1,11 @@
 -- A list after one of its elements is removed, and a matrix after a row and a column of zeros are.
 use Rattle.std.proofs.Common.{◌≡◌, ℕ, zero, suc, ◌+◌, ◌*◌, ◌%◌, ◌≤◌, ◌<◌, ◌∙◌, ◌⊎◌, inl, inr, List, [], ◌∷◌, get_or, refl, ap, sym, arith}
 use Rattle.std.specs.List.{remove}
-use Rattle.plain_matrix.specs.Products.{Same, sum_below, Factors}
-use Rattle.plain_matrix.specs.Ranks.{HasRank}
-use Rattle.plain_matrix.proofs.Sums.{sum_below-zeros}
-use Rattle.plain_matrix.proofs.PivotLemmas.{rank-like}
+use Rattle.kh_types.specs.Residues.{Same}
+use Rattle.kh_types.specs.Products.{sum_below, Factors}
+use Rattle.kh_types.specs.MatrixRanks.{HasRank}
+use Rattle.kh_types.proofs.Sums.{sum_below-zeros}
+use Rattle.kh_types.proofs.PivotLemmas.{rank-like}
 
 -- the place that an element had, before the element at a place was removed
 abbrev pub place_before : ℕ → ℕ → ℕ

@@ -3,8 +3,7 @@ use Rattle.std.proofs.Common.{◌≡◌, ℕ, zero, suc, ◌+◌, ◌-◌, ◌*�
 use Rattle.std.proofs.Math.Nat.{add-mod-mod, mod-add-mod, add-mul-mod_self_left, zero-mod, mod-eq_of_lt}
 use Rattle.std.proofs.lemmas.Nat.{mul-mod}
 use Rattle.kh_types.specs.Rank.{inverse}
-use Rattle.prime_field.specs.Residues.{IsField}
-use Rattle.plain_matrix.specs.Products.{Same}
+use Rattle.kh_types.specs.Residues.{HasInverses, Same}
 
 pub same-equal : (p x y : ℕ) → x ≡ y → Same p x y
 same-equal p x y equal = ap (λ z. z % p) equal
@@ -67,6 +66,6 @@ same-unit_right p x y z inverts =
     ∙ same-equal p (z * 1) z (omega arith)
 
 -- what is not 0 modulo p times its inverse is 1
-pub same-inverse : (p x : ℕ) → IsField p → ¬ Same p x 0 → Same p (x * inverse p x) 1
+pub same-inverse : (p x : ℕ) → HasInverses p → ¬ Same p x 0 → Same p (x * inverse p x) 1
 same-inverse p x field other =
     field.inverses_cancel x (λ is_zero. other (is_zero ∙ sym (zero-mod p))) ∙ sym (mod-eq_of_lt field.above_one)

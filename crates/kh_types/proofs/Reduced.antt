@@ -10,12 +10,10 @@ use Rattle.std.proofs.lemmas.List.Edits.{length-remove}
 use Rattle.std.proofs.lemmas.Slice.Zip.{length-zip}
 use Rattle.kh_types.specs.Rank.{inverse, minus_mod, cleared, reduced_by, lead_of}
 use Rattle.kh_types.specs.Complex.{entry_in}
-use Rattle.prime_field.specs.Residues.{IsField}
-use Rattle.plain_matrix.specs.Products.{Same}
-use Rattle.plain_matrix.specs.Matrices.{IsMatrix}
-use Rattle.plain_matrix.specs.Steps.{Leaves}
-use Rattle.plain_matrix.proofs.Residues.{same-inverse, same-add, same-multiple}
-use Rattle.plain_matrix.proofs.Removed.{place_before, place_before-below, get_or-remove, without}
+use Rattle.kh_types.specs.Residues.{HasInverses, Same}
+use Rattle.kh_types.specs.MatrixRanks.{IsMatrix, Leaves}
+use Rattle.kh_types.proofs.Residues.{same-inverse, same-add, same-multiple}
+use Rattle.kh_types.proofs.Removed.{place_before, place_before-below, get_or-remove, without}
 
 -- 0 - 0 is 0
 pub minus_mod-nothing : (p z : ℕ) → z ≡ 0 → minus_mod p 0 z ≡ 0
@@ -42,7 +40,7 @@ entry_left p a b matrix row column =
     minus_mod p (matrix row column) (matrix row b * inverse p (matrix a b) * matrix a column)
 
 -- such entries are what the pivot leaves
-pub leaves-entry_left : (p a b : ℕ) (M : ℕ → ℕ → ℕ) → IsField p → ¬ Same p (M a b) 0 → Leaves p M (entry_left p a b M) a b
+pub leaves-entry_left : (p a b : ℕ) (M : ℕ → ℕ → ℕ) → HasInverses p → ¬ Same p (M a b) 0 → Leaves p M (entry_left p a b M) a b
 leaves-entry_left p a b M field other =
     record {
       inverse = inverse p (M a b);

@@ -8,13 +8,11 @@ use Rattle.std.proofs.lemmas.List.{length-map, get_or-map, get_or_past}
 use Rattle.std.proofs.lemmas.List.FromFn.{length-enumerate_from, get_or-enumerate_from}
 use Rattle.kh_types.specs.Rank.{inverse, minus_mod}
 use Rattle.kh_types.specs.Complex.{Pivot, entry_in, with_entries, cancelled_matrix, without_row, without_column}
-use Rattle.prime_field.specs.Residues.{IsField}
-use Rattle.plain_matrix.specs.Products.{Same}
-use Rattle.plain_matrix.specs.Matrices.{IsMatrix}
-use Rattle.plain_matrix.specs.Steps.{Leaves}
-use Rattle.plain_matrix.proofs.Residues.{same-inverse, same-equal, same-unit_left, same-unit_right}
-use Rattle.plain_matrix.proofs.DependentRows.{row_cleared, column_cleared}
-use Rattle.plain_matrix.proofs.Reduced.{minus_mod-nothing, minus_mod-added}
+use Rattle.kh_types.specs.Residues.{HasInverses, Same}
+use Rattle.kh_types.specs.MatrixRanks.{IsMatrix, Leaves}
+use Rattle.kh_types.proofs.Residues.{same-inverse, same-equal, same-unit_left, same-unit_right}
+use Rattle.kh_types.proofs.DependentRows.{row_cleared, column_cleared}
+use Rattle.kh_types.proofs.Reduced.{minus_mod-nothing, minus_mod-added}
 
 -- a row made entry by entry
 abbrev row_made : (ℕ → ℕ) → List ℕ → List ℕ
@@ -134,7 +132,7 @@ abbrev with_tests : ℕ → ℕ → ℕ → Bool → Bool → ℕ
 with_tests p entry way in_row in_column = way + (if in_row || in_column then 0 else minus_mod p entry way)
 
 -- those entries are what the pivot leaves
-pub leaves-entry_cancelled : (p a b : ℕ) (M : ℕ → ℕ → ℕ) → IsField p → ¬ Same p (M a b) 0
+pub leaves-entry_cancelled : (p a b : ℕ) (M : ℕ → ℕ → ℕ) → HasInverses p → ¬ Same p (M a b) 0
     → Leaves p M (entry_cancelled p a b M) a b
 leaves-entry_cancelled p a b M field other =
     record { inverse = inverse p (M a b); inverts = inverts; others = λ i j. at i j (eqb_tells i a) (eqb_tells j b) }

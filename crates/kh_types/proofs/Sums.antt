@@ -1,7 +1,8 @@
 -- Sums of the values of a function: they add, they scale, and two of them are exchanged.
 use Rattle.std.proofs.Common.{◌≡◌, ℕ, zero, suc, ◌+◌, ◌*◌, ◌∙◌, refl, ap, sym, arith}
-use Rattle.plain_matrix.specs.Products.{Same, sum_below}
-use Rattle.plain_matrix.proofs.Residues.{same-add}
+use Rattle.kh_types.specs.Residues.{Same}
+use Rattle.kh_types.specs.Products.{sum_below}
+use Rattle.kh_types.proofs.Residues.{same-add}
 
 pub sum_below-same : (p n : ℕ) (f g : ℕ → ℕ) → ((k : ℕ) → Same p (f k) (g k)) → Same p (sum_below n f) (sum_below n g)
 sum_below-same p zero f g same = refl

@@ -11,15 +11,12 @@ use Rattle.std.proofs.lemmas.List.Quantifiers.{position-Some}
 use Rattle.std.proofs.lemmas.List.Sums.{passes_at_first, fails_before_first}
 use Rattle.kh_types.specs.Rank.{has_entry, lead_of, reduced_by, rank_within, rank}
 use Rattle.kh_types.specs.Complex.{entry_in}
-use Rattle.prime_field.specs.Residues.{IsField}
-use Rattle.plain_matrix.specs.Products.{Same}
-use Rattle.plain_matrix.specs.Matrices.{IsMatrix}
-use Rattle.plain_matrix.specs.Ranks.{HasRank}
-use Rattle.plain_matrix.specs.Steps.{Leaves}
-use Rattle.plain_matrix.proofs.Residues.{same-equal}
-use Rattle.plain_matrix.proofs.PivotLemmas.{rank-same, rank-pivot, rank-zeros, leaves-row, leaves-column}
-use Rattle.plain_matrix.proofs.Removed.{without, rank-without}
-use Rattle.plain_matrix.proofs.Reduced.{entry_left, leaves-entry_left, entry-reduced, length-reduced, matrix-reduced}
+use Rattle.kh_types.specs.Residues.{HasInverses, Same}
+use Rattle.kh_types.specs.MatrixRanks.{IsMatrix, HasRank, Leaves}
+use Rattle.kh_types.proofs.Residues.{same-equal}
+use Rattle.kh_types.proofs.PivotLemmas.{rank-same, rank-pivot, rank-zeros, leaves-row, leaves-column}
+use Rattle.kh_types.proofs.Removed.{without, rank-without}
+use Rattle.kh_types.proofs.Reduced.{entry_left, leaves-entry_left, entry-reduced, length-reduced, matrix-reduced}
 
 -- a row with an entry leads with one
 pub record Leads (row : List ℕ) : Type 0 where
@@ -75,7 +72,7 @@ abbrev after_turn : ℕ → ℕ → List (List ℕ) → Option ℕ → ℕ
 after_turn steps p rows place =
     option_map_or (λ at. suc (rank_within steps p (reduced_by p (slice_index_or rows at []) (remove rows at)))) place 0
 
-rank-turn : (p n steps : ℕ) (rows : List (List ℕ)) (place : Option ℕ) → IsField p → IsMatrix p n rows
+rank-turn : (p n steps : ℕ) (rows : List (List ℕ)) (place : Option ℕ) → HasInverses p → IsMatrix p n rows
     → position has_entry rows ≡ place
     → ((others : List (List ℕ)) (width : ℕ) → IsMatrix p width others → length others + 1 ≡ length rows
     → HasRank p (entry_in others) (rank_within steps p others))
@@ -104,7 +101,7 @@ rank-turn p n steps rows (Some at) field is is_place before =
     (λ i j. same-equal p (entry_in next i j) (without at b left i j) (entry-reduced p n at rows is found.0 i j))
     (before next (n - 1) next_is (length-reduced p at rows found.0))))
 
-rank_within-least : (p n steps : ℕ) (rows : List (List ℕ)) → IsField p → IsMatrix p n rows → length rows ≤ steps
+rank_within-least : (p n steps : ℕ) (rows : List (List ℕ)) → HasInverses p → IsMatrix p n rows → length rows ≤ steps
     → HasRank p (entry_in rows) (rank_within steps p rows)
 rank_within-least p n zero rows field is fits =
     rank-zeros p (entry_in rows)
@@ -115,5 +112,5 @@ rank_within-least p n (suc steps) rows field is fits =
     (λ others width others_is fewer. rank_within-least p width steps others field others_is (omega arith))
 
 -- the plain rank is the rank
-pub rank-least : (p n : ℕ) (rows : List (List ℕ)) → IsField p → IsMatrix p n rows → HasRank p (entry_in rows) (rank p rows)
+pub rank-least : (p n : ℕ) (rows : List (List ℕ)) → HasInverses p → IsMatrix p n rows → HasRank p (entry_in rows) (rank p rows)
 rank-least p n rows field is = rank_within-least p n (length rows) rows field is (omega arith)
