@@ -12,10 +12,9 @@ use Rattle.kh_types.specs.Generators.{Generator, generator_of}
 use Rattle.sparse_block.specs.declared.entry.Entry.{Entry}
 use Rattle.sparse_block.specs.Entries.{entries_of, value_at}
 use Rattle.sparse_block.specs.Complexes.{NamedComplex, column_in, column_of, row_of, high_of, place_count, names_from, name_of, complex_from, degrees_from, degree_from_lists}
-use Rattle.smallvec.specs.SmallVec.{SmallVec}
-use Rattle.std.specs.Global.{Vec}
 use Rattle.std.proofs.lemmas.List.Folds.{list_all-map}
-use Rattle.sparse_block.specs.Inside.{IsKept, column_entries, row_entries, are_empty, entries_in, lines_in}
+use Rattle.sparse_block.specs.Held.{no_entries}
+use Rattle.sparse_block.specs.Inside.{IsKept, column_entries, row_entries}
 use Rattle.sparse_block.proofs.EntryLemmas.{value_at-entries_of, length-entries_of}
 use Rattle.sparse_block.proofs.MatrixLemmas.{length-matrix_from}
 use Rattle.sparse_block.proofs.DegreeLemmas.{length-degrees_from, degree-within, degree_of-at, degree_of-below, length-at, length-same}
@@ -157,24 +156,17 @@ list_all-agree f g [] same = refl
 list_all-agree f g (x ∷ xs) same =
     ap (λ b. b && list_all f xs) (same x) ∙ ap (λ b. g x && b) (list_all-agree f g xs same)
 
-abbrev no_entries : List (List Entry) → Bool
-no_entries lists = list_all (λ list. nat_eq (length list) 0) lists
-
 zero-rows : (degree : Degree) → no_entries (row_entries degree) ≡ list_all (λ row. list_all (nat_eq 0) row) degree.matrix
 zero-rows degree =
     list_all-map (λ (list : List Entry). nat_eq (length list) 0) entries_of degree.matrix
     ∙ list_all-agree (λ row. nat_eq (length (entries_of row)) 0) (λ row. list_all (nat_eq 0) row) degree.matrix length-entries_of
 
-pub zero-from_rows : {p : ℕ} {low : ℤ} {names : List (List Generator)} {alive : List (List Bool)} {columns : List (List (List Entry))}
-    {named : NamedComplex} (rows : List (Vec (SmallVec Entry))) → IsKept p low names alive columns (lines_in rows)
-    → IsSeen low names alive columns named → list_all (λ degree. are_empty degree.items) rows ≡ is_zero named.complex
-zero-from_rows {p} {low} {names} {alive} {columns} rows kept seen =
+pub zero-from_rows : {p : ℕ} {low : ℤ} {names : List (List Generator)} {alive : List (List Bool)}
+    {columns rows : List (List (List Entry))} {named : NamedComplex} → IsKept p low names alive columns rows
+    → IsSeen low names alive columns named → list_all no_entries rows ≡ is_zero named.complex
+zero-from_rows {p} {low} {names} {alive} {columns} {rows} kept seen =
     let degrees : List Degree = degrees_from alive columns in
-    list_all-agree (λ (degree : Vec (SmallVec Entry)). are_empty degree.items)
-    (λ (degree : Vec (SmallVec Entry)). no_entries (entries_in degree.items)) rows
-    (λ degree. sym (list_all-map (λ (list : List Entry). nat_eq (length list) 0) (λ (line : SmallVec Entry). line.items) degree.items))
-    ∙ sym (list_all-map no_entries (λ (degree : Vec (SmallVec Entry)). entries_in degree.items) rows)
-    ∙ ap (λ (lists : List (List (List Entry))). list_all no_entries lists) kept.are_rows
+    ap (λ (lists : List (List (List Entry))). list_all no_entries lists) kept.are_rows
     ∙ list_all-map no_entries row_entries degrees
     ∙ list_all-agree (λ degree. no_entries (row_entries degree))
     (λ degree. list_all (λ row. list_all (nat_eq 0) row) degree.matrix) degrees zero-rows

@@ -9,6 +9,7 @@ mod complex;
 mod counts;
 mod entry;
 mod generator;
+mod held_lines;
 pub mod laws;
 mod lines;
 #[cfg(test)]
