@@ -36,7 +36,7 @@ pub fn edge(diagram: &Diagram, state: u32, crossing: u8) -> Edge
 /// The number of generators of the cube: the sum over all states of 2 to the number of circles.
 /// Source: Bar-Natan 2002, section 3.
 #[tactic(auto, using(crate::proofs::GeneratorLemmas::state_steps))]
-pub fn generator_count(diagram: &Diagram) -> u64
+pub fn generator_count(diagram: &Diagram) -> u128
     ensures count { result ≡ generator_count diagram.now }
     ensures within { result ≤ 2 ^ (CROSSINGS + CIRCLES) }
 {
@@ -57,7 +57,7 @@ fn state_count(diagram: &Diagram) -> u32
 }
 
 /// How many generators a state has.
-fn label_count(smoothings: &Smoothings, state: u32) -> u64
+fn label_count(smoothings: &Smoothings, state: u32) -> u128
     requires { state < 2 ^ length smoothings.now.crossings }
     ensures count { result ≡ label_count smoothings.now state }
     ensures within { result ≤ 2 ^ CIRCLES }

@@ -115,10 +115,10 @@ pub sum-one_more : (counts : List ℕ) (kind : ℕ) → kind < length counts
 sum-one_more counts kind below = omega (arith, sum_by-set (λ x. x) counts kind (get_or counts kind 0 + 1) 0 below)
 
 -- the states are the numbers below 2 ^ n
-pub states-all : (state crossings n : ℕ) → crossings ≤ 16 → crossings ≡ n → (1 * 2 ^ crossings) % 4294967296 ≤ state
+pub states-all : (state crossings n : ℕ) → crossings ≤ CROSSINGS → crossings ≡ n → (1 * 2 ^ crossings) % 4294967296 ≤ state
     → state ≤ (1 * 2 ^ crossings) % 4294967296 → state ≡ 2 ^ n
 states-all state crossings n few is from below =
-    let power : 2 ^ crossings ≤ 2 ^ 16 = pow_mono few in
+    let power : 2 ^ crossings ≤ 2 ^ CROSSINGS = pow_mono few in
     let same : 2 ^ crossings ≡ 2 ^ n = ap (λ m. 2 ^ m) is in
     omega (arith, from, below, power, same)
 

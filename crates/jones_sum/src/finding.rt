@@ -33,7 +33,7 @@ pub fn jones(diagram: &Diagram) -> Laurent
 
 /// The coefficient at a place: the sum of the terms of all kinds, each as often as there are states
 /// of the kind.
-fn coefficient(counts: &[u32], triangle: &Triangle, signs: Signs, place: usize) -> i64
+fn coefficient(counts: &[u32], triangle: &Triangle, signs: Signs, place: usize) -> i128
     requires kinds { length counts.now ≡ KINDS }
     requires states { sum counts.now ≤ 2 ^ CROSSINGS }
     requires place { place < COEFFICIENTS }
@@ -49,11 +49,11 @@ fn coefficient(counts: &[u32], triangle: &Triangle, signs: Signs, place: usize) 
 
 /// A term, as often as it is counted.
 #[tactic(auto, using(crate::proofs::KindLemmas::times_within))]
-fn times(count: u32, term: i64) -> i64
+fn times(count: u32, term: i128) -> i128
     requires count { count ≤ 2 ^ CROSSINGS }
     requires term { unsigned_abs term ≤ 2 ^ CIRCLES }
     ensures product { result ≡ pos count *ℤ term }
     ensures within { unsigned_abs result ≤ count * 2 ^ CIRCLES }
 {
-    i64::from(count) * term
+    i128::from(count) * term
 }

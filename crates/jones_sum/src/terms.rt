@@ -37,7 +37,7 @@ impl Signs {
 
 /// What a state of a kind adds to the coefficient at a place.
 #[tactic(auto, using(crate::proofs::TermLemmas::signs))]
-pub fn term(triangle: &Triangle, signs: Signs, kind: usize, place: usize) -> i64
+pub fn term(triangle: &Triangle, signs: Signs, kind: usize, place: usize) -> i128
     requires kind { kind < KINDS }
     requires place { place < COEFFICIENTS }
     ensures term { result ≡ kind_term signs.plus signs.minus (pos place -ℤ pos EXPONENT) kind }
@@ -47,7 +47,7 @@ pub fn term(triangle: &Triangle, signs: Signs, kind: usize, place: usize) -> i64
     let (plus, minus) = (usize::from(signs.plus), usize::from(signs.minus));
     let raised = place + circles + 2 * minus;
     let lowered = EXPONENT + ones + plus;
-    let size = ways(triangle, circles, raised, lowered) as i64;
+    let size = ways(triangle, circles, raised, lowered) as i128;
     if (ones + minus) % 2 == 0 { size } else { -size }
 }
 

@@ -6,6 +6,6 @@ use Rattle.circle_smoothing.proofs.finding.label_count.Goals as goal
 pub returns-clause-within : goal.returns-clause-within
 returns-clause-within c =
     let count = c.count.result in
-    let same : 1 * 2 ^ count % 18446744073709551616 ≡ 2 ^ count = search rules in
+    let same : 1 * 2 ^ count % (2 ^ 128) ≡ 2 ^ count = search rules in
     let power : 2 ^ count ≤ 2 ^ CIRCLES = pow_mono c.count.ensures.within in
     omega (arith, same, power)
