@@ -21,7 +21,7 @@ import subprocess
 import sys
 
 from braids import braids, planar_diagram
-from homology import PROGRAM, TREFOIL, run
+from homology import PROGRAM, run
 
 TOP = os.path.dirname(os.path.dirname(os.path.abspath(__file__)))
 RESULTS = os.path.join(TOP, "bench", "RESULTS.md")
@@ -157,14 +157,10 @@ def workers(bench):
 
 
 def small(bench):
-    """Whole runs on small inputs, in wall time, against `true`."""
+    """Acceptance, faces and pieces of 20 crossings, as a whole process, against `true`."""
     nothing = min(run(["true"], "")[2] for _ in range(200))
-    for name, words, text in (
-        ("check of 20 crossings", ["check"], planar_diagram(*TWENTY[0])),
-        ("homology of the trefoil", ["homology"], TREFOIL),
-    ):
-        ratio = min(bench.mine(words, text)[2] for _ in range(200)) / nothing
-        bench.note(f"{name}, whole process, wall: times `true`", f"{ratio:.2f}", "3", ratio <= 3)
+    ratio = min(bench.mine(["check"], planar_diagram(*TWENTY[0]))[2] for _ in range(200)) / nothing
+    bench.note("check of 20 crossings, whole process, wall: times `true`", f"{ratio:.2f}", "3", ratio <= 3)
 
 
 def results(bench, began):
