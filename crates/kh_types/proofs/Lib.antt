@@ -17,6 +17,7 @@ pub mod DartLemmas
 pub mod DartPairs
 pub mod BitLemmas
 pub mod CheckerboardLemmas
+pub mod ColouringLemmas
 pub mod AcceptedLemmas
 pub mod DartColours
 pub mod DirectionLemmas

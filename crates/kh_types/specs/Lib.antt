@@ -6,6 +6,7 @@ pub mod Components
 pub mod Darts
 pub mod Faces
 pub mod Checkerboard
+pub mod Colouring
 pub mod Acceptance
 pub mod Accepted
 pub mod Colours
