@@ -28,3 +28,4 @@ pub mod TwoHeads
 pub mod OneHead
 pub mod Heads
 pub mod WalkLemmas
+pub mod FewComponents
