@@ -27,3 +27,4 @@ pub mod Inside
 pub mod Residues
 pub mod Products
 pub mod MatrixRanks
+pub mod Permutations
