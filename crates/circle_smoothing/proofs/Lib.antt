@@ -1,7 +1,5 @@
 pub mod JoinedSlots
 pub mod CircleCycles
-pub mod Ways
-pub mod Exchange
 pub mod EdgeBits
 pub mod EdgeCircles
 pub mod FilteredRanges

@@ -39,3 +39,8 @@ pub mod Reduced
 pub mod PlainRank
 pub mod MatrixEntries
 pub mod RankLaws
+pub mod RangeImages
+pub mod Cycles
+pub mod Ways
+pub mod Exchanges
+pub mod ExchangedCycles

@@ -33,3 +33,4 @@ pub mod Filling
 pub mod Residues
 pub mod Products
 pub mod MatrixRanks
+pub mod Permutations
