@@ -10,7 +10,7 @@ pub mod TableLemmas
 pub mod CircleWalks
 pub mod KeptNumbers
 pub mod EdgeAnswers
-pub mod GeneratorLemmas
 pub mod EdgeNumbers
 pub mod BranchLemmas
 pub mod KindLemmas
+pub mod GeneratorLemmas
