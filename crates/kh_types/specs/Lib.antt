@@ -28,3 +28,6 @@ pub mod Residues
 pub mod Products
 pub mod MatrixRanks
 pub mod Permutations
+pub mod CircleSteps
+pub mod CircleNumbers
+pub mod Edges
