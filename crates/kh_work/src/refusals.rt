@@ -46,7 +46,7 @@ fn too_many_loops(alloc: Global, count: u32) -> Result<Reply, NoMemory>
 }
 
 /// The reply to a diagram with more generators than one whose homology is computed.
-pub fn too_many_generators(alloc: Global, count: u128) -> Result<Reply, NoMemory>
+pub fn too_many_generators(alloc: Global, count: u64) -> Result<Reply, NoMemory>
     ensures { IfOk result (λ reply. reply ≡ too_many_generators count) }
 {
     let line = format!(in alloc; "limit generators {count} of {GENERATORS}\n")?;
