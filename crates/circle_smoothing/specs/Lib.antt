@@ -3,7 +3,6 @@ pub mod CircleLists
 pub mod Edges
 pub mod Binomials
 pub mod GeneratorCounts
-pub mod Steps
 pub mod Numbered
 pub mod Prepared
 pub mod Branches
