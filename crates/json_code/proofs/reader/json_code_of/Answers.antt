@@ -4,7 +4,7 @@ use Rattle.serde_json.specs.View.{view}
 use Rattle.json_code.specs.declared.stop.JsonStop.TheVariants.{Shape}
 use Rattle.json_code.specs.Steps.{code_of_elements}
 use Rattle.json_code.proofs.Elements.{of_array}
-use Rattle.json_code.proofs.reader.code_of.Goals as goal
+use Rattle.json_code.proofs.reader.json_code_of.Goals as goal
 
 -- there are few enough elements to count them
 pub code_of_elements-requires : goal.code_of_elements-requires

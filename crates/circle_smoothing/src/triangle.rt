@@ -2,13 +2,10 @@
 
 ghost use Rattle.std.specs.Prelude.{◌≡◌, ℕ, ◌<◌, ◌≤◌, ◌^◌, length, slice_index};
 ghost use Rattle.kh_types.specs.declared.limits.TheConstants.{CIRCLES};
-ghost use Rattle.jones_sum.specs.Binomials.{binomial, binomial_at};
-ghost use Rattle.jones_sum.specs.declared.triangle.TheConstants.{PLACES};
+ghost use Rattle.circle_smoothing.specs.Binomials.{binomial, binomial_at};
+ghost use Rattle.circle_smoothing.specs.declared.triangle.TheConstants.{PLACES};
 
-use kh_types::CIRCLES;
-
-/// The columns of a table with one for each number from 0 to CIRCLES.
-pub const COLUMNS: usize = CIRCLES + 1;
+use crate::kinds::COLUMNS;
 
 const PLACES: usize = COLUMNS * COLUMNS;
 
@@ -22,7 +19,7 @@ pub struct Triangle {
 
 impl Triangle {
     /// The triangle.
-    pub(crate) fn new() -> Triangle {
+    pub fn new() -> Triangle {
         let mut ways = [0; PLACES];
         'places: for place in 0..PLACES {
             ways[place] = ways_at(&ways, place);

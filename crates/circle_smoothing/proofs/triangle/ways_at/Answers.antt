@@ -1,7 +1,7 @@
 use Rattle.std.proofs.Common.{◌-◌, refl, arith}
-use Rattle.jones_sum.specs.declared.triangle.TheConstants.{COLUMNS}
-use Rattle.jones_sum.proofs.TriangleLemmas.{binomial_at-later}
-use Rattle.jones_sum.proofs.triangle.ways_at.Goals as goal
+use Rattle.circle_smoothing.specs.declared.kinds.TheConstants.{COLUMNS}
+use Rattle.circle_smoothing.proofs.TriangleLemmas.{binomial_at-later}
+use Rattle.circle_smoothing.proofs.triangle.ways_at.Goals as goal
 
 pub returns-else-place-lt-COLUMNS : goal.returns-else-place-lt-COLUMNS
 returns-else-place-lt-COLUMNS c =

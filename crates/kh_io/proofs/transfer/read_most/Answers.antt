@@ -1,19 +1,18 @@
 use Rattle.std.proofs.Common.{◌≡◌, ◌<◌, ◌≤◌, ◌↔◌, List, ℕ, ◌++◌, length, take, Result, Err, refl, arith}
 use Rattle.std.proofs.lemmas.Grind.{common_steps}
 use Rattle.std.proofs.lemmas.Result.{err_from_is_err_and}
-use Rattle.kh_types.specs.declared.limits.TheConstants.{INPUT_BYTES}
 use Rattle.kh_io.specs.declared.transfer.ReadStop.{ReadStop}
 use Rattle.kh_io.specs.declared.transfer.ReadStop.TheVariants.{ByteLimit, NoMemory}
 use Rattle.kh_io.proofs.KnownBytes.{Consumes-trans}
-use Rattle.kh_io.proofs.transfer.read_all.Goals as goal
+use Rattle.kh_io.proofs.transfer.read_most.Goals as goal
 
 -- out of memory is another answer than too many bytes, and comes where there are not
-within_limit : {T : Type 0} (result : Result T ReadStop) (stop : ReadStop) (bytes : List ℕ) → result ≡ Err stop
-    → stop ≡ NoMemory → length bytes ≤ INPUT_BYTES → (result ≡ Err ByteLimit) ↔ (INPUT_BYTES < length bytes)
-within_limit result stop bytes is_stop memory few = ((λ limit. cc), (λ many. grind arith))
+within_limit : {T : Type 0} (most : ℕ) (result : Result T ReadStop) (stop : ReadStop) (bytes : List ℕ) → result ≡ Err stop
+    → stop ≡ NoMemory → length bytes ≤ most → (result ≡ Err ByteLimit) ↔ (most < length bytes)
+within_limit most result stop bytes is_stop memory few = ((λ limit. cc), (λ many. grind arith))
 
-pub returns-then-len-count-gt-INPUT_BYTES-clause-taken : goal.returns-then-len-count-gt-INPUT_BYTES-clause-taken
-returns-then-len-count-gt-INPUT_BYTES-clause-taken g c = (
+pub returns-then-len-count-clause-taken : goal.returns-then-len-count-clause-taken
+returns-then-len-count-clause-taken g c = (
   c.reading.bytes.items ++ take c.in_ok-count.count c.read.new.buffer,
   Consumes-trans _ _ _ _ _ c.reading.invariant.taken c.in_ok-count.ensures.bytes.0,
   ((λ _. grind (arith, common_steps)), (λ _. refl)),
@@ -25,5 +24,5 @@ returns-in_err-extend_from_slice-clause-taken g c =
     let bytes = c.reading.bytes.items ++ take c.in_ok-count.count c.read.new.buffer in (
       bytes,
       Consumes-trans _ _ _ _ _ c.reading.invariant.taken c.in_ok-count.ensures.bytes.0,
-      within_limit _ _ bytes stop.1 stop.2 (grind (arith, common_steps)),
+      within_limit _ _ _ bytes stop.1 stop.2 (grind (arith, common_steps)),
     )

@@ -1,13 +1,17 @@
 -- Pascal's triangle, place by place.
 use Rattle.std.proofs.Common.{◌≡◌, ℕ, zero, suc, ◌+◌, ◌-◌, ◌*◌, ◌/◌, ◌%◌, ◌^◌, ◌<◌, ◌≤◌, ◌∙◌, ap, refl, arith, pos, ◌-ℤ◌}
+use Rattle.std.proofs.Math.Nat.{two-pow-succ}
 use Rattle.std.proofs.Math.Pow.{pow_mono}
+use Rattle.std.proofs.lemmas.Nat.{pow_pos}
 use Rattle.kh_types.specs.declared.limits.TheConstants.{CIRCLES}
-use Rattle.jones_sum.specs.Binomials.{binomial, binomial_at}
-use Rattle.jones_sum.proofs.CircleLemmas.{circle_coefficient-ways, circle_coefficient-le}
+use Rattle.circle_smoothing.specs.Binomials.{binomial, binomial_at}
 
+-- a binomial coefficient is at most the number of all choices
 pub binomial-le : (n chosen : ℕ) → binomial n chosen ≤ 2 ^ n
-binomial-le n chosen =
-    omega (arith, circle_coefficient-ways n chosen, circle_coefficient-le n (pos (2 * chosen) -ℤ pos n))
+binomial-le n zero = pow_pos n
+binomial-le zero (suc chosen) = omega arith
+binomial-le (suc n) (suc chosen) =
+    omega (arith, two-pow-succ n, binomial-le n chosen, binomial-le n (suc chosen))
 
 pub binomial-within : (n chosen : ℕ) → n ≤ CIRCLES → binomial n chosen ≤ 2 ^ CIRCLES
 binomial-within n chosen few =
