@@ -1,2 +1,7 @@
 //! Tests of the cube: what no clause says of circles, blocks, cancellations, workers, tables and polynomials.
 #![tactic(auto)]
+
+#[cfg(test)]
+mod cancellations;
+#[cfg(test)]
+mod sparse_complexes;
