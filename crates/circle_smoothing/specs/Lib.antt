@@ -2,6 +2,5 @@ pub mod CircleNumbers
 pub mod CircleLists
 pub mod Edges
 pub mod GeneratorCounts
-pub mod Steps
 pub mod Numbered
 pub mod Prepared

@@ -24,3 +24,10 @@ pub mod WorkedHistories
 pub mod Walks
 pub mod Filling
 pub mod Inside
+pub mod Residues
+pub mod Products
+pub mod MatrixRanks
+pub mod Permutations
+pub mod CircleSteps
+pub mod CircleNumbers
+pub mod Edges

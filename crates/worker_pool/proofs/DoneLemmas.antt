@@ -8,8 +8,8 @@ use mathlib.Core.List.{IsPrefix}
 use Rattle.kh_types.specs.Code.{Code}
 use Rattle.cube_signs.specs.Blocks.{block_degrees}
 use Rattle.shared_block.specs.BlockHistories.{BlockHistory, block_with}
-use Rattle.homology_table.specs.AllBlocks.{AreBlocksOf, IsFinished, opening_blocks}
-use Rattle.homology_table.proofs.AllBlocks.{AreBlocksOf-opening}
+use Rattle.shared_block.specs.AllBlocks.{AreBlocksOf, IsFinished, opening_blocks}
+use Rattle.shared_block.proofs.AllBlocks.{AreBlocksOf-opening}
 use Rattle.version_lock.proofs.Prefixes.{prefix_length}
 use Rattle.worker_pool.specs.Outcomes.{AreBlocksAt, AreDegreesOf, AreDone, HasCommitted, origin_of}
 use Rattle.worker_pool.proofs.BlockLemmas.{blocks_stay}

@@ -4,7 +4,7 @@ use Rattle.std.specs.List.{AllZip, Contains}
 use Rattle.kh_types.specs.Code.{Code}
 use Rattle.cube_signs.specs.Blocks.{block_degrees}
 use Rattle.shared_block.specs.BlockHistories.{BlockHistory}
-use Rattle.homology_table.specs.AllBlocks.{IsFinished}
+use Rattle.shared_block.specs.AllBlocks.{IsFinished}
 use Rattle.worker_pool.specs.declared.outcome.PoolStop.{PoolStop}
 use Rattle.worker_pool.specs.declared.outcome.PoolStop.TheVariants.{SizeLimit, NoMemory}
 

@@ -1,5 +1,5 @@
 use Rattle.std.proofs.Common.{sym, subst}
-use Rattle.homology_table.specs.AllBlocks.{AreBlocksOf}
+use Rattle.shared_block.specs.AllBlocks.{AreBlocksOf}
 use Rattle.worker_pool.proofs.DoneLemmas.{blocks_all}
 use Rattle.worker_pool.proofs.cancelling.with_table.Goals as goal
 
