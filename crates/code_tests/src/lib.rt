@@ -2,5 +2,6 @@
 #![tactic(auto)]
 
 #[cfg(test)]
-mod words;
 mod tables;
+#[cfg(test)]
+mod words;

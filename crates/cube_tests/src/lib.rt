@@ -2,7 +2,8 @@
 #![tactic(auto)]
 
 #[cfg(test)]
-mod homology_tables;
 mod cancellations;
+#[cfg(test)]
+mod homology_tables;
 #[cfg(test)]
 mod sparse_complexes;
