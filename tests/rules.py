@@ -97,7 +97,7 @@ def first_sentence(lines):
     """The first sentence of the lines of a comment, without their marks."""
     comment = " ".join(re.sub(r"^\s*(--|///)\s*", "", line) for line in lines).strip()
     first = re.split(r"(?<=[a-z0-9)`])[.;](?: |$)|: ", comment)[0].rstrip(".")
-    return first if re.match(r"\w\b", first) else first[:1].upper() + first[1:]
+    return first if re.match(r"[b-z]\b", first) else first[:1].upper() + first[1:]
 
 
 def sentence_of(name, crate):
@@ -154,10 +154,10 @@ def faults():
     chain = longest_chain(crates)
     yield "no long chain of crates", f"{len(chain)} crates: {', '.join(chain)}" if len(chain) > LONGEST else None
     folders = sorted(os.listdir(os.path.join(TOP, "crates")))
-    unlisted = [it for it in folders if it not in crates and os.path.isdir(os.path.join(TOP, "crates", it, "src"))]
-    yield "each crate is in crates.txt", ", ".join(unlisted) or None
-    page = read("docs", "ARCHITECTURE.md")
-    yield "each crate is in ARCHITECTURE.md", ", ".join(it for it in crates if f"| `{it}` |" not in page) or None
+    there = {it for it in folders if os.path.isdir(os.path.join(TOP, "crates", it, "src"))}
+    yield "crates.txt has the crates", ", ".join(sorted(there ^ set(crates))) or None
+    table = set(re.findall(r"^\| `(\w+)` \|", read("docs", "ARCHITECTURE.md"), re.M))
+    yield "ARCHITECTURE.md has the crates", ", ".join(sorted(table ^ set(crates))) or None
     page = read("docs", "DEFINITIONS.md")
     missing = [f"{name} of {crate}" for name, crate, _ in cited_names(crates) if not is_read_aloud(name, page)]
     yield "each name in a public contract is in DEFINITIONS.md", ", ".join(missing) or None
