@@ -109,9 +109,9 @@ branch_count-parted first rest taken classes place =
     let n = length rest in
     let p : ℕ → Bool = λ state. nat_eq (place_on_branch (first ∷ rest) taken classes state) place in
     let with_b : (b : ℕ) → b ≤ 1 → count_by (λ state. p (2 * state + b)) (range_with_len 0 (2 ^ n))
-        ≡ branch_count rest (taken + b) (fold joined classes (smoothing_of b first)) place =
+    ≡ branch_count rest (taken + b) (fold joined classes (smoothing_of b first)) place =
     λ b few. ap (λ (q : ℕ → Bool). count_by q (range_with_len 0 (2 ^ n)))
-        (fun_ext (λ state. ap (λ k. nat_eq k place) (place_on_branch-doubled first rest taken classes state b few))) in
+    (fun_ext (λ state. ap (λ k. nat_eq k place) (place_on_branch-doubled first rest taken classes state b few))) in
     ap (λ m. count_by p (range_with_len 0 m)) (two-pow-succ n) ∙ count_by-doubled p (2 ^ n)
     ∙ ap₂ (λ x y. x + y) (with_b 0 (omega arith)) (with_b 1 (omega arith))
 
@@ -121,7 +121,7 @@ branch_count-le crossings taken classes place =
     omega (
       arith,
       count_by-le-length (λ state. nat_eq (place_on_branch crossings taken classes state) place)
-      (range_with_len 0 (2 ^ length crossings)),
+          (range_with_len 0 (2 ^ length crossings)),
       length-range_with_len 0 (2 ^ length crossings),
     )
 

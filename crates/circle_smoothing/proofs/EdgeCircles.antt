@@ -9,12 +9,13 @@ use Rattle.kh_types.specs.Circles.{circles_of}
 use Rattle.kh_types.specs.Darts.{HasArcsTwice}
 use Rattle.kh_types.proofs.AcceptedLemmas.{HasArcsTwice-accepted}
 use Rattle.kh_types.proofs.DartColours.{IsColoured-accepted}
-use Rattle.circle_smoothing.specs.Edges.{AreJoined, JoinsOrParts, arc_at_slot, state_behind}
+use Rattle.kh_types.specs.Permutations.{AreJoined, IsExchange}
+use Rattle.circle_smoothing.specs.Edges.{JoinsOrParts, arc_at_slot, state_behind}
 use Rattle.circle_smoothing.specs.Prepared.{arc_at}
 use Rattle.circle_smoothing.specs.Steps.{joined_slot}
 use Rattle.circle_smoothing.proofs.CircleCycles.{AreCycles-circles, IsSided-sided, arc-at_place, arc_or_not, follower, follower-arc, follower-other, follower-place, one_place, sided}
 use Rattle.circle_smoothing.proofs.EdgeBits.{bit-set_other, bit-set_there}
-use Rattle.circle_smoothing.proofs.Exchange.{AreJoined-exchanged, IsExchanged}
+use Rattle.kh_types.proofs.Exchanges.{AreJoined-exchanged}
 use Rattle.circle_smoothing.proofs.JoinedSlots.{across-slot, arc_at-slot, place_colour}
 
 place_colour-slot : (choice k slot : ℕ) → slot < 4 → place_colour choice (4 * k + slot) ≡ (bit choice k + slot) % 2
@@ -46,13 +47,16 @@ same_colour choice k place here alike =
     even x slot place k below is same = grind arith
 
 -- two states that differ at the crossing at one place, by the arcs at its slots 0 and 2
-IsExchanged-edge : (code : Code) (choice tail head k : ℕ) → IsTrue (accepted code) → IsColoured code.crossings choice
+IsExchange-edge : (code : Code) (choice tail head k : ℕ) → IsTrue (accepted code) → IsColoured code.crossings choice
     → k < length code.crossings → bit tail k ≡ 0 → bit head k ≡ 1 → ((j : ℕ) → j ≢ k → bit head j ≡ bit tail j)
-    → IsExchanged (arc_count code.crossings + code.loops + 1)
+    → arc_at code.crossings (4 * k + 0) < arc_count code.crossings + code.loops + 1
+    → arc_at code.crossings (4 * k + 2) < arc_count code.crossings + code.loops + 1
+    → arc_at code.crossings (4 * k + 0) ≢ arc_at code.crossings (4 * k + 2)
+    → IsExchange (arc_count code.crossings + code.loops + 1)
     (follower code.crossings choice tail (place_colour choice (4 * k + 0)))
     (follower code.crossings choice head (place_colour choice (4 * k + 0)))
     (arc_at code.crossings (4 * k + 0)) (arc_at code.crossings (4 * k + 2))
-IsExchanged-edge code choice tail head k is coloured below zero one agree =
+IsExchange-edge code choice tail head k is coloured below zero one agree first_below third_below apart =
     let crossings = code.crossings in
     let twice = HasArcsTwice-accepted code is in
     let side = place_colour choice (4 * k + 0) in
@@ -63,8 +67,11 @@ IsExchanged-edge code choice tail head k is coloured below zero one agree =
     (is_bit : bit state k ≡ smoothing).
     step-slot crossings choice state side k slot smoothing twice coloured side_below below slot_below is_side is_bit in
     record {
-      at_d = step head 0 1 (omega arith) refl one ∙ sym (step tail 2 0 (omega arith) side_too zero);
-      at_e = step head 2 1 (omega arith) side_too one ∙ sym (step tail 0 0 (omega arith) refl zero);
+      x_below = first_below;
+      y_below = third_below;
+      apart = apart;
+      at_x = step head 0 1 (omega arith) refl one ∙ sym (step tail 2 0 (omega arith) side_too zero);
+      at_y = step head 2 1 (omega arith) side_too one ∙ sym (step tail 0 0 (omega arith) refl zero);
       others = λ x x_below not_d not_e. elim (arc_or_not crossings x) [
         | inl arc ↦
             let place = sided crossings choice side x in
@@ -108,12 +115,12 @@ AreJoined-edge code tail head k is below zero one agree =
     (follower crossings choice head side) (follower crossings choice head other) (circles_of code tail) (circles_of code head)
     (arc_at crossings (4 * k + 0)) (arc_at crossings (4 * k + 2)) (AreCycles-circles code choice tail side other is coloured sum)
     (AreCycles-circles code choice head side other is coloured sum)
-    (IsExchanged-edge code choice tail head k is coloured below zero one agree)
-    (omega (arith, first_is.within)) (omega (arith, third_is.within))
+    (IsExchange-edge code choice tail head k is coloured below zero one agree (omega (arith, first_is.within))
+    (omega (arith, third_is.within))
     (λ same. absurd (omega (
       arith,
       one_place crossings choice (4 * k + 0) (4 * k + 2) coloured (omega (arith, below)) (omega (arith, below)) same alike,
-    )))
+    ))))
   where
     by_two : (x : ℕ) → (x + 0) % 2 ≡ (x + 2) % 2
     by_two x = omega arith

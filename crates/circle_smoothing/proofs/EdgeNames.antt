@@ -17,7 +17,8 @@ use Rattle.kh_types.proofs.ClassLemmas.{classes-finest, length-joined, slice_ind
 use Rattle.kh_types.proofs.DartPairs.{IsDart-at}
 use Rattle.kh_types.proofs.JoinedClasses.{HasMore-names, max-fixed, min-fixed}
 use Rattle.kh_types.proofs.Lists.{filter-range_agree, length-HasMore}
-use Rattle.circle_smoothing.specs.Edges.{AreJoined, MergesOrSplits, TwoBecomeOne, arc_at_slot, is_other, state_behind}
+use Rattle.kh_types.specs.Permutations.{AreJoined}
+use Rattle.circle_smoothing.specs.Edges.{MergesOrSplits, TwoBecomeOne, arc_at_slot, is_other, state_behind}
 use Rattle.circle_smoothing.specs.Prepared.{arc_at}
 use Rattle.circle_smoothing.specs.Steps.{across, joined_slot}
 use Rattle.circle_smoothing.proofs.CircleCycles.{IsNamed-circles, circles-across, smoothings-below}

@@ -88,7 +88,7 @@ length-smoothings_from state place (slots ∷ crossings) =
     omega (
       arith,
       length-append (smoothing_of (bit state place) slots)
-      (flat_map (λ at. smoothing_of (bit state at.0) at.1) (enumerate_from (place + 1) crossings)),
+          (flat_map (λ at. smoothing_of (bit state at.0) at.1) (enumerate_from (place + 1) crossings)),
       length-smoothing_of slots (bit state place),
       length-smoothings_from state (place + 1) crossings,
     )
@@ -264,3 +264,23 @@ kind_count-kept code kinds taken circles names view kept are_names few within jo
     ∙ kind_count-place kinds.diagram taken circles ((IsAccepted-is kinds.diagram).0 kept.code) kept.few
     (omega (arith, within, same_names)) (omega (arith, joins, same_names))
     ∙ ap (λ (c : Code). kind_count c taken circles) view
+
+-- the kinds by their numbers
+pub kind_circles-kind_of : (taken circles : ℕ) → circles ≤ CIRCLES → kind_circles (kind_of taken circles) ≡ circles
+kind_circles-kind_of taken circles few = mod-mul-add taken (CIRCLES + 1) circles (omega (arith, few))
+
+pub kind_ones-kind_of : (taken circles : ℕ) → circles ≤ CIRCLES → kind_ones (kind_of taken circles) ≡ taken
+kind_ones-kind_of taken circles few = div-mul-add taken (CIRCLES + 1) circles (omega (arith, few))
+
+state_kind-test : (code : Code) (kind state : ℕ) → IsAccepted code → length code.crossings ≤ CROSSINGS
+    → nat_eq (state_kind code state) kind ≡ is_of_kind code (kind_ones kind) (kind_circles kind) state
+state_kind-test code kind state is few =
+    let parts : kind ≡ kind_of (kind_ones kind) (kind_circles kind) = omega arith in
+    ap (λ k. nat_eq (state_kind code state) k) parts
+    ∙ place_test (CIRCLES + 1) (one_count code state) (circle_count code state) (kind_ones kind) (kind_circles kind)
+    (omega (arith, circle_count-within code state is few)) (omega arith)
+
+pub kind_count-states : (code : Code) (kind : ℕ) → IsAccepted code → length code.crossings ≤ CROSSINGS
+    → count_by (λ state. nat_eq (state_kind code state) kind) (states code) ≡ kind_count code (kind_ones kind) (kind_circles kind)
+kind_count-states code kind is few =
+    ap (λ (p : ℕ → Bool). count_by p (states code)) (fun_ext (λ state. state_kind-test code kind state is few))

@@ -1,7 +1,5 @@
 pub mod JoinedSlots
 pub mod CircleCycles
-pub mod Ways
-pub mod Exchange
 pub mod EdgeBits
 pub mod EdgeCircles
 pub mod FilteredRanges
@@ -12,7 +10,7 @@ pub mod TableLemmas
 pub mod CircleWalks
 pub mod KeptNumbers
 pub mod EdgeAnswers
-pub mod GeneratorLemmas
 pub mod EdgeNumbers
 pub mod BranchLemmas
 pub mod KindLemmas
+pub mod GeneratorLemmas

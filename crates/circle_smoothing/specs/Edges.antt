@@ -1,8 +1,8 @@
 -- What an edge of the cube does to circles.
-use Rattle.std.specs.Prelude.{◌≡◌, ◌≢◌, ◌⊎◌, ℕ, ◌+◌, ◌-◌, ◌^◌, ◌<◌, List, [], ◌∷◌, map, Bool, not, nat_eq, nat_lt, slice_index, if◌then◌else◌}
+use Rattle.std.specs.Prelude.{◌≡◌, ◌≢◌, ◌⊎◌, ℕ, ◌+◌, ◌-◌, ◌^◌, ◌<◌, List, [], ◌∷◌, map, Bool, not, nat_eq, nat_lt, if◌then◌else◌}
 use Rattle.std.specs.List.{filter}
 use Rattle.kh_types.specs.Code.{Code, arc_in, place_of, slots_of}
-use Rattle.kh_types.specs.Classes.{joined}
+use Rattle.kh_types.specs.Permutations.{AreJoined}
 use Rattle.kh_types.specs.Circles.{circles_of, circle_of, circle_names, circle_count}
 use Rattle.kh_types.specs.Differential.{touched}
 use Rattle.circle_smoothing.specs.CircleNumbers.{IsName, number_of, circle_number}
@@ -33,11 +33,6 @@ IsEdge code state crossing (Split from a b) = HaveMerged code (state_behind stat
 -- the arc at a slot of a crossing
 abbrev pub arc_at_slot : Code → ℕ → ℕ → ℕ
 arc_at_slot code crossing slot = arc_in (slots_of code.crossings crossing) slot
-
--- the classes of two numbers that are apart have become one, and all else stays together or apart
-pub record AreJoined (before after : List ℕ) (x y : ℕ) : Type 0 where
-  pub apart : slice_index before x ≢ slice_index before y
-  pub one : after ≡ joined before (x, y)
 
 -- along an edge the circles at the slots 0 and 2 of the crossing, the ends of its under pass, are joined, forwards or backwards
 abbrev pub JoinsOrParts : Code → ℕ → ℕ → Type 0

@@ -2,7 +2,8 @@
 use Rattle.std.specs.Prelude.{◌≡◌, ◌⊎◌, ℕ, Bool, true, false}
 use Rattle.kh_types.specs.Code.{Code}
 use Rattle.kh_types.specs.Circles.{circles_of, circle_of}
-use Rattle.circle_smoothing.specs.Edges.{AreJoined, arc_at_slot, state_behind}
+use Rattle.kh_types.specs.Permutations.{AreJoined}
+use Rattle.circle_smoothing.specs.Edges.{arc_at_slot, state_behind}
 
 -- from one state to another two circles are merged at a crossing: those of the arcs at its slots 0 and 2, the ends of its under pass
 abbrev pub Merges : Code → ℕ → ℕ → ℕ → Type 0

@@ -11,12 +11,20 @@ count_branch-requires t c =
     let rest = length c.in-Some.rest.now in
     let less : rest + 1 ≡ more = c.in-Some.ensures.cases.1 in (
       omega (arith, less, c.decreases),
-      (c.requires.size,
-      (c.next.ensures.branch,
-      (      LeavesCrossings-less c.args.branch.now c.next.result more rest c.requires.leaves less (omega (arith, c.next.ensures.ones))
-      c.next.ensures.joins,
-      ((HaveArcsBelow-rest MEMBERS c.args.crossings.now c.in-Some.first.now c.in-Some.rest.now c.in-Some.ensures.cases.0 c.requires.arcs).1,
-      λ place within. omega (arith, c.requires.room place within, pow-parted more rest less))))),
+      (
+        c.requires.size,
+        (
+          c.next.ensures.branch,
+          (
+            LeavesCrossings-less c.args.branch.now c.next.result more rest c.requires.leaves less (omega (arith, c.next.ensures.ones))
+                c.next.ensures.joins,
+            (
+              (HaveArcsBelow-rest MEMBERS c.args.crossings.now c.in-Some.first.now c.in-Some.rest.now c.in-Some.ensures.cases.0 c.requires.arcs).1,
+              λ place within. omega (arith, c.requires.room place within, pow-parted more rest less),
+            ),
+          ),
+        ),
+      ),
     )
 
 pub count_branch-requires-in-Some : goal.count_branch-requires-in-Some
@@ -25,19 +33,27 @@ count_branch-requires-in-Some t c =
     let rest = length c.in-Some.rest.now in
     let less : rest + 1 ≡ more = c.in-Some.ensures.cases.1 in (
       omega (arith, less, c.decreases),
-      (c.count_branch.ensures.size,
-      (c.next-in-Some.ensures.branch,
-      (      LeavesCrossings-less c.args.branch.now c.next-in-Some.result more rest c.requires.leaves less
-      (omega (arith, c.next-in-Some.ensures.ones)) c.next-in-Some.ensures.joins,
-      ((HaveArcsBelow-rest MEMBERS c.args.crossings.now c.in-Some.first.now c.in-Some.rest.now c.in-Some.ensures.cases.0 c.requires.arcs).1,
-      λ place within.
-      omega (
-        arith,
-        c.requires.room place within,
-        pow-parted more rest less,
-        c.count_branch.ensures.counts place within,
-        branch_count-le c.in-Some.rest.now c.next.result.ones c.next.result.classes place,
-      ))))),
+      (
+        c.count_branch.ensures.size,
+        (
+          c.next-in-Some.ensures.branch,
+          (
+            LeavesCrossings-less c.args.branch.now c.next-in-Some.result more rest c.requires.leaves less
+                (omega (arith, c.next-in-Some.ensures.ones)) c.next-in-Some.ensures.joins,
+            (
+              (HaveArcsBelow-rest MEMBERS c.args.crossings.now c.in-Some.first.now c.in-Some.rest.now c.in-Some.ensures.cases.0 c.requires.arcs).1,
+              λ place within.
+                  omega (
+                    arith,
+                    c.requires.room place within,
+                    pow-parted more rest less,
+                    c.count_branch.ensures.counts place within,
+                    branch_count-le c.in-Some.rest.now c.next.result.ones c.next.result.classes place,
+                  ),
+            ),
+          ),
+        ),
+      ),
     )
 
 pub returns-in-None-clause-counts : goal.returns-in-None-clause-counts
@@ -58,6 +74,6 @@ returns-in-Some-clause-counts t c = λ place within.
       c.count_branch.ensures.counts place within,
       c.count_branch-in-Some.ensures.counts place within,
       counted-parted c.args.crossings.now c.in-Some.first.now c.in-Some.rest.now c.args.branch.now.ones zero.ones one.ones
-      c.args.branch.now.classes zero.classes one.classes place c.in-Some.ensures.cases.0 c.next.ensures.ones
-      c.next-in-Some.ensures.ones c.next.ensures.classes c.next-in-Some.ensures.classes,
+          c.args.branch.now.classes zero.classes one.classes place c.in-Some.ensures.cases.0 c.next.ensures.ones
+          c.next-in-Some.ensures.ones c.next.ensures.classes c.next-in-Some.ensures.classes,
     )

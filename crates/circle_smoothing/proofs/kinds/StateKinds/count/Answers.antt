@@ -14,7 +14,7 @@ returns-then-names-circles-le-JOINS-clause-within c =
     omega (
       arith,
       kind_count-kept c.args.self.now c.self.inside c.args.ones c.args.circles c.name_count-names.result c.self.view_is c.self.invariant
-      c.name_count-names.ensures.count c.if-ones-le-CROSSINGS.true c.if-circles-names.true c.if-names-circles-le-JOINS.true,
+          c.name_count-names.ensures.count c.if-ones-le-CROSSINGS.true c.if-circles-names.true c.if-names-circles-le-JOINS.true,
       kind_count-le c.args.self.now c.args.ones c.args.circles c.name_count-names.ensures.few,
     )
 

@@ -27,7 +27,7 @@ pub record IsExchange (n : ℕ) (f other : ℕ → ℕ) (x y : ℕ) : Type 0 whe
   pub at_y : other y ≡ f x
   pub others : (z : ℕ) → z < n → z ≢ x → z ≢ y → other z ≡ f z
 
--- two classes become one: before, x and y are in two classes, and after, these have been joined, and all else is as it was
-pub record IsMerge (before after : List ℕ) (x y : ℕ) : Type 0 where
+-- the classes of two numbers that were apart have become one, and all else stays together or apart
+pub record AreJoined (before after : List ℕ) (x y : ℕ) : Type 0 where
   pub apart : slice_index before x ≢ slice_index before y
   pub one : after ≡ joined before (x, y)

@@ -1,7 +1,7 @@
 -- Clause by clause, since together they pass the bound on steps.
 use Rattle.std.proofs.Common.{refl}
 use Rattle.std.specs.Fmt.{digits}
-use Rattle.kh_types.proofs.laws.tables.known_tables.Goals as goal
+use Rattle.worked_tables.proofs.tables.known_tables.Goals as goal
 
 pub returns-clause-empty : goal.returns-clause-empty
 unfolding digits

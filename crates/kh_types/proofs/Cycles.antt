@@ -6,8 +6,8 @@ use Rattle.kh_types.specs.Classes.{AreBelow, IsNamed}
 use Rattle.kh_types.proofs.ClassLemmas.{classes-together, classes-finest}
 use Rattle.kh_types.proofs.JoinedClasses.{IsNamed-classes_of}
 use Rattle.kh_types.proofs.WalkLemmas.{AreCycles}
-use Rattle.face_walk.specs.Permutations.{IsPermutation, step_pair, cycles_of}
-use Rattle.face_walk.proofs.RangeImages.{all-map_range, map_range-at}
+use Rattle.kh_types.specs.Permutations.{IsPermutation, step_pair, cycles_of}
+use Rattle.kh_types.proofs.RangeImages.{all-map_range, map_range-at}
 
 -- the pairs of the steps are of numbers below n
 pub step_pairs-below : (n : ℕ) (f : ℕ → ℕ) → ((x : ℕ) → x < n → f x < n) → AreBelow n (map (step_pair f) (range_with_len 0 n))

@@ -8,19 +8,16 @@ use Rattle.kh_types.specs.Classes.{merged, joined}
 use Rattle.kh_types.proofs.ClassLemmas.{merged-both, slice_index-joined}
 use Rattle.kh_types.proofs.JoinedClasses.{IsNamed-joined, named-le}
 use Rattle.kh_types.proofs.WalkLemmas.{AreCycles}
-use Rattle.circle_smoothing.specs.Edges.{AreJoined}
-use Rattle.circle_smoothing.proofs.Ways.{IsOneToOne, IsWay-whole}
+use Rattle.kh_types.specs.Permutations.{AreJoined, IsExchange}
+use Rattle.kh_types.proofs.Ways.{IsOneToOne, IsWay-whole}
 
--- another function has the images of d and e exchanged, and all other images are the same
-pub record IsExchanged (m : ℕ) (f other : ℕ → ℕ) (d e : ℕ) : Type 0 where
-  pub at_d : other d ≡ f e
-  pub at_e : other e ≡ f d
-  pub others : (x : ℕ) → x < m → x ≢ d → x ≢ e → other x ≡ f x
-
-IsExchanged-back : (m : ℕ) (f other : ℕ → ℕ) (d e : ℕ) → IsExchanged m f other d e → IsExchanged m other f d e
-IsExchanged-back m f other d e exchanged = record {
-  at_d = sym exchanged.at_e;
-  at_e = sym exchanged.at_d;
+IsExchange-back : (m : ℕ) (f other : ℕ → ℕ) (d e : ℕ) → IsExchange m f other d e → IsExchange m other f d e
+IsExchange-back m f other d e exchanged = record {
+  x_below = exchanged.x_below;
+  y_below = exchanged.y_below;
+  apart = exchanged.apart;
+  at_x = sym exchanged.at_y;
+  at_y = sym exchanged.at_x;
   others = λ x below not_d not_e. sym (exchanged.others x below not_d not_e);
 }
 
@@ -41,7 +38,7 @@ pub record ArePartedBy (cycles joined : List ℕ) (d e : ℕ) : Type 0 where
   pub together : slice_index joined d ≡ slice_index joined e
 
 pub parted : (m : ℕ) (f back other other_back : ℕ → ℕ) (cycles others : List ℕ) (d e : ℕ) → AreCycles m f back cycles
-    → AreCycles m other other_back others → IsExchanged m f other d e → d < m → e < m → d ≢ e
+    → AreCycles m other other_back others → IsExchange m f other d e → d < m → e < m → d ≢ e
     → ArePartedBy cycles others d e ⊎ ArePartedBy others cycles d e
 parted m f back other other_back cycles others d e are others_are exchanged d_below e_below apart =
     let class : ℕ → ℕ = λ x. slice_index cycles x in
@@ -57,8 +54,8 @@ parted m f back other other_back cycles others d e are others_are exchanged d_be
           way.at_last,
           way.at_other,
           others_are.finest way.on
-              (keeps-each m other way.on d e (way.at_last ∙ sym way.first ∙ ap way.on (sym exchanged.at_d))
-              (way.at_other ∙ sym way.not_first ∙ ap way.on (sym exchanged.at_e))
+              (keeps-each m other way.on d e (way.at_last ∙ sym way.first ∙ ap way.on (sym exchanged.at_x))
+              (way.at_other ∙ sym way.not_first ∙ ap way.on (sym exchanged.at_y))
               (λ y below not_d not_e. way.keeps y below not_d not_e ∙ ap way.on (sym (exchanged.others y below not_d not_e))))
               d e d_below e_below same,
         ));
@@ -76,7 +73,7 @@ parted m f back other other_back cycles others d e are others_are exchanged d_be
         together = sym (way.together class_too
             (λ y below not_d not_e.
             sym (ap class_too (sym (exchanged.others y below not_d not_e)) ∙ others_are.step y below))
-            ∙ ap class_too (sym exchanged.at_d) ∙ others_are.step d d_below);
+            ∙ ap class_too (sym exchanged.at_x) ∙ others_are.step d d_below);
       })
     ]
 
@@ -86,7 +83,7 @@ merged-same a b c d same = grind (arith, nat_tests)
 
 -- where d and e are on two cycles of f and on one of the other function, the other's cycles are those of f with the two joined
 joined-parted : (m : ℕ) (f back other other_back : ℕ → ℕ) (cycles others : List ℕ) (d e : ℕ) → AreCycles m f back cycles
-    → AreCycles m other other_back others → IsExchanged m f other d e → d < m → e < m → ArePartedBy cycles others d e
+    → AreCycles m other other_back others → IsExchange m f other d e → d < m → e < m → ArePartedBy cycles others d e
     → AreJoined cycles others d e
 joined-parted m f back other other_back cycles others d e are others_are exchanged d_below e_below parts =
     let class : ℕ → ℕ = λ x. slice_index cycles x in
@@ -101,8 +98,8 @@ joined-parted m f back other other_back cycles others d e are others_are exchang
     let coarse : (x y : ℕ) → x < m → y < m → slice_index one x ≡ slice_index one y → class_too x ≡ class_too y =
     λ x y x_below y_below same.
     let keeps = keeps-each m f class_too d e
-    (parts.together ∙ sym (others_are.step e e_below) ∙ ap class_too exchanged.at_e)
-    (sym parts.together ∙ sym (others_are.step d d_below) ∙ ap class_too exchanged.at_d)
+    (parts.together ∙ sym (others_are.step e e_below) ∙ ap class_too exchanged.at_y)
+    (sym parts.together ∙ sym (others_are.step d d_below) ∙ ap class_too exchanged.at_x)
     (λ z below not_d not_e. sym (others_are.step z below) ∙ ap class_too (exchanged.others z below not_d not_e)) in
     elim (merged-same a b (class x) (class y) (sym (at x x_below) ∙ same ∙ at y y_below)) [
       | inl alike ↦ are.finest class_too keeps x y x_below y_below alike
@@ -118,9 +115,9 @@ joined-parted m f back other other_back cycles others d e are others_are exchang
     others_are.finest (λ z. slice_index one z)
     (keeps-each m other (λ z. slice_index one z) d e
     (at d d_below ∙ merged-both a b ∙ ap (λ c. merged a b c) (sym (are.step e e_below)) ∙ sym (at (f e) (are.below e e_below))
-    ∙ ap (λ z. slice_index one z) (sym exchanged.at_d))
+    ∙ ap (λ z. slice_index one z) (sym exchanged.at_x))
     (at e e_below ∙ sym (merged-both a b) ∙ ap (λ c. merged a b c) (sym (are.step d d_below)) ∙ sym (at (f d) (are.below d d_below))
-    ∙ ap (λ z. slice_index one z) (sym exchanged.at_e))
+    ∙ ap (λ z. slice_index one z) (sym exchanged.at_y))
     (λ z below not_d not_e.
     at z below ∙ ap (λ c. merged a b c) (sym (are.step z below)) ∙ sym (at (f z) (are.below z below))
     ∙ ap (λ w. slice_index one w) (sym (exchanged.others z below not_d not_e))))
@@ -139,13 +136,15 @@ joined-parted m f back other other_back cycles others d e are others_are exchang
 
 -- so the cycles of d and e are joined, forwards or backwards
 pub AreJoined-exchanged : (m : ℕ) (f back other other_back : ℕ → ℕ) (cycles others : List ℕ) (d e : ℕ) → AreCycles m f back cycles
-    → AreCycles m other other_back others → IsExchanged m f other d e → d < m → e < m → d ≢ e
+    → AreCycles m other other_back others → IsExchange m f other d e
     → AreJoined cycles others d e ⊎ AreJoined others cycles d e
-AreJoined-exchanged m f back other other_back cycles others d e are others_are exchanged d_below e_below apart =
-    elim (parted m f back other other_back cycles others d e are others_are exchanged d_below e_below apart) [
+AreJoined-exchanged m f back other other_back cycles others d e are others_are exchanged =
+    let d_below = exchanged.x_below in
+    let e_below = exchanged.y_below in
+    elim (parted m f back other other_back cycles others d e are others_are exchanged d_below e_below exchanged.apart) [
       | inl parts ↦
           inl (joined-parted m f back other other_back cycles others d e are others_are exchanged d_below e_below parts)
       | inr parts ↦ inr
-          (joined-parted m other other_back f back others cycles d e others_are are (IsExchanged-back m f other d e exchanged)
+          (joined-parted m other other_back f back others cycles d e others_are are (IsExchange-back m f other d e exchanged)
           d_below e_below parts)
     ]
