@@ -1,10 +1,3 @@
-pub mod JoinedSlots
-pub mod CircleCycles
-pub mod EdgeBits
-pub mod EdgeCircles
-pub mod FilteredRanges
-pub mod EdgeNames
-pub mod NumberLemmas
 pub mod ListedNumbers
 pub mod TableLemmas
 pub mod CircleWalks

@@ -2,7 +2,6 @@ pub mod CircleNumbers
 pub mod CircleLists
 pub mod Edges
 pub mod GeneratorCounts
-pub mod Steps
 pub mod Numbered
 pub mod Prepared
 pub mod Branches

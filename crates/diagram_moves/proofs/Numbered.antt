@@ -24,7 +24,7 @@ use Rattle.kh_types.proofs.Heads.{HasNoSingleArcs-checkerboard}
 use Rattle.kh_types.proofs.RangeCounts.{count_by-alike}
 use Rattle.face_walk.specs.AddedArcs.{IsPlanar, is_open}
 use Rattle.face_walk.proofs.FewFaces.{IsPlanar-twice}
-use Rattle.face_walk.proofs.RangeImages.{map_range-agree}
+use Rattle.kh_types.proofs.RangeImages.{map_range-agree}
 use Rattle.face_walk.proofs.Board.{IsCheckerboard-planar}
 use Rattle.kinks_and_fingers.specs.Strands.{Strands, sign_at, name_at}
 use Rattle.kinks_and_fingers.specs.DropCircles.{strand_circle_count, strand_plus, strand_minus, strand_term, strand_sum}

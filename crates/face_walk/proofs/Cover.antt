@@ -12,7 +12,7 @@ use Rattle.kh_types.specs.Faces.{open_faces, open_pieces, piece_pair}
 use Rattle.kh_types.proofs.ClassLemmas.{classes-together, classes-finest}
 use Rattle.kh_types.proofs.RangeCounts.{but, count_by-but}
 use Rattle.face_walk.specs.AddedArcs.{open_face_count, open_piece_count}
-use Rattle.face_walk.proofs.RangeImages.{all-map_range, map_range-at}
+use Rattle.kh_types.proofs.RangeImages.{all-map_range, map_range-at}
 use Rattle.face_walk.proofs.OpenFaces.{AreCycles-open_faces, IsNamed-open_pieces, piece_pairs-below}
 use Rattle.face_walk.proofs.PartArcs.{planar-bound}
 use Rattle.face_walk.proofs.PlainCounts.{count_by-one_to_one, count_by-halves}

@@ -14,7 +14,7 @@ use Rattle.kh_types.proofs.Ranges.{sum_by-range_more}
 use Rattle.gluing.specs.Arcs.{arc_at}
 use Rattle.kh_types.proofs.JoinedClasses.{IsNamed-classes_of}
 use Rattle.gluing.proofs.OldLemmas.{own_passes}
-use Rattle.circle_smoothing.proofs.EdgeBits.{bit-set_there, bit-set_other}
+use Rattle.kh_types.proofs.EdgeBits.{bit-set_there, bit-set_other}
 use Rattle.gluing.specs.Glue.{renamed, Places}
 use Rattle.gluing.specs.Codes.{darts_of, dart_smoothings, arc_of_dart, name_count, HoldsArcs}
 use Rattle.gluing.proofs.Renamed.{AreBelow-append}

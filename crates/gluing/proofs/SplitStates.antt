@@ -7,7 +7,7 @@ use Rattle.std.proofs.lemmas.Bool.Decides.{nat_tests}
 use Rattle.std.proofs.lemmas.Int.{ints}
 use Rattle.kh_types.specs.Bits.{bit, ones}
 use Rattle.kh_types.specs.StateSum.{int_sum}
-use Rattle.circle_smoothing.proofs.EdgeBits.{bit-set_there, bit-set_other}
+use Rattle.kh_types.proofs.EdgeBits.{bit-set_there, bit-set_other}
 use Rattle.gluing.proofs.KinkSums.{int_sum-doubled}
 use Rattle.gluing.proofs.CodeCircles.{bit-above, bit-highest, bit-lower, ones-more}
 

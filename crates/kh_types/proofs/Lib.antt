@@ -44,3 +44,10 @@ pub mod Cycles
 pub mod Ways
 pub mod Exchanges
 pub mod ExchangedCycles
+pub mod JoinedSlots
+pub mod CircleCycles
+pub mod EdgeBits
+pub mod EdgeCircles
+pub mod EdgeNames
+pub mod FilteredRanges
+pub mod CircleNumbers

@@ -34,3 +34,6 @@ pub mod Residues
 pub mod Products
 pub mod MatrixRanks
 pub mod Permutations
+pub mod CircleSteps
+pub mod CircleNumbers
+pub mod Edges

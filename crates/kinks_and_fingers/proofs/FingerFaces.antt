@@ -10,9 +10,9 @@ use Rattle.kh_types.specs.Faces.{open_faces, open_pieces, piece_pair}
 use Rattle.kh_types.proofs.ClassLemmas.{classes-together, classes-finest}
 use Rattle.kh_types.proofs.RangeCounts.{but, count_by-but}
 use Rattle.face_walk.specs.AddedArcs.{open_face_count, open_piece_count}
-use Rattle.face_walk.proofs.RangeImages.{all-map_range, map_range-at}
-use Rattle.face_walk.specs.Permutations.{IsExchange, step_pair, cycles_of}
-use Rattle.face_walk.proofs.Cycles.{step_pairs-below, IsNamed-cycles_of}
+use Rattle.kh_types.proofs.RangeImages.{all-map_range, map_range-at}
+use Rattle.kh_types.specs.Permutations.{IsExchange, step_pair, cycles_of}
+use Rattle.kh_types.proofs.Cycles.{step_pairs-below, IsNamed-cycles_of}
 use Rattle.face_walk.proofs.OpenFaces.{AreCycles-open_faces, IsNamed-open_pieces, piece_pairs-below}
 use Rattle.face_walk.proofs.PlainCounts.{count_by-one_to_one}
 use Rattle.face_walk.proofs.Cover.{class_count-counts, pieces-ends}

@@ -9,7 +9,7 @@ use Rattle.std.proofs.lemmas.Int.{ints}
 use Rattle.kh_types.specs.Bits.{bit, ones}
 use Rattle.kh_types.specs.StateSum.{int_sum}
 use Rattle.kh_types.proofs.BitLemmas.{ones-more}
-use Rattle.circle_smoothing.proofs.EdgeBits.{bit-set_there, bit-set_other}
+use Rattle.kh_types.proofs.EdgeBits.{bit-set_there, bit-set_other}
 use Rattle.kinks_and_fingers.specs.Insertions.{with_bit}
 use Rattle.kinks_and_fingers.specs.Pulls.{early}
 use Rattle.gluing.proofs.KinkSums.{int_sum-doubled}

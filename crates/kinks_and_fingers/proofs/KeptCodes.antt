@@ -14,7 +14,7 @@ use Rattle.kh_types.specs.Darts.{HasArcsTwice}
 use Rattle.kh_types.proofs.ClassLemmas.{classes-together, classes-finest}
 use Rattle.kh_types.proofs.Lists.{AllByRecursion-append, filter-range_all}
 use Rattle.kh_types.proofs.Ranges.{range-append}
-use Rattle.face_walk.proofs.RangeImages.{map_range-agree}
+use Rattle.kh_types.proofs.RangeImages.{map_range-agree}
 use Rattle.kinks_and_fingers.specs.Strands.{slots_at, name_at, dart_name, sign_at}
 use Rattle.kinks_and_fingers.specs.Drops.{positive_at, straight_pairs, straight_names, renamed_slots, kept_places, kept_crossings, kept_signs}
 use Rattle.kinks_and_fingers.specs.Pulls.{early}

@@ -15,7 +15,7 @@ use Rattle.kh_types.proofs.Heads.{HasEnds-directed}
 use Rattle.kh_types.proofs.RangeCounts.{count_by-alike}
 use Rattle.face_walk.specs.AddedArcs.{IsPlanar, is_open, open_dart_count}
 use Rattle.face_walk.proofs.FewFaces.{IsPlanar-twice}
-use Rattle.face_walk.proofs.RangeImages.{map_range-agree}
+use Rattle.kh_types.proofs.RangeImages.{map_range-agree}
 use Rattle.kinks_and_fingers.specs.FingerAdd.{dart_with}
 use Rattle.face_walk.proofs.Board.{IsCheckerboard-planar}
 use Rattle.kinks_and_fingers.specs.KinkAdds.{raised, with_kink}

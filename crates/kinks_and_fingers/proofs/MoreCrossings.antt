@@ -13,15 +13,15 @@ use Rattle.kh_types.proofs.Lists.{filter-range_agree}
 use Rattle.kh_types.proofs.Ranges.{count_by-range_more}
 use Rattle.kh_types.proofs.RangeCounts.{count_by-alike}
 use Rattle.std.proofs.lemmas.Bool.{cases_eq}
-use Rattle.face_walk.specs.Permutations.{IsMerge}
-use Rattle.face_walk.specs.Permutations.{IsPermutation, step_pair, cycles_of}
+use Rattle.kh_types.specs.Permutations.{IsMerge}
+use Rattle.kh_types.specs.Permutations.{IsPermutation, step_pair, cycles_of}
 use Rattle.kh_types.specs.Darts.{IsPairing, turned, face_step}
 use Rattle.kh_types.specs.Faces.{piece_pair, open_faces, open_pieces}
 use Rattle.face_walk.specs.AddedArcs.{IsPlanar, HasArcMore, is_open, open_face_count, open_piece_count, open_dart_count}
 use Rattle.kinks_and_fingers.proofs.Steps.{same_or_other, all_on, all_of, AreBelow-piece_pair}
 use Rattle.face_walk.proofs.OpenFaces.{turned-below, crossing-below, AreCycles-open_faces, IsNamed-open_pieces}
 use Rattle.face_walk.proofs.AddedArcs.{open_dart_count-more, open_faces-split, JoinsPieces-apart, StaysInPiece-together, IsPairing-more}
-use Rattle.face_walk.proofs.Exchanges.{IsMerge-count}
+use Rattle.kh_types.proofs.Exchanges.{IsMerge-count}
 use Rattle.kinks_and_fingers.proofs.Relabelled.{renamed, IsAlike-renamed}
 
 -- other names

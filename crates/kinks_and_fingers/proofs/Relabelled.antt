@@ -6,7 +6,7 @@ use Rattle.std.proofs.lemmas.Bool.Decides.{nat_tests}
 use Rattle.kh_types.specs.Classes.{merged, joined, classes_of, class_count, AreBelow, IsNamed}
 use Rattle.kh_types.proofs.ClassLemmas.{slice_index-joined}
 use Rattle.kh_types.proofs.JoinedClasses.{IsNamed-joined, IsNamed-range, slice_index-range, class_count-joined, class_count-joined_together}
-use Rattle.face_walk.specs.Permutations.{IsPermutation}
+use Rattle.kh_types.specs.Permutations.{IsPermutation}
 use Rattle.kinks_and_fingers.proofs.Steps.{same_or_other}
 
 -- a pair under other names

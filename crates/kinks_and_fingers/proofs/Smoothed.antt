@@ -7,7 +7,7 @@ use Rattle.std.proofs.lemmas.Bool.Decides.{nat_tests}
 use Rattle.kh_types.specs.Darts.{IsPairing, turned}
 use Rattle.kh_types.proofs.RangeCounts.{count_by-alike, count_by-one_more}
 use Rattle.face_walk.specs.AddedArcs.{is_open, open_dart_count, IsPlanar}
-use Rattle.face_walk.specs.Permutations.{IsPermutation}
+use Rattle.kh_types.specs.Permutations.{IsPermutation}
 use Rattle.face_walk.proofs.OpenFaces.{turned-crossing}
 use Rattle.kinks_and_fingers.specs.Pulls.{pulled, bared, dart_in, late, early, late_dart, early_dart, smoothed, IsClosedPlanar}
 use Rattle.kinks_and_fingers.proofs.Pulls.{AreHeld, pull_cases, pulled-first, pulled-second, pulled-to_first, pulled-to_second, pulled-else, IsPairing-pulled, IsPlanar-pulled}

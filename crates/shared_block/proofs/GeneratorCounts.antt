@@ -12,7 +12,7 @@ use Rattle.kh_types.specs.Circles.{circle_count}
 use Rattle.kh_types.specs.Generators.{generator_of, generators, generators_at, generators_of, has_degrees, one_count, states}
 use Rattle.kh_types.specs.StateSum.{circle_coefficient, signed_by, state_sum, state_term}
 use Rattle.kh_types.proofs.QuantumDegrees.{homological_degree-within}
-use Rattle.cube_signs.proofs.Sums.{sum_by-alike, sum_by-flat_map, sum_by-map, sum_by-zeros}
+use Rattle.cube_squares.proofs.Sums.{sum_by-alike, sum_by-flat_map, sum_by-map, sum_by-zeros}
 use Rattle.shared_block.proofs.Alternating.{alternating, alternating-alike, alternating-sum, signed_by-zero}
 use Rattle.shared_block.proofs.IntSums.{int_sum-alike, int_sum-within}
 use Rattle.shared_block.proofs.LabelCounts.{degree_of_label, int_eq-iff, labels_with-is}

@@ -11,7 +11,7 @@ use Rattle.kh_types.specs.Faces.{face_pair, piece_pair, open_faces, open_pieces,
 use Rattle.kh_types.proofs.ClassLemmas.{classes-together}
 use Rattle.kh_types.proofs.DartPairs.{IsPairing-partner_at}
 use Rattle.kh_types.proofs.AcceptedLemmas.{HasArcsTwice-accepted}
-use Rattle.face_walk.proofs.RangeImages.{all-map_range, map_range-at, map_range-agree}
+use Rattle.kh_types.proofs.RangeImages.{all-map_range, map_range-at, map_range-agree}
 use Rattle.face_walk.proofs.OpenFaces.{piece_pairs-below}
 use Rattle.face_walk.proofs.FewFaces.{face_count-accepted}
 use Rattle.slides.specs.Slid.{on, source, slid}

@@ -15,7 +15,7 @@ use Rattle.kh_types.proofs.RangeCounts.{list_all-each}
 use Rattle.kh_types.proofs.DartPairs.{dart_at-place, dart_place-at, dart_place-below, IsDart-at, partner-at_place, IsOtherPlace-partner_at, IsDartOf-first_dart}
 use Rattle.kh_types.proofs.DartColours.{IsColoured-checkerboard}
 use Rattle.kh_types.proofs.AcceptedLemmas.{IsAccepted-is, HasArcsTwice-accepted}
-use Rattle.circle_smoothing.proofs.EdgeBits.{bit-set_there, bit-set_other, set-within}
+use Rattle.kh_types.proofs.EdgeBits.{bit-set_there, bit-set_other, set-within}
 use Rattle.slides.specs.Slid.{on, arc_there, source, slid}
 use Rattle.slides.proofs.Corners.{four, at_places, IsOutside, on-crossing, on-slot, on-on, on-zero, on-below, on-apart, source-x, source-rotated, source-outside, source-source, source-below}
 use Rattle.slides.proofs.Sides.{HasSides, HasSides-rotated}

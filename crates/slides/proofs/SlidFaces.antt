@@ -6,7 +6,7 @@ use Rattle.kh_types.specs.Classes.{class_count, AreBelow}
 use Rattle.kh_types.specs.Darts.{IsPairing, turned}
 use Rattle.kh_types.specs.Faces.{face_pair, open_faces}
 use Rattle.kh_types.proofs.ClassLemmas.{classes-together}
-use Rattle.face_walk.proofs.RangeImages.{all-map_range, map_range-at}
+use Rattle.kh_types.proofs.RangeImages.{all-map_range, map_range-at}
 use Rattle.face_walk.proofs.OpenFaces.{turned-below}
 use Rattle.slides.specs.Slid.{on, source}
 use Rattle.slides.proofs.Corners.{four, at_places, IsOutside, AreApart, AreApart-rotated, by_corner, by_corner-x, by_corner-y, by_corner-z, by_corner-outside, by_corner-rotated, on-crossing, on-zero, on-below, on-apart, crossings-apart, source-x, source-y, source-z, source-rotated, source-outside, source-source, source-below}
