@@ -13,7 +13,7 @@ use Rattle.kh_types.proofs.Lists.{filter-range_agree}
 use Rattle.kh_types.proofs.Ranges.{count_by-range_more}
 use Rattle.kh_types.proofs.RangeCounts.{count_by-alike}
 use Rattle.std.proofs.lemmas.Bool.{cases_eq}
-use Rattle.kh_types.specs.Permutations.{IsMerge}
+use Rattle.kh_types.specs.Permutations.{AreJoined}
 use Rattle.kh_types.specs.Permutations.{IsPermutation, step_pair, cycles_of}
 use Rattle.kh_types.specs.Darts.{IsPairing, turned, face_step}
 use Rattle.kh_types.specs.Faces.{piece_pair, open_faces, open_pieces}
@@ -21,7 +21,7 @@ use Rattle.face_walk.specs.AddedArcs.{IsPlanar, HasArcMore, is_open, open_face_c
 use Rattle.kinks_and_fingers.proofs.Steps.{same_or_other, all_on, all_of, AreBelow-piece_pair}
 use Rattle.face_walk.proofs.OpenFaces.{turned-below, crossing-below, AreCycles-open_faces, IsNamed-open_pieces}
 use Rattle.face_walk.proofs.AddedArcs.{open_dart_count-more, open_faces-split, JoinsPieces-apart, StaysInPiece-together, IsPairing-more}
-use Rattle.kh_types.proofs.Exchanges.{IsMerge-count}
+use Rattle.kh_types.proofs.ExchangedCycles.{AreJoined-count}
 use Rattle.kinks_and_fingers.proofs.Relabelled.{renamed, IsAlike-renamed}
 
 -- other names
@@ -381,16 +381,16 @@ IsPlanar-bare n partner more is_partner same bare planar =
 -- the numbers of pieces and of faces, where an arc joins two faces or splits one
 
 face_count-merge : (n : ℕ) (partner other : ℕ → ℕ) (dart mate : ℕ) → IsPairing (4 * n) partner → dart < 4 * n → mate < 4 * n
-    → IsMerge (open_faces n partner) (open_faces n other) dart mate → open_face_count n partner ≡ open_face_count n other + 1
+    → AreJoined (open_faces n partner) (open_faces n other) dart mate → open_face_count n partner ≡ open_face_count n other + 1
 face_count-merge n partner other dart mate pairing dart_below mate_below merge =
-    IsMerge-count (4 * n) (open_faces n partner) (open_faces n other) dart mate (AreCycles-open_faces n partner pairing).named
+    AreJoined-count (4 * n) (open_faces n partner) (open_faces n other) dart mate (AreCycles-open_faces n partner pairing).named
     dart_below mate_below merge
 
 piece_count-merge : (n : ℕ) (partner other : ℕ → ℕ) (dart mate : ℕ) → IsPairing (4 * n) partner → dart < 4 * n → mate < 4 * n
-    → IsMerge (open_pieces n partner) (open_pieces n other) (dart / 4) (mate / 4)
+    → AreJoined (open_pieces n partner) (open_pieces n other) (dart / 4) (mate / 4)
     → open_piece_count n partner ≡ open_piece_count n other + 1
 piece_count-merge n partner other dart mate pairing dart_below mate_below merge =
-    IsMerge-count n (open_pieces n partner) (open_pieces n other) (dart / 4) (mate / 4) (IsNamed-open_pieces n partner pairing)
+    AreJoined-count n (open_pieces n partner) (open_pieces n other) (dart / 4) (mate / 4) (IsNamed-open_pieces n partner pairing)
     (crossing-below n dart dart_below) (crossing-below n mate mate_below) merge
 
 -- an arc between two pieces, or between two darts of one face, keeps crossings planar
