@@ -7,3 +7,4 @@ pub mod EdgeNumbers
 pub mod BranchLemmas
 pub mod KindLemmas
 pub mod GeneratorLemmas
+pub mod TriangleLemmas

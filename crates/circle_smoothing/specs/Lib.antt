@@ -1,6 +1,7 @@
 pub mod CircleNumbers
 pub mod CircleLists
 pub mod Edges
+pub mod Binomials
 pub mod GeneratorCounts
 pub mod Numbered
 pub mod Prepared

@@ -1,5 +1,5 @@
-//! The circles of the states of a diagram, what an edge of the cube does to them, and the number of
-//! generators.
+//! The circles of the states of a diagram, what an edge of the cube does to them, and how many states
+//! and generators there are of each kind.
 #![tactic(auto)]
 
 mod branches;
@@ -14,6 +14,7 @@ mod prepared;
 mod tables;
 #[cfg(test)]
 mod tests;
+mod triangle;
 mod walk;
 
 pub use change::Edge;
@@ -22,3 +23,4 @@ pub use kinds::{COLUMNS, KINDS, StateKinds};
 pub use limits::GENERATORS;
 pub use numbered::Circles;
 pub use prepared::Smoothings;
+pub use triangle::Triangle;

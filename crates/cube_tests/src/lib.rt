@@ -3,3 +3,6 @@
 
 #[cfg(test)]
 mod homology_tables;
+mod cancellations;
+#[cfg(test)]
+mod sparse_complexes;

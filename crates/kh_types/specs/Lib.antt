@@ -16,6 +16,9 @@ pub mod Directions
 pub mod Inside
 -- homology
 pub mod Circles
+pub mod CircleSteps
+pub mod CircleNumbers
+pub mod Edges
 pub mod Generators
 pub mod Differential
 pub mod Rank
@@ -25,15 +28,12 @@ pub mod StateSum
 pub mod Complex
 pub mod ComplexTests
 pub mod History
--- general, and worked examples
-pub mod WorkedCodes
-pub mod WorkedHistories
-pub mod Walks
-pub mod Filling
+-- general: residues, matrices, permutations, lists and worked examples
 pub mod Residues
 pub mod Products
 pub mod MatrixRanks
 pub mod Permutations
-pub mod CircleSteps
-pub mod CircleNumbers
-pub mod Edges
+pub mod Walks
+pub mod Filling
+pub mod WorkedCodes
+pub mod WorkedHistories

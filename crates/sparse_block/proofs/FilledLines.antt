@@ -195,6 +195,11 @@ padded-exchanged {size} {count} named lines after held some exchanged =
     subst (λ (before : List (List Entry)). AreExchanged named before (padded size after)) (sym (padded-whole size lines whole))
     (subst (AreExchanged named lines) (sym (padded-whole size after (exchanged.size ∙ whole))) exchanged)
 
+-- no line has an entry, so each is empty
+pub line-none : (lines : List (List Entry)) (place : ℕ) → no_entries lines ≡ true → slice_index_or lines place [] ≡ []
+line-none lines place none =
+    ap (λ (lines : List (List Entry)). slice_index_or lines place []) (all-empty lines none) ∙ line-empty (length lines) place
+
 -- a line has a number other than 0
 pub some-entries : (lines : List (List Entry)) (place at : ℕ) → value_at (slice_index_or lines place []) at ≢ 0
     → no_entries lines ≡ false
@@ -204,6 +209,4 @@ some-entries lines place at some = decided (no_entries lines) refl
     decided false is = is
     decided true is =
         absurd
-        (some
-        (ap (λ (es : List Entry). value_at es at)
-        (ap (λ (lines : List (List Entry)). slice_index_or lines place []) (all-empty lines is) ∙ line-empty (length lines) place)))
+        (some (ap (λ (es : List Entry). value_at es at) (line-none lines place is)))

@@ -1,11 +1,12 @@
 -- What a complex in memory keeps, at a degree and a place of it.
-use Rattle.std.proofs.Common.{◌≡◌, ℕ, ◌+◌, ◌<◌, ◌^◌, ◌∙◌, List, [], ◌∷◌, ℤ, pos, ◌+ℤ◌, ◌-ℤ◌, ◌<ℤ◌, ◌≤ℤ◌, length, map, ap, sym, subst, arith, refl, Bool, FitsSigned, w16, to_z, of_z}
+use Rattle.std.proofs.Common.{◌≡◌, ℕ, inl, inr, true, ◌+◌, ◌<◌, ◌^◌, ◌∙◌, List, [], ◌∷◌, ℤ, pos, ◌+ℤ◌, ◌-ℤ◌, ◌<ℤ◌, ◌≤ℤ◌, length, map, ap, sym, subst, arith, refl, Bool, FitsSigned, w16, to_z, of_z}
 use Rattle.std.specs.Prelude.{slice_index, slice_index_or, nat_eq, All, ◌&&◌}
 use Rattle.std.specs.List.{count_by, list_all, range_with_len}
 use Rattle.std.proofs.Math.ListN as plain
 use Rattle.std.proofs.lemmas.Int.{ints}
 use Rattle.std.proofs.lemmas.Simd.{map-map}
-use Rattle.std.proofs.lemmas.List.{length-map, get_or-map, get_or_default}
+use Rattle.std.proofs.lemmas.Bool.Decides.{leb_tells}
+use Rattle.std.proofs.lemmas.List.{length-map, get_or-map, get_or_default, get_or_past}
 use Rattle.std.proofs.lemmas.List.FromFn.{length-map-range_with_len, get_or-map-range_with_len, fill_by_all}
 use Rattle.kh_types.specs.Complex.{Complex, Degree, IsComplex, alive_count, degree_of, empty_degree, entry_of, is_zero}
 use Rattle.kh_types.specs.Generators.{Generator, generator_of}
@@ -16,6 +17,7 @@ use Rattle.std.proofs.lemmas.List.Folds.{list_all-map}
 use Rattle.sparse_block.specs.Held.{no_entries}
 use Rattle.sparse_block.specs.Inside.{IsKept, column_entries, row_entries}
 use Rattle.sparse_block.proofs.EntryLemmas.{value_at-entries_of, length-entries_of}
+use Rattle.sparse_block.proofs.FilledLines.{line-none}
 use Rattle.sparse_block.proofs.MatrixLemmas.{length-matrix_from}
 use Rattle.sparse_block.proofs.DegreeLemmas.{length-degrees_from, degree-within, degree_of-at, degree_of-below, length-at, length-same}
 
@@ -126,6 +128,18 @@ module _ {p : ℕ} {low : ℤ} {names : List (List Generator)} {alive : List (Li
       ∙ get_or-map-range_with_len (λ (column : ℕ). entries_of (column_in degree.matrix column)) 0 (length degree.alive) place place []
       (subst (λ (degree : Degree). place < length degree.alive) (sym is_degree) place_within) (omega arith)
       ∙ ap (λ (degree : Degree). entries_of (column_in degree.matrix place)) is_degree
+
+  -- a degree without entries has empty columns
+  pub columns-none : (i : ℤ) (k column : ℕ) → i ≡ low +ℤ pos k → no_entries (slice_index_or columns k []) ≡ true
+      → column < place_count named.complex i → entries_of (column_of named.complex i column) ≡ []
+  columns-none i k column is_distance none column_within =
+      elim (leb_tells (length names) k) [
+        | inl past ↦
+            absurd (omega (arith, column_within, places-at i k is_distance, ap length (get_or_past names k [] past.1)))
+        | inr within ↦
+            sym (column-at i k column is_distance within.1 column_within)
+            ∙ line-none (slice_index_or columns k []) column none
+      ]
 
   pub length-row : (i : ℤ) (k : ℕ) → i ≡ low +ℤ pos k → k < length names
       → length (slice_index_or rows k []) ≡ place_count named.complex (i +ℤ pos 1)

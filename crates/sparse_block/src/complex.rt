@@ -1,6 +1,6 @@
 //! A complex at one quantum degree.
 
-ghost use Rattle.std.specs.Prelude.{◌≡◌, ◌<◌, pos, ◌+ℤ◌, ◌≤ℤ◌, length, slice_index_or, false};
+ghost use Rattle.std.specs.Prelude.{◌≡◌, ◌<◌, ◌≤◌, ℕ, [], pos, ◌+ℤ◌, ◌≤ℤ◌, length, slice_index_or, false};
 ghost use Rattle.std.specs.List.{list_all};
 ghost use Rattle.kh_types.specs.Complex.{alive_count, degree_of, entry_of, is_zero};
 ghost use Rattle.sparse_block.specs.Complexes.{column_of, high_of, name_of, place_count, row_of};
@@ -73,6 +73,22 @@ impl<F: PrimeField> Complex<F> {
         name_count(&self.names, distance(self.low, i))
     }
 
+    /// How many columns out of a degree are left to search: from there on none has an entry. None
+    /// is left where the degree has no entry, without a look at its columns.
+    pub fn columns_left(&self, i: i16) -> u32
+        ensures { (column : ℕ) → result ≤ column → column < place_count self.now.complex i
+            → entries_of (column_of self.now.complex i column) ≡ [] }
+    {
+        if i < self.low {
+            return 0;
+        }
+        let k = distance(self.low, i);
+        if has_no_entries(&self.columns, k) {
+            return 0;
+        }
+        name_count(&self.names, k)
+    }
+
     /// How many places of a degree are alive; none outside of the complex.
     pub fn alive(&self, i: i16) -> u32
         ensures { result ≡ alive_count self.now.complex i }
@@ -135,6 +151,16 @@ impl<F: PrimeField> Complex<F> {
         ensures { result.now ≡ entries_of (row_of self.now.complex i place) }
     {
         line_at(&self.rows, distance(self.low, i), place)
+    }
+}
+
+/// Whether no line of degree number `k` has an entry.
+fn has_no_entries(degrees: &[HeldLines], k: usize) -> bool
+    ensures { result ≡ no_entries (slice_index_or degrees.now k []) }
+{
+    match degrees.get(k) {
+        Some(degree) => degree.has_no_entries(),
+        None => true,
     }
 }
 

@@ -12,8 +12,6 @@ mod generator;
 mod held_lines;
 pub mod laws;
 mod lines;
-#[cfg(test)]
-mod tests;
 
 pub use building::build;
 pub use change::{Change, Line};

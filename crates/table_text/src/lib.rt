@@ -8,8 +8,6 @@ mod lines;
 mod printer;
 mod reader;
 mod stop;
-#[cfg(test)]
-mod tests;
 mod version;
 mod words;
 

@@ -86,7 +86,11 @@ fn row_within(version: Version, j: i32, i: i32, dim: i32) -> Option<Row>
     ensures only { (row : Row) → IsRowIn version row → j ≡ row.j → i ≡ row.i → dim ≡ pos row.dim
         → result ≡ Some row }
 {
-    let (far, wide, most) = (version.far() as i32, version.wide() as i32, GENERATORS as i32);
+    let (far, wide, most) = (
+        version.far() as i32,
+        version.wide() as i32,
+        GENERATORS as i32,
+    );
     if -far <= j && j <= far && -wide <= i && i <= wide && 1 <= dim && dim <= most {
         Some(Row {
             j: j as i16,

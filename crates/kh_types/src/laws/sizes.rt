@@ -2,7 +2,7 @@
 
 ghost use Rattle.std.specs.Prelude.{◌≡◌, ◌≢◌, ℕ, Some, ◌+◌, ◌*◌, ◌<◌, ◌≤◌, ℤ, List, [], length, IsTrue};
 ghost use Rattle.std.specs.List.{All, Contains};
-ghost use Rattle.kh_types.specs.declared.limits.TheConstants.{CROSSINGS, ARCS, COMPONENTS, CIRCLES, EXPONENT, LOOPS, INPUT_BYTES};
+ghost use Rattle.kh_types.specs.declared.limits.TheConstants.{CROSSINGS, ARCS, COMPONENTS, CIRCLES, EXPONENT, LOOPS, WORKERS, INPUT_BYTES};
 ghost use Rattle.kh_types.specs.Code.{Code};
 ghost use Rattle.kh_types.specs.declared.fault.CodeFault.TheVariants.{Components};
 ghost use Rattle.kh_types.specs.Acceptance.{accepted, first_fault};
@@ -21,6 +21,7 @@ pub fn limits()
     ensures circles { CIRCLES ≡ CROSSINGS + COMPONENTS }
     ensures exponent { EXPONENT ≡ CIRCLES + 2 * CROSSINGS }
     ensures loops { LOOPS ≡ 8 }
+    ensures workers { WORKERS ≡ 64 }
     ensures input { INPUT_BYTES ≡ 65536 }
 {}
 

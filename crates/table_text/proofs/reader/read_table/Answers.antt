@@ -18,14 +18,14 @@ pub returns-in-Ok : goal.returns-in-Ok
 returns-in-Ok c some =
     let text = c.args.text.now in
     let cut = Cut-second text (c.is_second.ensures.0 c.if-not-is_second.false)
-        ∙ ap (λ (bytes : List ℕ). version_line ++ bytes) (sym c.behind_version.ensures) in
+    ∙ ap (λ (bytes : List ℕ). version_line ++ bytes) (sym c.behind_version.ensures) in
     Cut-reading Second text c.behind_version.result.now cut (Ok c.in-Ok.table) (c.in-Ok.ensures some)
 
 pub returns-in-Err-Text : goal.returns-in-Err-Text
 returns-in-Err-Text c some =
     let text = c.args.text.now in
     let cut = Cut-second text (c.is_second.ensures.0 c.if-not-is_second.false)
-        ∙ ap (λ (bytes : List ℕ). version_line ++ bytes) (sym c.behind_version.ensures) in
+    ∙ ap (λ (bytes : List ℕ). version_line ++ bytes) (sym c.behind_version.ensures) in
     let stop = c.in-Err-Text.field-0 in
     let is : stop ≡ Text c.in-Err-Text.place = c.in-Err-Text.field-0-is in
     let lines = c.in-Err-Text.ensures (λ same. not_memory c.in-Err-Text.place (ap failed (sym is) ∙ same)) in
