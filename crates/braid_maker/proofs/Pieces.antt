@@ -12,7 +12,7 @@ use Rattle.kh_types.proofs.ClassLemmas.{classes-together}
 use Rattle.kh_types.proofs.DartPairs.{IsPairing-partner_at}
 use Rattle.kh_types.proofs.Ranges.{list_any-below, list_any-found}
 use Rattle.face_walk.proofs.OpenFaces.{piece_pairs-below, IsNamed-open_pieces}
-use Rattle.face_walk.proofs.RangeImages.{map_range-at}
+use Rattle.kh_types.proofs.RangeImages.{map_range-at}
 use Rattle.braid_maker.specs.Words.{touches, last_below, previous, closed_crossings}
 use Rattle.braid_maker.proofs.Nearest.{found, none, Last-is, IsNearest-previous, nearest-only}
 use Rattle.braid_maker.proofs.Corners.{corner_place, corner_place-crossing, length-crossings}

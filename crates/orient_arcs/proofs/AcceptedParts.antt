@@ -33,7 +33,7 @@ count-agree p q a (suc n) same =
     )
 
 -- the arcs of an over pass differ where no arc is its own next
-over-apart : (crossings : List (List ℕ)) → IsDirected crossings → HasNoSingleArcs crossings → (crossing : ℕ)
+pub over-apart : (crossings : List (List ℕ)) → IsDirected crossings → HasNoSingleArcs crossings → (crossing : ℕ)
     → IsCrossing crossings crossing → arc_in (slots_of crossings crossing) 1 ≢ arc_in (slots_of crossings crossing) 3
 over-apart crossings directed moves crossing is same =
     let slots = slots_of crossings crossing in

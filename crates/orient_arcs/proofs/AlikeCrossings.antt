@@ -23,12 +23,12 @@ use Rattle.kh_types.proofs.ClassCounts.{class_count-wider, class_count-circles, 
 use Rattle.kh_types.proofs.CircleBound.{ArcsBelow, ArcsBelow-slots, smoothings_of-below, passes_of-below}
 use Rattle.kh_types.proofs.DartPairs.{dart_at-place, dart_place-below, IsDart-at, IsDartOf-first_dart, first_dart_or_partner, partner-partner}
 use Rattle.orient_arcs.specs.Alike.{AreAlike, HasNamesBelow}
-use Rattle.orient_arcs.specs.Glue.{renamed, Places, JoinAlike}
+use Rattle.gluing.specs.Glue.{renamed, Places, JoinAlike}
 use Rattle.orient_arcs.specs.Parts.{Parts, ArePaired, passes_through}
 use Rattle.orient_arcs.specs.Renumbered.{order_of, number_in, renumber}
 use Rattle.orient_arcs.proofs.Bridge.{length-renumbered, slot-renumbered, slot-head, number-once}
 use Rattle.orient_arcs.proofs.Members.{neq-eqb}
-use Rattle.orient_arcs.proofs.Glued.{class_count-glued_parts}
+use Rattle.gluing.proofs.Glued.{class_count-glued_parts}
 use Rattle.orient_arcs.proofs.DartSmoothings.{arc_of_dart, dart_smoothings, smoothings_of-darts, dart_smoothings-below, dart_passes, passes_of-darts, dart_passes-below}
 
 pub AreAlike-back : (crossings others : List (List ℕ)) → AreAlike crossings others → AreAlike others crossings
@@ -193,7 +193,7 @@ arc_of-dart crossings dart =
     let e : dart / 4 + 1 - 1 ≡ dart / 4 = omega arith in ap (λ k. arc_in (get_or crossings k []) (dart % 4)) e
 
 -- whatever joins darts makes as many classes of names
-class_count-darts : (m n : ℕ) (crossings others : List (List ℕ)) → AreAlike crossings others → ArcsBelow m crossings
+pub class_count-darts : (m n : ℕ) (crossings others : List (List ℕ)) → AreAlike crossings others → ArcsBelow m crossings
     → ArcsBelow n others → (outer : List (ℕ × ℕ)) → AreBelow (4 * length crossings) outer
     → class_count (classes_of n (renamed (arc_of_dart others) outer)) + m
     ≡ class_count (classes_of m (renamed (arc_of_dart crossings) outer)) + n

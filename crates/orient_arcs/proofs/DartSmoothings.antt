@@ -8,7 +8,7 @@ use Rattle.kh_types.specs.Code.{arc_in}
 use Rattle.kh_types.specs.Classes.{AreBelow}
 use Rattle.kh_types.specs.Components.{passes_of}
 use Rattle.kh_types.specs.Circles.{smoothing_of, smoothings_of}
-use Rattle.orient_arcs.specs.Glue.{renamed}
+use Rattle.gluing.specs.Glue.{renamed}
 
 abbrev arc_at : List (List ℕ) → ℕ → ℕ → ℕ
 arc_at crossings place slot = arc_in (slice_index_or crossings place []) slot

@@ -7,7 +7,6 @@ pub mod PairedPasses
 pub mod Labels
 pub mod Bridge
 pub mod Ordered
-pub mod Glued
 pub mod DartSmoothings
 pub mod AlikeCrossings
 pub mod PairedCodes

@@ -4,6 +4,5 @@ pub mod Parts
 pub mod Renumbered
 pub mod Alike
 pub mod WorkedParts
-pub mod Glue
 pub mod RawParts
 pub mod Steps

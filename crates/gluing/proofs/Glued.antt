@@ -8,7 +8,7 @@ use Rattle.kh_types.specs.Classes.{merged, joined, classes_of, class_count, AreB
 use Rattle.kh_types.specs.Classes.{IsNamed}
 use Rattle.kh_types.proofs.ClassLemmas.{slice_index-joined}
 use Rattle.kh_types.proofs.JoinedClasses.{joined-together, IsNamed-joined, IsNamed-classes_of, class_count-joined}
-use Rattle.orient_arcs.specs.Glue.{renamed, Places, JoinAlike}
+use Rattle.gluing.specs.Glue.{renamed, Places, JoinAlike}
 
 pub same_or_other : (c d : ℕ) → (c ≡ d) ⊎ (c ≢ d)
 same_or_other c d = grind (arith, nat_tests)
