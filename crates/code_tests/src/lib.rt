@@ -2,6 +2,13 @@
 #![tactic(auto)]
 
 #[cfg(test)]
+mod acceptance;
+#[cfg(test)]
+mod json_texts;
+#[cfg(test)]
+mod plain_acceptance;
+#[cfg(test)]
 mod tables;
 #[cfg(test)]
 mod words;
+mod values;

@@ -4,8 +4,8 @@
 //! and a set of them is a word of bits. The class of a number grows from it until nothing more joins, and the checkerboard
 //! tries every choice of bits. The rules are this project's own, as in the definition of an accepted code.
 
-use crate::code::Crossing;
 use arrayvec::ArrayVec;
+use kh_types::Crossing;
 
 type Set = u32;
 

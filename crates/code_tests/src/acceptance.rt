@@ -1,10 +1,8 @@
-//! What no clause says: that acceptance is the one that is meant, that the calls succeed, and what known diagrams come to.
+//! What no clause says of acceptance: that acceptance is the one that is meant, that the calls succeed, and what known diagrams come to.
 
-mod plain_acceptance;
-mod values;
-
-use crate::{CodeFault, Crossing, Diagram, RawCode, Words, count_faces};
+use crate::plain_acceptance;
 use arrayvec::ArrayVec;
+use kh_types::{CodeFault, Crossing, Diagram, RawCode, Words, count_faces};
 use std::test::Fail;
 
 /// All codes of one crossing and of two over the arcs 1 to 4. How many have each of their arcs twice, and how many of these
@@ -88,7 +86,7 @@ fn known_diagrams_have_their_codes_and_signs(rt: HostRuntime) -> Result<(), Fail
 }
 
 /// No clause speaks of time. A torus link of twenty crossings is accepted; the virtual knot that the same two strands
-/// make where each runs into the other has no checkerboard, and all 1,048,576 choices are tried.
+/// make where each runs into the other has no checkerboard.
 #[test]
 fn twenty_crossings_are_not_slow(rt: HostRuntime) {
     let link = Diagram::try_new(&two_strands((1, 21)));
@@ -126,7 +124,7 @@ fn words_are_kept_in_order(rt: HostRuntime) -> Result<(), Fail> {
     Ok(())
 }
 
-fn code(arcs: &[[u8; 4]], loops: u8) -> RawCode {
+pub(crate) fn code(arcs: &[[u8; 4]], loops: u8) -> RawCode {
     let mut crossings = ArrayVec::new();
     for slots in arcs {
         let _ = crossings.try_push(Crossing(*slots));

@@ -1,8 +1,8 @@
 //! What is derived of plain values, and the bits of numbers, by rows.
 
-use crate::tests::code;
-use crate::{CodeFault, Crossing, Dart, Diagram, FaceCount, bit, ones};
+use crate::acceptance::code;
 use arrayvec::ArrayVec;
+use kh_types::{CodeFault, Crossing, Dart, Diagram, FaceCount, bit, ones};
 use std::process::Abort;
 use std::test::Fail;
 

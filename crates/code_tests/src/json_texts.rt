@@ -1,7 +1,6 @@
-//! That texts are answered where there is memory, which no clause says; and which bytes the kit takes for JSON.
+//! JSON texts: that they are answered where there is memory, which no clause says; and which bytes the kit takes for JSON.
 
-use crate::reader::read_json;
-use crate::stop::JsonStop;
+use json_code::{JsonStop, read_json};
 use kh_types::{CROSSINGS, Crossing, INPUT_BYTES, RawCode};
 use std::alloc::{AllocError, Global};
 use std::process::Abort;
