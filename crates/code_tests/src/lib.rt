@@ -12,3 +12,5 @@ mod tables;
 #[cfg(test)]
 mod words;
 mod values;
+mod components;
+mod faces;
