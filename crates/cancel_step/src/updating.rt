@@ -6,7 +6,7 @@ ghost use Rattle.cancel_step.specs.Copies.{WasPatched};
 ghost use Rattle.cancel_step.specs.Lines.{AreLines, entries_at, line_cleared};
 ghost use Rattle.cancel_step.specs.Updates.{IsAlone};
 
-use crate::copied_lines::CopiedLines;
+use crate::copied_lines::SomeLines;
 use crate::merging::merge;
 use crate::patched::Update;
 use crate::reading::value_at;
@@ -40,7 +40,7 @@ pub fn patch<F: PrimeField>(alloc: Global, look: Look<F>) -> Result<Patch<F>, No
 fn is_alone<F: PrimeField>(look: &Look<F>) -> bool
     ensures { result ≡ true → IsAlone look.now }
 {
-    look.columns.len() == 1 || look.rows.len() == 1
+    look.columns().len() == 1 || look.rows().len() == 1
 }
 
 /// The columns and rows that were copied, as they are after the cancellation.
@@ -51,15 +51,15 @@ fn updated<F: PrimeField>(alloc: Global, look: &Look<F>) -> Result<Update, NoMem
     element_laws::<F>();
     let pivot = look.pivot;
     let mut scratch = Vec::with_capacity(alloc, USUAL_ENTRIES)?;
-    let columns = lines_cleared::<F>(&mut scratch, &look.columns, pivot.column, pivot.row)?;
-    let rows = lines_cleared::<F>(&mut scratch, &look.rows, pivot.row, pivot.column)?;
+    let columns = lines_cleared::<F>(&mut scratch, &look.columns(), pivot.column, pivot.row)?;
+    let rows = lines_cleared::<F>(&mut scratch, &look.rows(), pivot.row, pivot.column)?;
     Ok(Update { columns, rows })
 }
 
 /// Takes from each line the multiple of the pivot's line that clears the place across.
 fn lines_cleared<F: PrimeField>(
     scratch: &mut Vec<Entry>,
-    lines: &CopiedLines,
+    lines: &SomeLines<'_>,
     own: u32,
     across: u32,
 ) -> Result<Vec<Line>, NoMemory>
@@ -85,7 +85,7 @@ fn lines_cleared<F: PrimeField>(
 }
 
 /// The entries of the line with a place; none where no line has it.
-fn line_at(lines: &CopiedLines, place: u32) -> &[Entry]
+fn line_at<'a>(lines: &'a SomeLines<'_>, place: u32) -> &'a [Entry]
     ensures { result.now ≡ entries_at lines.now place }
 {
     'lines: for k in 0..lines.len() {

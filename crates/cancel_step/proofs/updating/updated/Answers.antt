@@ -14,8 +14,10 @@ lines_cleared-requires-clause-entries g c =
     let was = c.look.invariant in
     let pivot = c.look.inside.pivot in
     let size = place_count was.complex (pivot.degree +ℤ pos 1) in
-    let are : AreLines p size c.look.inside.columns =
-    subst (AreLines p size) (sym (ap (λ (parts : Copied). parts.columns) was.are_copied))
+    let are : AreLines p size c.columns.result =
+    subst (AreLines p size)
+    (sym (c.columns.ensures ∙ sym (ap (λ (parts : Copied). parts.columns) c.look.view_is)
+    ∙ ap (λ (parts : Copied). parts.columns) was.are_copied))
     (columns-lines p was.complex pivot was.is_complex) in
     (size, are)
 
@@ -24,7 +26,9 @@ lines_cleared-requires-clause-pivot g c =
     let p = g.F.PrimeField.P in
     let was = c.look.invariant in
     let pivot = c.look.inside.pivot in
-    let are = ap (λ (parts : Copied). parts.columns) was.are_copied in
+    let are =
+    c.columns.ensures ∙ sym (ap (λ (parts : Copied). parts.columns) c.look.view_is)
+    ∙ ap (λ (parts : Copied). parts.columns) was.are_copied in
     subst₂ (λ (pivot : Pivot) (lines : List PlacedLine). value_at (entries_at lines pivot.column) pivot.row ≢ 0) (sym c.pivot.view_is)
     (sym are) (pivot-in_column p was.complex pivot was.is_complex was.is_pivot)
 
@@ -34,8 +38,10 @@ lines_cleared-requires-2-clause-entries g c =
     let was = c.look.invariant in
     let pivot = c.look.inside.pivot in
     let size = place_count was.complex pivot.degree in
-    let are : AreLines p size c.look.inside.rows =
-    subst (AreLines p size) (sym (ap (λ (parts : Copied). parts.rows) was.are_copied))
+    let are : AreLines p size c.rows.result =
+    subst (AreLines p size)
+    (sym (c.rows.ensures ∙ sym (ap (λ (parts : Copied). parts.rows) c.look.view_is)
+    ∙ ap (λ (parts : Copied). parts.rows) was.are_copied))
     (rows-lines p was.complex pivot was.is_complex) in
     (size, are)
 
@@ -44,7 +50,9 @@ lines_cleared-requires-2-clause-pivot g c =
     let p = g.F.PrimeField.P in
     let was = c.look.invariant in
     let pivot = c.look.inside.pivot in
-    let are = ap (λ (parts : Copied). parts.rows) was.are_copied in
+    let are =
+    c.rows.ensures ∙ sym (ap (λ (parts : Copied). parts.rows) c.look.view_is)
+    ∙ ap (λ (parts : Copied). parts.rows) was.are_copied in
     subst₂ (λ (pivot : Pivot) (lines : List PlacedLine). value_at (entries_at lines pivot.row) pivot.column ≢ 0) (sym c.pivot.view_is)
     (sym are) (pivot-in_row p was.complex pivot was.is_complex was.is_pivot)
 
@@ -54,7 +62,9 @@ returns g c =
     let was = c.look.invariant in
     let pivot = c.look.inside.pivot in
     let columns_size = place_count was.complex (pivot.degree +ℤ pos 1) in
-    let columns_are = ap (λ (parts : Copied). parts.columns) was.are_copied in
+    let columns_are =
+    c.columns.ensures ∙ sym (ap (λ (parts : Copied). parts.columns) c.look.view_is)
+    ∙ ap (λ (parts : Copied). parts.columns) was.are_copied in
     let columns_lines = columns-lines p was.complex pivot was.is_complex in
     let made = c.in_ok-columns.columns.items in
     let are_columns : made ≡ columns_across was.complex pivot (cancel p was.complex pivot) =
@@ -65,7 +75,9 @@ returns g c =
     (c.in_ok-columns.ensures columns_size (subst (AreLines p columns_size) (sym columns_are) columns_lines))
     ∙ columns-cleared p was.complex pivot was.is_complex was.is_pivot c.element_laws.ensures.field columns_size columns_lines in
     let rows_size = place_count was.complex pivot.degree in
-    let rows_are = ap (λ (parts : Copied). parts.rows) was.are_copied in
+    let rows_are =
+    c.rows.ensures ∙ sym (ap (λ (parts : Copied). parts.rows) c.look.view_is)
+    ∙ ap (λ (parts : Copied). parts.rows) was.are_copied in
     let rows_lines = rows-lines p was.complex pivot was.is_complex in
     let made_rows = c.in_ok-rows.rows.items in
     let are_rows : made_rows ≡ rows_across was.complex pivot (cancel p was.complex pivot) =
