@@ -17,5 +17,4 @@ pub mod ChangedLemmas
 pub mod SameLemmas
 pub mod FinishLemmas
 pub mod AcrossLemmas
-pub mod SquareLemmas
 pub mod SpanLemmas

@@ -7,4 +7,3 @@ pub mod Lines
 pub mod Merging
 pub mod Spans
 pub mod Updates
-pub mod Squares

@@ -13,8 +13,6 @@ mod patched;
 mod pivot;
 mod reading;
 mod search;
-#[cfg(test)]
-mod tests;
 mod updating;
 
 pub use applying::{apply, apply_fitting, cancel_in_place};

@@ -1,2 +1,7 @@
 //! Tests of codes and their texts: what no clause says of readers, printers, acceptance, components and faces.
 #![tactic(auto)]
+
+#[cfg(test)]
+mod tables;
+#[cfg(test)]
+mod words;

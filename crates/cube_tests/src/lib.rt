@@ -1,2 +1,9 @@
 //! Tests of the cube: what no clause says of circles, blocks, cancellations, workers, tables and polynomials.
 #![tactic(auto)]
+
+#[cfg(test)]
+mod cancellations;
+#[cfg(test)]
+mod homology_tables;
+#[cfg(test)]
+mod sparse_complexes;

@@ -1,8 +1,3 @@
-pub mod RangeImages
-pub mod Cycles
-pub mod Paths
-pub mod CutCycles
-pub mod Exchanges
 pub mod OpenFaces
 pub mod NumberLemmas
 pub mod FaceLemmas
@@ -13,3 +8,6 @@ pub mod BareCrossings
 pub mod PlanarArcs
 pub mod PartArcs
 pub mod FewFaces
+pub mod PlainCounts
+pub mod Cover
+pub mod Board

@@ -11,13 +11,13 @@ use Rattle.kh_types.specs.Code.{arc_count, arcs, IsArc}
 use Rattle.kh_types.specs.Components.{first_arcs, next}
 use Rattle.kh_types.proofs.Ranges.{find-map, range-append}
 use Rattle.kh_types.proofs.NextArcs.{component, HasPlace-directed}
-use Rattle.gauss_code.specs.Passes.{Pass, all_passes, no_pass, pass_at, pass_of, passes_from}
-use Rattle.gauss_code.specs.Printing.{component_labels, label_of, labels_of_code}
-use Rattle.gauss_code.proofs.ArcLabels.{IsOriented, label_of-once}
+use Rattle.code_passes.specs.Passes.{Pass, all_passes, no_pass, pass_at, pass_of, passes_from}
+use Rattle.code_passes.specs.ComponentLabels.{component_labels, label_of, labels_of_code}
+use Rattle.code_passes.proofs.ArcLabels.{IsOriented, label_of-once}
 use Rattle.gauss_code.proofs.Bodies.{HasLabel}
-use Rattle.gauss_code.proofs.CutArcs.{Cut, Cut-first_arcs, IsFirst, component-in, end-within, size, size-positive}
-use Rattle.gauss_code.proofs.Searches.{find-first, other_int, same_int}
-use Rattle.gauss_code.proofs.TwoArcComponents.{turned-component}
+use Rattle.code_passes.proofs.CutArcs.{Cut, Cut-first_arcs, IsFirst, component-in, end-within, size, size-positive}
+use Rattle.code_passes.proofs.Searches.{find-first, other_int, same_int}
+use Rattle.code_passes.proofs.TwoArcComponents.{turned-component}
 
 -- the pass that an arc enters
 abbrev pub pass_on : List (List ℕ) → ℕ → Pass

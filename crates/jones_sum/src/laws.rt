@@ -12,7 +12,7 @@ ghost use Rattle.kh_types.specs.WorkedCodes.{trefoil};
 ghost use Rattle.circle_smoothing.specs.declared.limits.TheConstants.{GENERATORS};
 ghost use Rattle.circle_smoothing.specs.GeneratorCounts.{generator_count};
 ghost use Rattle.jones_sum.specs.Coefficients.{coefficients_of, coefficient_in};
-ghost use Rattle.jones_sum.specs.Binomials.{binomial};
+ghost use Rattle.circle_smoothing.specs.Binomials.{binomial};
 ghost use Rattle.jones_sum.specs.Tables.{IsTable, dim_at, total_of};
 ghost use Rattle.jones_sum.specs.WorkedTables.{trefoil_table};
 

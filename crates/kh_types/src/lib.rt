@@ -24,6 +24,6 @@ pub use dart::{Dart, dart_at, dart_place, turned};
 pub use diagram::Diagram;
 pub use face_count::{FaceCount, count_faces};
 pub use fault::CodeFault;
-pub use limits::{ARCS, CIRCLES, COMPONENTS, CROSSINGS, EXPONENT, INPUT_BYTES, LOOPS};
+pub use limits::{ARCS, CIRCLES, COMPONENTS, CROSSINGS, EXPONENT, INPUT_BYTES, LOOPS, WORKERS};
 pub use memory::NoMemory;
 pub use words::Words;

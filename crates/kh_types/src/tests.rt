@@ -31,11 +31,11 @@ fn accepts_what_the_plain_acceptance_accepts(rt: HostRuntime) {
 
 /// No text reaches this fault: the loops of a text are fewer.
 #[test]
-fn loops_alone_are_accepted_up_to_twenty_four(rt: HostRuntime) {
+fn loops_alone_are_accepted_up_to_twenty_eight(rt: HostRuntime) {
     for loops in 0..=255 {
         let fault = Diagram::try_new(&code(&[], loops)).err();
         let count = u16::from(loops);
-        let wanted = (loops > 24).then_some(CodeFault::Components { count });
+        let wanted = (loops > 28).then_some(CodeFault::Components { count });
         assert_eq!(rt; fault, wanted, "{loops}");
     }
 }
@@ -87,13 +87,13 @@ fn known_diagrams_have_their_codes_and_signs(rt: HostRuntime) -> Result<(), Fail
     Ok(())
 }
 
-/// No clause speaks of time. A torus link of sixteen crossings is accepted; the virtual knot that the same two strands
-/// make where each runs into the other has no checkerboard, and all 65,536 choices are tried.
+/// No clause speaks of time. A torus link of twenty crossings is accepted; the virtual knot that the same two strands
+/// make where each runs into the other has no checkerboard, and all 1,048,576 choices are tried.
 #[test]
-fn sixteen_crossings_are_not_slow(rt: HostRuntime) {
-    let link = Diagram::try_new(&two_strands((1, 17)));
-    assert_eq!(rt; link.map(|diagram| diagram.plus()), Ok(16));
-    let fault = Diagram::try_new(&two_strands((17, 1))).err();
+fn twenty_crossings_are_not_slow(rt: HostRuntime) {
+    let link = Diagram::try_new(&two_strands((1, 21)));
+    assert_eq!(rt; link.map(|diagram| diagram.plus()), Ok(20));
+    let fault = Diagram::try_new(&two_strands((21, 1))).err();
     assert!(rt; matches!(fault, Some(CodeFault::Checkerboard { .. })));
 }
 
@@ -134,13 +134,13 @@ fn code(arcs: &[[u8; 4]], loops: u8) -> RawCode {
     RawCode { crossings, loops }
 }
 
-// Two strands that cross sixteen times, each under and over in turn. They begin with the arcs 1 and 17, and run into the arcs
+// Two strands that cross twenty times, each under and over in turn. They begin with the arcs 1 and 21, and run into the arcs
 // that are given.
 fn two_strands(ends: (u8, u8)) -> RawCode {
     let mut crossings = ArrayVec::new();
-    for turn in 0..16u8 {
-        let (first, second) = (turn + 1, turn + 17);
-        let (after_first, after_second) = if turn < 15 {
+    for turn in 0..20u8 {
+        let (first, second) = (turn + 1, turn + 21);
+        let (after_first, after_second) = if turn < 19 {
             (first + 1, second + 1)
         } else {
             ends

@@ -46,7 +46,7 @@ impl Model for Components {
 
 impl Components {
     /// The components of a diagram.
-    #[tactic(auto, using(crate::proofs::ComponentLemmas::components_size))]
+    #[tactic(auto, using(code_passes::proofs::LeastArcs::components_size))]
     pub(crate) fn of_diagram(diagram: &Diagram) -> Components
         ensures { result ≡ diagram.now }
     {

@@ -1,8 +1,10 @@
+pub mod FieldInverses
 pub mod AscendingLemmas
 pub mod EntryLemmas
 pub mod RemovalLemmas
 pub mod MatrixLemmas
 pub mod LineLemmas
+pub mod FilledLines
 pub mod ClearingLemmas
 pub mod ClearedLists
 pub mod DegreeLemmas

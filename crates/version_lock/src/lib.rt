@@ -4,6 +4,7 @@
 
 mod commit_seen;
 mod held;
+pub mod laws;
 mod rule;
 mod steps;
 #[cfg(test)]

@@ -3,3 +3,4 @@ mod Zips
 mod RowLemmas
 mod SlotLemmas
 mod BlockLemmas
+mod DoneLemmas

@@ -7,14 +7,15 @@ use Rattle.std.proofs.lemmas.List.Elements.{All-set}
 use Rattle.kh_types.specs.Code.{Code}
 use Rattle.cube_signs.specs.Blocks.{block_degrees}
 use Rattle.shared_block.specs.BlockHistories.{BlockHistory, block_with}
+use Rattle.worker_pool.specs.Outcomes.{AreDegreesOf}
 use Rattle.worker_pool.specs.Slots.{AreEmpty, AreSlotsOf, IsSlotOf}
 use Rattle.worker_pool.proofs.Zips.{zip_at, zip_set}
 
 -- a degree that is read at one place is one of the diagram's
-pub contains_at : (code : Code) (degrees : List ℤ) (place : ℕ) (kept : ℤ) → degrees ≡ block_degrees code → place < length degrees
+pub contains_at : (code : Code) (degrees : List ℤ) (place : ℕ) (kept : ℤ) → AreDegreesOf code degrees → place < length degrees
     → kept ≡ get_or degrees place (pos 0) → Contains (block_degrees code) kept
 contains_at code degrees place kept all lt e =
-    subst (λ js. Contains js kept) all (place, lt, get_or_default degrees place kept (pos 0) lt ∙ sym e)
+    subst (λ j. Contains (block_degrees code) j) (sym e) (all place (pos 0) lt)
 
 -- the block in a slot
 pub slot_there : (code : Code) (degrees : List ℤ) (slots : List (Option BlockHistory)) (place : ℕ) (held : BlockHistory) → AreSlotsOf code degrees slots

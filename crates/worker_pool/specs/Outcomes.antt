@@ -1,7 +1,10 @@
 -- What the cancellation of all blocks of a diagram comes to (this project's rule).
-use Rattle.std.specs.Prelude.{◌≡◌, ℕ, ℤ, Result, Ok, Err}
+use Rattle.std.specs.Prelude.{◌≡◌, ℕ, ◌≤◌, ℤ, List, length, map, All, Result, Ok, Err}
+use Rattle.std.specs.List.{AllZip, Contains}
 use Rattle.kh_types.specs.Code.{Code}
+use Rattle.cube_signs.specs.Blocks.{block_degrees}
 use Rattle.shared_block.specs.BlockHistories.{BlockHistory}
+use Rattle.shared_block.specs.AllBlocks.{IsFinished}
 use Rattle.worker_pool.specs.declared.outcome.PoolStop.{PoolStop}
 use Rattle.worker_pool.specs.declared.outcome.PoolStop.TheVariants.{SizeLimit, NoMemory}
 
@@ -28,3 +31,20 @@ TellsCount count (Err NoMemory) = Unit {0}
 -- which block it is: that of this diagram at this quantum degree
 abbrev pub origin_of : BlockHistory → Code × ℤ
 origin_of held = (held.diagram, held.degree)
+
+-- each is a quantum degree that has a generator
+abbrev pub AreDegreesOf : Code → List ℤ → Type 0
+AreDegreesOf code degrees = All (Contains (block_degrees code)) degrees
+
+-- blocks are those of a diagram at some quantum degrees, in their order, whatever was cancelled in them
+abbrev pub AreBlocksAt : Code → List ℤ → List BlockHistory → Type 0
+AreBlocksAt code degrees blocks = map origin_of blocks ≡ map (λ j. (code, j)) degrees
+
+-- for each block so many pivots, the first of its history, are by workers
+abbrev pub HasCommitted : BlockHistory → ℕ → Type 0
+HasCommitted held count = count ≤ length held.history
+
+-- each block is cancelled to zero, and for each it is told how many of its pivots are by workers
+pub record AreDone (p : ℕ) (blocks : List BlockHistory) (committed : List ℕ) : Type 0 where
+  pub zero : All (IsFinished p) blocks
+  pub counts : AllZip HasCommitted blocks committed

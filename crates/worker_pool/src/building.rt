@@ -1,18 +1,15 @@
-//! How workers build the blocks of a diagram: each takes the next quantum degree that nobody has
+//! How workers build blocks of a diagram: each takes the next quantum degree that nobody has
 //! begun, the middle ones first, since their blocks are the largest.
 
 ghost use Rattle.std.specs.Prelude.{◌≡◌, ◌<◌, ◌≤◌, [], All, IfOk, None, length, map, pos};
 ghost use Rattle.std.specs.Prelude.{slice_index_or, slice_set};
-ghost use Rattle.circle_smoothing.specs.GeneratorCounts.{generator_count};
-ghost use Rattle.circle_smoothing.specs.declared.limits.TheConstants.{GENERATORS};
-ghost use Rattle.cube_signs.specs.Blocks.{block_degrees};
-ghost use Rattle.homology_table.specs.AllBlocks.{opening_blocks};
 ghost use Rattle.shared_block.specs.BlockHistories.{block_with};
-ghost use Rattle.worker_pool.specs.Slots.{AreEmpty, AreSlotsOf};
+ghost use Rattle.worker_pool.specs.Outcomes.{AreDegreesOf};
+ghost use Rattle.worker_pool.specs.Slots.{AreEmpty, AreSlotsOf, steps_from_middle};
 
 use crate::sharing::next_place;
 use cube_signs::Cube;
-use kh_types::{Diagram, NoMemory};
+use kh_types::NoMemory;
 use prime_field::PrimeField;
 use shared_block::SharedBlock;
 use std::alloc::Global;
@@ -23,30 +20,15 @@ use std::thread::Threads;
 /// A slot for each block that a worker may build.
 type Slots<F> = Vec<Option<SharedBlock<F>>>;
 
-/// The blocks of a diagram before any cancellation, built by at most so many threads.
-pub(crate) fn built_blocks<R: Threads + Sync, F: PrimeField + Send + Sync>(
-    rt: &R,
-    alloc: Global,
-    diagram: &Diagram,
-    threads: usize,
-) -> Result<Vec<SharedBlock<F>>, NoMemory>
-    requires { generator_count diagram.now ≤ GENERATORS }
-    ensures { IfOk result (λ blocks. blocks.items ≡ opening_blocks diagram.now) }
-{
-    let cube = Cube::new(alloc, diagram)?;
-    let degrees = cube.block_degrees(alloc)?;
-    blocks_at(rt, alloc, &cube, &degrees, threads)
-}
-
-/// The blocks at all degrees.
-fn blocks_at<R: Threads + Sync, F: PrimeField + Send + Sync>(
+/// The blocks at some quantum degrees before any cancellation, built by at most so many threads.
+pub(crate) fn blocks_at<R: Threads + Sync, F: PrimeField + Send + Sync>(
     rt: &R,
     alloc: Global,
     cube: &Cube,
     degrees: &[i16],
     threads: usize,
 ) -> Result<Vec<SharedBlock<F>>, NoMemory>
-    requires { degrees.now ≡ block_degrees cube.now }
+    requires { AreDegreesOf cube.now degrees.now }
     ensures { IfOk result (λ blocks.
         blocks.items ≡ map (λ j. block_with cube.now j []) degrees.now) }
 {
@@ -69,11 +51,13 @@ fn middle_first(alloc: Global, count: usize) -> Result<Vec<usize>, NoMemory> {
 /// The place that is so many steps from the middle of a list, first to the right.
 fn from_middle(count: usize, step: usize) -> usize
     requires { step < count }
+    ensures within { result < count }
+    ensures step { steps_from_middle count result ≡ step }
 {
     if step % 2 == 0 {
         count / 2 + step / 2
     } else {
-        (count / 2).saturating_sub(step / 2 + 1)
+        count / 2 - (step / 2 + 1)
     }
 }
 
@@ -112,7 +96,7 @@ fn build_rows<R: Threads + Sync, F: PrimeField + Send + Sync>(
     order: &[usize],
     rows: &mut [Slots<F>],
 )
-    requires degrees { degrees.now ≡ block_degrees cube.now }
+    requires degrees { AreDegreesOf cube.now degrees.now }
     requires rows { All (λ row. AreSlotsOf cube.now degrees.now row.items) rows.old }
     ensures { All (λ row. AreSlotsOf cube.now degrees.now row.items) rows.new }
 {
@@ -126,7 +110,7 @@ fn build_rows<R: Threads + Sync, F: PrimeField + Send + Sync>(
         rows,
         threads,
         &|_: usize, row: &mut Slots<F>|
-            requires { (degrees.now ≡ block_degrees cube.now) ×
+            requires { (AreDegreesOf cube.now degrees.now) ×
                 AreSlotsOf cube.now degrees.now row.now.items }
             ensures { AreSlotsOf cube.entry.now degrees.entry.now row.exit.now.items }
         { build_row(alloc, cube, degrees, order, &begun, row.as_mut_slice()) },
@@ -142,7 +126,7 @@ fn build_row<F: PrimeField>(
     begun: &AtomicU64,
     slots: &mut [Option<SharedBlock<F>>],
 )
-    requires degrees { degrees.now ≡ block_degrees cube.now }
+    requires degrees { AreDegreesOf cube.now degrees.now }
     requires slots { AreSlotsOf cube.now degrees.now slots.old }
     ensures { AreSlotsOf cube.now degrees.now slots.new }
 {
@@ -162,7 +146,7 @@ fn build_at<F: PrimeField>(
     slots: &mut [Option<SharedBlock<F>>],
     place: usize,
 )
-    requires degrees { degrees.now ≡ block_degrees cube.now }
+    requires degrees { AreDegreesOf cube.now degrees.now }
     requires slots { AreSlotsOf cube.now degrees.now slots.old }
     ensures { AreSlotsOf cube.now degrees.now slots.new }
 {
@@ -172,13 +156,13 @@ fn build_at<F: PrimeField>(
 }
 
 /// The block at one place.
-fn build_one<F: PrimeField>(
+pub(crate) fn build_one<F: PrimeField>(
     alloc: Global,
     cube: &Cube,
     degrees: &[i16],
     place: usize,
 ) -> Result<SharedBlock<F>, NoMemory>
-    requires degrees { degrees.now ≡ block_degrees cube.now }
+    requires degrees { AreDegreesOf cube.now degrees.now }
     requires place { place < length degrees.now }
     ensures { IfOk result (λ held.
         held ≡ block_with cube.now (slice_index_or degrees.now place (pos 0)) []) }
@@ -193,7 +177,7 @@ fn picked<F: PrimeField>(
     degrees: &[i16],
     rows: &mut [Slots<F>],
 ) -> Result<Vec<SharedBlock<F>>, NoMemory>
-    requires degrees { degrees.now ≡ block_degrees cube.now }
+    requires degrees { AreDegreesOf cube.now degrees.now }
     requires rows { All (λ row. AreSlotsOf cube.now degrees.now row.items) rows.old }
     ensures { IfOk result (λ blocks.
         blocks.items ≡ map (λ j. block_with cube.now j []) degrees.now) }
@@ -213,7 +197,7 @@ fn block_at<F: PrimeField>(
     rows: &mut [Slots<F>],
     place: usize,
 ) -> Result<SharedBlock<F>, NoMemory>
-    requires degrees { degrees.now ≡ block_degrees cube.now }
+    requires degrees { AreDegreesOf cube.now degrees.now }
     requires place { place < length degrees.now }
     requires rows { All (λ row. AreSlotsOf cube.now degrees.now row.items) rows.old }
     ensures rows { All (λ row. AreSlotsOf cube.now degrees.now row.items) rows.new }

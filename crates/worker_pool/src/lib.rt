@@ -3,14 +3,17 @@
 
 mod building;
 mod cancelling;
+mod finished;
 mod gate;
 mod one_seat;
 mod outcome;
 mod rows;
 mod sharing;
+mod sizes;
 #[cfg(test)]
 mod tests;
 mod turns;
+mod waves;
 
 pub use cancelling::{cancel_all, cancel_alone};
 pub use gate::{Free, Gate};

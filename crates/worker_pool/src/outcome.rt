@@ -10,18 +10,20 @@ use prime_field::PrimeField;
 use shared_block::SharedBlock;
 
 /// The homology table of a diagram, and the blocks that it was read from: one for each quantum
-/// degree that has a generator, ascending, each cancelled to zero by the history that it has.
+/// degree that has a generator, ascending, each cancelled to zero by the history that it has; and
+/// for each block how many of its pivots, the first ones, workers committed.
 #[derive(Drop)]
 pub struct Cancelled<F: PrimeField> {
     pub table: Table,
     pub blocks: Vec<SharedBlock<F>>,
+    pub committed: Vec<u64>,
 }
 
 /// Why blocks were not cancelled.
 #[derive(Clone, Copy, Debug, PartialEq, Eq)]
 pub enum PoolStop {
     /// There are `generators`, which are more than `GENERATORS`.
-    SizeLimit { generators: u64 },
+    SizeLimit { generators: u128 },
     /// Out of memory, whatever the diagram is.
     NoMemory,
 }

@@ -1,5 +1,5 @@
 //! Many locks, with a row of seats for the caller and one for each worker. Values are locked in the
-//! order from the last to the first, and taken back in their own.
+//! order from the last to the first, so that they are taken back in their own.
 
 ghost use Rattle.std.specs.Prelude.{◌≡◌, ◌+◌, ◌<◌, ◌^◌, ◌++◌, ◌∷◌, [], length, map, reverse};
 ghost use Rattle.std.specs.Prelude.{All, IfNone, IfOk, IfSome, OnOk};
@@ -109,21 +109,8 @@ fn deal_one<B: Held>(
     Ok(rest)
 }
 
-/// The values of all locks, in their own order, which is the order of the locks turned round.
-pub(crate) fn closed<B: Held>(alloc: Global, mut pool: Pool<B>) -> Result<Vec<B>, NoMemory>
-    requires { AreSeated pool.locks.items pool.kept.items pool.rows.items }
-    ensures { IfOk result (λ values.
-        map B.origin values.items ≡ reverse (map (λ lock. lock.origin) pool.locks.items)) }
-{
-    let mut values = Vec::with_capacity(alloc, pool.locks.len())?;
-    'locks: while let Some(value) = take_last(&mut pool) {
-        values.push(value)?;
-    }
-    Ok(values)
-}
-
 /// Takes the value out of the last lock, which each row loses its seat at.
-fn take_last<B: Held>(pool: &mut Pool<B>) -> Option<B>
+pub(crate) fn take_last<B: Held>(pool: &mut Pool<B>) -> Option<B>
     requires { AreSeated pool.old.locks.items pool.old.kept.items pool.old.rows.items }
     ensures seated { AreSeated pool.new.locks.items pool.new.kept.items pool.new.rows.items }
     ensures none { IfNone result (pool.old.locks.items ≡ []) }

@@ -5,6 +5,7 @@ ghost use mathlib.Core.List.{IsPrefix};
 ghost use Rattle.kh_types.specs.Complex.{is_zero};
 ghost use Rattle.shared_block.specs.BlockHistories.{block_with, complex_of};
 ghost use Rattle.version_lock.specs.Calls.{IsSeatOf};
+ghost use Rattle.worker_pool.specs.declared.turns.TheConstants.{LONGEST_PAUSE};
 
 use crate::gate::Gate;
 use kh_types::NoMemory;
@@ -61,7 +62,10 @@ pub fn work<R: Wait, F: PrimeField + Send, G: Gate>(
 
 /// Lets others go first after a stale commit: sleeps for so many microseconds, and answers how many
 /// it will be after the next. They are twice as many after each one in a row.
-fn paused<R: Wait>(rt: &R, seen: CommitSeen, pause: u64) -> u64 {
+fn paused<R: Wait>(rt: &R, seen: CommitSeen, pause: u64) -> u64
+    requires { pause ≤ LONGEST_PAUSE }
+    ensures { result ≤ LONGEST_PAUSE }
+{
     match seen {
         CommitSeen::Committed { version: _ } => FIRST_PAUSE,
         CommitSeen::Stale { looked: _, now: _ } => {

@@ -122,6 +122,6 @@ fn faults() -> [CodeFault; 14] {
             faces: 1,
             wanted: 5,
         },
-        CodeFault::Components { count: 25 },
+        CodeFault::Components { count: 29 },
     ]
 }

@@ -1,12 +1,11 @@
 use Rattle.std.proofs.Common.{sym, subst}
-use Rattle.homology_table.specs.AllBlocks.{AreBlocksOf}
-use Rattle.homology_table.proofs.AllBlocks.{AreBlocksOf-later}
+use Rattle.shared_block.specs.AllBlocks.{AreBlocksOf}
+use Rattle.worker_pool.proofs.DoneLemmas.{blocks_all}
 use Rattle.worker_pool.proofs.cancelling.with_table.Goals as goal
 
 pub table_of-requires-clause-blocks : goal.table_of-requires-clause-blocks
 table_of-requires-clause-blocks g c =
-    subst (AreBlocksOf c.args.diagram.now) (sym c.deref.ensures.value)
-    (AreBlocksOf-later c.args.diagram.now c.args.blocks.items c.in_ok-blocks.blocks.items c.in_ok-blocks.ensures.kept c.requires.blocks)
+    subst (AreBlocksOf c.args.diagram.now) (sym c.deref.ensures.value) (blocks_all c.args.diagram.now c.args.done.blocks.items c.requires.blocks)
 
 pub returns-clause-blocks : goal.returns-clause-blocks
-returns-clause-blocks g c = AreBlocksOf-later c.args.diagram.now c.args.blocks.items c.in_ok-blocks.blocks.items c.in_ok-blocks.ensures.kept c.requires.blocks
+returns-clause-blocks g c = blocks_all c.args.diagram.now c.args.done.blocks.items c.requires.blocks

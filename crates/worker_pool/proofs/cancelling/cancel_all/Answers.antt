@@ -1,0 +1,7 @@
+use Rattle.std.proofs.Common.{◌∙◌}
+use Rattle.worker_pool.proofs.DoneLemmas.{degrees_all}
+use Rattle.worker_pool.proofs.cancelling.cancel_all.Goals as goal
+
+pub finished_in_waves-requires-clause-degrees : goal.finished_in_waves-requires-clause-degrees
+finished_in_waves-requires-clause-degrees g c κs within =
+    degrees_all c.in_ok-cube.cube c.deref.result.now (c.deref.ensures.value ∙ c.in_ok-degrees.ensures)

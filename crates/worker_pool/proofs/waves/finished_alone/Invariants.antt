@@ -1,0 +1,6 @@
+use Rattle.std.proofs.Common.{◌≡◌, take}
+use Rattle.worker_pool.specs.Outcomes.{AreBlocksAt, AreDone}
+use Rattle.worker_pool.proofs.waves.finished_alone.Given as goal
+
+abbrev pub invariant-places : goal.invariant-places
+invariant-places g l = AreBlocksAt l.cube (take l.k l.degrees) l.done.blocks.items × AreDone g.F.PrimeField.P l.done.blocks.items l.done.committed.items
