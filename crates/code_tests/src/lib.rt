@@ -4,13 +4,16 @@
 #[cfg(test)]
 mod acceptance;
 #[cfg(test)]
+mod components;
+#[cfg(test)]
+mod faces;
+#[cfg(test)]
 mod json_texts;
 #[cfg(test)]
 mod plain_acceptance;
 #[cfg(test)]
 mod tables;
 #[cfg(test)]
-mod words;
 mod values;
-mod components;
-mod faces;
+#[cfg(test)]
+mod words;
