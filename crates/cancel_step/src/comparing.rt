@@ -9,7 +9,7 @@ ghost use Rattle.cancel_step.specs.Lines.{AreLines};
 
 use crate::Look;
 use crate::copied_lines::SomeLines;
-use crate::merging::first_difference;
+use crate::line_pairs::first_difference;
 use crate::reading::{column_at, row_at};
 use prime_field::PrimeField;
 use sparse_block::{Complex, Entry, complex_laws};

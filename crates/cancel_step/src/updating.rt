@@ -3,11 +3,11 @@
 ghost use Rattle.std.specs.Prelude.{◌≡◌, ◌≢◌, ℕ, map, true, IfOk};
 ghost use Rattle.sparse_block.specs.Entries.{value_at};
 ghost use Rattle.cancel_step.specs.Copies.{WasPatched};
-ghost use Rattle.cancel_step.specs.Lines.{AreLines, entries_at, line_cleared};
+ghost use Rattle.cancel_step.specs.Lines.{AreLines, entries_with, line_cleared};
 ghost use Rattle.cancel_step.specs.Updates.{IsAlone};
 
 use crate::copied_lines::SomeLines;
-use crate::merging::merge;
+use crate::line_pairs::subtract_into;
 use crate::patched::Update;
 use crate::reading::value_at;
 use crate::{Look, Patch};
@@ -64,10 +64,10 @@ fn lines_cleared<F: PrimeField>(
     across: u32,
 ) -> Result<Vec<Line>, NoMemory>
     requires entries { (size : ℕ) × AreLines F.P size lines.now }
-    requires pivot { value_at (entries_at lines.now own) across ≢ 0 }
+    requires pivot { value_at (entries_with lines.now own) across ≢ 0 }
     ensures { IfOk result (λ made. (size : ℕ)
         → AreLines F.P size lines.now → made.items
-        ≡ map (line_cleared F.P size (entries_at lines.now own) across) lines.now) }
+        ≡ map (line_cleared F.P size (entries_with lines.now own) across) lines.now) }
 {
     element_laws::<F>();
     let alloc = *scratch.allocator();
@@ -77,7 +77,7 @@ fn lines_cleared<F: PrimeField>(
     'lines: for k in 0..lines.len() {
         let (place, line) = lines.at(k);
         let factor = quotient(F::of(value_at(line, across)), pivot);
-        merge(scratch, line, factor, pivot_line)?;
+        subtract_into(scratch, line, factor, pivot_line)?;
         let entries = SmallVec::from_slice(alloc, scratch)?;
         made.push(Line { place, entries })?;
     }
@@ -86,7 +86,7 @@ fn lines_cleared<F: PrimeField>(
 
 /// The entries of the line with a place; none where no line has it.
 fn line_at<'a>(lines: &'a SomeLines<'_>, place: u32) -> &'a [Entry]
-    ensures { result.now ≡ entries_at lines.now place }
+    ensures { result.now ≡ entries_with lines.now place }
 {
     'lines: for k in 0..lines.len() {
         let (found, entries) = lines.at(k);

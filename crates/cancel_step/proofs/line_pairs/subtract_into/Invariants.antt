@@ -1,6 +1,6 @@
 use Rattle.std.proofs.Common.{◌+◌, ◌-◌, ◌≤◌, length, drop}
-use Rattle.cancel_step.proofs.MergeLemmas.{Merged}
-use Rattle.cancel_step.proofs.merging.merge.Given as goal
+use Rattle.cancel_step.proofs.PairLemmas.{Merged}
+use Rattle.cancel_step.proofs.line_pairs.subtract_into.Given as goal
 
 abbrev pub invariant-places : goal.invariant-places
 invariant-places g l =

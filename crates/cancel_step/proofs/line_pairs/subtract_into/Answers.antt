@@ -1,10 +1,10 @@
 use Rattle.std.proofs.Common.{List, subst, sym, arith, inl, inr}
 use Rattle.std.proofs.lemmas.List.{drop_all}
 use Rattle.sparse_block.specs.declared.entry.Entry.{Entry}
-use Rattle.cancel_step.proofs.MergeLemmas.{Merged, merged_all, merged_none, merged_step}
+use Rattle.cancel_step.proofs.PairLemmas.{Merged, merged_all, merged_none, merged_step}
 use Rattle.cancel_step.proofs.RestLemmas.{more-from_indices, shorter_steps}
-use Rattle.cancel_step.proofs.merging.merge.Goals as goal
-use Rattle.cancel_step.proofs.merging.merge.Goals.{then-at-line, else-at-line+then-other_at-other}
+use Rattle.cancel_step.proofs.line_pairs.subtract_into.Goals as goal
+use Rattle.cancel_step.proofs.line_pairs.subtract_into.Goals.{then-at-line, else-at-line+then-other_at-other}
 
 pub places-init : goal.places-init
 places-init g c =

@@ -1,6 +1,6 @@
 use Rattle.std.proofs.Common.{◌+◌, ◌-◌, ◌≤◌, length, drop}
 use Rattle.cancel_step.proofs.AgreeLemmas.{Agree}
-use Rattle.cancel_step.proofs.merging.first_difference.Given as goal
+use Rattle.cancel_step.proofs.line_pairs.first_difference.Given as goal
 
 abbrev pub invariant-places : goal.invariant-places
 invariant-places l =

@@ -1,4 +1,4 @@
--- The merge of two lists of entries: a line less a multiple of another, place by place.
+-- A line less a multiple of another, place by place.
 use Rattle.std.proofs.Common.{◌≡◌, ℕ, ◌+◌, ◌*◌, ◌<◌, ◌≤◌, ◌∙◌, inl, inr, List, [], ◌∷◌, ◌++◌, length, map, refl, ap, sym, subst, subst₂, arith}
 use Rattle.std.specs.Prelude.{slice_index}
 use Rattle.std.specs.List.{range_with_len}
@@ -13,7 +13,7 @@ use Rattle.sparse_block.specs.Entries.{AreEntries, entries_from, entries_of, val
 use Rattle.sparse_block.proofs.AscendingLemmas.{entries-ascend}
 use Rattle.sparse_block.proofs.EntryLemmas.{entries_from-push}
 use Rattle.cancel_step.specs.Lines.{line_less}
-use Rattle.cancel_step.specs.Merging.{first_of, rest_after, value_first}
+use Rattle.cancel_step.specs.LinePairs.{first_place_of, rest_after, value_first}
 use Rattle.cancel_step.proofs.EntryValues.{entries-agree, value_at-past}
 use Rattle.cancel_step.proofs.RestLemmas.{HasMore, RestOf, bound-first, rest-after, rest-left, rest-right, rest-whole, value-between, value-first}
 
@@ -75,14 +75,14 @@ merged_none p factor size other_size line other are are_other =
     }
 
 pub merged_more : (p factor place : ℕ) (line other made made_more rest_line rest_other : List Entry)
-    → Merged p factor line other made rest_line rest_other → HasMore rest_line rest_other → place ≡ first_of rest_line rest_other
+    → Merged p factor line other made rest_line rest_other → HasMore rest_line rest_other → place ≡ first_place_of rest_line rest_other
     → made_more ≡ made
     ++ entries_from place (minus_mod p (value_first rest_line place) (factor * value_first rest_other place) ∷ [])
     → Merged p factor line other made_more (rest_after rest_line place) (rest_after rest_other place)
 merged_more p factor place line other made made_more rest_line rest_other merged more is_first is_more =
     let bound = merged.bound in
     let number : ℕ → ℕ = number_less p line factor other in
-    let later : bound ≤ first_of rest_line rest_other =
+    let later : bound ≤ first_place_of rest_line rest_other =
     bound-first p p bound merged.in_line.end merged.in_other.end rest_line rest_other more merged.in_line.ascend
     merged.in_other.ascend in
     let at_line : RestOf p place line rest_line =
@@ -134,7 +134,7 @@ merged_all p factor size line other made rest_line rest_other merged none none_o
 
 pub merged_step : (p factor place value here there : ℕ)
     (line other made made_more rest_line rest_other next_line next_other : List Entry)
-    → Merged p factor line other made rest_line rest_other → HasMore rest_line rest_other → place ≡ first_of rest_line rest_other
+    → Merged p factor line other made rest_line rest_other → HasMore rest_line rest_other → place ≡ first_place_of rest_line rest_other
     → here ≡ value_first rest_line place → there ≡ value_first rest_other place → value ≡ minus_mod p here (factor * there)
     → made_more ≡ made ++ entries_from place (value ∷ []) → next_line ≡ rest_after rest_line place
     → next_other ≡ rest_after rest_other place → Merged p factor line other made_more next_line next_other

@@ -5,7 +5,7 @@ ghost use Rattle.kh_types.specs.Rank.{minus_mod};
 ghost use Rattle.sparse_block.specs.Entries.{AreEntries, entries_from, entries_of, value_at};
 ghost use Rattle.cancel_step.specs.Foreign.{FindsLeast};
 ghost use Rattle.cancel_step.specs.Lines.{line_less};
-ghost use Rattle.cancel_step.specs.Merging.{first_of, rest_after, value_first};
+ghost use Rattle.cancel_step.specs.LinePairs.{first_place_of, rest_after, value_first};
 
 use kh_types::NoMemory;
 use prime_field::laws::element_laws;
@@ -13,7 +13,7 @@ use prime_field::{PrimeField, difference};
 use sparse_block::Entry;
 
 /// Makes the entries of a line less a multiple of another line.
-pub(crate) fn merge<F: PrimeField>(
+pub(crate) fn subtract_into<F: PrimeField>(
     made: &mut Vec<Entry>,
     line: &[Entry],
     factor: F,
@@ -63,7 +63,7 @@ pub(crate) fn first_difference(left: &[Entry], right: &[Entry]) -> Option<u32>
 
 /// The first place of two lists, from an index of each on.
 fn first_place(left: &[Entry], at: usize, right: &[Entry], right_at: usize) -> u32
-    ensures { result ≡ first_of (drop at left.now) (drop right_at right.now) }
+    ensures { result ≡ first_place_of (drop at left.now) (drop right_at right.now) }
 {
     match (left.get(at), right.get(right_at)) {
         (Some(left), Some(right)) => left.place.min(right.place),

@@ -1,8 +1,8 @@
 use Rattle.std.proofs.Common.{arith, inl, inr, sym, ◌∙◌}
 use Rattle.cancel_step.proofs.AgreeLemmas.{agree_ends, agree_none, agree_step}
 use Rattle.cancel_step.proofs.RestLemmas.{more-from_indices, shorter_steps}
-use Rattle.cancel_step.proofs.merging.first_difference.Goals as goal
-use Rattle.cancel_step.proofs.merging.first_difference.Goals.{then-at-left, else-at-left+then-other_at-right}
+use Rattle.cancel_step.proofs.line_pairs.first_difference.Goals as goal
+use Rattle.cancel_step.proofs.line_pairs.first_difference.Goals.{then-at-left, else-at-left+then-other_at-right}
 
 pub places-init : goal.places-init
 places-init c =

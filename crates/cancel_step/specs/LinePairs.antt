@@ -3,11 +3,11 @@ use Rattle.std.specs.Prelude.{ℕ, List, [], ◌∷◌, nat_eq, min, if◌then�
 use Rattle.sparse_block.specs.declared.entry.Entry.{Entry}
 
 -- the first place that one of two lists has, 0 where both are empty
-abbrev pub first_of : List Entry → List Entry → ℕ
-first_of [] [] = 0
-first_of [] (y ∷ ys) = y.place
-first_of (x ∷ xs) [] = x.place
-first_of (x ∷ xs) (y ∷ ys) = min x.place y.place
+abbrev pub first_place_of : List Entry → List Entry → ℕ
+first_place_of [] [] = 0
+first_place_of [] (y ∷ ys) = y.place
+first_place_of (x ∷ xs) [] = x.place
+first_place_of (x ∷ xs) (y ∷ ys) = min x.place y.place
 
 -- the value at a place that no entry comes before
 abbrev pub value_first : List Entry → ℕ → ℕ
