@@ -2,7 +2,7 @@
 use Rattle.std.specs.Prelude.{ℕ, ◌+◌, ◌/◌, ◌%◌, ◌≤◌, nat_le, nat_lt, ◌&&◌, List, [], ◌∷◌, codes, is_some, if◌then◌else◌, Option, Some, None, option_map, option_and_then, unwrap_or}
 use Rattle.std.specs.Str.{bytes_eq}
 use Rattle.shared_block.specs.declared.limits.TheConstants.{WORKERS}
-use Rattle.undo_stack.specs.Steps.{number_of}
+use Rattle.kh_lex.specs.Numerals.{numeral_of}
 use Rattle.kh_work.specs.declared.command.Task.{Task}
 use Rattle.kh_work.specs.declared.command.Task.TheVariants.{Homology, Convert, Check, Jones, Schedule}
 use Rattle.kh_work.specs.declared.command.Field.{Field}
@@ -47,7 +47,7 @@ AreWorkers count = (1 ≤ count) × (count ≤ WORKERS)
 -- the number of workers of a value, which writes it in one or two digits
 abbrev pub workers_of : List ℕ → Option ℕ
 workers_of value =
-    option_and_then (λ count. if nat_le 1 count && nat_le count WORKERS then Some count else None) (number_of 2 value)
+    option_and_then (λ count. if nat_le 1 count && nat_le count WORKERS then Some count else None) (numeral_of 2 value)
 
 -- a number below 100 in its least digits, 0 as one
 abbrev pub decimal : ℕ → List ℕ

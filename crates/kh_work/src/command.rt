@@ -5,7 +5,7 @@ ghost use Rattle.kh_work.specs.Commands.{AreWorkers, task_of, field_of, form_of,
 
 use kh_types::Words;
 use shared_block::WORKERS;
-use undo_stack::number_of;
+use kh_lex::number_of;
 
 /// What a command is to do. Source: this project's rule.
 #[derive(Clone, Copy, Debug, PartialEq, Eq)]

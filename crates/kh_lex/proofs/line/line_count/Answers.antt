@@ -1,5 +1,5 @@
-use Rattle.undo_stack.proofs.Loops.{IsCounted-line}
-use Rattle.undo_stack.proofs.line.line_count.Goals as goal
+use Rattle.kh_lex.proofs.SectionLoops.{IsCounted-line}
+use Rattle.kh_lex.proofs.line.line_count.Goals as goal
 
 -- one more line
 pub loop-place-preserved : goal.loop-place-preserved

@@ -2,10 +2,10 @@
 
 ghost use Rattle.std.specs.Prelude.{◌≡◌, ◌<◌, ◌≤◌, length, drop};
 ghost use Rattle.std.specs.List.{prefix_len};
-ghost use Rattle.undo_stack.specs.Lines.{is_line_feed};
-ghost use Rattle.undo_stack.specs.Pieces.{first_piece, goes_on};
-ghost use Rattle.undo_stack.specs.Steps.{lines_of};
+ghost use Rattle.kh_lex.specs.Lines.{is_line_feed, lines_of};
+ghost use Rattle.kh_lex.specs.Sections.{first_section, is_other};
 
+use crate::piece::rest_from;
 use kh_types::INPUT_BYTES;
 
 /// The number of lines of a text.
@@ -24,7 +24,7 @@ pub fn line_count(text: &[u8]) -> u32
 
 /// The rest of the line at a place, without the line feed that may end it.
 pub fn line_at(text: &[u8], place: usize) -> &[u8]
-    ensures line { result.now ≡ first_piece is_line_feed (drop place text.now) }
+    ensures line { result.now ≡ first_section is_line_feed (drop place text.now) }
     ensures within { length result.now ≤ length text.now }
 {
     let rest = rest_from(text, place);
@@ -32,16 +32,9 @@ pub fn line_at(text: &[u8], place: usize) -> &[u8]
     &rest[..size]
 }
 
-/// A text from a place on, and nothing past its end.
-pub fn rest_from(text: &[u8], place: usize) -> &[u8]
-    ensures { result.now ≡ drop place text.now }
-{
-    text.get(place..).unwrap_or(&[])
-}
-
 // The bytes of a text before the first line feed.
 fn line_length(text: &[u8]) -> usize
-    ensures { result ≡ prefix_len (goes_on is_line_feed) text.now }
+    ensures { result ≡ prefix_len (is_other is_line_feed) text.now }
 {
     text.iter().take_while(|byte| **byte != b'\n').count()
 }

@@ -1,6 +1,6 @@
 use Rattle.std.proofs.Common.{length, ◌-◌}
-use Rattle.undo_stack.proofs.Loops.{IsCounted}
-use Rattle.undo_stack.proofs.line.line_count.Given as goal
+use Rattle.kh_lex.proofs.SectionLoops.{IsCounted}
+use Rattle.kh_lex.proofs.line.line_count.Given as goal
 
 -- the lines before the place are counted
 abbrev pub invariant-loop-place : goal.invariant-loop-place

@@ -1,6 +1,6 @@
 use Rattle.std.proofs.Common.{arith}
 use Rattle.std.proofs.lemmas.Int.Digits.{digits_value_more}
-use Rattle.kh_lex.proofs.piece.size_of.Goals as goal
+use Rattle.kh_lex.proofs.digits.size_of.Goals as goal
 
 -- one more digit
 pub loop-digit-preserved : goal.loop-digit-preserved

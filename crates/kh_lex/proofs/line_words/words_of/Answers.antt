@@ -1,6 +1,6 @@
 use Rattle.std.proofs.Common.{map}
-use Rattle.undo_stack.proofs.Loops.{IsParted-piece}
-use Rattle.undo_stack.proofs.word.words_of.Goals as goal
+use Rattle.kh_lex.proofs.SectionLoops.{IsParted-piece}
+use Rattle.kh_lex.proofs.line_words.words_of.Goals as goal
 
 -- one more piece
 pub loop-place-preserved : goal.loop-place-preserved

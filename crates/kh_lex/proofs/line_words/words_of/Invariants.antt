@@ -1,6 +1,6 @@
 use Rattle.std.proofs.Common.{length, ◌-◌, map}
-use Rattle.undo_stack.proofs.Loops.{IsParted}
-use Rattle.undo_stack.proofs.word.words_of.Given as goal
+use Rattle.kh_lex.proofs.SectionLoops.{IsParted}
+use Rattle.kh_lex.proofs.line_words.words_of.Given as goal
 
 -- the words before the place stand in the list
 abbrev pub invariant-loop-place : goal.invariant-loop-place

@@ -1,9 +1,9 @@
 use Rattle.std.proofs.Common.{subst, sym}
-use Rattle.undo_stack.specs.Lines.{CutsLines}
-use Rattle.undo_stack.specs.Words.{CutsWords}
-use Rattle.undo_stack.proofs.LineCuts.{CutsLines-lines_of, lines_of-CutsLines}
-use Rattle.undo_stack.proofs.WordCuts.{CutsWords-words_of, words_of-CutsWords}
-use Rattle.undo_stack.proofs.laws.each_text_is_cut_in_one_way.Goals as goal
+use Rattle.kh_lex.specs.Lines.{CutsLines}
+use Rattle.kh_lex.specs.LineWords.{CutsWords}
+use Rattle.kh_lex.proofs.LineCuts.{CutsLines-lines_of, lines_of-CutsLines}
+use Rattle.kh_lex.proofs.WordCuts.{CutsWords-words_of, words_of-CutsWords}
+use Rattle.kh_lex.proofs.laws.each_text_is_cut_in_one_way.Goals as goal
 
 pub returns : goal.returns
 returns c = record {

@@ -1,24 +1,23 @@
--- Lines cut a text exactly where they are its pieces between line feeds.
+-- Lines cut a text exactly where they are its sections between line feeds.
 use Rattle.std.proofs.Common.{◌≡◌, ℕ, Bool, true, false, cond, List, [], ◌∷◌, ◌++◌, refl, sym, ◌∙◌, ap, arith, append_assoc, codes}
 use Rattle.std.proofs.lemmas.Bool.{eqb-true}
 use Rattle.std.specs.List.{AllByRecursion, flat_map}
-use Rattle.undo_stack.specs.Lines.{CutsLines, HasNoLineFeed, ended, is_line_feed, last_line}
-use Rattle.undo_stack.specs.Pieces.{before_first}
-use Rattle.undo_stack.specs.Steps.{lines_of}
-use Rattle.undo_stack.proofs.CutPieces.{pieces_of-ended, pieces_of-last}
+use Rattle.kh_lex.specs.Lines.{CutsLines, HasNoLineFeed, with_feed, is_line_feed, last_line, lines_of}
+use Rattle.kh_lex.specs.Sections.{before_first}
+use Rattle.kh_lex.proofs.CutSections.{sections_of-ended, sections_of-last}
 
 -- what follows the last line feed
 lines_of-last : (last : List ℕ) → HasNoLineFeed last → lines_of last ≡ last_line last
 lines_of-last [] whole = refl
-lines_of-last (byte ∷ bytes) whole = pieces_of-last is_line_feed (byte ∷ bytes) (omega arith) whole
+lines_of-last (byte ∷ bytes) whole = sections_of-last is_line_feed (byte ∷ bytes) (omega arith) whole
 
 -- lines, each with a line feed behind it, and what follows
 lines_of-parts : (first : List (List ℕ)) (last : List ℕ) → AllByRecursion HasNoLineFeed first → HasNoLineFeed last
-    → lines_of (flat_map ended first ++ last) ≡ first ++ last_line last
+    → lines_of (flat_map with_feed first ++ last) ≡ first ++ last_line last
 lines_of-parts [] last all whole = lines_of-last last whole
 lines_of-parts (line ∷ more) last all whole =
-    ap lines_of (append_assoc (ended line) (flat_map ended more) last ∙ append_assoc line (codes "\n") (flat_map ended more ++ last))
-    ∙ pieces_of-ended is_line_feed line 10 (flat_map ended more ++ last) all.0 refl
+    ap lines_of (append_assoc (with_feed line) (flat_map with_feed more) last ∙ append_assoc line (codes "\n") (flat_map with_feed more ++ last))
+    ∙ sections_of-ended is_line_feed line 10 (flat_map with_feed more ++ last) all.0 refl
     ∙ ap (λ lines. line ∷ lines) (lines_of-parts more last all.1 whole)
 
 -- lines that cut a text are those
@@ -40,7 +39,7 @@ CutsLines-feed byte text lines feed cut = record {
 
 -- another byte before a text stands in its first line
 CutsLines-byte : (byte : ℕ) (text : List ℕ) (lines first : List (List ℕ)) (last : List ℕ) → is_line_feed byte ≡ false
-    → text ≡ flat_map ended first ++ last → lines ≡ first ++ last_line last → AllByRecursion HasNoLineFeed first → HasNoLineFeed last
+    → text ≡ flat_map with_feed first ++ last → lines ≡ first ++ last_line last → AllByRecursion HasNoLineFeed first → HasNoLineFeed last
     → CutsLines (byte ∷ text) (before_first byte lines)
 CutsLines-byte byte text lines [] last other parts all first_whole last_whole = record {
   first = [];
