@@ -2,4 +2,12 @@
 #![tactic(auto)]
 
 #[cfg(test)]
+mod gauss_texts;
+#[cfg(test)]
+mod pd_texts;
+#[cfg(test)]
+mod scripts;
+#[cfg(test)]
 mod tables;
+#[cfg(test)]
+mod tokens;

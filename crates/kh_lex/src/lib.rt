@@ -11,8 +11,6 @@ mod numeral;
 mod piece;
 mod stop;
 mod symbol;
-#[cfg(test)]
-mod tests;
 mod token;
 
 pub use laws::{

@@ -8,8 +8,6 @@ mod reader;
 mod schedule;
 mod script;
 mod stop;
-#[cfg(test)]
-mod tests;
 
 pub use laws::{
     each_text_has_one_reading, limits_of_scripts, worked_scripts,

@@ -1,9 +1,8 @@
-//! What no clause says: texts are answered where there is memory, and values that differ are not
-//! equal.
+//! Signed Gauss texts, read and printed.
 
-use crate::reader::read_gauss;
-use crate::stop::GaussStop;
+use gauss_code::{GaussStop, print_gauss, read_gauss};
 use kh_types::{Crossing, Diagram, INPUT_BYTES};
+use known_links::diagram_of;
 use std::alloc::Global;
 use std::test::Fail;
 
@@ -47,9 +46,9 @@ fn reads_crossings(rt: HostRuntime) -> Result<(), Fail> {
     ];
     for (text, crossings, loops) in rows {
         let code = read_gauss(rt.alloc(), text.as_bytes())?;
-        assert_eq!(rt; code.crossings.as_slice(), crossings, "at {text}");
-        assert_eq!(rt; code.loops, loops, "at {text}");
-        assert!(rt; Diagram::try_new(&code).is_ok(), "at {text}");
+        assert!(rt; code.crossings.as_slice() == crossings);
+        assert!(rt; code.loops == loops);
+        assert!(rt; Diagram::try_new(&code).is_ok());
     }
     Ok(())
 }
@@ -64,8 +63,8 @@ fn reads_loops_alone(rt: HostRuntime) -> Result<(), Fail> {
     ];
     for (text, loops) in rows {
         let code = read_gauss(rt.alloc(), text.as_bytes())?;
-        assert!(rt; code.crossings.is_empty(), "at {text}");
-        assert_eq!(rt; code.loops, loops, "at {text}");
+        assert!(rt; code.crossings.is_empty());
+        assert!(rt; code.loops == loops);
     }
     Ok(())
 }
@@ -116,7 +115,7 @@ const NO_TEXTS: [(&str, u32); 39] = [
 fn refuses_other_texts_at_their_places(rt: HostRuntime) {
     for (text, place) in NO_TEXTS {
         let stop = stop_of(rt.alloc(), text.as_bytes());
-        assert_eq!(rt; stop, Some(GaussStop::Text { place }), "at {text}");
+        assert!(rt; stop == Some(GaussStop::Text { place }));
     }
 }
 
@@ -176,24 +175,24 @@ const FIRST_FAULTS: [(&str, GaussStop); 18] = [
 fn names_the_first_fault(rt: HostRuntime) {
     for (text, wanted) in FIRST_FAULTS {
         let stop = stop_of(rt.alloc(), text.as_bytes());
-        assert_eq!(rt; stop, Some(wanted), "at {text}");
+        assert!(rt; stop == Some(wanted));
     }
 }
 
 #[test]
 fn counts_what_is_too_many(rt: HostRuntime) -> Result<(), Fail> {
     let rows = [
-        (34, 0, GaussStop::CrossingLimit { count: 17 }),
-        (35, 300, GaussStop::CrossingLimit { count: 17 }),
+        (42, 0, GaussStop::CrossingLimit { count: 21 }),
+        (43, 300, GaussStop::CrossingLimit { count: 21 }),
         (600, 0, GaussStop::CrossingLimit { count: 300 }),
         (0, 9, GaussStop::LoopLimit { count: 9 }),
         (0, 300, GaussStop::LoopLimit { count: 300 }),
-        (33, 300, GaussStop::LoopLimit { count: 300 }),
-        (33, 8, GaussStop::Label { place: 10 + 24 + 3 }),
+        (41, 300, GaussStop::LoopLimit { count: 300 }),
+        (41, 8, GaussStop::Label { place: 10 + 24 + 3 }),
     ];
     for (labels, loops, wanted) in rows {
         let text = text_with(rt.alloc(), labels, loops)?;
-        assert_eq!(rt; stop_of(rt.alloc(), &text), Some(wanted));
+        assert!(rt; stop_of(rt.alloc(), &text) == Some(wanted));
     }
     Ok(())
 }
@@ -221,15 +220,15 @@ fn text_with(alloc: Global, labels: u32, loops: u32) -> Result<Vec<u8>, Fail> {
 fn answers_the_longest_texts(rt: HostRuntime) -> Result<(), Fail> {
     let blanks = vec![in rt.alloc(); b' '; INPUT_BYTES]?;
     let stop = stop_of(rt.alloc(), &blanks);
-    assert_eq!(rt; stop, Some(GaussStop::Text { place: 65_536 }));
+    assert!(rt; stop == Some(GaussStop::Text { place: 65_536 }));
 
     let groups = text_with(rt.alloc(), 0, 21_841)?;
     let stop = stop_of(rt.alloc(), &groups);
-    assert_eq!(rt; stop, Some(GaussStop::LoopLimit { count: 21_841 }));
+    assert!(rt; stop == Some(GaussStop::LoopLimit { count: 21_841 }));
 
     let labels = text_with(rt.alloc(), 32_761, 0)?;
     let stop = stop_of(rt.alloc(), &labels);
-    assert_eq!(rt; stop, Some(GaussStop::CrossingLimit { count: 16_380 }));
+    assert!(rt; stop == Some(GaussStop::CrossingLimit { count: 16_380 }));
     Ok(())
 }
 
@@ -242,10 +241,63 @@ fn values_that_differ_are_not_equal(rt: HostRuntime) {
         found: 1,
         wanted: 2,
     };
-    assert!(rt;
-        one != GaussStop::SignCount {
+    assert!(rt; one != GaussStop::SignCount {
             found: 2,
             wanted: 1
-        }
-    );
+        });
 }
+
+const BORROMEAN_RINGS: [[u8; 4]; 6] = [
+    [6, 1, 7, 2],
+    [12, 8, 9, 7],
+    [4, 12, 1, 11],
+    [10, 5, 11, 6],
+    [8, 4, 5, 3],
+    [2, 9, 3, 10],
+];
+
+/// The trefoil (3_1), the figure eight knot (4_1), the Hopf link (L2a1) and the Borromean rings (L6a4) as the Knot Atlas lists
+/// their PD codes and Gauss codes; the signs, and the other rows, are worked by hand: curls, a circle that lies over another, and
+/// loops.
+#[test]
+fn prints_known_diagrams(rt: HostRuntime) -> Result<(), Fail> {
+    let trefoil = [[1, 4, 2, 5], [3, 6, 4, 1], [5, 2, 6, 3]];
+    let eight = [[4, 2, 5, 1], [8, 6, 1, 5], [6, 3, 7, 4], [2, 7, 3, 8]];
+    for (crossings, loops, wanted) in [
+        (
+            trefoil.as_slice(),
+            0,
+            "GaussCode[-1, 3, -2, 1, -3, 2] Signs[-1, -1, -1]",
+        ),
+        (
+            &eight,
+            0,
+            "GaussCode[1, -4, 3, -1, 2, -3, 4, -2] Signs[1, 1, -1, -1]",
+        ),
+        (
+            &[[4, 1, 3, 2], [2, 3, 1, 4]],
+            0,
+            "GaussCode[{1, -2}, {2, -1}] Signs[-1, -1]",
+        ),
+        (
+            &BORROMEAN_RINGS,
+            0,
+            "GaussCode[{1, -6, 5, -3}, {4, -1, 2, -5}, {6, -4, 3, -2}] Signs[-1, 1, 1, -1, 1, -1]",
+        ),
+        (&[[1, 1, 2, 2]], 0, "GaussCode[-1, 1] Signs[1]"),
+        (&[[2, 2, 1, 1]], 2, "GaussCode[{1, -1}, {}, {}] Signs[1]"),
+        (
+            &[[1, 4, 2, 3], [2, 4, 1, 3]],
+            1,
+            "GaussCode[{-1, -2}, {1, 2}, {}] Signs[1, -1]",
+        ),
+        (&[], 0, "GaussCode[] Signs[]"),
+        (&[], 1, "GaussCode[{}] Signs[]"),
+    ] {
+        let diagram = diagram_of(crossings, loops)?;
+        let text = print_gauss(rt.alloc(), &diagram)?;
+        assert!(rt; text.as_slice() == wanted.as_bytes());
+    }
+    Ok(())
+}
+

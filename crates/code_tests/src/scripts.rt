@@ -1,12 +1,9 @@
-//! What no clause says: scripts are read where there is memory, and values that differ are not
-//! equal. The rows were written by hand from the rules of scripts.
+//! The scripts of schedules. The rows were written by hand from the rules of scripts.
 
-use crate::limits::SCRIPT_LINES;
-use crate::schedule::{ScheduleLine, read_schedule};
-use crate::stop::ScriptStop;
 use kh_types::INPUT_BYTES;
 use std::alloc::Global;
 use std::test::Fail;
+use undo_stack::{SCRIPT_LINES, ScheduleLine, ScriptStop, read_schedule};
 
 // A text that has a wrong line, and the number of the first.
 const WRONG_ROWS: [(&[u8], u32); 42] = [
@@ -74,11 +71,7 @@ fn reads_each_form(rt: HostRuntime) -> Result<(), Fail> {
     ];
     for (text, wanted) in rows {
         let script = read_schedule(rt.alloc(), text.as_bytes())?;
-        assert_eq!(rt;
-            script.lines.as_slice(),
-            [(1, wanted)].as_slice(),
-            "at {text}"
-        );
+        assert!(rt; script.lines.as_slice() == [(1, wanted)].as_slice());
     }
     Ok(())
 }
@@ -105,7 +98,7 @@ fn numbers_each_line(rt: HostRuntime) -> Result<(), Fail> {
         (7, forget(2)),
     ];
     let script = read_schedule(rt.alloc(), text.as_slice())?;
-    assert_eq!(rt; script.lines.as_slice(), wanted.as_slice());
+    assert!(rt; script.lines.as_slice() == wanted.as_slice());
     Ok(())
 }
 
@@ -113,7 +106,7 @@ fn numbers_each_line(rt: HostRuntime) -> Result<(), Fail> {
 fn reads_texts_without_commands(rt: HostRuntime) -> Result<(), Fail> {
     for text in ["", "\n", "\n\n", " ", "\r", "\t \r\n \n\r"] {
         let script = read_schedule(rt.alloc(), text.as_bytes())?;
-        assert_eq!(rt; script.lines.len(), 0, "at {text:?}");
+        assert!(rt; script.lines.len() == 0);
     }
     Ok(())
 }
@@ -123,7 +116,7 @@ fn stops_at_the_first_wrong_line(rt: HostRuntime) {
     for (text, line) in WRONG_ROWS {
         assert!(rt; text.len() <= INPUT_BYTES);
         let stop = read_schedule(rt.alloc(), text).err();
-        assert_eq!(rt; stop, Some(ScriptStop::Line { line }), "at {text:?}");
+        assert!(rt; stop == Some(ScriptStop::Line { line }));
     }
 }
 
@@ -192,7 +185,7 @@ fn counts_lines_up_to_the_limit(rt: HostRuntime) -> Result<(), Fail> {
         let bytes = repeated(rt.alloc(), text, times, last)?;
         assert!(rt; bytes.len() <= INPUT_BYTES);
         let stop = read_schedule(rt.alloc(), &bytes).err();
-        assert_eq!(rt; stop, wanted, "at {times} of {text:?} and {last:?}");
+        assert!(rt; stop == wanted);
     }
     Ok(())
 }
@@ -202,7 +195,7 @@ fn reads_the_longest_line(rt: HostRuntime) -> Result<(), Fail> {
     let words = repeated(rt.alloc(), "1 ", INPUT_BYTES / 2, "")?;
     assert!(rt; words.len() <= INPUT_BYTES);
     let stop = read_schedule(rt.alloc(), &words).err();
-    assert_eq!(rt; stop, Some(ScriptStop::Line { line: 1 }));
+    assert!(rt; stop == Some(ScriptStop::Line { line: 1 }));
     Ok(())
 }
 
