@@ -5,10 +5,11 @@ use Rattle.std.proofs.lemmas.Int.{ints}
 use Rattle.kh_types.specs.Rank.{rank}
 use Rattle.kh_types.specs.Complex.{Complex, Pivot, IsComplex, IsPivot, degree_of, entry_of, alive_count, dimension_of, cancelled_matrix, cancel}
 use Rattle.prime_field.specs.Residues.{IsField}
-use Rattle.plain_matrix.specs.Ranks.{IsDependent}
-use Rattle.plain_matrix.proofs.Sums.{sum_below-equal}
-use Rattle.plain_matrix.proofs.PlainRank.{other-below}
-use Rattle.plain_matrix.proofs.RankLaws.{rank-cancelled_matrix, rank-without_row, rank-without_column}
+use Rattle.kh_types.specs.MatrixRanks.{IsDependent}
+use Rattle.kh_types.proofs.Sums.{sum_below-equal}
+use Rattle.kh_types.proofs.PlainRank.{other-below}
+use Rattle.kh_types.proofs.RankLaws.{rank-cancelled_matrix, rank-without_row, rank-without_column}
+use Rattle.sparse_block.proofs.FieldInverses.{inverses-field}
 use Rattle.sparse_block.proofs.ComplexMatrices.{matrix-of_degree, entry-stands, product-of_complex}
 use Rattle.sparse_block.proofs.CancelledDegrees.{Where, where_is, degree-at_pivot, degree-after_pivot, degree-before_pivot, degree-elsewhere}
 use Rattle.sparse_block.proofs.CancelledMatrices.{pivot-at}
@@ -21,7 +22,7 @@ pub rank-at_pivot : (p : ℕ) (complex : Complex) (pivot : Pivot) → IsField p 
 rank-at_pivot p complex pivot field is is_pivot =
     let matrix = (degree_of complex pivot.degree).matrix in
     let falls : rank p matrix ≡ suc (rank p (cancelled_matrix p pivot matrix)) =
-    rank-cancelled_matrix p (length (degree_of complex pivot.degree).alive) pivot matrix field
+    rank-cancelled_matrix p (length (degree_of complex pivot.degree).alive) pivot matrix (inverses-field p field)
     (matrix-of_degree p complex is pivot.degree) is_pivot in
     let after : rank_out p (cancel p complex pivot) pivot.degree ≡ rank p (cancelled_matrix p pivot matrix) =
     ap (λ degree. rank p degree.matrix) (degree-at_pivot p complex pivot pivot.degree refl) in
@@ -42,7 +43,7 @@ rank-before_pivot p complex pivot i field is here other =
     } in
     ap (λ degree. rank p degree.matrix) (degree-before_pivot p complex pivot i here)
     ∙ rank-without_row p (length (degree_of complex i).alive) (length (degree_of complex next).alive) pivot.column
-    (degree_of complex i).matrix field (matrix-of_degree p complex is i) dependent
+    (degree_of complex i).matrix (inverses-field p field) (matrix-of_degree p complex is i) dependent
 
 -- the matrix out of the next degree: its columns, times the entries of the pivot's column, add up to 0
 rank-after_pivot : (p : ℕ) (complex : Complex) (pivot : Pivot) → IsField p → IsComplex p complex → IsPivot complex pivot
@@ -63,7 +64,8 @@ rank-after_pivot p complex pivot field is is_pivot =
           ∙ product-of_complex p complex i row pivot.column is;
     } in
     ap (λ degree. rank p degree.matrix) (degree-after_pivot p complex pivot next refl)
-    ∙ rank-without_column p places places pivot.row (degree_of complex next).matrix field (matrix-of_degree p complex is next) dependent
+    ∙ rank-without_column p places places pivot.row (degree_of complex next).matrix (inverses-field p field)
+    (matrix-of_degree p complex is next) dependent
 
 -- all ranks but that of the pivot's own matrix stay
 pub rank-others : (p : ℕ) (complex : Complex) (pivot : Pivot) (i : ℤ) → IsField p → IsComplex p complex → IsPivot complex pivot

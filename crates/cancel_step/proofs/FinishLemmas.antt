@@ -4,7 +4,7 @@ use Rattle.std.specs.Prelude.{nat_eq, if◌then◌else◌, OnErr, OnOk}
 use Rattle.kh_types.specs.Complex.{Complex, Degree, IsComplex, IsPivot, Pivot, cancel, degree_of, entry_in, entry_of}
 use Rattle.kh_types.specs.History.{IsLegal, replay}
 use Rattle.prime_field.specs.Residues.{IsField}
-use Rattle.plain_matrix.proofs.Entries.{entry-without_column, entry-without_row}
+use Rattle.kh_types.proofs.MatrixEntries.{entry-without_column, entry-without_row}
 use Rattle.sparse_block.specs.Complexes.{NamedComplex, column_of, high_of, place_count}
 use Rattle.sparse_block.specs.Entries.{entries_of}
 use Rattle.sparse_block.proofs.ReadingLemmas.{number-column_of}

@@ -8,11 +8,12 @@ use Rattle.std.proofs.lemmas.List.FromFn.{length-map-range_with_len, get_or-map-
 use Rattle.kh_types.specs.Rank.{inverse, minus_mod}
 use Rattle.kh_types.specs.Complex.{Complex, Degree, IsComplex, IsPivot, Pivot, cancel, degree_of, entry_in, entry_of}
 use Rattle.prime_field.specs.Residues.{IsField, inverse_mod, product_mod}
-use Rattle.plain_matrix.specs.Products.{Same}
-use Rattle.plain_matrix.proofs.Residues.{same-equal, same-mul, same-inverse, same-unit_left, same-unit_right}
-use Rattle.plain_matrix.proofs.Reduced.{minus_mod-nothing}
-use Rattle.plain_matrix.proofs.PlainRank.{other-below}
-use Rattle.plain_matrix.proofs.Entries.{entry_cancelled, entry-cancelled_matrix}
+use Rattle.kh_types.specs.Residues.{Same}
+use Rattle.kh_types.proofs.Residues.{same-equal, same-mul, same-inverse, same-unit_left, same-unit_right}
+use Rattle.kh_types.proofs.Reduced.{minus_mod-nothing}
+use Rattle.kh_types.proofs.PlainRank.{other-below}
+use Rattle.kh_types.proofs.MatrixEntries.{entry_cancelled, entry-cancelled_matrix}
+use Rattle.sparse_block.proofs.FieldInverses.{inverses-field}
 use Rattle.sparse_block.specs.declared.entry.Entry.{Entry}
 use Rattle.sparse_block.specs.Entries.{AreEntries, entries_of, value_at}
 use Rattle.sparse_block.specs.Complexes.{column_of, row_of}
@@ -42,7 +43,7 @@ way_back p M a b i j = M i b * (inverse p (M a b) * M a j)
 
 module _ (p a b : ℕ) (M : ℕ → ℕ → ℕ) (field : IsField p) (below : (i j : ℕ) → M i j < p) (other : M a b ≢ 0) where
   inverts : Same p (M a b * inverse p (M a b)) 1
-  inverts = same-inverse p (M a b) field (other-below p (M a b) (below a b) other)
+  inverts = same-inverse p (M a b) (inverses-field p field) (other-below p (M a b) (below a b) other)
 
   less-way : (i j : ℕ) → minus_mod p (M i j) (way_back p M a b i j) ≡ entry_cancelled p a b M i j
   less-way i j =

@@ -17,11 +17,10 @@ use Rattle.kh_types.proofs.DartColours.{IsColoured-accepted}
 use Rattle.kh_types.proofs.DartPairs.{IsOtherPlace-partner_at}
 use Rattle.kh_types.proofs.WalkLemmas.{IsOnWalk, IsOnWalk-first, IsOnWalk-more, IsWalked-more, IsWalked-none, IsWalked-skip, unvisited-fewer, walked-all}
 use Rattle.circle_smoothing.specs.CircleLists.{AreCircles}
-use Rattle.circle_smoothing.specs.Prepared.{arc_at}
-use Rattle.circle_smoothing.specs.Steps.{across, circle_step}
-use Rattle.circle_smoothing.proofs.CircleCycles.{AreCycles-circles, IsNamed-circles, follower, follower-other, follower-place, one_place}
-use Rattle.circle_smoothing.proofs.EdgeNames.{circle-positive}
-use Rattle.circle_smoothing.proofs.JoinedSlots.{across-below, across-colour, place_colour}
+use Rattle.kh_types.specs.CircleSteps.{arc_at, across, circle_step}
+use Rattle.kh_types.proofs.CircleCycles.{AreCycles-circles, IsNamed-circles, follower, follower-other, follower-place, one_place}
+use Rattle.kh_types.proofs.EdgeNames.{circle-positive}
+use Rattle.kh_types.proofs.JoinedSlots.{across-below, across-colour, place_colour}
 
 -- one step from a dart: the dart that follows is one, on the next arc, and of the same colour
 record IsNextDart (code : Code) (choice state place next : ℕ) : Type 0 where

@@ -6,14 +6,15 @@ use Rattle.kh_types.specs.Bits.{bit}
 use Rattle.kh_types.specs.Code.{Code, IsCrossing, place_of}
 use Rattle.kh_types.specs.Circles.{circles_of}
 use Rattle.kh_types.proofs.ClassLemmas.{slice_index-joined}
-use Rattle.circle_smoothing.specs.CircleNumbers.{circle_number, number_of}
-use Rattle.circle_smoothing.specs.Edges.{HasNumbersBelow, HaveMerged, IsEdge, arc_at_slot, state_behind}
+use Rattle.kh_types.specs.CircleNumbers.{circle_number, number_of}
+use Rattle.circle_smoothing.specs.Edges.{HasNumbersBelow, HaveMerged, IsEdge}
+use Rattle.kh_types.specs.Edges.{arc_at_slot, state_behind}
 use Rattle.circle_smoothing.specs.declared.change.Edge.{Edge}
 use Rattle.circle_smoothing.specs.declared.change.Edge.TheVariants.{Merge, Split}
-use Rattle.circle_smoothing.proofs.CircleCycles.{IsNamed-circles}
-use Rattle.circle_smoothing.proofs.EdgeNames.{IsArc-slot, IsJoin, IsJoin-edge, becomes_least, circle_at}
+use Rattle.kh_types.proofs.CircleCycles.{IsNamed-circles}
+use Rattle.kh_types.proofs.EdgeNames.{IsArc-slot, IsJoin, IsJoin-edge, becomes_least, circle_at}
 use Rattle.circle_smoothing.proofs.EdgeNumbers.{HaveMerged-join, IsCircle-slot, gone_of, kept_of, number-kept}
-use Rattle.circle_smoothing.proofs.NumberLemmas.{number_of-max, number_of-min, number_of-one}
+use Rattle.kh_types.proofs.CircleNumbers.{number_of-max, number_of-min, number_of-one}
 
 -- the number of the circle of the arc at a slot
 abbrev pub number_at_slot : Code → ℕ → ℕ → ℕ → ℕ

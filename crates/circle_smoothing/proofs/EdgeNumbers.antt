@@ -12,16 +12,14 @@ use Rattle.kh_types.specs.Code.{Code, IsArc, IsCrossing, arc_count, place_of}
 use Rattle.kh_types.specs.Circles.{circles_of}
 use Rattle.kh_types.proofs.ClassLemmas.{slice_index-joined}
 use Rattle.kh_types.proofs.Lists.{HasMore-filter_range, filter-range_agree, length-HasMore}
-use Rattle.circle_smoothing.specs.CircleNumbers.{IsName, number_of}
-use Rattle.circle_smoothing.specs.Edges.{AreRenumbered, HaveMerged, IsEdge, Renumbers, arc_at_slot, renumbered, state_behind}
+use Rattle.kh_types.specs.CircleNumbers.{IsName, number_of}
+use Rattle.circle_smoothing.specs.Edges.{AreRenumbered, HaveMerged, IsEdge, Renumbers, renumbered}
+use Rattle.kh_types.specs.Edges.{arc_at_slot, state_behind}
 use Rattle.circle_smoothing.specs.declared.change.Edge.{Edge}
 use Rattle.circle_smoothing.specs.declared.change.Edge.TheVariants.{Merge, Split}
-use Rattle.circle_smoothing.proofs.CircleCycles.{IsNamed-circles}
-use Rattle.circle_smoothing.proofs.EdgeNames.{IsArc-slot, IsJoin, IsJoin-edge, circle_at, stays_least}
-use Rattle.circle_smoothing.proofs.NumberLemmas.{IsCircle, IsCircle-max, IsCircle-min, IsCircle-of, lesser, number_of-counted, number_of-order}
-
-pub IsName-arc : (code : Code) (arc : ℕ) → IsArc code.crossings arc → IsName code arc
-IsName-arc code arc is = record { positive = is.positive; within = omega (arith, is.within) }
+use Rattle.kh_types.proofs.CircleCycles.{IsNamed-circles}
+use Rattle.kh_types.proofs.EdgeNames.{IsArc-slot, IsJoin, IsJoin-edge, circle_at, stays_least}
+use Rattle.kh_types.proofs.CircleNumbers.{IsName-arc, IsCircle, IsCircle-max, IsCircle-min, IsCircle-of, lesser, number_of-counted, number_of-order}
 
 -- the circle of the arc at a slot
 pub IsCircle-slot : (code : Code) (state crossing slot : ℕ) → IsTrue (accepted code) → IsCrossing code.crossings crossing → slot < 4

@@ -10,12 +10,11 @@ use Rattle.kh_types.specs.Circles.{circles_of, circle_count}
 use Rattle.kh_types.specs.declared.limits.TheConstants.{CIRCLES, CROSSINGS}
 use Rattle.kh_types.proofs.AcceptedLemmas.{IsAccepted-is}
 use Rattle.kh_types.proofs.CircleBound.{circle_count-within}
-use Rattle.circle_smoothing.specs.CircleLists.{names_to, numbers_to}
-use Rattle.circle_smoothing.specs.CircleNumbers.{circle_number}
+use Rattle.kh_types.specs.CircleNumbers.{names_to, circle_number}
+use Rattle.circle_smoothing.specs.CircleLists.{numbers_to}
 use Rattle.circle_smoothing.specs.Numbered.{circle_numbers}
-use Rattle.circle_smoothing.proofs.CircleCycles.{IsNamed-circles}
-use Rattle.circle_smoothing.proofs.EdgeNumbers.{IsName-arc}
-use Rattle.circle_smoothing.proofs.NumberLemmas.{IsCircle-of, number_of-below}
+use Rattle.kh_types.proofs.CircleCycles.{IsNamed-circles}
+use Rattle.kh_types.proofs.CircleNumbers.{IsName-arc, IsCircle-of, number_of-below}
 
 -- behind the number 0 the list of circles has the names of arcs and loops
 last-name : (code : Code) (state : ℕ) → IsTrue (accepted code)

@@ -8,8 +8,9 @@ use Rattle.std.proofs.lemmas.List.Sums.{count_by-le-length, length-filter}
 use Rattle.std.proofs.lemmas.List.FromFn.{get_or-range_with_len, length-map-range_with_len, length-range_with_len}
 use Rattle.kh_types.specs.Classes.{is_least}
 use Rattle.kh_types.proofs.Ranges.{filter-range_more, map_from_one}
-use Rattle.circle_smoothing.specs.CircleLists.{AreCircles, names_to, number_at, numbers_to}
-use Rattle.circle_smoothing.proofs.NumberLemmas.{position-counted}
+use Rattle.circle_smoothing.specs.CircleLists.{AreCircles, number_at, numbers_to}
+use Rattle.kh_types.specs.CircleNumbers.{names_to}
+use Rattle.kh_types.proofs.CircleNumbers.{position-counted}
 
 -- the least name of a circle has the next number
 pub number-least : (circles : List ℕ) (place : ℕ) → AreCircles circles → place + 1 < length circles

@@ -11,7 +11,8 @@ use Rattle.kh_types.specs.Darts.{arc_of, dart_at, dart_place, first_dart, partne
 use Rattle.kh_types.proofs.AcceptedLemmas.{HasArcsTwice-accepted}
 use Rattle.kh_types.proofs.DartPairs.{IsDart-at, IsDartOf-first_dart, IsPairing-partner_at, dart_at-place, dart_place-below}
 use Rattle.kh_types.proofs.Ranges.{map_from_zero}
-use Rattle.circle_smoothing.specs.Prepared.{HasStarts, arc_at, arcs_at, partners_at, start_in}
+use Rattle.circle_smoothing.specs.Prepared.{HasStarts, arcs_at, partners_at, start_in}
+use Rattle.kh_types.specs.CircleSteps.{arc_at}
 
 -- what a table made from a range has at a place
 pub slice_index-table : (f : ℕ → ℕ) (n place : ℕ) → place < n → slice_index (map f (range_with_len 0 n)) place ≡ f place

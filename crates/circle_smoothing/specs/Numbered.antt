@@ -4,7 +4,8 @@ use Rattle.kh_types.specs.Acceptance.{accepted}
 use Rattle.kh_types.specs.Code.{Code, arcs_and_loops}
 use Rattle.kh_types.specs.Circles.{circle_count}
 use Rattle.kh_types.specs.declared.limits.TheConstants.{CROSSINGS}
-use Rattle.circle_smoothing.specs.CircleNumbers.{Resolution, circle_number}
+use Rattle.circle_smoothing.specs.CircleNumbers.{Resolution}
+use Rattle.kh_types.specs.CircleNumbers.{circle_number}
 use Rattle.circle_smoothing.specs.declared.numbered.Circles.TheInside.{Inside}
 
 -- the numbers of the circles of all arcs and loops, in order, after an entry for the number 0

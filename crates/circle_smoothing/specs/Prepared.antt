@@ -3,13 +3,10 @@ use Rattle.std.specs.Prelude.{◌≡◌, ◌≤◌, ◌<◌, ◌+◌, ℕ, List,
 use Rattle.std.specs.List.{position_or_len, range_with_len}
 use Rattle.kh_types.specs.Acceptance.{accepted}
 use Rattle.kh_types.specs.Code.{Code, IsArc, arc_count}
-use Rattle.kh_types.specs.Darts.{arc_of, dart_at, dart_count, partner_at}
+use Rattle.kh_types.specs.CircleSteps.{arc_at}
+use Rattle.kh_types.specs.Darts.{dart_count, partner_at}
 use Rattle.kh_types.specs.declared.limits.TheConstants.{CROSSINGS}
 use Rattle.circle_smoothing.specs.declared.prepared.Smoothings.TheInside.{Inside}
-
--- the arc of the dart at a place
-abbrev pub arc_at : List (List ℕ) → ℕ → ℕ
-arc_at crossings place = arc_of crossings (dart_at place)
 
 -- the arcs of all darts, in order
 abbrev pub arcs_at : List (List ℕ) → List ℕ

@@ -5,8 +5,9 @@ ghost use Rattle.kh_types.specs.Bits.{bit};
 ghost use Rattle.kh_types.specs.Code.{IsArc, IsCrossing, place_of};
 ghost use Rattle.kh_types.specs.Circles.{circle_count};
 ghost use Rattle.kh_types.specs.declared.limits.TheConstants.{CIRCLES};
-ghost use Rattle.circle_smoothing.specs.CircleNumbers.{circle_number};
-ghost use Rattle.circle_smoothing.specs.Edges.{HasNumbersBelow, IsEdge, arc_at_slot, state_behind};
+ghost use Rattle.kh_types.specs.CircleNumbers.{circle_number};
+ghost use Rattle.circle_smoothing.specs.Edges.{HasNumbersBelow, IsEdge};
+ghost use Rattle.kh_types.specs.Edges.{arc_at_slot, state_behind};
 
 use crate::change::{Edge, merge, split};
 use arrayvec::ArrayVec;

@@ -2,7 +2,8 @@
 
 ghost use Rattle.std.specs.Prelude.{◌≡◌, ◌+◌, ◌-◌, ◌<◌, ◌≤◌, length};
 ghost use Rattle.kh_types.specs.declared.classes.TheConstants.{CLASS_MEMBERS};
-ghost use Rattle.circle_smoothing.specs.CircleLists.{AreCircles, names_to, number_at, numbers_to};
+ghost use Rattle.circle_smoothing.specs.CircleLists.{AreCircles, number_at, numbers_to};
+ghost use Rattle.kh_types.specs.CircleNumbers.{names_to};
 
 use arrayvec::ArrayVec;
 use kh_types::{CLASS_MEMBERS, class_of, is_least};

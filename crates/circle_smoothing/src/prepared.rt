@@ -7,8 +7,9 @@ ghost use Rattle.kh_types.specs.Code.{IsArc, IsCrossing, place_of};
 ghost use Rattle.kh_types.specs.Circles.{circle_count};
 ghost use Rattle.kh_types.specs.Darts.{dart_count, partner_at};
 ghost use Rattle.kh_types.specs.declared.limits.TheConstants.{CIRCLES, CROSSINGS};
-ghost use Rattle.circle_smoothing.specs.Edges.{IsEdge, state_behind};
-ghost use Rattle.circle_smoothing.specs.Prepared.{arc_at};
+ghost use Rattle.circle_smoothing.specs.Edges.{IsEdge};
+ghost use Rattle.kh_types.specs.Edges.{state_behind};
+ghost use Rattle.kh_types.specs.CircleSteps.{arc_at};
 
 use crate::change::Edge;
 use crate::numbered::Circles;

@@ -14,7 +14,7 @@ ghost use Rattle.kh_types.specs.Walks.{IsWalked};
 ghost use Rattle.kh_types.specs.declared.classes.TheConstants.{CLASS_MEMBERS};
 ghost use Rattle.kh_types.specs.declared.limits.TheConstants.{CROSSINGS};
 ghost use Rattle.circle_smoothing.specs.CircleLists.{AreCircles};
-ghost use Rattle.circle_smoothing.specs.Steps.{across, circle_step};
+ghost use Rattle.kh_types.specs.CircleSteps.{across, circle_step};
 
 use crate::prepared::Smoothings;
 use arrayvec::ArrayVec;
@@ -71,7 +71,7 @@ fn walk_from(smoothings: &Smoothings, state: u32, circles: &mut [u8], least: u8)
 
 /// The place of the dart that follows on a circle: across the smoothing, and on to the other end of
 /// the arc.
-#[tactic(auto, using(crate::proofs::JoinedSlots::places))]
+#[tactic(auto, using(kh_types::proofs::JoinedSlots::places))]
 fn place_after(smoothings: &Smoothings, state: u32, place: u8) -> u8
     requires few { length smoothings.now.crossings ≤ CROSSINGS }
     requires place { place < dart_count smoothings.now.crossings }

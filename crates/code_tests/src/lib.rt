@@ -2,12 +2,20 @@
 #![tactic(auto)]
 
 #[cfg(test)]
+mod acceptance;
+#[cfg(test)]
 mod gauss_texts;
 #[cfg(test)]
+mod json_texts;
+#[cfg(test)]
 mod pd_texts;
+#[cfg(test)]
+mod plain_acceptance;
 #[cfg(test)]
 mod scripts;
 #[cfg(test)]
 mod tables;
 #[cfg(test)]
 mod tokens;
+#[cfg(test)]
+mod values;

@@ -16,7 +16,7 @@ use Rattle.cancel_step.specs.RankSums.{rank_sum}
 use Rattle.cancel_step.proofs.HistoryEnds.{length-longest}
 use Rattle.cancel_step.proofs.HistoryLemmas.{legal-push, replay-push}
 use Rattle.cube_signs.specs.Blocks.{block_degrees}
-use Rattle.cube_signs.proofs.BlockComplexes.{IsComplex-block}
+use Rattle.cube_squares.proofs.BlockComplexes.{IsComplex-block}
 use Rattle.shared_block.specs.BlockHistories.{BlockCopy, BlockHistory, block_with, copy_with}
 use Rattle.commit_core.specs.Alone.{blocks_with, looks_and_commits, state_with}
 use Rattle.commit_core.specs.States.{Holding, State, block_at, holding_of, opening_state, state_of, with_held}

@@ -9,7 +9,7 @@ use Rattle.kh_types.specs.History.{IsLegal, block, replay}
 use Rattle.prime_field.specs.Residues.{IsField}
 use Rattle.cancel_step.proofs.HistoryEnds.{length-zero}
 use Rattle.cube_signs.specs.Blocks.{block_degrees}
-use Rattle.cube_signs.proofs.BlockComplexes.{IsComplex-block}
+use Rattle.cube_squares.proofs.BlockComplexes.{IsComplex-block}
 use Rattle.shared_block.specs.BlockHistories.{BlockCopy, Fits, block_with}
 use Rattle.commit_core.specs.Alone.{state_between, state_with}
 use Rattle.commit_core.specs.Rows.{IsRow}

@@ -9,7 +9,7 @@ use Rattle.cancel_step.specs.Copies.{copied}
 use Rattle.cancel_step.proofs.HistoryEnds.{length-longest, length-zero}
 use Rattle.cancel_step.proofs.HistoryLemmas.{legal-push}
 use Rattle.cancel_step.proofs.ZeroLemmas.{find_pivot}
-use Rattle.cube_signs.proofs.BlockComplexes.{IsComplex-block}
+use Rattle.cube_squares.proofs.BlockComplexes.{IsComplex-block}
 use Rattle.shared_block.specs.BlockHistories.{BlockCopy, BlockHistory, HasLegalHistory, complex_of, copy_with, opening_of}
 use Rattle.commit_core.specs.States.{Holding, State, block_at, held_by, holding_of, opening_state, with_commit, with_held}
 use Rattle.commit_core.specs.Rows.{Commits, Forgets, IsRow, IsRun, LooksAt, turns_of}

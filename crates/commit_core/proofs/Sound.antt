@@ -14,7 +14,7 @@ use Rattle.cancel_step.proofs.HistoryLemmas.{legal-push}
 use Rattle.cube_signs.specs.Blocks.{block_degrees}
 use Rattle.shared_block.specs.BlockHistories.{BlockCopy, BlockHistory, HasLegalHistory, IsCopyOf, block_with, complex_of}
 use Rattle.shared_block.specs.Commits.{with_pivot}
-use Rattle.homology_table.proofs.AllBlocks.{AreBlocksOf-opening}
+use Rattle.shared_block.proofs.AllBlocks.{AreBlocksOf-opening}
 use Rattle.commit_core.specs.States.{Holding, IsHeldOf, IsSound, State, block_at, held_by, holding_of, opening_state, with_commit, with_held}
 use Rattle.commit_core.proofs.Apart.{AreApart, block_degrees-apart}
 use Rattle.commit_core.proofs.Lists.{All-or_default}

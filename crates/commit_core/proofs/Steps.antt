@@ -18,7 +18,7 @@ use Rattle.shared_block.specs.BlockHistories.{BlockCopy, BlockHistory, HasLegalH
 use Rattle.shared_block.specs.Commits.{Answers, IsForeignAnswer, IsOld, IsStale, with_pivot}
 use Rattle.shared_block.specs.declared.commit_answer.CommitAnswer.{CommitAnswer}
 use Rattle.shared_block.specs.declared.commit_answer.CommitAnswer.TheVariants.{Committed as BlockCommitted, Stale as BlockStale, Foreign as BlockForeign}
-use Rattle.homology_table.specs.AllBlocks.{opening_blocks}
+use Rattle.shared_block.specs.AllBlocks.{opening_blocks}
 use Rattle.commit_core.specs.Parts.{CommitsTo, IsBlockAt, IsSameAnswer, IsSight}
 use Rattle.commit_core.specs.Rows.{Commits, LooksAt}
 use Rattle.commit_core.specs.States.{Holding, IsHeldOf, IsSound, State, block_at, held_by, holding_of, state_of, with_commit, with_held}

@@ -6,7 +6,7 @@ use Rattle.kh_types.specs.Code.{Code}
 use Rattle.kh_types.specs.Complex.{Pivot}
 use Rattle.shared_block.specs.BlockHistories.{BlockCopy, BlockHistory, HasLegalHistory, IsCopyOf, block_with}
 use Rattle.shared_block.specs.Commits.{with_pivot}
-use Rattle.homology_table.specs.AllBlocks.{AreBlocksOf, opening_blocks}
+use Rattle.shared_block.specs.AllBlocks.{AreBlocksOf, opening_blocks}
 use Rattle.commit_core.specs.declared.event.Event.{Event}
 use Rattle.commit_core.specs.declared.event.Event.TheVariants.{Look, Commit, Forget}
 

@@ -12,7 +12,7 @@ ghost use Rattle.cube_signs.specs.Blocks.{block_degrees};
 ghost use Rattle.shared_block.specs.BlockHistories.{BlockCopy, Fits, HasLegalHistory};
 ghost use Rattle.shared_block.specs.BlockHistories.{block_with, complex_of};
 ghost use Rattle.shared_block.specs.declared.limits.TheConstants.{WORKERS};
-ghost use Rattle.homology_table.specs.AllBlocks.{AreBlocksOf};
+ghost use Rattle.shared_block.specs.AllBlocks.{AreBlocksOf};
 ghost use Rattle.commit_core.specs.Alone.{looks_and_commits, state_between, state_with};
 ghost use Rattle.commit_core.specs.Answering.{answers, turns};
 ghost use Rattle.commit_core.specs.Rows.{IsRow, IsRun};

@@ -10,10 +10,9 @@ ghost use Rattle.commit_core.specs.States.{IsHeldOf, held_by, opening_state, wit
 use crate::building::nothing_held;
 use crate::held_look::HeldLook;
 use crate::{Answer, Event};
-use homology_table::blocks_of;
 use kh_types::{Diagram, NoMemory};
 use prime_field::PrimeField;
-use shared_block::SharedBlock;
+use shared_block::{SharedBlock, blocks_of};
 use std::alloc::Global;
 use std::marker::Model;
 

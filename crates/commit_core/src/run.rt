@@ -10,11 +10,11 @@ ghost use Rattle.commit_core.specs.Rows.{IsRun};
 ghost use Rattle.commit_core.specs.States.{worker_of};
 
 use crate::{Answer, Core, Event};
-use homology_table::laws::blocks_stay_those_of_their_diagram;
-use homology_table::{finish_all, table_of};
 use jones_sum::Table;
 use kh_types::{Diagram, NoMemory};
 use prime_field::PrimeField;
+use shared_block::table_laws::blocks_stay_those_of_their_diagram;
+use shared_block::{finish_all, table_of};
 use std::alloc::Global;
 
 /// What a run comes to: the answers to all events in order, and the homology table.

@@ -15,9 +15,10 @@ use Rattle.kh_types.specs.Code.{Code, place_of}
 use Rattle.kh_types.specs.Differential.{coefficient, edge_sign}
 use Rattle.kh_types.specs.Generators.{Generator, generator_of, generators_at, homological_degree, quantum_degree, states}
 use Rattle.kh_types.proofs.Lists.{Contains-map}
-use Rattle.circle_smoothing.specs.Edges.{IsEdge, state_behind}
+use Rattle.circle_smoothing.specs.Edges.{IsEdge}
+use Rattle.kh_types.specs.Edges.{state_behind}
 use Rattle.circle_smoothing.specs.declared.change.Edge.{Edge}
-use Rattle.circle_smoothing.proofs.EdgeBits.{set-within}
+use Rattle.kh_types.proofs.EdgeBits.{set-within}
 use Rattle.sparse_block.specs.declared.entry.Entry.{Entry}
 use Rattle.sparse_block.proofs.AscendingLemmas.{Ascend, ascend-earlier, entries-from_ascend}
 use Rattle.cube_signs.specs.Columns.{column_to, entries_at, head_entry, sign_at, step_entries, IsColumn}
@@ -25,7 +26,7 @@ use Rattle.cube_signs.specs.Heads.{labels_behind}
 use Rattle.cube_signs.specs.Steps.{HasSteps, IsStep}
 use Rattle.cube_signs.specs.Tables.{base_of}
 use Rattle.cube_signs.proofs.ColumnLemmas.{All-elements, All-flat_map-range, Contains-images, ascend-append, ascend-map, value_at-is}
-use Rattle.cube_signs.proofs.Degrees.{coefficient-next}
+use Rattle.cube_squares.proofs.Degrees.{coefficient-next}
 use Rattle.cube_signs.proofs.EdgeHeads.{coefficient-along, coefficient-elsewhere, labels_behind-ascend, labels_behind-below, list_any-decides}
 use Rattle.cube_signs.proofs.GeneratorPlaces.{base-all, base-le, generator-at, is_label, passing-lt, place_from, HasPlace-within, IsPlaced-label}
 use Rattle.cube_signs.proofs.SignLemmas.{sign-below, sign-positive}

@@ -17,17 +17,18 @@ use Rattle.kh_types.specs.Code.{Code, IsCrossing, place_of}
 use Rattle.kh_types.specs.Circles.{circle_count}
 use Rattle.kh_types.specs.Differential.{coefficient, coefficient_at, edge_sign}
 use Rattle.kh_types.specs.Generators.{Generator, generator_of}
-use Rattle.circle_smoothing.specs.CircleNumbers.{number_of}
-use Rattle.circle_smoothing.specs.Edges.{AreRenumbered, HaveMerged, IsEdge, state_behind}
+use Rattle.kh_types.specs.CircleNumbers.{number_of}
+use Rattle.circle_smoothing.specs.Edges.{AreRenumbered, HaveMerged, IsEdge}
+use Rattle.kh_types.specs.Edges.{state_behind}
 use Rattle.circle_smoothing.specs.declared.change.Edge.{Edge}
 use Rattle.circle_smoothing.specs.declared.change.Edge.TheVariants.{Merge, Split}
 use Rattle.circle_smoothing.proofs.EdgeNumbers.{renumbers}
 use Rattle.cube_signs.specs.Heads.{labels_behind, merged_labels, minuses_gained, split_labels}
-use Rattle.cube_signs.proofs.Merges.{IsMerge, IsSwitch, switch-edge}
-use Rattle.cube_signs.proofs.Sums.{sum_by-single}
-use Rattle.cube_signs.proofs.MarkedLabels.{labels-lower}
-use Rattle.cube_signs.proofs.TouchedCircles.{fits, fits-decides}
-use Rattle.cube_signs.proofs.Pairs.{IsStep, edge_or_zero, is_edge-decides}
+use Rattle.cube_squares.proofs.Merges.{IsMerge, IsSwitch, switch-edge}
+use Rattle.cube_squares.proofs.Sums.{sum_by-single}
+use Rattle.cube_squares.proofs.MarkedLabels.{labels-lower}
+use Rattle.cube_squares.proofs.TouchedCircles.{fits, fits-decides}
+use Rattle.cube_squares.proofs.Pairs.{IsStep, edge_or_zero, is_edge-decides}
 use Rattle.cube_signs.proofs.HeadBits.{Contains-merged, Contains-parted, IsMerged-contains, IsParted-contains, increasing-merged, increasing-split}
 use Rattle.cube_signs.proofs.HeadLabels.{AreNumbered, AreNumbered-edge, fits-merge, fits-split, greater-below}
 

@@ -32,8 +32,8 @@ use Rattle.sparse_block.proofs.DegreeLemmas.{length-at}
 use Rattle.kh_types.specs.declared.limits.TheConstants.{EXPONENT}
 use Rattle.cube_signs.specs.Blocks.{block_degrees, has_block, named_block}
 use Rattle.cube_signs.specs.Columns.{names_from, AreAllColumns, AreColumns, AreParts}
-use Rattle.cube_signs.proofs.BlockComplexes.{product_entry-block}
-use Rattle.cube_signs.proofs.BlockDegrees.{cube_degree, degree-at, degree-found, first_degree}
+use Rattle.cube_squares.proofs.BlockComplexes.{product_entry-block}
+use Rattle.cube_squares.proofs.BlockDegrees.{cube_degree, degree-at, degree-found, first_degree}
 use Rattle.cube_signs.proofs.GeneratorPlaces.{length-generators_at}
 
 -- lists by their places

@@ -6,7 +6,7 @@ use Rattle.std.proofs.lemmas.List.{get_or-map, get_or_append_left, get_or_push, 
 use Rattle.arrayvec.specs.ArrayVec.{ArrayVec}
 use Rattle.kh_types.specs.Bits.{bit}
 use Rattle.kh_types.specs.Code.{Code, IsCrossing, place_of}
-use Rattle.circle_smoothing.specs.Edges.{state_behind}
+use Rattle.kh_types.specs.Edges.{state_behind}
 use Rattle.circle_smoothing.specs.declared.change.Edge.{Edge}
 use Rattle.cube_signs.specs.Columns.{AreSmall, IsSmall}
 use Rattle.cube_signs.specs.Steps.{steps_in, HasSteps, HaveSteps, IsStep}

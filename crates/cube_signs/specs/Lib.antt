@@ -1,6 +1,3 @@
-pub mod Squares
-pub mod NextDegrees
-pub mod VirtualCodes
 pub mod Heads
 pub mod Blocks
 pub mod Shapes

@@ -1,8 +1,3 @@
-//! What squares of the cube do to circles and signs, which labels are behind an edge, that the
-//! differential squares to zero, and that blocks are complexes.
+//! Which labels are behind an edge.
 
-pub mod blocks;
-pub mod coefficients;
 pub mod heads;
-pub mod known;
-pub mod squares;

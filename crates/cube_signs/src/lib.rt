@@ -1,5 +1,4 @@
-//! The signs of the cube's edges, the law that the differential squares to zero, and the blocks of
-//! the cube.
+//! The labels behind the cube's edges, and the blocks of the cube.
 #![tactic(auto)]
 
 mod blocks;

@@ -10,10 +10,10 @@ use Rattle.kh_types.specs.Faces.{open_faces, open_pieces, piece_pair}
 use Rattle.kh_types.proofs.JoinedClasses.{joined-together, classes_of-same, classes_of-more}
 use Rattle.kh_types.proofs.Lists.{AllByRecursion-append, AllByRecursion-first, AllByRecursion-second}
 use Rattle.kh_types.proofs.RangeCounts.{but, count_by-but, count_by-alike}
-use Rattle.face_walk.specs.Permutations.{IsExchange, IsMerge}
+use Rattle.kh_types.specs.Permutations.{IsExchange, AreJoined}
 use Rattle.face_walk.specs.AddedArcs.{is_open, open_dart_count, with_arc, HasArcMore, JoinsPieces, StaysInPiece}
-use Rattle.face_walk.proofs.RangeImages.{all-map_range, map_range-at}
-use Rattle.face_walk.proofs.Exchanges.{IsMerge-apart, IsMerge-split}
+use Rattle.kh_types.proofs.RangeImages.{all-map_range, map_range-at}
+use Rattle.kh_types.proofs.ExchangedCycles.{AreJoined-apart, AreJoined-split}
 use Rattle.face_walk.proofs.OpenFaces.{face_back, crossing-below, IsPermutation-face_step, piece_pairs-below, open_faces-in_pieces}
 
 -- an arc can be added between two open darts
@@ -109,18 +109,18 @@ IsExchange-face_step m before after dart other more = record {
 pub open_faces-split : (n : ℕ) (before after : ℕ → ℕ) (dart other : ℕ) → IsPairing (4 * n) before
     → HasArcMore (4 * n) before after dart other
     → slice_index (open_faces n before) dart ≡ slice_index (open_faces n before) other
-    → IsMerge (open_faces n after) (open_faces n before) dart other
+    → AreJoined (open_faces n after) (open_faces n before) dart other
 open_faces-split n before after dart other pairing more together =
-    IsMerge-split (4 * n) (face_step before) (face_back before) (face_step after) dart other
+    AreJoined-split (4 * n) (face_step before) (face_back before) (face_step after) dart other
     (IsPermutation-face_step n before pairing) (IsExchange-face_step (4 * n) before after dart other more) together
 
 -- two darts of different faces: the new arc makes one face of the two
 pub open_faces-join : (n : ℕ) (before after : ℕ → ℕ) (dart other : ℕ) → IsPairing (4 * n) before
     → HasArcMore (4 * n) before after dart other
     → slice_index (open_faces n before) dart ≢ slice_index (open_faces n before) other
-    → IsMerge (open_faces n before) (open_faces n after) dart other
+    → AreJoined (open_faces n before) (open_faces n after) dart other
 open_faces-join n before after dart other pairing more apart =
-    IsMerge-apart (4 * n) (face_step before) (face_back before) (face_step after) dart other
+    AreJoined-apart (4 * n) (face_step before) (face_back before) (face_step after) dart other
     (IsPermutation-face_step n before pairing) (IsExchange-face_step (4 * n) before after dart other more) apart
 
 -- one more arc joins the pieces of its two ends

@@ -19,7 +19,7 @@ use Rattle.kh_types.proofs.WalkLemmas.{AreCycles}
 use Rattle.face_walk.specs.ClassNumbers.{least_numbers, class_number, class_numbers}
 use Rattle.face_walk.specs.FaceNumbers.{face_number, face_length}
 use Rattle.face_walk.specs.Numbered.{face_numbers}
-use Rattle.face_walk.proofs.RangeImages.{all-map_range}
+use Rattle.kh_types.proofs.RangeImages.{all-map_range}
 use Rattle.face_walk.proofs.OpenFaces.{AreCycles-open_faces, IsNamed-open_pieces, face_back}
 use Rattle.face_walk.proofs.NumberLemmas.{class_number-below}
 

@@ -1,8 +1,3 @@
-pub mod RangeImages
-pub mod Cycles
-pub mod Paths
-pub mod CutCycles
-pub mod Exchanges
 pub mod OpenFaces
 pub mod NumberLemmas
 pub mod FaceLemmas

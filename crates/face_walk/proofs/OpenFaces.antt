@@ -8,9 +8,9 @@ use Rattle.kh_types.specs.Faces.{open_faces, open_pieces, piece_pair}
 use Rattle.kh_types.proofs.ClassLemmas.{classes-together}
 use Rattle.kh_types.proofs.JoinedClasses.{IsNamed-classes_of}
 use Rattle.kh_types.proofs.WalkLemmas.{AreCycles}
-use Rattle.face_walk.specs.Permutations.{IsPermutation}
-use Rattle.face_walk.proofs.Cycles.{AreCycles-cycles_of}
-use Rattle.face_walk.proofs.RangeImages.{all-map_range, map_range-at}
+use Rattle.kh_types.specs.Permutations.{IsPermutation}
+use Rattle.kh_types.proofs.Cycles.{AreCycles-cycles_of}
+use Rattle.kh_types.proofs.RangeImages.{all-map_range, map_range-at}
 
 -- the place of the dart at the slot behind, and the way back from a face step
 abbrev pub turned_back : ℕ → ℕ

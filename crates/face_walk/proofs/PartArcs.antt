@@ -7,9 +7,9 @@ use Rattle.kh_types.specs.Classes.{classes_of, class_count}
 use Rattle.kh_types.specs.Darts.{IsPairing, turned}
 use Rattle.kh_types.specs.Faces.{face_pair, open_faces, open_pieces, piece_pair}
 use Rattle.kh_types.proofs.RangeCounts.{count_by-alike}
-use Rattle.face_walk.specs.Permutations.{IsMerge}
+use Rattle.kh_types.specs.Permutations.{AreJoined}
 use Rattle.face_walk.specs.AddedArcs.{bare, is_open, open_dart_count, open_face_count, open_piece_count, with_arc, HasArcMore, IsPart, IsPlanar}
-use Rattle.face_walk.proofs.RangeImages.{map_range-agree}
+use Rattle.kh_types.proofs.RangeImages.{map_range-agree}
 use Rattle.face_walk.proofs.AddedArcs.{HasArcMore-with_arc, IsPairing-more, ends_or_not, open_faces-split}
 use Rattle.face_walk.proofs.BareCrossings.{IsPairing-bare, open_dart_count-bare, open_face_count-bare, open_piece_count-bare}
 use Rattle.face_walk.proofs.PlanarArcs.{IsNoNearer, IsNoNearer-more, open_faces-together}
@@ -240,7 +240,7 @@ planar-together n part whole dart pairing whole_pairing is_part planar below dif
 pub planar-split : (n : ℕ) (part after whole : ℕ → ℕ) (dart other : ℕ) → IsPairing (4 * n) part → IsPairing (4 * n) whole
     → IsPart (4 * n) part whole → IsPlanar n whole → HasArcMore (4 * n) part after dart other → whole dart ≡ other
     → slice_index (open_pieces n part) (dart / 4) ≡ slice_index (open_pieces n part) (other / 4)
-    → IsMerge (open_faces n after) (open_faces n part) dart other
+    → AreJoined (open_faces n after) (open_faces n part) dart other
 planar-split n part after whole dart other pairing whole_pairing is_part planar more is_arc together =
     open_faces-split n part after dart other pairing more
     (more-together n part after whole dart other pairing whole_pairing is_part planar more is_arc together)

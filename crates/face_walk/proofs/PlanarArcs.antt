@@ -5,9 +5,9 @@ use Rattle.std.proofs.lemmas.Bool.{cases_eq}
 use Rattle.kh_types.specs.Classes.{class_count}
 use Rattle.kh_types.specs.Darts.{IsPairing}
 use Rattle.kh_types.specs.Faces.{open_faces, open_pieces}
-use Rattle.face_walk.specs.Permutations.{IsMerge}
+use Rattle.kh_types.specs.Permutations.{AreJoined}
 use Rattle.face_walk.specs.AddedArcs.{open_dart_count, open_face_count, open_piece_count, HasArcMore}
-use Rattle.face_walk.proofs.Exchanges.{IsMerge-count}
+use Rattle.kh_types.proofs.ExchangedCycles.{AreJoined-count}
 use Rattle.face_walk.proofs.OpenFaces.{crossing-below, AreCycles-open_faces, IsNamed-open_pieces}
 use Rattle.face_walk.proofs.AddedArcs.{IsPairing-more, open_dart_count-more, open_faces-join, JoinsPieces-apart, StaysInPiece-together}
 
@@ -20,16 +20,16 @@ IsNoNearer n before after =
 -- where two faces, or two pieces, become one, there is one fewer
 
 open_face_count-merge : (n : ℕ) (partner other : ℕ → ℕ) (dart mate : ℕ) → IsPairing (4 * n) partner → dart < 4 * n → mate < 4 * n
-    → IsMerge (open_faces n partner) (open_faces n other) dart mate → open_face_count n partner ≡ open_face_count n other + 1
+    → AreJoined (open_faces n partner) (open_faces n other) dart mate → open_face_count n partner ≡ open_face_count n other + 1
 open_face_count-merge n partner other dart mate pairing dart_below mate_below merge =
-    IsMerge-count (4 * n) (open_faces n partner) (open_faces n other) dart mate (AreCycles-open_faces n partner pairing).named
+    AreJoined-count (4 * n) (open_faces n partner) (open_faces n other) dart mate (AreCycles-open_faces n partner pairing).named
     dart_below mate_below merge
 
 open_piece_count-merge : (n : ℕ) (partner other : ℕ → ℕ) (dart mate : ℕ) → IsPairing (4 * n) partner → dart < 4 * n → mate < 4 * n
-    → IsMerge (open_pieces n partner) (open_pieces n other) (dart / 4) (mate / 4)
+    → AreJoined (open_pieces n partner) (open_pieces n other) (dart / 4) (mate / 4)
     → open_piece_count n partner ≡ open_piece_count n other + 1
 open_piece_count-merge n partner other dart mate pairing dart_below mate_below merge =
-    IsMerge-count n (open_pieces n partner) (open_pieces n other) (dart / 4) (mate / 4) (IsNamed-open_pieces n partner pairing)
+    AreJoined-count n (open_pieces n partner) (open_pieces n other) (dart / 4) (mate / 4) (IsNamed-open_pieces n partner pairing)
     (crossing-below n dart dart_below) (crossing-below n mate mate_below) merge
 
 -- one more arc never brings crossings nearer to the sphere

@@ -4,7 +4,7 @@ use Rattle.std.specs.Prelude.{◌≡◌, ◌≢◌, ℕ, ◌⊎◌, ◌+◌, ◌
 use Rattle.std.specs.List.{count_by, range_with_len}
 use Rattle.kh_types.specs.Classes.{class_count}
 use Rattle.kh_types.specs.Faces.{open_faces, open_pieces}
-use Rattle.face_walk.specs.Permutations.{IsMerge}
+use Rattle.kh_types.specs.Permutations.{AreJoined}
 
 -- whether the dart at a place is open: it has no arc
 abbrev pub is_open : (ℕ → ℕ) → ℕ → Bool
@@ -48,14 +48,14 @@ pub record HasArcMore (m : ℕ) (before after : ℕ → ℕ) (dart other : ℕ) 
 
 -- an arc between two pieces makes one piece of the two, and one face of two
 pub record JoinsPieces (n : ℕ) (before after : ℕ → ℕ) (dart other : ℕ) : Type 0 where
-  pub pieces : IsMerge (open_pieces n before) (open_pieces n after) (dart / 4) (other / 4)
-  pub faces : IsMerge (open_faces n before) (open_faces n after) dart other
+  pub pieces : AreJoined (open_pieces n before) (open_pieces n after) (dart / 4) (other / 4)
+  pub faces : AreJoined (open_faces n before) (open_faces n after) dart other
 
 -- an arc inside a piece leaves the pieces, and makes one face of two, or two of one
 pub record StaysInPiece (n : ℕ) (before after : ℕ → ℕ) (dart other : ℕ) : Type 0 where
   pub pieces : open_pieces n after ≡ open_pieces n before
-  pub faces : IsMerge (open_faces n before) (open_faces n after) dart other
-      ⊎ IsMerge (open_faces n after) (open_faces n before) dart other
+  pub faces : AreJoined (open_faces n before) (open_faces n after) dart other
+      ⊎ AreJoined (open_faces n after) (open_faces n before) dart other
 
 -- a part has some of the arcs of a whole: each dart below m has its partner there, or is open
 abbrev pub IsPart : ℕ → (ℕ → ℕ) → (ℕ → ℕ) → Type 0

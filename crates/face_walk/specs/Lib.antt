@@ -2,4 +2,3 @@ pub mod AddedArcs
 pub mod ClassNumbers
 pub mod FaceNumbers
 pub mod Numbered
-pub mod Permutations

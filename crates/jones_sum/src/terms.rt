@@ -6,14 +6,11 @@ ghost use Rattle.kh_types.specs.Directions.{plus_count, minus_count};
 ghost use Rattle.kh_types.specs.StateSum.{circle_coefficient};
 ghost use Rattle.jones_sum.specs.Kinds.{kind_term};
 ghost use Rattle.jones_sum.specs.declared.laurent.TheConstants.{COEFFICIENTS};
-ghost use Rattle.jones_sum.specs.declared.terms.TheConstants.{KINDS};
+ghost use Rattle.circle_smoothing.specs.declared.kinds.TheConstants.{KINDS};
 
 use crate::laurent::COEFFICIENTS;
-use crate::triangle::{COLUMNS, Triangle};
-use kh_types::{CROSSINGS, Diagram, EXPONENT};
-
-/// The number of kinds of states: by the number of ones, and by the number of circles.
-pub const KINDS: usize = (CROSSINGS + 1) * COLUMNS;
+use circle_smoothing::{COLUMNS, StateKinds, Triangle};
+use kh_types::EXPONENT;
 
 /// The numbers of positive and of negative crossings.
 #[derive(Clone, Copy)]
@@ -23,11 +20,12 @@ pub struct Signs {
 }
 
 impl Signs {
-    /// Those of a diagram.
-    pub fn of_diagram(diagram: &Diagram) -> Signs
-        ensures plus { result.plus ≡ plus_count diagram.now.crossings }
-        ensures minus { result.minus ≡ minus_count diagram.now.crossings }
+    /// Those of the diagram whose states have these kinds.
+    pub fn of_kinds(kinds: &StateKinds) -> Signs
+        ensures plus { result.plus ≡ plus_count kinds.now.crossings }
+        ensures minus { result.minus ≡ minus_count kinds.now.crossings }
     {
+        let diagram = kinds.diagram();
         Signs {
             plus: diagram.plus(),
             minus: diagram.minus(),

@@ -19,5 +19,8 @@ pub const EXPONENT: usize = CIRCLES + 2 * CROSSINGS;
 /// The most crossingless loops of a text.
 pub const LOOPS: usize = 8;
 
+/// The most workers that share the blocks of a diagram.
+pub const WORKERS: u32 = 64;
+
 /// The most bytes of an input.
 pub const INPUT_BYTES: usize = 65_536;

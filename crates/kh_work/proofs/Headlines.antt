@@ -11,7 +11,7 @@ use Rattle.kh_types.specs.declared.limits.TheConstants.{CROSSINGS}
 use Rattle.prime_field.specs.Residues.{IsField}
 use Rattle.prime_field.specs.SmallFields.{field-two, field-three, field-five, field-seven}
 use Rattle.jones_sum.proofs.CoefficientLemmas.{polynomial_text-agree}
-use Rattle.homology_table.proofs.TableSums.{euler-table}
+use Rattle.shared_block.proofs.TableSums.{euler-table}
 use Rattle.kh_work.specs.declared.command.Command.{Command}
 use Rattle.kh_work.specs.declared.command.Task.TheVariants.{Homology}
 use Rattle.kh_work.specs.declared.command.Field.{Field}

@@ -5,7 +5,7 @@ use Rattle.std.specs.Global.{Vec}
 use Rattle.std.specs.Vec.{with_item}
 use Rattle.std.proofs.lemmas.List.{map-set, get_or-map, length-map, get_or-replicate, length-replicate}
 use Rattle.kh_types.specs.Complex.{entry_in}
-use Rattle.plain_matrix.specs.Matrices.{IsMatrix}
+use Rattle.kh_types.specs.MatrixRanks.{IsMatrix}
 use Rattle.plain_matrix.specs.Inside.{values_of, HasSize}
 
 -- the values of one row

@@ -3,13 +3,13 @@ use Rattle.std.proofs.Common.{◌≡◌, ℕ, zero, suc, ◌+◌, ◌-◌, ◌*�
 use Rattle.std.specs.Prelude.{nat_eq, if◌then◌else◌}
 use Rattle.std.proofs.lemmas.Bool.Decides.{eqb_tells}
 use Rattle.kh_types.specs.Rank.{inverse}
-use Rattle.prime_field.specs.Residues.{IsField}
-use Rattle.plain_matrix.specs.Products.{Same, sum_below, product_at, Factors}
-use Rattle.plain_matrix.specs.Ranks.{HasRank}
+use Rattle.kh_types.specs.Residues.{HasInverses, Same}
+use Rattle.kh_types.specs.Products.{sum_below, product_at, Factors}
+use Rattle.kh_types.specs.MatrixRanks.{HasRank}
 use Rattle.plain_matrix.specs.Steps.{IsRowStep, IsColumnStep}
-use Rattle.plain_matrix.proofs.Residues.{same-equal, same-add, same-mul, same-scaled, same-multiple, same-inverse}
-use Rattle.plain_matrix.proofs.Sums.{sum_below-equal, sum_below-add, sum_below-scaled}
-use Rattle.plain_matrix.proofs.PivotLemmas.{rank-like, rank-transposed}
+use Rattle.kh_types.proofs.Residues.{same-equal, same-add, same-mul, same-scaled, same-multiple, same-inverse}
+use Rattle.kh_types.proofs.Sums.{sum_below-equal, sum_below-add, sum_below-scaled}
+use Rattle.kh_types.proofs.PivotLemmas.{rank-like, rank-transposed}
 
 -- the sum of multiples of two rows, in a product
 product-two_rows : (s a b f c : ℕ) (left right : ℕ → ℕ → ℕ) (j : ℕ)
@@ -54,7 +54,7 @@ way_back zero y f c own other positive = absurd (omega arith)
 way_back (suc q) y f c own other positive = let less : suc q - 1 ≡ q = omega arith in rw less (omega arith)
 
 -- a step leads back by a step
-step-back : (p : ℕ) (M N : ℕ → ℕ → ℕ) → IsField p → (step : IsRowStep p M N) (j : ℕ)
+step-back : (p : ℕ) (M N : ℕ → ℕ → ℕ) → HasInverses p → (step : IsRowStep p M N) (j : ℕ)
     → Same p (inverse p step.factor * N step.row j + (p - 1) * (inverse p step.factor * step.multiple) * N step.other j)
     (M step.row j)
 step-back p M N field step j =
@@ -72,7 +72,7 @@ step-back p M N field step j =
     ∙ same-mul p (step.factor * y) 1 own own (same-inverse p step.factor field step.unit) refl
     ∙ same-equal p (1 * own) own (omega arith)
 
-pub rank-row_step : (p r : ℕ) (M N : ℕ → ℕ → ℕ) → IsField p → IsRowStep p M N → HasRank p M r → HasRank p N r
+pub rank-row_step : (p r : ℕ) (M N : ℕ → ℕ → ℕ) → HasInverses p → IsRowStep p M N → HasRank p M r → HasRank p N r
 rank-row_step p r M N field step =
     let y = inverse p step.factor in
     rank-like p r M N
@@ -80,7 +80,7 @@ rank-row_step p r M N field step =
     (λ s. factors-stepped p s step.row step.other y ((p - 1) * (y * step.multiple)) N M (step-back p M N field step)
     (λ i j differs. sym (step.kept i j differs)))
 
-pub rank-column_step : (p r : ℕ) (M N : ℕ → ℕ → ℕ) → IsField p → IsColumnStep p M N → HasRank p M r → HasRank p N r
+pub rank-column_step : (p r : ℕ) (M N : ℕ → ℕ → ℕ) → HasInverses p → IsColumnStep p M N → HasRank p M r → HasRank p N r
 rank-column_step p r M N field step has =
     rank-transposed p r (λ i j. N j i)
     (rank-row_step p r (λ i j. M j i) (λ i j. N j i) field step (rank-transposed p r M has))

@@ -6,13 +6,14 @@ use Rattle.std.proofs.lemmas.List.{length-map, map-append, map_push, take_more}
 use Rattle.std.proofs.lemmas.List.FromFn.{length-map-range_with_len, get_or-map-range_with_len, map-range_with_len_more}
 use Rattle.kh_types.specs.Complex.{entry_in}
 use Rattle.kh_types.specs.Rank.{rank}
-use Rattle.prime_field.specs.Residues.{IsField}
+use Rattle.kh_types.specs.Residues.{HasInverses}
 use Rattle.std.specs.Global.{Vec}
 use Rattle.plain_matrix.specs.Inside.{HasSize, values_of}
 use Rattle.plain_matrix.proofs.InsideLemmas.{size-from_values}
-use Rattle.plain_matrix.specs.Matrices.{IsMatrix, column_of, transposed_rows}
-use Rattle.plain_matrix.proofs.Entries.{entry-past_rows, entry-past_columns}
-use Rattle.plain_matrix.proofs.RankLaws.{rank-transposed_rows}
+use Rattle.kh_types.specs.MatrixRanks.{IsMatrix}
+use Rattle.plain_matrix.specs.Matrices.{column_of, transposed_rows}
+use Rattle.kh_types.proofs.MatrixEntries.{entry-past_rows, entry-past_columns}
+use Rattle.kh_types.proofs.RankLaws.{rank-transposed_rows}
 
 -- an entry of a column
 slice_index-column_of : (rows : List (List ℕ)) (j i : ℕ) → slice_index (column_of rows j) i ≡ entry_in rows i j
@@ -69,7 +70,7 @@ matrix-transposed_rows p columns rows is =
       below = λ j i. subst (λ entry. entry < p) (sym (entry-transposed_rows p columns rows is j i)) (is.below i j);
     }
 
-pub rank-transpose : (p columns : ℕ) (rows : List (List ℕ)) → IsField p → IsMatrix p columns rows
+pub rank-transpose : (p columns : ℕ) (rows : List (List ℕ)) → HasInverses p → IsMatrix p columns rows
     → rank p (transposed_rows columns rows) ≡ rank p rows
 rank-transpose p columns rows field is =
     rank-transposed_rows p columns (length rows) rows (transposed_rows columns rows) field is

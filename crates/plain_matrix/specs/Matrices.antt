@@ -1,17 +1,11 @@
 -- Matrices as plain data.
-use Rattle.std.specs.Prelude.{ℕ, ◌<◌, ◌≡◌, List, [], length, map, replicate, slice_set, slice_index, slice_index_or}
+use Rattle.std.specs.Prelude.{ℕ, List, [], length, map, replicate, slice_set, slice_index, slice_index_or}
 use Rattle.std.specs.List.{range_with_len}
-use Rattle.kh_types.specs.Complex.{entry_in}
 
 -- a matrix: the list of its rows, and how many columns it has
 pub record Matrix : Type 0 where
   pub rows : List (List ℕ)
   pub columns : ℕ
-
--- a list of rows of one length, with entries below p
-pub record IsMatrix (p columns : ℕ) (rows : List (List ℕ)) : Type 0 where
-  pub width : (row : ℕ) → row < length rows → length (slice_index_or rows row []) ≡ columns
-  pub below : (row column : ℕ) → entry_in rows row column < p
 
 -- the matrix of zeros
 abbrev pub zero_matrix : ℕ → ℕ → Matrix

@@ -1,6 +1,7 @@
 -- Steps on the rows and the columns of a matrix modulo p, and eliminations with any pivots.
 use Rattle.std.specs.Prelude.{◌≢◌, ℕ, suc, ◌+◌, ◌*◌}
-use Rattle.plain_matrix.specs.Products.{Same}
+use Rattle.kh_types.specs.MatrixRanks.{Leaves}
+use Rattle.kh_types.specs.Residues.{Same}
 
 -- a step on the rows: one row becomes a multiple of itself, by a factor that is not 0, plus a multiple of another row
 pub record IsRowStep (p : ℕ) (before after : ℕ → ℕ → ℕ) : Type 0 where
@@ -16,13 +17,6 @@ pub record IsRowStep (p : ℕ) (before after : ℕ → ℕ → ℕ) : Type 0 whe
 -- a step on the columns: a step on the rows of the transposes
 abbrev pub IsColumnStep : ℕ → (ℕ → ℕ → ℕ) → (ℕ → ℕ → ℕ) → Type 0
 IsColumnStep p before after = IsRowStep p (λ i j. before j i) (λ i j. after j i)
-
--- what the pivot at a row and a column leaves of a matrix: from each entry it takes the way back through the pivot,
--- so that the pivot's row and column become 0
-pub record Leaves (p : ℕ) (matrix rest : ℕ → ℕ → ℕ) (row column : ℕ) : Type 0 where
-  pub inverse : ℕ
-  pub inverts : Same p (matrix row column * inverse) 1
-  pub others : (i j : ℕ) → Same p (matrix i column * (inverse * matrix row j) + rest i j) (matrix i j)
 
 -- an elimination with any pivots: it is over where all entries are 0, and a step goes on with what a pivot leaves
 pub data IsElimination (p : ℕ) : (ℕ → ℕ → ℕ) → ℕ → Type 0 where

@@ -2,7 +2,8 @@
 
 ghost use Rattle.std.specs.Prelude.{◌≡◌, ◌<◌, ◌^◌, length, map, replicate, IfOk};
 ghost use Rattle.kh_types.specs.Complex.{entry_in};
-ghost use Rattle.plain_matrix.specs.Matrices.{IsMatrix, with_entry, zero_matrix};
+ghost use Rattle.kh_types.specs.MatrixRanks.{IsMatrix};
+ghost use Rattle.plain_matrix.specs.Matrices.{with_entry, zero_matrix};
 ghost use Rattle.plain_matrix.specs.Inside.{HasSize, matrix_of, values_of};
 
 use kh_types::NoMemory;

@@ -5,14 +5,15 @@ ghost use Rattle.std.specs.Prelude.{◌≡◌, ◌≢◌, ℕ, suc, List};
 ghost use Rattle.kh_types.specs.Complex.{Pivot, cancelled_matrix, entry_in};
 ghost use Rattle.kh_types.specs.Complex.{without_column, without_row};
 ghost use Rattle.kh_types.specs.Rank.{rank};
-ghost use Rattle.prime_field.specs.Residues.{IsField};
-ghost use Rattle.plain_matrix.specs.Matrices.{IsMatrix, transposed_rows};
-ghost use Rattle.plain_matrix.specs.Ranks.{HasRank, IsAmong, IsDependent};
+ghost use Rattle.kh_types.specs.Residues.{HasInverses};
+ghost use Rattle.kh_types.specs.MatrixRanks.{IsMatrix, HasRank, IsDependent};
+ghost use Rattle.plain_matrix.specs.Matrices.{transposed_rows};
+ghost use Rattle.plain_matrix.specs.Ranks.{IsAmong};
 ghost use Rattle.plain_matrix.specs.Steps.{IsColumnStep, IsElimination, IsRowStep};
 
 /// A matrix has one rank, the least middle size of a product that is the matrix: the plain rank.
 pub fn plain_rank_is_the_rank()
-    ensures plain { (p columns : ℕ) (rows : List (List ℕ)) → IsField p → IsMatrix p columns rows
+    ensures plain { (p columns : ℕ) (rows : List (List ℕ)) → HasInverses p → IsMatrix p columns rows
         → HasRank p (entry_in rows) (rank p rows) }
     ensures unique { (p r s : ℕ) (matrix : ℕ → ℕ → ℕ)
         → HasRank p matrix r → HasRank p matrix s → r ≡ s }
@@ -20,9 +21,9 @@ pub fn plain_rank_is_the_rank()
 
 /// The rank is the number of pivots, whatever entries other than 0 are taken for pivots.
 pub fn rank_counts_any_pivots()
-    ensures pivots { (p columns steps : ℕ) (rows : List (List ℕ)) → IsField p
+    ensures pivots { (p columns steps : ℕ) (rows : List (List ℕ)) → HasInverses p
         → IsMatrix p columns rows → IsElimination p (entry_in rows) steps → rank p rows ≡ steps }
-    ensures cancelled { (p columns : ℕ) (pivot : Pivot) (rows : List (List ℕ)) → IsField p
+    ensures cancelled { (p columns : ℕ) (pivot : Pivot) (rows : List (List ℕ)) → HasInverses p
         → IsMatrix p columns rows → entry_in rows pivot.row pivot.column ≢ 0
         → rank p rows ≡ suc (rank p (cancelled_matrix p pivot rows)) }
 {}
@@ -31,27 +32,27 @@ pub fn rank_counts_any_pivots()
 pub fn rank_of_the_transpose()
     ensures has { (p r : ℕ) (matrix : ℕ → ℕ → ℕ)
         → HasRank p matrix r → HasRank p (λ row column. matrix column row) r }
-    ensures plain { (p columns : ℕ) (rows : List (List ℕ)) → IsField p → IsMatrix p columns rows
+    ensures plain { (p columns : ℕ) (rows : List (List ℕ)) → HasInverses p → IsMatrix p columns rows
         → rank p (transposed_rows columns rows) ≡ rank p rows }
 {}
 
 /// Steps on rows and on columns keep the rank.
 pub fn steps_keep_the_rank()
-    ensures row { (p r : ℕ) (before after : ℕ → ℕ → ℕ) → IsField p → IsRowStep p before after
+    ensures row { (p r : ℕ) (before after : ℕ → ℕ → ℕ) → HasInverses p → IsRowStep p before after
         → HasRank p before r → HasRank p after r }
-    ensures column { (p r : ℕ) (before after : ℕ → ℕ → ℕ) → IsField p → IsColumnStep p before after
+    ensures column { (p r : ℕ) (before after : ℕ → ℕ → ℕ) → HasInverses p → IsColumnStep p before after
         → HasRank p before r → HasRank p after r }
-    ensures order { (p columns width : ℕ) (rows others : List (List ℕ)) → IsField p
+    ensures order { (p columns width : ℕ) (rows others : List (List ℕ)) → HasInverses p
         → IsMatrix p columns rows → IsMatrix p width others → IsAmong rows others
         → IsAmong others rows → rank p rows ≡ rank p others }
 {}
 
 /// A row that depends on others may become 0, and so may such a column.
 pub fn dependent_rows_do_not_count()
-    ensures row { (p columns m dead : ℕ) (rows : List (List ℕ)) → IsField p
+    ensures row { (p columns m dead : ℕ) (rows : List (List ℕ)) → HasInverses p
         → IsMatrix p columns rows → IsDependent p m dead (entry_in rows)
         → rank p (without_row dead rows) ≡ rank p rows }
-    ensures column { (p columns m dead : ℕ) (rows : List (List ℕ)) → IsField p
+    ensures column { (p columns m dead : ℕ) (rows : List (List ℕ)) → HasInverses p
         → IsMatrix p columns rows → IsDependent p m dead (λ i j. entry_in rows j i)
         → rank p (without_column dead rows) ≡ rank p rows }
 {}

@@ -13,8 +13,8 @@ use Rattle.kh_types.specs.Rank.{rank}
 use Rattle.kh_types.specs.Table.{dimension}
 use Rattle.kh_types.proofs.RankLemmas.{rank-zeros}
 use Rattle.prime_field.specs.Residues.{IsField}
-use Rattle.cube_signs.proofs.BlockComplexes.{IsComplex-block, alive-block}
-use Rattle.cube_signs.proofs.BlockDegrees.{degree-block}
+use Rattle.cube_squares.proofs.BlockComplexes.{IsComplex-block, alive-block}
+use Rattle.cube_squares.proofs.BlockDegrees.{degree-block}
 use Rattle.cancel_step.proofs.HistoryEnds.{alive_count-end, dimension_of-add}
 
 -- the rank of a matrix without columns or without rows

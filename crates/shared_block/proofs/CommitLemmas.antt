@@ -7,7 +7,7 @@ use Rattle.kh_types.specs.Acceptance.{accepted}
 use Rattle.kh_types.specs.Complex.{Complex, IsComplex, IsPivot, Pivot, cancel}
 use Rattle.kh_types.specs.History.{block}
 use Rattle.prime_field.specs.Residues.{IsField}
-use Rattle.cube_signs.proofs.BlockComplexes.{IsComplex-block}
+use Rattle.cube_squares.proofs.BlockComplexes.{IsComplex-block}
 use Rattle.sparse_block.specs.declared.entry.Entry.{Entry}
 use Rattle.sparse_block.specs.Changes.{PlacedLine}
 use Rattle.sparse_block.specs.Complexes.{column_of, row_of}

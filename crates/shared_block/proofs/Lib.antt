@@ -1,3 +1,12 @@
 pub mod BlockDimensions
 pub mod PlaceSums
 pub mod CommitLemmas
+pub mod IntSums
+pub mod Alternating
+pub mod LabelCounts
+pub mod GeneratorCounts
+pub mod TableSums
+pub mod RowLists
+pub mod BlockRows
+pub mod Blocks
+pub mod AllBlocks

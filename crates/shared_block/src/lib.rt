@@ -1,6 +1,8 @@
-//! A block of the cube with the history of its cancellations, which changes by commits of patches.
+//! A block of the cube with the history of its cancellations, which changes by commits of patches; all
+//! blocks of a diagram, and its homology table from them once they are cancelled to zero.
 #![tactic(auto)]
 
+mod all_blocks;
 mod block_look;
 mod block_patch;
 mod building;
@@ -9,12 +11,17 @@ mod finishing;
 mod held;
 pub mod laws;
 mod limits;
+mod rows;
 mod shared_block;
+mod table;
+pub mod table_laws;
 #[cfg(test)]
 mod tests;
 
+pub use all_blocks::{blocks_of, finish_all};
 pub use block_look::BlockLook;
 pub use block_patch::BlockPatch;
 pub use commit_answer::CommitAnswer;
 pub use limits::WORKERS;
 pub use shared_block::SharedBlock;
+pub use table::{homology_table, table_of};

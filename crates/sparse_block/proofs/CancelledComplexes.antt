@@ -8,10 +8,11 @@ use Rattle.std.proofs.lemmas.List.{length-map}
 use Rattle.kh_types.specs.Complex.{Complex, Pivot, IsComplex, IsPivot, degree_number, degree_from, degree_of, entry_in, entry_of, product_entry, cancelled_matrix, cancel}
 use Rattle.kh_types.proofs.CancelLemmas.{sizes-cancel, places-cancel, degrees-cancel}
 use Rattle.prime_field.specs.Residues.{IsField}
-use Rattle.plain_matrix.specs.Products.{Same, product_at}
-use Rattle.plain_matrix.proofs.Sums.{sum_below-equal}
-use Rattle.plain_matrix.proofs.DependentRows.{row_cleared, column_cleared}
-use Rattle.plain_matrix.proofs.Entries.{entry-without_row, entry-without_column}
+use Rattle.kh_types.specs.Residues.{Same}
+use Rattle.kh_types.specs.Products.{product_at}
+use Rattle.kh_types.proofs.Sums.{sum_below-equal}
+use Rattle.kh_types.proofs.DependentRows.{row_cleared, column_cleared}
+use Rattle.kh_types.proofs.MatrixEntries.{entry-without_row, entry-without_column}
 use Rattle.sparse_block.proofs.ComplexMatrices.{product_of-below, product-of_complex}
 use Rattle.sparse_block.proofs.CancelledDegrees.{Where, where_is, degree-at_pivot, degree-after_pivot, degree-before_pivot, degree-elsewhere}
 use Rattle.sparse_block.proofs.CancelledProducts.{product-below_pivot, product-above_pivot, product-column_cleared, product-row_cleared}

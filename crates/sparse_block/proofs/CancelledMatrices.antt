@@ -6,13 +6,13 @@ use Rattle.std.proofs.lemmas.Bool.{cond-true, eq-eqb}
 use Rattle.std.proofs.lemmas.Int.{ints}
 use Rattle.kh_types.specs.Complex.{Complex, Pivot, IsComplex, IsPivot, degree_of, entry_in, entry_of, cancelled_matrix, cancel}
 use Rattle.prime_field.specs.Residues.{IsField}
-use Rattle.plain_matrix.specs.Matrices.{IsMatrix}
-use Rattle.plain_matrix.specs.Products.{Same}
-use Rattle.plain_matrix.specs.Steps.{Leaves}
-use Rattle.plain_matrix.proofs.Residues.{same-equal, same-rest}
-use Rattle.plain_matrix.proofs.PivotLemmas.{leaves-row, leaves-column}
-use Rattle.plain_matrix.proofs.PlainRank.{other-below}
-use Rattle.plain_matrix.proofs.Entries.{entry_cancelled, entry_cancelled-below, entry-cancelled_matrix, leaves-entry_cancelled, entry-without_row, entry-without_column, matrix-without_row, matrix-without_column, matrix-with_entries}
+use Rattle.kh_types.specs.MatrixRanks.{IsMatrix, Leaves}
+use Rattle.kh_types.specs.Residues.{Same}
+use Rattle.kh_types.proofs.Residues.{same-equal, same-rest}
+use Rattle.kh_types.proofs.PivotLemmas.{leaves-row, leaves-column}
+use Rattle.kh_types.proofs.PlainRank.{other-below}
+use Rattle.kh_types.proofs.MatrixEntries.{entry_cancelled, entry_cancelled-below, entry-cancelled_matrix, leaves-entry_cancelled, entry-without_row, entry-without_column, matrix-without_row, matrix-without_column, matrix-with_entries}
+use Rattle.sparse_block.proofs.FieldInverses.{inverses-field}
 use Rattle.sparse_block.proofs.ComplexMatrices.{matrix-of_degree, entry-stands}
 use Rattle.sparse_block.proofs.CancelledDegrees.{Where, where_is, Died, died-cancel, degree-at_pivot, degree-after_pivot, degree-before_pivot, degree-elsewhere}
 
@@ -35,7 +35,7 @@ pub leaves-cancelled : (p n : ℕ) (pivot : Pivot) (rows : List (List ℕ)) → 
 leaves-cancelled p n pivot rows field is within other =
     let a = pivot.row in
     let b = pivot.column in
-    let leaves = leaves-entry_cancelled p a b (entry_in rows) field (other-below p (entry_in rows a b) (is.below a b) other) in
+    let leaves = leaves-entry_cancelled p a b (entry_in rows) (inverses-field p field) (other-below p (entry_in rows a b) (is.below a b) other) in
     record {
       inverse = leaves.inverse;
       inverts = leaves.inverts;

@@ -2,12 +2,13 @@
 use Rattle.std.proofs.Common.{◌≡◌, ℕ, ◌+◌, ◌*◌, ◌%◌, ◌<◌, ◌∙◌, inl, inr, ap, sym, subst, arith, Bool, true, false}
 use Rattle.std.specs.Prelude.{nat_eq, if◌then◌else◌}
 use Rattle.std.proofs.lemmas.Bool.Decides.{eqb_tells}
-use Rattle.plain_matrix.specs.Products.{Same, sum_below, product_at}
-use Rattle.plain_matrix.specs.Steps.{Leaves}
-use Rattle.plain_matrix.proofs.Residues.{same-equal, same-scaled, same-rest}
-use Rattle.plain_matrix.proofs.Sums.{sum_below-same, sum_below-equal, sum_below-add, sum_below-scaled, sum_below-zeros}
-use Rattle.plain_matrix.proofs.PivotLemmas.{leaves-row}
-use Rattle.plain_matrix.proofs.DependentRows.{row_cleared, column_cleared}
+use Rattle.kh_types.specs.Residues.{Same}
+use Rattle.kh_types.specs.Products.{sum_below, product_at}
+use Rattle.kh_types.specs.MatrixRanks.{Leaves}
+use Rattle.kh_types.proofs.Residues.{same-equal, same-scaled, same-rest}
+use Rattle.kh_types.proofs.Sums.{sum_below-same, sum_below-equal, sum_below-add, sum_below-scaled, sum_below-zeros}
+use Rattle.kh_types.proofs.PivotLemmas.{leaves-row}
+use Rattle.kh_types.proofs.DependentRows.{row_cleared, column_cleared}
 
 -- a column that becomes 0 does not count in a product where the other factor has that row 0 anyway
 cleared-term : (p a row column m : ℕ) (U R : ℕ → ℕ → ℕ) → Same p (R a column) 0

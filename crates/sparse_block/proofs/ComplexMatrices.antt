@@ -8,10 +8,11 @@ use Rattle.std.proofs.lemmas.Int.{ints}
 use Rattle.std.proofs.lemmas.List.{get_or_past}
 use Rattle.std.proofs.lemmas.List.Sums.{sum_by-cons}
 use Rattle.kh_types.specs.Complex.{Complex, Degree, IsComplex, empty_degree, degree_number, degree_from, degree_of, entry_in, entry_of, product_of}
-use Rattle.plain_matrix.specs.Matrices.{IsMatrix}
-use Rattle.plain_matrix.specs.Products.{Same, sum_below, product_at}
-use Rattle.plain_matrix.proofs.Sums.{sum_below-equal}
-use Rattle.plain_matrix.proofs.Entries.{entry-past_rows, entry-past_columns}
+use Rattle.kh_types.specs.MatrixRanks.{IsMatrix}
+use Rattle.kh_types.specs.Residues.{Same}
+use Rattle.kh_types.specs.Products.{sum_below, product_at}
+use Rattle.kh_types.proofs.Sums.{sum_below-equal}
+use Rattle.kh_types.proofs.MatrixEntries.{entry-past_rows, entry-past_columns}
 
 -- a sum over a range is a sum below its length
 sum_by-range : (f : ℕ → ℕ) (a n : ℕ) → sum_by f (range_with_len a n) ≡ sum_below n (λ k. f (a + k))

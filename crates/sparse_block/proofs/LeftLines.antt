@@ -8,7 +8,7 @@ use Rattle.kh_types.specs.Rank.{inverse, minus_mod}
 use Rattle.kh_types.specs.Complex.{Complex, Degree, Pivot, IsComplex, IsPivot, cancel, degree_of, entry_in, entry_of}
 use Rattle.kh_types.proofs.CancelLemmas.{places-cancel}
 use Rattle.prime_field.specs.Residues.{IsField}
-use Rattle.plain_matrix.proofs.Entries.{entry_cancelled, entry-cancelled_matrix, entry-without_row, entry-without_column}
+use Rattle.kh_types.proofs.MatrixEntries.{entry_cancelled, entry-cancelled_matrix, entry-without_row, entry-without_column}
 use Rattle.sparse_block.specs.declared.entry.Entry.{Entry}
 use Rattle.sparse_block.specs.Clearing.{without}
 use Rattle.sparse_block.specs.Complexes.{column_of, place_count, row_of}

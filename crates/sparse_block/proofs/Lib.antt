@@ -1,3 +1,4 @@
+pub mod FieldInverses
 pub mod AscendingLemmas
 pub mod EntryLemmas
 pub mod RemovalLemmas

@@ -4,8 +4,8 @@ use Rattle.std.specs.List.{AllByRecursion}
 use Rattle.std.proofs.lemmas.List.Elements.{All-from_recursion, recursion_from_All}
 use Rattle.kh_types.specs.Code.{Code}
 use Rattle.shared_block.specs.BlockHistories.{BlockHistory}
-use Rattle.homology_table.specs.AllBlocks.{AreBlocksOf, opening_blocks}
-use Rattle.homology_table.proofs.AllBlocks.{AreBlocksOf-opening}
+use Rattle.shared_block.specs.AllBlocks.{AreBlocksOf, opening_blocks}
+use Rattle.shared_block.proofs.AllBlocks.{AreBlocksOf-opening}
 use Rattle.worker_pool.specs.Outcomes.{origin_of}
 
 -- the degrees

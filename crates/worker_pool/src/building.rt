@@ -6,7 +6,7 @@ ghost use Rattle.std.specs.Prelude.{slice_index_or, slice_set};
 ghost use Rattle.circle_smoothing.specs.GeneratorCounts.{generator_count};
 ghost use Rattle.circle_smoothing.specs.declared.limits.TheConstants.{GENERATORS};
 ghost use Rattle.cube_signs.specs.Blocks.{block_degrees};
-ghost use Rattle.homology_table.specs.AllBlocks.{opening_blocks};
+ghost use Rattle.shared_block.specs.AllBlocks.{opening_blocks};
 ghost use Rattle.shared_block.specs.BlockHistories.{block_with};
 ghost use Rattle.worker_pool.specs.Slots.{AreEmpty, AreSlotsOf};
 

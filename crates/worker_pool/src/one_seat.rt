@@ -1,7 +1,7 @@
 //! A block whose lock has one seat.
 
 ghost use Rattle.std.specs.Prelude.{◌≡◌, [], IfOk, length};
-ghost use Rattle.homology_table.specs.AllBlocks.{IsFinished};
+ghost use Rattle.shared_block.specs.AllBlocks.{IsFinished};
 
 use crate::gate::Gate;
 use crate::turns::work;

@@ -4,7 +4,7 @@ ghost use Rattle.std.specs.Prelude.{◌≡◌, ℕ, IsTrue};
 ghost use Rattle.kh_types.specs.Code.{Code, IsCrossing, place_of};
 ghost use Rattle.kh_types.specs.Bits.{bit};
 ghost use Rattle.kh_types.specs.Acceptance.{accepted};
-ghost use Rattle.circle_smoothing.specs.Edges.{JoinsOrParts, MergesOrSplits};
+ghost use Rattle.kh_types.specs.Edges.{JoinsOrParts, MergesOrSplits};
 
 /// Along an edge the circles at the two ends of the crossing's under pass, which are apart, are
 /// joined, or the edge does this backwards; all else stays.

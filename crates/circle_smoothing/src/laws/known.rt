@@ -7,7 +7,7 @@ ghost use Rattle.kh_types.specs.Differential.{touched};
 ghost use Rattle.kh_types.specs.Generators.{states};
 ghost use Rattle.kh_types.specs.WorkedCodes.{empty_link, one_loop, curl, hopf_link};
 ghost use Rattle.kh_types.specs.WorkedCodes.{trefoil, figure_eight, virtual_trefoil};
-ghost use Rattle.circle_smoothing.specs.CircleNumbers.{circle_number};
+ghost use Rattle.kh_types.specs.CircleNumbers.{circle_number};
 ghost use Rattle.circle_smoothing.specs.Edges.{IsEdge, touched_numbers};
 ghost use Rattle.circle_smoothing.specs.GeneratorCounts.{generator_count};
 ghost use Rattle.circle_smoothing.specs.declared.change.Edge.TheVariants.{Merge, Split};

@@ -5,7 +5,7 @@ ghost use Rattle.kh_types.specs.Code.{Code, IsCrossing, place_of};
 ghost use Rattle.kh_types.specs.Bits.{bit};
 ghost use Rattle.kh_types.specs.Acceptance.{accepted};
 ghost use Rattle.kh_types.specs.Circles.{circles_of, circle_of, circle_names, circle_count};
-ghost use Rattle.circle_smoothing.specs.CircleNumbers.{IsName, circle_number};
+ghost use Rattle.kh_types.specs.CircleNumbers.{IsName, circle_number};
 ghost use Rattle.circle_smoothing.specs.Edges.{IsEdge, Renumbers};
 ghost use Rattle.circle_smoothing.specs.declared.change.Edge.{Edge};
 

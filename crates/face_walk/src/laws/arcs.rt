@@ -8,7 +8,7 @@ ghost use Rattle.kh_types.specs.Darts.{HasArcsTwice, IsPairing, partner_at};
 ghost use Rattle.kh_types.specs.Faces.{face_count, open_faces, open_pieces, piece_count, planar_face_count};
 ghost use Rattle.kh_types.specs.WorkedCodes.{trefoil, virtual_trefoil};
 ghost use Rattle.face_walk.specs.AddedArcs.{bare, open_dart_count, open_face_count, open_piece_count, with_arc, HasArcMore, IsPart, IsPlanar, JoinsPieces, StaysInPiece};
-ghost use Rattle.face_walk.specs.Permutations.{IsExchange, IsMerge, IsPermutation, cycles_of};
+ghost use Rattle.kh_types.specs.Permutations.{IsExchange, AreJoined, IsPermutation, cycles_of};
 
 use kh_types::{RawCode, count_faces};
 
@@ -73,7 +73,7 @@ pub fn planar_arcs_split_faces()
         → HasArcMore (4 * n) part after dart other → whole dart ≡ other
         → slice_index (open_pieces n part) (dart / 4)
         ≡ slice_index (open_pieces n part) (other / 4)
-        → IsMerge (open_faces n after) (open_faces n part) dart other }
+        → AreJoined (open_faces n after) (open_faces n part) dart other }
 {}
 
 /// Where the slots of a code hold arcs, each of which stands twice, no dart is open, and there are

@@ -5,8 +5,8 @@ use crate::gate::Free;
 use crate::one_seat::cancel_by_one_seat;
 use crate::turns::work;
 use cube_signs::check_size;
-use homology_table::blocks_of;
 use prime_field::F2;
+use shared_block::blocks_of;
 use std::test::Fail;
 use version_lock::Versioned;
 

@@ -1,5 +1,6 @@
 use Rattle.std.proofs.Common.{◌≡◌, ◌≤◌, length}
-use Rattle.circle_smoothing.specs.CircleLists.{names_to, numbers_to}
+use Rattle.kh_types.specs.CircleNumbers.{names_to}
+use Rattle.circle_smoothing.specs.CircleLists.{numbers_to}
 use Rattle.circle_smoothing.proofs.numbering.numbers_of.Given as goal
 
 abbrev pub invariant-names : goal.invariant-names

@@ -1,6 +1,6 @@
 use Rattle.std.proofs.Common.{◌≡◌, map}
 use Rattle.std.specs.List.{range_with_len}
-use Rattle.circle_smoothing.specs.Prepared.{arc_at}
+use Rattle.kh_types.specs.CircleSteps.{arc_at}
 use Rattle.circle_smoothing.proofs.tables.arcs_of.Given as goal
 
 abbrev pub invariant-loop-place : goal.invariant-loop-place

@@ -2,7 +2,7 @@ use Rattle.std.proofs.Common.{◌≡◌, ◌+◌, ◌*◌, ◌≤◌, arith, len
 use Rattle.std.specs.List.{range_with_len}
 use Rattle.kh_types.specs.Code.{arc_count}
 use Rattle.kh_types.specs.declared.limits.TheConstants.{COMPONENTS}
-use Rattle.circle_smoothing.proofs.CircleCycles.{IsNamed-circles}
+use Rattle.kh_types.proofs.CircleCycles.{IsNamed-circles}
 use Rattle.circle_smoothing.proofs.CircleWalks.{AreCircles-walked, IsWalked-all, IsWalked-unwalked, walked-circles}
 use Rattle.circle_smoothing.proofs.walk.circles_of.Goals as goal
 

@@ -2,8 +2,9 @@ use Rattle.std.proofs.Common.{◌≡◌, ◌≢◌, ℕ, ◌+◌, ◌^◌, ◌�
 use Rattle.kh_types.specs.Bits.{bit}
 use Rattle.kh_types.specs.Code.{Code, IsCrossing}
 use Rattle.circle_smoothing.specs.CircleNumbers.{Resolution}
-use Rattle.circle_smoothing.specs.Edges.{IsEdge, state_behind}
-use Rattle.circle_smoothing.proofs.EdgeBits.{set-within}
+use Rattle.circle_smoothing.specs.Edges.{IsEdge}
+use Rattle.kh_types.specs.Edges.{state_behind}
+use Rattle.kh_types.proofs.EdgeBits.{set-within}
 use Rattle.cube_signs.specs.Shapes.{resolution_of, resolutions}
 use Rattle.cube_signs.proofs.StateLists.{length-resolutions, resolution-at}
 use Rattle.cube_signs.proofs.StepLemmas.{IsCrossing-place, bit-place, state_behind-place}

@@ -3,7 +3,7 @@ use mir.Syntax.{w128}
 use Rattle.std.proofs.lemmas.Int.{ints}
 use Rattle.kh_types.specs.declared.limits.TheConstants.{EXPONENT}
 use Rattle.kh_types.specs.StateSum.{circle_coefficient, signed_by}
-use Rattle.jones_sum.specs.declared.triangle.TheConstants.{COLUMNS}
+use Rattle.circle_smoothing.specs.declared.kinds.TheConstants.{COLUMNS}
 use Rattle.jones_sum.proofs.TermLemmas.{signed_by-odd}
 use Rattle.jones_sum.proofs.terms.term.Goals as goal
 

@@ -1,5 +1,5 @@
-use Rattle.plain_matrix.proofs.PivotLemmas.{rank-determined}
-use Rattle.plain_matrix.proofs.PlainRank.{rank-least}
+use Rattle.kh_types.proofs.PivotLemmas.{rank-determined}
+use Rattle.kh_types.proofs.PlainRank.{rank-least}
 use Rattle.plain_matrix.proofs.laws.plain_rank_is_the_rank.Goals as goal
 
 pub returns-clause-plain : goal.returns-clause-plain

@@ -1,4 +1,5 @@
-use Rattle.plain_matrix.proofs.RankLaws.{rank-pivots, rank-cancelled_matrix}
+use Rattle.plain_matrix.proofs.EliminationRanks.{rank-pivots}
+use Rattle.kh_types.proofs.RankLaws.{rank-cancelled_matrix}
 use Rattle.plain_matrix.proofs.laws.rank_counts_any_pivots.Goals as goal
 
 pub returns-clause-pivots : goal.returns-clause-pivots

@@ -1,4 +1,4 @@
-use Rattle.plain_matrix.proofs.PivotLemmas.{rank-transposed}
+use Rattle.kh_types.proofs.PivotLemmas.{rank-transposed}
 use Rattle.plain_matrix.proofs.TransposeLemmas.{rank-transpose}
 use Rattle.plain_matrix.proofs.laws.rank_of_the_transpose.Goals as goal
 

@@ -1,4 +1,4 @@
-use Rattle.plain_matrix.proofs.RankLaws.{rank-rows}
+use Rattle.plain_matrix.proofs.EliminationRanks.{rank-rows}
 use Rattle.plain_matrix.proofs.StepLemmas.{rank-row_step, rank-column_step}
 use Rattle.plain_matrix.proofs.laws.steps_keep_the_rank.Goals as goal
 

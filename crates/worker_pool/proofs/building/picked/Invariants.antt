@@ -1,6 +1,6 @@
 use Rattle.std.proofs.Common.{◌≡◌, All, take}
 use Rattle.worker_pool.specs.Slots.{AreSlotsOf}
-use Rattle.homology_table.proofs.AllBlocks.{opened}
+use Rattle.shared_block.proofs.AllBlocks.{opened}
 use Rattle.worker_pool.proofs.building.picked.Given as goal
 
 abbrev pub invariant-places : goal.invariant-places

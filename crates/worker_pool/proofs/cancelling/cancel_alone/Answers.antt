@@ -1,6 +1,6 @@
 use Rattle.std.proofs.Common.{sym, subst}
-use Rattle.homology_table.specs.AllBlocks.{AreBlocksOf}
-use Rattle.homology_table.proofs.AllBlocks.{AreBlocksOf-opening}
+use Rattle.shared_block.specs.AllBlocks.{AreBlocksOf}
+use Rattle.shared_block.proofs.AllBlocks.{AreBlocksOf-opening}
 use Rattle.worker_pool.proofs.cancelling.cancel_alone.Goals as goal
 
 pub with_table-requires-clause-blocks : goal.with_table-requires-clause-blocks

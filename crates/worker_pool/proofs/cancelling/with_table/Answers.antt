@@ -1,6 +1,6 @@
 use Rattle.std.proofs.Common.{sym, subst}
-use Rattle.homology_table.specs.AllBlocks.{AreBlocksOf}
-use Rattle.homology_table.proofs.AllBlocks.{AreBlocksOf-later}
+use Rattle.shared_block.specs.AllBlocks.{AreBlocksOf}
+use Rattle.shared_block.proofs.AllBlocks.{AreBlocksOf-later}
 use Rattle.worker_pool.proofs.cancelling.with_table.Goals as goal
 
 pub table_of-requires-clause-blocks : goal.table_of-requires-clause-blocks

@@ -1,6 +1,6 @@
 use Rattle.std.proofs.Common.{◌≡◌, map, refl}
 use Rattle.std.proofs.lemmas.Result.{IfOk-weaker}
-use Rattle.homology_table.specs.AllBlocks.{AreBlocksOf, opening_blocks}
+use Rattle.shared_block.specs.AllBlocks.{AreBlocksOf, opening_blocks}
 use Rattle.worker_pool.specs.Outcomes.{origin_of}
 use Rattle.worker_pool.proofs.BlockLemmas.{blocks_opened}
 use Rattle.worker_pool.proofs.cancelling.worked_blocks.Goals as goal

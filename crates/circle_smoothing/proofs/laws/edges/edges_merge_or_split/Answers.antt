@@ -1,4 +1,4 @@
-use Rattle.circle_smoothing.proofs.EdgeNames.{merges_or_splits}
+use Rattle.kh_types.proofs.EdgeNames.{merges_or_splits}
 use Rattle.circle_smoothing.proofs.laws.edges.edges_merge_or_split.Goals as goal
 
 pub returns : goal.returns

@@ -1,8 +1,8 @@
 use Rattle.std.proofs.Common.{ap}
 use Rattle.std.specs.Prelude.{slice_index}
 use Rattle.kh_types.specs.Circles.{circles_of}
-use Rattle.circle_smoothing.specs.CircleNumbers.{number_of}
-use Rattle.circle_smoothing.proofs.NumberLemmas.{IsCircle-of, circle_names-number_of, number_of-below, number_of-one, number_of-order}
+use Rattle.kh_types.specs.CircleNumbers.{number_of}
+use Rattle.kh_types.proofs.CircleNumbers.{IsCircle-of, circle_names-number_of, number_of-below, number_of-one, number_of-order}
 use Rattle.circle_smoothing.proofs.laws.numbers.circle_numbers_are_places.Goals as goal
 
 pub returns-clause-place : goal.returns-clause-place

@@ -3,7 +3,7 @@ use Rattle.std.proofs.lemmas.Bool.Decides.{nat_tests}
 use Rattle.kh_types.specs.Acceptance.{accepted}
 use Rattle.kh_types.specs.Circles.{circle_count}
 use Rattle.kh_types.specs.declared.limits.TheConstants.{CIRCLES, CROSSINGS}
-use Rattle.circle_smoothing.specs.Edges.{state_behind}
+use Rattle.kh_types.specs.Edges.{state_behind}
 use Rattle.circle_smoothing.proofs.EdgeAnswers.{HasNumbersBelow-merge, HasNumbersBelow-split, IsEdge-merge, IsEdge-split, is_number_at_slot}
 use Rattle.circle_smoothing.proofs.KeptNumbers.{count-within}
 use Rattle.circle_smoothing.proofs.numbered.Circles.edge.Goals as goal

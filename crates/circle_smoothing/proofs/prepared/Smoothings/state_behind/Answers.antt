@@ -1,5 +1,5 @@
 use Rattle.std.proofs.Common.{rules, ◌≡◌, ◌+◌, ◌-◌, ◌*◌, ◌%◌, ◌^◌, ◌<◌, arith, length}
-use Rattle.circle_smoothing.proofs.EdgeBits.{set-within}
+use Rattle.kh_types.proofs.EdgeBits.{set-within}
 use Rattle.circle_smoothing.proofs.prepared.Smoothings.state_behind.Goals as goal
 
 pub returns-clause-within : goal.returns-clause-within

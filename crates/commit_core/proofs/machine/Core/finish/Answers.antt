@@ -1,6 +1,6 @@
 use Rattle.std.proofs.Common.{◌≡◌, ◌∙◌, arith, drop, length, subst, sym}
 use Rattle.std.specs.List.{All}
-use Rattle.homology_table.specs.AllBlocks.{AreBlocksOf, IsFinished}
+use Rattle.shared_block.specs.AllBlocks.{AreBlocksOf, IsFinished}
 use Rattle.commit_core.proofs.Lists.{take-whole}
 use Rattle.commit_core.proofs.machine.Core.finish.Goals as goal
 

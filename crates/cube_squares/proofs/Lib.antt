@@ -1,0 +1,17 @@
+pub mod Merges
+pub mod Sums
+pub mod SquareKinds
+pub mod Marks
+pub mod LabelNumbers
+pub mod EdgeMarks
+pub mod MarkBounds
+pub mod TouchedCircles
+pub mod MarkedLabels
+pub mod Paths
+pub mod Signs
+pub mod Pairs
+pub mod Products
+pub mod Degrees
+pub mod Matrices
+pub mod BlockDegrees
+pub mod BlockComplexes

@@ -1,0 +1,74 @@
+-- The two ways round a square of the cube have opposite signs.
+use Rattle.std.proofs.Common.{◌≡◌, ℕ, zero, suc, ◌+◌, ◌-◌, ◌*◌, ◌%◌, ◌^◌, ◌<◌, ◌≤◌, ◌∙◌, inl, inr, ap, ap₂, arith}
+use Rattle.std.specs.Prelude.{nat_eq, if◌then◌else◌}
+use Rattle.std.proofs.lemmas.Bool.{cases_lt}
+use Rattle.std.proofs.lemmas.Bool.Decides.{nat_tests}
+use Rattle.std.proofs.Math.Nat.{mul-mod_left}
+use Rattle.kh_types.specs.Bits.{bit, ones}
+use Rattle.kh_types.specs.Code.{place_of}
+use Rattle.kh_types.specs.Differential.{edge_sign}
+use Rattle.kh_types.proofs.BitLemmas.{ones-more}
+use Rattle.kh_types.specs.Edges.{state_behind}
+use Rattle.kh_types.proofs.EdgeBits.{bit-set_other, bit-set_there}
+use Rattle.cube_squares.proofs.Sums.{sum_by-range_alike}
+
+-- how many bits below a place are 1 where a bit was set: as before where it is not below the place, and else one more
+ones-set_above : (state place count : ℕ) → bit state place ≡ 0 → count ≤ place → ones count (state + 2 ^ place) ≡ ones count state
+ones-set_above state place count zero_bit above =
+    sum_by-range_alike (bit (state + 2 ^ place)) (bit state) 0 count (λ k from below. bit-set_other state place zero_bit k (omega arith))
+
+pub ones-set_below : (state place count : ℕ) → bit state place ≡ 0 → place < count
+    → ones count (state + 2 ^ place) ≡ ones count state + 1
+ones-set_below state place zero zero_bit below = absurd (omega arith)
+ones-set_below state place (suc count) zero_bit below =
+    let e : suc count ≡ count + 1 = omega arith in
+    let more : (s : ℕ) → ones (suc count) s ≡ ones count s + bit s count = λ s. ap (λ k. ones k s) e ∙ ones-more count s in
+    let now = more (state + 2 ^ place) in
+    let before = more state in
+    elim (cases_lt place count) [
+      | inl earlier ↦
+          omega (
+            arith,
+            now,
+            before,
+            bit-set_other state place zero_bit count (omega arith),
+            ones-set_below state place count zero_bit earlier,
+          )
+      | inr last ↦
+          let is : count ≡ place = omega arith in
+          omega (
+            arith,
+            now,
+            before,
+            ones-set_above state place count zero_bit (omega arith),
+            ap (bit (state + 2 ^ place)) is ∙ bit-set_there state place zero_bit,
+            ap (bit state) is ∙ zero_bit,
+          )
+    ]
+
+-- -1 to a power, modulo p
+abbrev power_sign : ℕ → ℕ → ℕ
+power_sign p n = if nat_eq (n % 2) 0 then 1 else p - 1
+
+signs-sum : (p n : ℕ) → 0 < p → power_sign p (n + 1) + power_sign p n ≡ p
+signs-sum p n positive = grind (arith, nat_tests)
+
+-- two products of signs, of which one has a power by one higher
+opposite : (p m n : ℕ) → 0 < p → (power_sign p (n + 1) * power_sign p m + power_sign p m * power_sign p n) % p ≡ 0
+opposite p m n positive =
+    ap (λ x. x % p) (factored (power_sign p (n + 1)) (power_sign p n) (power_sign p m))
+    ∙ ap (λ x. power_sign p m * x % p) (signs-sum p n positive) ∙ mul-mod_left (power_sign p m) p
+  where
+    factored : (x y z : ℕ) → x * z + z * y ≡ z * (x + y)
+    factored x y z = omega arith
+
+-- the sign along b is turned where a comes before b, and the sign along a is not
+pub signs-opposite : (p state a b : ℕ) → 0 < p → 1 ≤ a → a < b → bit state (place_of a) ≡ 0 → bit state (place_of b) ≡ 0
+    → (edge_sign p (state_behind state a) b * edge_sign p state a + edge_sign p (state_behind state b) a * edge_sign p state b) % p ≡ 0
+signs-opposite p state a b positive from order zero_a zero_b =
+    let later : edge_sign p (state_behind state a) b ≡ power_sign p (ones (place_of b) state + 1) =
+    ap (power_sign p) (ones-set_below state (place_of a) (place_of b) zero_a (omega arith)) in
+    let earlier : edge_sign p (state_behind state b) a ≡ edge_sign p state a =
+    ap (power_sign p) (ones-set_above state (place_of b) (place_of a) zero_b (omega arith)) in
+    ap₂ (λ x y. (x * edge_sign p state a + y * edge_sign p state b) % p) later earlier
+    ∙ opposite p (ones (place_of a) state) (ones (place_of b) state) positive

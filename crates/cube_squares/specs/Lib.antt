@@ -1,0 +1,3 @@
+pub mod Squares
+pub mod NextDegrees
+pub mod VirtualCodes

@@ -1,9 +1,0 @@
-pub mod IntSums
-pub mod Alternating
-pub mod LabelCounts
-pub mod GeneratorCounts
-pub mod TableSums
-pub mod RowLists
-pub mod BlockRows
-pub mod Blocks
-pub mod AllBlocks

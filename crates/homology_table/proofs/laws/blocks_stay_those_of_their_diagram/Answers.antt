@@ -1,8 +1,0 @@
-use Rattle.homology_table.proofs.AllBlocks.{AreBlocksOf-later, AreBlocksOf-opening}
-use Rattle.homology_table.proofs.laws.blocks_stay_those_of_their_diagram.Goals as goal
-
-pub returns-clause-opening : goal.returns-clause-opening
-returns-clause-opening c = AreBlocksOf-opening
-
-pub returns-clause-later : goal.returns-clause-later
-returns-clause-later c = AreBlocksOf-later

@@ -1,8 +1,0 @@
-use Rattle.homology_table.proofs.AllBlocks.{later-self, later-trans}
-use Rattle.homology_table.proofs.laws.later_blocks_follow_one_another.Goals as goal
-
-pub returns-clause-same : goal.returns-clause-same
-returns-clause-same c = later-self
-
-pub returns-clause-twice : goal.returns-clause-twice
-returns-clause-twice c = later-trans

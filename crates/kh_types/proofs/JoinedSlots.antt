@@ -1,0 +1,191 @@
+-- What the smoothings of a state join, from dart to dart.
+use Rattle.std.proofs.Common.{◌≡◌, ℕ, zero, suc, ◌⊎◌, inl, inr, ◌+◌, ◌-◌, ◌*◌, ◌/◌, ◌%◌, ◌<◌, ◌∙◌, List, [], ◌∷◌, refl, sym, ap, subst, length, arith, Bool, true, false, cond}
+use Rattle.std.specs.Prelude.{nat_eq, slice_index_or}
+use Rattle.std.specs.List.{flat_map, enumerate_from}
+use Rattle.kh_types.specs.Bits.{bit}
+use Rattle.kh_types.specs.Classes.{Respects}
+use Rattle.kh_types.specs.Code.{arc_in}
+use Rattle.kh_types.specs.Circles.{smoothing_of, smoothings_of}
+use Rattle.kh_types.proofs.Lists.{AllByRecursion-append, AllByRecursion-first, AllByRecursion-second}
+use Rattle.kh_types.specs.CircleSteps.{arc_at, joined_slot, across}
+
+-- the slot that a smoothing joins a slot with
+
+joined_slot-cases : (smoothing slot : ℕ)
+    → (joined_slot smoothing slot ≡ slot + 1 - 2 * (slot % 2)) ⊎ (joined_slot smoothing slot ≡ 3 - slot)
+joined_slot-cases smoothing slot = choice (nat_eq smoothing 0) (slot + 1 - 2 * (slot % 2)) (3 - slot)
+  where
+    choice : (b : Bool) (x y : ℕ) → (cond b x y ≡ x) ⊎ (cond b x y ≡ y)
+    choice true x y = inl refl
+    choice false x y = inr refl
+
+joined_slot-below : (smoothing slot : ℕ) → slot < 4 → joined_slot smoothing slot < 4
+joined_slot-below smoothing slot below =
+    elim (joined_slot-cases smoothing slot) [ inl is ↦ omega (arith, is, below) | inr is ↦ omega (arith, is) ]
+
+joined_slot-odd : (smoothing slot : ℕ) → slot < 4 → (slot + joined_slot smoothing slot) % 2 ≡ 1
+joined_slot-odd smoothing slot below =
+    elim (joined_slot-cases smoothing slot) [ inl is ↦ omega (arith, is, below) | inr is ↦ omega (arith, is, below) ]
+
+joined_slot-twice : (smoothing slot : ℕ) → slot < 4 → joined_slot smoothing (joined_slot smoothing slot) ≡ slot
+joined_slot-twice smoothing slot below = by (nat_eq smoothing 0) slot below
+  where
+    by : (b : Bool) (slot : ℕ) → slot < 4
+        → cond b (cond b (slot + 1 - 2 * (slot % 2)) (3 - slot) + 1 - 2 * (cond b (slot + 1 - 2 * (slot % 2)) (3 - slot) % 2))
+        (3 - cond b (slot + 1 - 2 * (slot % 2)) (3 - slot)) ≡ slot
+    by true slot below = omega (arith, below)
+    by false slot below = omega (arith, below)
+
+-- the dart that it joins a dart with
+
+pub across-slot : (state crossing slot : ℕ) → slot < 4
+    → across state (4 * crossing + slot) ≡ 4 * crossing + joined_slot (bit state crossing) slot
+across-slot state crossing slot below =
+    let here : (4 * crossing + slot) / 4 ≡ crossing = omega (arith, below) in
+    let there : (4 * crossing + slot) % 4 ≡ slot = omega (arith, below) in
+    ap (λ k. 4 * k + joined_slot (bit state k) ((4 * crossing + slot) % 4)) here
+    ∙ ap (λ s. 4 * crossing + joined_slot (bit state crossing) s) there
+
+slot-below : (place : ℕ) → place % 4 < 4
+slot-below place = omega arith
+
+pub across-crossing : (state place : ℕ) → across state place / 4 ≡ place / 4
+across-crossing state place = omega (arith, joined_slot-below (bit state (place / 4)) (place % 4) (slot-below place))
+
+pub across-slot_of : (state place : ℕ) → across state place % 4 ≡ joined_slot (bit state (place / 4)) (place % 4)
+across-slot_of state place = omega (arith, joined_slot-below (bit state (place / 4)) (place % 4) (slot-below place))
+
+pub across-below : (n state place : ℕ) → place < 4 * n → across state place < 4 * n
+across-below n state place below =
+    omega (arith, below, joined_slot-below (bit state (place / 4)) (place % 4) (slot-below place))
+
+pub across-across : (state place : ℕ) → across state (across state place) ≡ place
+across-across state place =
+    let slot = place % 4 in
+    let crossing = place / 4 in
+    let below = joined_slot-below (bit state crossing) slot (slot-below place) in
+    let whole : 4 * crossing + slot ≡ place = omega arith in
+    across-slot state crossing (joined_slot (bit state crossing) slot) below
+    ∙ ap (λ s. 4 * crossing + s) (joined_slot-twice (bit state crossing) slot (slot-below place)) ∙ whole
+
+-- the colour of the dart at a place, where a choice gives each crossing a bit
+abbrev pub place_colour : ℕ → ℕ → ℕ
+place_colour choice place = (bit choice (place / 4) + place % 4) % 2
+
+-- a smoothing joins darts of different colours
+pub across-colour : (choice state place side other : ℕ) → side + other ≡ 1 → place_colour choice place ≡ side
+    → place_colour choice (across state place) ≡ other
+across-colour choice state place side other sum is =
+    ap (λ k. (bit choice k + across state place % 4) % 2) (across-crossing state place)
+    ∙ ap (λ s. (bit choice (place / 4) + s) % 2) (across-slot_of state place)
+    ∙ turned (bit choice (place / 4)) (place % 4) (joined_slot (bit state (place / 4)) (place % 4)) side other
+    (joined_slot-odd (bit state (place / 4)) (place % 4) (slot-below place)) sum is
+  where
+    turned : (x s t side other : ℕ) → (s + t) % 2 ≡ 1 → side + other ≡ 1 → (x + s) % 2 ≡ side → (x + t) % 2 ≡ other
+    turned x s t side other odd sum is = omega (arith, odd, sum, is)
+
+-- the arc of the dart at a slot
+pub arc_at-slot : (crossings : List (List ℕ)) (crossing slot : ℕ) → slot < 4
+    → arc_at crossings (4 * crossing + slot) ≡ arc_in (slice_index_or crossings crossing []) slot
+arc_at-slot crossings crossing slot below =
+    let here : (4 * crossing + slot) / 4 + 1 - 1 ≡ crossing = omega (arith, below) in
+    let there : (4 * crossing + slot) % 4 ≡ slot = omega (arith, below) in
+    ap (λ k. arc_in (slice_index_or crossings k []) ((4 * crossing + slot) % 4)) here
+    ∙ ap (λ s. arc_in (slice_index_or crossings crossing []) s) there
+
+-- what has one value at the two slots of each pair of a smoothing has one value at a slot and the one joined with it, and the other
+-- way round
+
+abbrev pairs_by : Bool → List ℕ → List (ℕ × ℕ)
+pairs_by is_zero slots =
+    cond is_zero ((arc_in slots 0, arc_in slots 1) ∷ (arc_in slots 2, arc_in slots 3) ∷ [])
+    ((arc_in slots 0, arc_in slots 3) ∷ (arc_in slots 1, arc_in slots 2) ∷ [])
+
+slots-by : (g : ℕ → ℕ) (is_zero : Bool) (slots : List ℕ) → Respects g (pairs_by is_zero slots) → (slot : ℕ) → slot < 4
+    → g (arc_in slots (cond is_zero (slot + 1 - 2 * (slot % 2)) (3 - slot))) ≡ g (arc_in slots slot)
+slots-by g true slots respects zero below = sym respects.0
+slots-by g true slots respects (suc zero) below = respects.0
+slots-by g true slots respects (suc (suc zero)) below = sym respects.1.0
+slots-by g true slots respects (suc (suc (suc zero))) below = respects.1.0
+slots-by g true slots respects (suc (suc (suc (suc slot)))) below = absurd (omega (arith, below))
+slots-by g false slots respects zero below = sym respects.0
+slots-by g false slots respects (suc zero) below = sym respects.1.0
+slots-by g false slots respects (suc (suc zero)) below = respects.1.0
+slots-by g false slots respects (suc (suc (suc zero))) below = respects.0
+slots-by g false slots respects (suc (suc (suc (suc slot)))) below = absurd (omega (arith, below))
+
+by-slots : (g : ℕ → ℕ) (is_zero : Bool) (slots : List ℕ)
+    → ((slot : ℕ) → slot < 4 → g (arc_in slots (cond is_zero (slot + 1 - 2 * (slot % 2)) (3 - slot))) ≡ g (arc_in slots slot))
+    → Respects g (pairs_by is_zero slots)
+by-slots g true slots same = (sym (same 0 (omega arith)), (sym (same 2 (omega arith)), tt))
+by-slots g false slots same = (sym (same 0 (omega arith)), (sym (same 1 (omega arith)), tt))
+
+-- the same of all crossings of a list, the first of which stands at a place
+
+abbrev smoothings_from : ℕ → ℕ → List (List ℕ) → List (ℕ × ℕ)
+smoothings_from state place crossings = flat_map (λ at. smoothing_of (bit state at.0) at.1) (enumerate_from place crossings)
+
+crossing-from : (g : ℕ → ℕ) (state place : ℕ) (crossings : List (List ℕ)) → Respects g (smoothings_from state place crossings)
+    → (k : ℕ) → k < length crossings → Respects g (smoothing_of (bit state (place + k)) (slice_index_or crossings k []))
+crossing-from g state place [] respects k below = absurd (omega (arith, below))
+crossing-from g state place (slots ∷ crossings) respects zero below =
+    let e : place + 0 ≡ place = omega arith in
+    subst (λ (p : ℕ). Respects g (smoothing_of (bit state p) slots)) (sym e)
+    (AllByRecursion-first (λ pair. g pair.0 ≡ g pair.1) (smoothing_of (bit state place) slots)
+    (smoothings_from state (place + 1) crossings) respects)
+crossing-from g state place (slots ∷ crossings) respects (suc k) below =
+    let e : place + suc k ≡ place + 1 + k = omega arith in
+    subst (λ (p : ℕ). Respects g (smoothing_of (bit state p) (slice_index_or crossings k []))) (sym e)
+    (crossing-from g state (place + 1) crossings
+    (AllByRecursion-second (λ pair. g pair.0 ≡ g pair.1) (smoothing_of (bit state place) slots)
+    (smoothings_from state (place + 1) crossings) respects) k (omega (arith, below)))
+
+from-crossings : (g : ℕ → ℕ) (state place : ℕ) (crossings : List (List ℕ))
+    → ((k : ℕ) → k < length crossings → Respects g (smoothing_of (bit state (place + k)) (slice_index_or crossings k [])))
+    → Respects g (smoothings_from state place crossings)
+from-crossings g state place [] each = tt
+from-crossings g state place (slots ∷ crossings) each =
+    let e : place + 0 ≡ place = omega arith in
+    AllByRecursion-append (λ pair. g pair.0 ≡ g pair.1) (smoothing_of (bit state place) slots)
+    (smoothings_from state (place + 1) crossings)
+    (subst (λ (p : ℕ). Respects g (smoothing_of (bit state p) slots)) e (each 0 (omega arith)))
+    (from-crossings g state (place + 1) crossings
+    (λ k below.
+    let e_too : place + suc k ≡ place + 1 + k = omega arith in
+    subst (λ (p : ℕ). Respects g (smoothing_of (bit state p) (slice_index_or crossings k []))) e_too
+    (each (suc k) (omega (arith, below)))))
+
+-- what respects the smoothings of a state has one value at the arcs of a dart and of the dart across, and the other way round
+
+pub across-respects : (g : ℕ → ℕ) (crossings : List (List ℕ)) (state : ℕ) → Respects g (smoothings_of crossings state)
+    → (place : ℕ) → place < 4 * length crossings → g (arc_at crossings (across state place)) ≡ g (arc_at crossings place)
+across-respects g crossings state respects place below =
+    let crossing = place / 4 in
+    let slot = place % 4 in
+    let slots = slice_index_or crossings crossing [] in
+    let whole : 4 * crossing + slot ≡ place = omega arith in
+    ap g (arc_at-slot crossings crossing (joined_slot (bit state crossing) slot)
+    (joined_slot-below (bit state crossing) slot (slot-below place)))
+    ∙ slots-by g (nat_eq (bit state crossing) 0) slots
+    (subst (λ (p : ℕ). Respects g (smoothing_of (bit state p) slots)) (omega arith)
+    (crossing-from g state 0 crossings respects crossing (omega (arith, below))))
+    slot (slot-below place)
+    ∙ sym (ap g (arc_at-slot crossings crossing slot (slot-below place))) ∙ ap (λ p. g (arc_at crossings p)) whole
+
+pub respects-across : (g : ℕ → ℕ) (crossings : List (List ℕ)) (state : ℕ)
+    → ((place : ℕ) → place < 4 * length crossings → g (arc_at crossings (across state place)) ≡ g (arc_at crossings place))
+    → Respects g (smoothings_of crossings state)
+respects-across g crossings state same =
+    from-crossings g state 0 crossings
+    (λ k below.
+    let slots = slice_index_or crossings k [] in
+    let e : k ≡ 0 + k = omega arith in
+    subst (λ (p : ℕ). Respects g (smoothing_of (bit state p) slots)) e
+    (by-slots g (nat_eq (bit state k) 0) slots
+    (λ slot slot_below.
+    ap g (sym (arc_at-slot crossings k (joined_slot (bit state k) slot) (joined_slot-below (bit state k) slot slot_below)))
+    ∙ ap (λ p. g (arc_at crossings p)) (sym (across-slot state k slot slot_below))
+    ∙ same (4 * k + slot) (omega (arith, below, slot_below)) ∙ ap g (arc_at-slot crossings k slot slot_below))))
+
+-- darts across are darts
+pub ruleset places = (across-below)

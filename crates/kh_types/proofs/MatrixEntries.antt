@@ -1,0 +1,192 @@
+-- The entries of a matrix that is made entry by entry, and what a cancellation makes of them.
+use Rattle.std.proofs.Common.{◌≡◌, ℕ, ◌+◌, ◌-◌, ◌*◌, ◌%◌, ◌≤◌, ◌<◌, ◌≢◌, ◌∙◌, ◌⊎◌, inl, inr, List, [], length, map, refl, ap, sym, subst, arith, Bool, true, false, ◌||◌}
+use Rattle.std.specs.Prelude.{nat_eq, slice_index, slice_index_or, if◌then◌else◌}
+use Rattle.std.specs.List.{enumerate_from}
+use Rattle.std.proofs.lemmas.Nat.{mod_below}
+use Rattle.std.proofs.lemmas.Bool.Decides.{eqb_tells, leb_tells}
+use Rattle.std.proofs.lemmas.List.{length-map, get_or-map, get_or_past}
+use Rattle.std.proofs.lemmas.List.FromFn.{length-enumerate_from, get_or-enumerate_from}
+use Rattle.kh_types.specs.Rank.{inverse, minus_mod}
+use Rattle.kh_types.specs.Complex.{Pivot, entry_in, with_entries, cancelled_matrix, without_row, without_column}
+use Rattle.kh_types.specs.Residues.{HasInverses, Same}
+use Rattle.kh_types.specs.MatrixRanks.{IsMatrix, Leaves}
+use Rattle.kh_types.proofs.Residues.{same-inverse, same-equal, same-unit_left, same-unit_right}
+use Rattle.kh_types.proofs.DependentRows.{row_cleared, column_cleared}
+use Rattle.kh_types.proofs.Reduced.{minus_mod-nothing, minus_mod-added}
+
+-- a row made entry by entry
+abbrev row_made : (ℕ → ℕ) → List ℕ → List ℕ
+row_made entry row = map (λ column. entry column.0) (enumerate_from 0 row)
+
+length-row_made : (entry : ℕ → ℕ) (row : List ℕ) → length (row_made entry row) ≡ length row
+length-row_made entry row = length-map (enumerate_from 0 row) (λ column. entry column.0) ∙ length-enumerate_from 0 row
+
+slice_index-row_made : (entry : ℕ → ℕ) (row : List ℕ) (j : ℕ) → (length row ≤ j → entry j ≡ 0)
+    → slice_index (row_made entry row) j ≡ entry j
+slice_index-row_made entry row j past_zero =
+    elim (leb_tells (length row) j) [
+      | inl past ↦
+          get_or_past (row_made entry row) j 0 (omega (arith, length-row_made entry row, past.1)) ∙ sym (past_zero past.1)
+      | inr below ↦
+          get_or-map (λ column. entry column.0) (enumerate_from 0 row) j (0, 0) 0
+          (omega (arith, length-enumerate_from 0 row, below.1))
+          ∙ ap (λ pair. entry pair.0) (get_or-enumerate_from 0 row j (0, 0) below.1) ∙ ap entry (omega arith)
+    ]
+
+-- the rows of a matrix made entry by entry
+pub length-with_entries : (entry : ℕ → ℕ → ℕ) (rows : List (List ℕ)) → length (with_entries entry rows) ≡ length rows
+length-with_entries entry rows =
+    length-map (enumerate_from 0 rows) (λ row. row_made (entry row.0) row.1) ∙ length-enumerate_from 0 rows
+
+row-with_entries : (entry : ℕ → ℕ → ℕ) (rows : List (List ℕ)) (i : ℕ) → i < length rows
+    → slice_index_or (with_entries entry rows) i [] ≡ row_made (entry i) (slice_index_or rows i [])
+row-with_entries entry rows i below =
+    let none : ℕ × List ℕ = (0, []) in
+    let zero_first : 0 + i ≡ i = omega arith in
+    get_or-map (λ row. row_made (entry row.0) row.1) (enumerate_from 0 rows) i none []
+    (omega (arith, length-enumerate_from 0 rows, below))
+    ∙ ap (λ pair. row_made (entry pair.0) pair.1) (get_or-enumerate_from 0 rows i none below)
+    ∙ ap (λ k. row_made (entry k) (slice_index_or rows i [])) zero_first
+
+-- the entries are those given, where these are 0 past the end
+pub entry-with_entries : (entry : ℕ → ℕ → ℕ) (rows : List (List ℕ))
+    → ((i j : ℕ) → length rows ≤ i → entry i j ≡ 0)
+    → ((i j : ℕ) → length (slice_index_or rows i []) ≤ j → entry i j ≡ 0) → (i j : ℕ)
+    → entry_in (with_entries entry rows) i j ≡ entry i j
+entry-with_entries entry rows past_rows past_columns i j =
+    elim (leb_tells (length rows) i) [
+      | inl past ↦
+          ap (λ row. slice_index row j)
+          (get_or_past (with_entries entry rows) i [] (omega (arith, length-with_entries entry rows, past.1)))
+          ∙ sym (past_rows i j past.1)
+      | inr below ↦
+          ap (λ row. slice_index row j) (row-with_entries entry rows i below.1)
+          ∙ slice_index-row_made (entry i) (slice_index_or rows i []) j (past_columns i j)
+    ]
+
+-- and the matrix has the size that it had
+pub matrix-with_entries : (p n : ℕ) (entry : ℕ → ℕ → ℕ) (rows : List (List ℕ)) → IsMatrix p n rows
+    → ((i j : ℕ) → entry_in (with_entries entry rows) i j ≡ entry i j) → ((i j : ℕ) → entry i j < p)
+    → IsMatrix p n (with_entries entry rows)
+matrix-with_entries p n entry rows is entries below =
+    record {
+      width = λ i within.
+          let i_within : i < length rows = omega (arith, length-with_entries entry rows) in
+          ap length (row-with_entries entry rows i i_within) ∙ length-row_made (entry i) (slice_index_or rows i [])
+          ∙ is.width i i_within;
+      below = λ i j. subst (λ e. e < p) (sym (entries i j)) (below i j);
+    }
+
+-- past the end, entries are 0
+pub entry-past_rows : (rows : List (List ℕ)) (i j : ℕ) → length rows ≤ i → entry_in rows i j ≡ 0
+entry-past_rows rows i j past = ap (λ row. slice_index row j) (get_or_past rows i [] past)
+
+pub entry-past_columns : (rows : List (List ℕ)) (i j : ℕ) → length (slice_index_or rows i []) ≤ j → entry_in rows i j ≡ 0
+entry-past_columns rows i j past = get_or_past (slice_index_or rows i []) j 0 past
+
+if_zero : (b : Bool) (x : ℕ) → x ≡ 0 → (if b then 0 else x) ≡ 0
+if_zero true x is_zero = refl
+if_zero false x is_zero = is_zero
+
+if_below : (b : Bool) (x p : ℕ) → 0 < p → x < p → (if b then 0 else x) < p
+if_below true x p positive below = positive
+if_below false x p positive below = below
+
+-- an entry after the cancellation of a pivot at a row and a column
+abbrev pub entry_cancelled : ℕ → ℕ → ℕ → (ℕ → ℕ → ℕ) → ℕ → ℕ → ℕ
+entry_cancelled p a b matrix row column =
+    if nat_eq row a || nat_eq column b then 0
+    else minus_mod p (matrix row column) (matrix row b * (inverse p (matrix a b) * matrix a column))
+
+entry_cancelled-past : (p a b i j : ℕ) (M : ℕ → ℕ → ℕ) → M i j ≡ 0 → (M i b ≡ 0) ⊎ (M a j ≡ 0)
+    → entry_cancelled p a b M i j ≡ 0
+entry_cancelled-past p a b i j M entry way =
+    if_zero (nat_eq i a || nat_eq j b) (minus_mod p (M i j) (M i b * (inverse p (M a b) * M a j)))
+    (ap (λ x. minus_mod p x (M i b * (inverse p (M a b) * M a j))) entry
+    ∙ minus_mod-nothing p (M i b * (inverse p (M a b) * M a j)) (nothing way))
+  where
+    nothing : (M i b ≡ 0) ⊎ (M a j ≡ 0) → M i b * (inverse p (M a b) * M a j) ≡ 0
+    nothing (inl row) = ap (λ x. x * (inverse p (M a b) * M a j)) row ∙ omega arith
+    nothing (inr column) = ap (λ x. M i b * (inverse p (M a b) * x)) column ∙ omega arith
+
+pub entry-cancelled_matrix : (p : ℕ) (pivot : Pivot) (rows : List (List ℕ)) (n : ℕ) → IsMatrix p n rows
+    → pivot.row < length rows → (i j : ℕ)
+    → entry_in (cancelled_matrix p pivot rows) i j ≡ entry_cancelled p pivot.row pivot.column (entry_in rows) i j
+entry-cancelled_matrix p pivot rows n is within =
+    entry-with_entries (entry_cancelled p pivot.row pivot.column (entry_in rows)) rows
+    (λ i j past.
+    entry_cancelled-past p pivot.row pivot.column i j (entry_in rows) (entry-past_rows rows i j past)
+    (inl (entry-past_rows rows i pivot.column past)))
+    (λ i j past.
+    elim (leb_tells (length rows) i) [
+      | inl past_rows ↦
+          entry_cancelled-past p pivot.row pivot.column i j (entry_in rows) (entry-past_rows rows i j past_rows.1)
+          (inl (entry-past_rows rows i pivot.column past_rows.1))
+      | inr below ↦
+          entry_cancelled-past p pivot.row pivot.column i j (entry_in rows) (entry-past_columns rows i j past)
+          (inr (entry-past_columns rows pivot.row j (omega (arith, is.width i below.1, is.width pivot.row within, past))))
+    ])
+
+-- the way back through a pivot and what it leaves of an entry, by the tests of the row and of the column
+abbrev with_tests : ℕ → ℕ → ℕ → Bool → Bool → ℕ
+with_tests p entry way in_row in_column = way + (if in_row || in_column then 0 else minus_mod p entry way)
+
+-- those entries are what the pivot leaves
+pub leaves-entry_cancelled : (p a b : ℕ) (M : ℕ → ℕ → ℕ) → HasInverses p → ¬ Same p (M a b) 0
+    → Leaves p M (entry_cancelled p a b M) a b
+leaves-entry_cancelled p a b M field other =
+    record { inverse = inverse p (M a b); inverts = inverts; others = λ i j. at i j (eqb_tells i a) (eqb_tells j b) }
+  where
+    inverts : Same p (M a b * inverse p (M a b)) 1
+    inverts = same-inverse p (M a b) field other
+
+    at : (i j : ℕ) → ((nat_eq i a ≡ true) × (i ≡ a)) ⊎ ((nat_eq i a ≡ false) × (i ≢ a))
+        → ((nat_eq j b ≡ true) × (j ≡ b)) ⊎ ((nat_eq j b ≡ false) × (j ≢ b))
+        → Same p (M i b * (inverse p (M a b) * M a j) + entry_cancelled p a b M i j) (M i j)
+    at i j (inl same) column =
+        ap (λ in_row. with_tests p (M i j) (M i b * (inverse p (M a b) * M a j)) in_row (nat_eq j b) % p) same.0
+        ∙ same-equal p (M i b * (inverse p (M a b) * M a j) + 0) (M i b * (inverse p (M a b) * M a j)) (omega arith)
+        ∙ subst (λ k. Same p (M k b * (inverse p (M a b) * M a j)) (M k j)) (sym same.1)
+        (same-unit_left p (M a b) (inverse p (M a b)) (M a j) inverts)
+    at i j (inr other_row) (inl same) =
+        ap (λ in_row. with_tests p (M i j) (M i b * (inverse p (M a b) * M a j)) in_row (nat_eq j b) % p) other_row.0
+        ∙ ap (λ in_column. with_tests p (M i j) (M i b * (inverse p (M a b) * M a j)) false in_column % p) same.0
+        ∙ same-equal p (M i b * (inverse p (M a b) * M a j) + 0) (M i b * (inverse p (M a b) * M a j)) (omega arith)
+        ∙ subst (λ k. Same p (M i b * (inverse p (M a b) * M a k)) (M i k)) (sym same.1)
+        (same-unit_right p (M a b) (inverse p (M a b)) (M i b) inverts)
+    at i j (inr other_row) (inr other_column) =
+        ap (λ in_row. with_tests p (M i j) (M i b * (inverse p (M a b) * M a j)) in_row (nat_eq j b) % p) other_row.0
+        ∙ ap (λ in_column. with_tests p (M i j) (M i b * (inverse p (M a b) * M a j)) false in_column % p) other_column.0
+        ∙ minus_mod-added p (M i j) (M i b * (inverse p (M a b) * M a j)) (omega (arith, field.above_one))
+
+pub entry_cancelled-below : (p a b i j : ℕ) (M : ℕ → ℕ → ℕ) → 0 < p → entry_cancelled p a b M i j < p
+entry_cancelled-below p a b i j M positive =
+    let way = M i b * (inverse p (M a b) * M a j) in
+    if_below (nat_eq i a || nat_eq j b) (minus_mod p (M i j) way) p positive
+    (mod_below (M i j + (p - way % p)) p positive)
+
+-- the entries of a matrix with 0 in a row, and in a column
+pub entry-without_row : (dead : ℕ) (rows : List (List ℕ)) (i j : ℕ)
+    → entry_in (without_row dead rows) i j ≡ row_cleared dead (entry_in rows) i j
+entry-without_row dead rows =
+    entry-with_entries (row_cleared dead (entry_in rows)) rows
+    (λ i j past. if_zero (nat_eq i dead) (entry_in rows i j) (entry-past_rows rows i j past))
+    (λ i j past. if_zero (nat_eq i dead) (entry_in rows i j) (entry-past_columns rows i j past))
+
+pub entry-without_column : (dead : ℕ) (rows : List (List ℕ)) (i j : ℕ)
+    → entry_in (without_column dead rows) i j ≡ column_cleared dead (entry_in rows) i j
+entry-without_column dead rows =
+    entry-with_entries (column_cleared dead (entry_in rows)) rows
+    (λ i j past. if_zero (nat_eq j dead) (entry_in rows i j) (entry-past_rows rows i j past))
+    (λ i j past. if_zero (nat_eq j dead) (entry_in rows i j) (entry-past_columns rows i j past))
+
+pub matrix-without_row : (p n dead : ℕ) (rows : List (List ℕ)) → 0 < p → IsMatrix p n rows → IsMatrix p n (without_row dead rows)
+matrix-without_row p n dead rows positive is =
+    matrix-with_entries p n (row_cleared dead (entry_in rows)) rows is (entry-without_row dead rows)
+    (λ i j. if_below (nat_eq i dead) (entry_in rows i j) p positive (is.below i j))
+
+pub matrix-without_column : (p n dead : ℕ) (rows : List (List ℕ)) → 0 < p → IsMatrix p n rows
+    → IsMatrix p n (without_column dead rows)
+matrix-without_column p n dead rows positive is =
+    matrix-with_entries p n (column_cleared dead (entry_in rows)) rows is (entry-without_column dead rows)
+    (λ i j. if_below (nat_eq j dead) (entry_in rows i j) p positive (is.below i j))

@@ -1,0 +1,56 @@
+//! The rows of one block, once it is cancelled to zero.
+
+ghost use Rattle.std.specs.Prelude.{◌≡◌, ◌+◌, ◌*◌, ◌<◌, ◌∷◌, [], ◌++◌, pos, ◌-ℤ◌, length, OnOk};
+ghost use Rattle.std.specs.List.{filter};
+ghost use Rattle.kh_types.specs.Table.{is_shown, row_at, rows_at};
+ghost use Rattle.shared_block.specs.AllBlocks.{IsFinished};
+
+use crate::SharedBlock;
+use crate::laws::block_laws;
+use jones_sum::Row;
+use kh_types::NoMemory;
+use prime_field::PrimeField;
+
+/// Adds the rows of the quantum degree of a block that is cancelled to zero, ascending by degree.
+#[tactic(auto, using(crate::proofs::BlockRows::steps))]
+pub(crate) fn push_rows<F: PrimeField>(
+    rows: &mut Vec<Row>,
+    block: &SharedBlock<F>,
+) -> Result<(), NoMemory>
+    requires { IsFinished F.P block.now }
+    ensures { OnOk result
+        (rows.new.items ≡ rows.old.items ++ rows_at F.P block.now.diagram block.now.degree) }
+{
+    block_laws(block);
+    'degrees: for k in 0..2 * block.diagram().crossings().len() + 1 {
+        push_row(rows, row_of(block, k))?;
+    }
+    Ok(())
+}
+
+/// The row of a homological degree, counted from the least that a diagram of so many crossings has.
+#[tactic(auto, using(crate::proofs::BlockRows::rows))]
+fn row_of<F: PrimeField>(block: &SharedBlock<F>, k: usize) -> Row
+    requires zero { IsFinished F.P block.now }
+    requires degree { k < 2 * length block.now.diagram.crossings + 1 }
+    ensures { result ≡ row_at F.P block.now.diagram block.now.degree
+        (pos k -ℤ pos (length block.now.diagram.crossings)) }
+{
+    block_laws(block);
+    let i = k as i16 - block.diagram().crossings().len() as i16;
+    Row {
+        j: block.degree(),
+        i,
+        dim: block.dim(i),
+    }
+}
+
+/// Adds a row where its dimension is above 0.
+fn push_row(rows: &mut Vec<Row>, row: Row) -> Result<(), NoMemory>
+    ensures { OnOk result (rows.new.items ≡ rows.old.items ++ filter is_shown (row ∷ [])) }
+{
+    if row.dim > 0 {
+        rows.push(row)?;
+    }
+    Ok(())
+}
