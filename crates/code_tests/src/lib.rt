@@ -7,12 +7,19 @@ mod acceptance;
 mod components;
 #[cfg(test)]
 mod faces;
+mod gauss_texts;
 #[cfg(test)]
 mod json_texts;
 #[cfg(test)]
+mod pd_texts;
+#[cfg(test)]
 mod plain_acceptance;
 #[cfg(test)]
+mod scripts;
+#[cfg(test)]
 mod tables;
+#[cfg(test)]
+mod tokens;
 #[cfg(test)]
 mod values;
 #[cfg(test)]
