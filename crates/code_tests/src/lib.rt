@@ -7,6 +7,7 @@ mod acceptance;
 mod components;
 #[cfg(test)]
 mod faces;
+#[cfg(test)]
 mod gauss_texts;
 #[cfg(test)]
 mod json_texts;
