@@ -4,6 +4,10 @@
 #[cfg(test)]
 mod cancellations;
 #[cfg(test)]
+mod cores;
+#[cfg(test)]
 mod homology_tables;
+#[cfg(test)]
+mod shared_blocks;
 #[cfg(test)]
 mod sparse_complexes;
