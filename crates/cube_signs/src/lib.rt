@@ -8,6 +8,7 @@ mod head_labels;
 mod labels;
 pub mod laws;
 mod names;
+mod places;
 mod quantum_degrees;
 mod shape;
 mod size;
