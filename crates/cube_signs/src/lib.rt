@@ -19,5 +19,5 @@ mod tests;
 pub use blocks::block_columns;
 pub use cube::Cube;
 pub use quantum_degrees::block_degrees;
-pub use size::{SizeLimit, check_size};
+pub use size::{SizeLimit, check_kinds, check_size};
 pub use sparse_block::Generator;
