@@ -2,4 +2,12 @@
 #![tactic(auto)]
 
 #[cfg(test)]
+mod cores;
+#[cfg(test)]
 mod homology_tables;
+#[cfg(test)]
+mod locks;
+#[cfg(test)]
+mod shared_blocks;
+#[cfg(test)]
+mod workers;
