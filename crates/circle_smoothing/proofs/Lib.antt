@@ -3,5 +3,8 @@ pub mod TableLemmas
 pub mod CircleWalks
 pub mod KeptNumbers
 pub mod EdgeAnswers
-pub mod GeneratorLemmas
 pub mod EdgeNumbers
+pub mod BranchLemmas
+pub mod KindLemmas
+pub mod GeneratorLemmas
+pub mod TriangleLemmas

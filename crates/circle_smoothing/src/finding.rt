@@ -5,9 +5,10 @@ ghost use Rattle.kh_types.specs.Bits.{bit};
 ghost use Rattle.kh_types.specs.Code.{IsCrossing, place_of};
 ghost use Rattle.kh_types.specs.declared.limits.TheConstants.{CIRCLES, CROSSINGS};
 ghost use Rattle.circle_smoothing.specs.Edges.{IsEdge};
-ghost use Rattle.circle_smoothing.specs.GeneratorCounts.{generator_count, label_count};
+ghost use Rattle.circle_smoothing.specs.GeneratorCounts.{generator_count};
 
 use crate::change::Edge;
+use crate::kinds::StateKinds;
 use crate::numbered::Circles;
 use crate::prepared::Smoothings;
 use kh_types::Diagram;
@@ -35,32 +36,9 @@ pub fn edge(diagram: &Diagram, state: u32, crossing: u8) -> Edge
 
 /// The number of generators of the cube: the sum over all states of 2 to the number of circles.
 /// Source: Bar-Natan 2002, section 3.
-#[tactic(auto, using(crate::proofs::GeneratorLemmas::state_steps))]
-pub fn generator_count(diagram: &Diagram) -> u64
+pub fn generator_count(diagram: &Diagram) -> u128
     ensures count { result ≡ generator_count diagram.now }
     ensures within { result ≤ 2 ^ (CROSSINGS + CIRCLES) }
 {
-    let smoothings = Smoothings::new(diagram);
-    let mut total = 0;
-    'states: for state in 0..state_count(diagram) {
-        total += label_count(&smoothings, state);
-    }
-    total
-}
-
-/// How many states there are.
-fn state_count(diagram: &Diagram) -> u32
-    ensures count { result ≡ 2 ^ length diagram.now.crossings }
-    ensures within { result ≤ 2 ^ CROSSINGS }
-{
-    1 << diagram.count()
-}
-
-/// How many generators a state has.
-fn label_count(smoothings: &Smoothings, state: u32) -> u64
-    requires { state < 2 ^ length smoothings.now.crossings }
-    ensures count { result ≡ label_count smoothings.now state }
-    ensures within { result ≤ 2 ^ CIRCLES }
-{
-    1 << smoothings.count(state)
+    StateKinds::of_diagram(diagram).generator_count()
 }

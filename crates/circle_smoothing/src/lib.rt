@@ -1,9 +1,11 @@
-//! The circles of the states of a diagram, what an edge of the cube does to them, and the number of
-//! generators.
+//! The circles of the states of a diagram, what an edge of the cube does to them, and how many states
+//! and generators there are of each kind.
 #![tactic(auto)]
 
+mod branches;
 mod change;
 mod finding;
+mod kinds;
 pub mod laws;
 mod limits;
 mod numbered;
@@ -12,10 +14,13 @@ mod prepared;
 mod tables;
 #[cfg(test)]
 mod tests;
+mod triangle;
 mod walk;
 
 pub use change::Edge;
 pub use finding::{circles, edge, generator_count};
+pub use kinds::{COLUMNS, KINDS, StateKinds};
 pub use limits::GENERATORS;
 pub use numbered::Circles;
 pub use prepared::Smoothings;
+pub use triangle::Triangle;

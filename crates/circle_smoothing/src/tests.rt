@@ -20,7 +20,7 @@ struct Row {
     arcs: [&'static [u8]; 3],
     merges: &'static [(u32, u8, [u8; 3])],
     splits: &'static [(u32, u8, [u8; 3])],
-    generators: u64,
+    generators: u128,
 }
 
 const ROWS: &[Row] = &[

@@ -11,17 +11,17 @@ use kh_types::Diagram;
 #[derive(Clone, Copy, Debug, PartialEq, Eq)]
 pub struct SizeLimit {
     /// How many there are.
-    pub generators: u64,
+    pub generators: u128,
 }
 
 /// The number of generators, where it is within the limit.
-pub fn check_size(diagram: &Diagram) -> Result<u64, SizeLimit>
+pub fn check_size(diagram: &Diagram) -> Result<u128, SizeLimit>
     ensures within { IsOk result ↔ (generator_count diagram.now ≤ GENERATORS) }
     ensures count { IfOk result (λ count. count ≡ generator_count diagram.now) }
     ensures carried { IfErr result (λ limit. limit.generators ≡ generator_count diagram.now) }
 {
     let generators = generator_count(diagram);
-    if generators <= GENERATORS {
+    if generators <= u128::from(GENERATORS) {
         Ok(generators)
     } else {
         Err(SizeLimit { generators })

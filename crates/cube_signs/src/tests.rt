@@ -156,13 +156,13 @@ fn the_trefoil_has_these_quantum_degrees(rt: HostRuntime) -> Result<(), Fail> {
 }
 
 #[test]
-fn sixteen_curls_have_too_many_generators(rt: HostRuntime) -> Result<(), Fail> {
-    let mut crossings = [[0u8; 4]; 16];
-    for k in 0..16 {
+fn twenty_curls_have_too_many_generators(rt: HostRuntime) -> Result<(), Fail> {
+    let mut crossings = [[0u8; 4]; 20];
+    for k in 0..20 {
         let arc = 2 * k as u8 + 1;
         crossings[k] = [arc, arc, arc + 1, arc + 1];
     }
-    let generators = 2_821_109_907_456;
+    let generators = 3_656_158_440_062_976;
     assert_eq!(rt;
         check_size(&diagram_of(&crossings)?),
         Err(SizeLimit { generators })

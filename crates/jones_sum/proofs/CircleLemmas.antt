@@ -6,7 +6,7 @@ use Rattle.std.proofs.lemmas.Bool.{cases_lt}
 use Rattle.std.proofs.lemmas.Bool.Decides.{Decides-int_eq}
 use Rattle.std.proofs.lemmas.Int.{ints}
 use Rattle.kh_types.specs.StateSum.{circle_coefficient}
-use Rattle.jones_sum.specs.Binomials.{binomial}
+use Rattle.circle_smoothing.specs.Binomials.{binomial}
 
 -- the coefficient of (q + q^-1) ^ 0
 at_zero : (b : Bool) (wanted : ℕ) → (b ≡ true → wanted ≡ 1) → (b ≡ false → wanted ≡ 0) → cond b 1 0 ≡ wanted

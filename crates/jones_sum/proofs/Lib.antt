@@ -1,7 +1,6 @@
 pub mod CoefficientLemmas
 pub mod CircleLemmas
 pub mod StateSumLemmas
-pub mod TriangleLemmas
 pub mod TermLemmas
 pub mod KindLemmas
 pub mod TableLemmas

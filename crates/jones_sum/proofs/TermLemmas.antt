@@ -2,7 +2,7 @@
 use Rattle.std.proofs.Common.{◌≡◌, ℕ, suc, ◌+◌, ◌-◌, ◌/◌, ◌%◌, ◌<◌, ◌≤◌, ◌∙◌, ap, refl, arith, ℤ, pos, negsuc, neg_ℤ, ◌+ℤ◌, ◌-ℤ◌, cond, nat_eq}
 use Rattle.std.proofs.lemmas.Int.{ints}
 use Rattle.kh_types.specs.StateSum.{circle_coefficient, signed_by, signed_by_parity}
-use Rattle.jones_sum.specs.Binomials.{binomial}
+use Rattle.circle_smoothing.specs.Binomials.{binomial}
 use Rattle.jones_sum.proofs.CircleLemmas.{circle_coefficient-below, circle_coefficient-odd, circle_coefficient-even}
 
 -- what gives the exponent, as far as it is raised and lowered

@@ -1,5 +1,4 @@
 pub mod Coefficients
-pub mod Binomials
 pub mod Kinds
 pub mod Tables
 pub mod WorkedTables

@@ -7,12 +7,12 @@ ghost use Rattle.kh_types.specs.StateSum.{state_sum};
 ghost use Rattle.jones_sum.specs.Coefficients.{coefficients_of};
 ghost use Rattle.jones_sum.specs.Kinds.{counted_sum, kind_term};
 ghost use Rattle.jones_sum.specs.declared.laurent.TheConstants.{COEFFICIENTS};
-ghost use Rattle.jones_sum.specs.declared.terms.TheConstants.{KINDS};
+ghost use Rattle.circle_smoothing.specs.declared.kinds.TheConstants.{KINDS};
 
 use crate::kinds::state_counts;
 use crate::laurent::{COEFFICIENTS, Laurent};
-use crate::terms::{KINDS, Signs, term};
-use crate::triangle::Triangle;
+use crate::terms::{Signs, term};
+use circle_smoothing::{StateKinds, Triangle};
 use kh_types::Diagram;
 
 /// The unnormalised Jones polynomial of a diagram: the sum over its states of
@@ -21,8 +21,15 @@ use kh_types::Diagram;
 pub fn jones(diagram: &Diagram) -> Laurent
     ensures { result ≡ coefficients_of (state_sum diagram.now) }
 {
-    let counts = state_counts(diagram);
-    let signs = Signs::of_diagram(diagram);
+    state_sum(&StateKinds::of_diagram(diagram))
+}
+
+/// The same, given the kinds of the diagram's states.
+pub fn state_sum(kinds: &StateKinds) -> Laurent
+    ensures { result ≡ coefficients_of (state_sum kinds.now) }
+{
+    let counts = state_counts(kinds);
+    let signs = Signs::of_kinds(kinds);
     let triangle = Triangle::new();
     let mut coefficients = [0; COEFFICIENTS];
     'places: for place in 0..COEFFICIENTS {
@@ -33,7 +40,7 @@ pub fn jones(diagram: &Diagram) -> Laurent
 
 /// The coefficient at a place: the sum of the terms of all kinds, each as often as there are states
 /// of the kind.
-fn coefficient(counts: &[u32], triangle: &Triangle, signs: Signs, place: usize) -> i64
+fn coefficient(counts: &[u32], triangle: &Triangle, signs: Signs, place: usize) -> i128
     requires kinds { length counts.now ≡ KINDS }
     requires states { sum counts.now ≤ 2 ^ CROSSINGS }
     requires place { place < COEFFICIENTS }
@@ -49,11 +56,11 @@ fn coefficient(counts: &[u32], triangle: &Triangle, signs: Signs, place: usize) 
 
 /// A term, as often as it is counted.
 #[tactic(auto, using(crate::proofs::KindLemmas::times_within))]
-fn times(count: u32, term: i64) -> i64
+fn times(count: u32, term: i128) -> i128
     requires count { count ≤ 2 ^ CROSSINGS }
     requires term { unsigned_abs term ≤ 2 ^ CIRCLES }
     ensures product { result ≡ pos count *ℤ term }
     ensures within { unsigned_abs result ≤ count * 2 ^ CIRCLES }
 {
-    i64::from(count) * term
+    i128::from(count) * term
 }

@@ -16,7 +16,7 @@ pub const COEFFICIENTS: usize = 2 * EXPONENT + 1;
 /// EXPONENT. Contracts see it as the list of its coefficients, ascending by exponent.
 #[derive(Clone, Copy, Debug, PartialEq, Eq)]
 pub struct Laurent {
-    pub(crate) coefficients: [i64; COEFFICIENTS],
+    pub(crate) coefficients: [i128; COEFFICIENTS],
 }
 
 impl Model for Laurent {
@@ -35,7 +35,7 @@ impl Model for Laurent {
 impl Laurent {
     /// The coefficient of an exponent.
     #[tactic(auto, using(crate::proofs::CoefficientLemmas::exponents))]
-    pub fn coefficient(&self, exponent: i16) -> i64
+    pub fn coefficient(&self, exponent: i16) -> i128
         requires { IsWithin EXPONENT exponent }
         ensures { result ≡ coefficient_in self.now exponent }
     {

@@ -12,10 +12,9 @@ mod table;
 mod terms;
 #[cfg(test)]
 mod tests;
-mod triangle;
 
 pub use characteristic::euler;
-pub use finding::jones;
+pub use finding::{jones, state_sum};
 pub use laurent::{COEFFICIENTS, Laurent, exponent_at};
 pub use laws::table_laws;
 pub use row::Row;

@@ -35,10 +35,10 @@ impl Row {
 
     /// The dimension, with a minus sign where the homological degree is odd.
     #[tactic(auto, using(crate::proofs::EulerLemmas::signs))]
-    pub(crate) fn signed_dim(self) -> i64
+    pub(crate) fn signed_dim(self) -> i128
         ensures { result ≡ signed_by self.i self.dim }
     {
-        let dim = i64::from(self.dim);
+        let dim = i128::from(self.dim);
         if self.i.unsigned_abs() % 2 == 0 {
             dim
         } else {

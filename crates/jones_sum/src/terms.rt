@@ -6,14 +6,11 @@ ghost use Rattle.kh_types.specs.Directions.{plus_count, minus_count};
 ghost use Rattle.kh_types.specs.StateSum.{circle_coefficient};
 ghost use Rattle.jones_sum.specs.Kinds.{kind_term};
 ghost use Rattle.jones_sum.specs.declared.laurent.TheConstants.{COEFFICIENTS};
-ghost use Rattle.jones_sum.specs.declared.terms.TheConstants.{KINDS};
+ghost use Rattle.circle_smoothing.specs.declared.kinds.TheConstants.{KINDS};
 
 use crate::laurent::COEFFICIENTS;
-use crate::triangle::{COLUMNS, Triangle};
-use kh_types::{CROSSINGS, Diagram, EXPONENT};
-
-/// The number of kinds of states: by the number of ones, and by the number of circles.
-pub const KINDS: usize = (CROSSINGS + 1) * COLUMNS;
+use circle_smoothing::{COLUMNS, StateKinds, Triangle};
+use kh_types::EXPONENT;
 
 /// The numbers of positive and of negative crossings.
 #[derive(Clone, Copy)]
@@ -23,11 +20,12 @@ pub struct Signs {
 }
 
 impl Signs {
-    /// Those of a diagram.
-    pub fn of_diagram(diagram: &Diagram) -> Signs
-        ensures plus { result.plus ≡ plus_count diagram.now.crossings }
-        ensures minus { result.minus ≡ minus_count diagram.now.crossings }
+    /// Those of the diagram whose states have these kinds.
+    pub fn of_kinds(kinds: &StateKinds) -> Signs
+        ensures plus { result.plus ≡ plus_count kinds.now.crossings }
+        ensures minus { result.minus ≡ minus_count kinds.now.crossings }
     {
+        let diagram = kinds.diagram();
         Signs {
             plus: diagram.plus(),
             minus: diagram.minus(),
@@ -37,7 +35,7 @@ impl Signs {
 
 /// What a state of a kind adds to the coefficient at a place.
 #[tactic(auto, using(crate::proofs::TermLemmas::signs))]
-pub fn term(triangle: &Triangle, signs: Signs, kind: usize, place: usize) -> i64
+pub fn term(triangle: &Triangle, signs: Signs, kind: usize, place: usize) -> i128
     requires kind { kind < KINDS }
     requires place { place < COEFFICIENTS }
     ensures term { result ≡ kind_term signs.plus signs.minus (pos place -ℤ pos EXPONENT) kind }
@@ -47,7 +45,7 @@ pub fn term(triangle: &Triangle, signs: Signs, kind: usize, place: usize) -> i64
     let (plus, minus) = (usize::from(signs.plus), usize::from(signs.minus));
     let raised = place + circles + 2 * minus;
     let lowered = EXPONENT + ones + plus;
-    let size = ways(triangle, circles, raised, lowered) as i64;
+    let size = ways(triangle, circles, raised, lowered) as i128;
     if (ones + minus) % 2 == 0 { size } else { -size }
 }
 

@@ -12,7 +12,7 @@ struct Row {
     crossings: &'static [[u8; 4]],
     loops: u8,
     lowest: i16,
-    coefficients: &'static [i64],
+    coefficients: &'static [i128],
 }
 
 /// The polynomials of knots and links with a name such as 5_2 or L6a4 are those of the Knot Atlas, its
@@ -211,7 +211,7 @@ fn the_empty_link_has_the_polynomial_one(rt: HostRuntime) -> Result<(), Fail> {
 }
 
 /// The coefficient of V at an exponent of q, where t^(1/2) = -q.
-fn coefficient_in_q(row: &Row, exponent: i16) -> i64 {
+fn coefficient_in_q(row: &Row, exponent: i16) -> i128 {
     let above = exponent.checked_sub(row.lowest).unwrap_or(-1);
     if above < 0 || above % 2 != 0 {
         return 0;

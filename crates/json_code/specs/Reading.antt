@@ -8,8 +8,8 @@ use Rattle.json_code.specs.declared.stop.JsonStop.TheVariants.{JsonText, Shape, 
 use Rattle.json_code.specs.Values.{IsJson, array_of, whole_number, array_of_numbers}
 
 -- the arc that a number names; 0, which is no arc, for a number above 255
-abbrev pub arc_named : ℕ → ℕ
-arc_named n = if nat_le n 255 then n else 0
+abbrev pub json_arc_named : ℕ → ℕ
+json_arc_named n = if nat_le n 255 then n else 0
 
 -- there are four numbers
 abbrev pub HasFour : List ℕ → Type 0
@@ -17,12 +17,12 @@ HasFour numbers = length numbers ≡ 4
 
 -- a text reads as a code: it is an array of arrays of four numbers, at most `CROSSINGS` of them; the crossings are the arcs
 -- that the numbers name, and there are no loops
-pub record ReadsAs (text : List ℕ) (code : Code) : Type 0 where
+pub record ReadsAsJson (text : List ℕ) (code : Code) : Type 0 where
   pub quadruples : List (List ℕ)
   pub json : IsJson text (array_of (map array_of_numbers quadruples))
   pub fours : All HasFour quadruples
   pub within : length quadruples ≤ CROSSINGS
-  pub arcs : code.crossings ≡ map (map arc_named) quadruples
+  pub arcs : code.crossings ≡ map (map json_arc_named) quadruples
   pub no_loops : code.loops ≡ 0
 
 -- a text is no JSON
@@ -42,7 +42,7 @@ pub record IsOtherJson (text : List ℕ) (crossing slot : ℕ) : Type 0 where
   pub no_slot : slot ≡ 0
 
 -- a text has too many crossings: it is an array of so many elements, whatever these are, and they are above the limit
-pub record HasManyCrossings (text : List ℕ) (count : ℕ) : Type 0 where
+pub record HasManyElements (text : List ℕ) (count : ℕ) : Type 0 where
   pub elements : List Data
   pub json : IsJson text (array_of elements)
   pub counted : count ≡ length elements
@@ -77,9 +77,9 @@ pub record HasWrongCrossing (text : List ℕ) (crossing slot : ℕ) : Type 0 whe
   pub numbered : crossing ≡ length quadruples + 1
 
 -- what the reading of a text comes to: a code, or why there is none; running out of memory is no reading
-abbrev pub IsReading : List ℕ → Result Code JsonStop → Type 0
-IsReading text (Ok code) = ReadsAs text code
-IsReading text (Err JsonText) = IsNoJson text
-IsReading text (Err (Shape crossing slot)) = IsOtherJson text crossing slot ⊎ HasWrongCrossing text crossing slot
-IsReading text (Err (CrossingLimit count)) = HasManyCrossings text count
-IsReading text (Err NoMemory) = ⊥
+abbrev pub IsJsonReading : List ℕ → Result Code JsonStop → Type 0
+IsJsonReading text (Ok code) = ReadsAsJson text code
+IsJsonReading text (Err JsonText) = IsNoJson text
+IsJsonReading text (Err (Shape crossing slot)) = IsOtherJson text crossing slot ⊎ HasWrongCrossing text crossing slot
+IsJsonReading text (Err (CrossingLimit count)) = HasManyElements text count
+IsJsonReading text (Err NoMemory) = ⊥

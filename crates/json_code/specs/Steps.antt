@@ -10,7 +10,7 @@ use Rattle.serde_json.specs.Find.{as_array, as_number, as_u64}
 use Rattle.serde_json.specs.Read.{read}
 use Rattle.json_code.specs.declared.stop.JsonStop.{JsonStop}
 use Rattle.json_code.specs.declared.stop.JsonStop.TheVariants.{JsonText, Shape, CrossingLimit}
-use Rattle.json_code.specs.Reading.{arc_named}
+use Rattle.json_code.specs.Reading.{json_arc_named}
 
 -- the elements of an array, in order
 abbrev pub elements_of : Items → List Data
@@ -31,24 +31,24 @@ abbrev pub number_in : Data → Option ℕ
 number_in value = option_and_then as_u64 (as_number value)
 
 -- the arc at a slot of the members of a crossing
-abbrev pub arc_at : ℕ → ℕ → List Data → Result ℕ JsonStop
-arc_at crossing slot members =
-    ok_or (option_map arc_named (option_and_then number_in (slice_get members slot))) (Shape crossing slot)
+abbrev pub json_arc_at : ℕ → ℕ → List Data → Result ℕ JsonStop
+json_arc_at crossing slot members =
+    ok_or (option_map json_arc_named (option_and_then number_in (slice_get members slot))) (Shape crossing slot)
 
 -- the arcs, unless there is a fifth member
 abbrev pub if_four : ℕ → List Data → List ℕ → Result (List ℕ) JsonStop
 if_four crossing members arcs = if nat_lt 4 (length members) then Err (Shape crossing 4) else Ok arcs
 
 -- the arcs at the four slots
-abbrev pub arcs_at : ℕ → List Data → Result (List ℕ) JsonStop
-arcs_at crossing members =
+abbrev pub json_arcs_at : ℕ → List Data → Result (List ℕ) JsonStop
+json_arcs_at crossing members =
     and_then (λ i. and_then (λ j. and_then (λ k. and_then (λ l. if_four crossing members (i ∷ j ∷ k ∷ l ∷ []))
-    (arc_at crossing 3 members)) (arc_at crossing 2 members)) (arc_at crossing 1 members)) (arc_at crossing 0 members)
+    (json_arc_at crossing 3 members)) (json_arc_at crossing 2 members)) (json_arc_at crossing 1 members)) (json_arc_at crossing 0 members)
 
 -- the crossing that an element is
 abbrev pub crossing_of : ℕ → Data → Result (List ℕ) JsonStop
 crossing_of crossing element =
-    option_map_or (λ items. arcs_at crossing (elements_of items)) (as_array element) (Err (Shape crossing 0))
+    option_map_or (λ items. json_arcs_at crossing (elements_of items)) (as_array element) (Err (Shape crossing 0))
 
 -- crossings before others
 abbrev pub preceded_by : List (List ℕ) → Result (List (List ℕ)) JsonStop → Result (List (List ℕ)) JsonStop
@@ -72,9 +72,9 @@ code_of_elements elements =
     else and_then code_of_crossings (crossings_from 1 elements)
 
 -- the code that a value stands for
-abbrev pub code_of : Data → Result Code JsonStop
-code_of value = option_map_or (λ items. code_of_elements (elements_of items)) (as_array value) (Err (Shape 0 0))
+abbrev pub json_code_of : Data → Result Code JsonStop
+json_code_of value = option_map_or (λ items. code_of_elements (elements_of items)) (as_array value) (Err (Shape 0 0))
 
 -- the code that a text stands for, or why there is none
-unfoldable pub reading_of : List ℕ → Result Code JsonStop
-reading_of text = if is_utf8 text then option_map_or code_of (read text) (Err JsonText) else Err JsonText
+unfoldable pub json_reading_of : List ℕ → Result Code JsonStop
+json_reading_of text = if is_utf8 text then option_map_or json_code_of (read text) (Err JsonText) else Err JsonText

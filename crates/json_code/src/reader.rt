@@ -1,9 +1,10 @@
 //! Reads the code of a diagram from a JSON text.
 
-ghost use Rattle.std.specs.Prelude.{◌≡◌, ◌≢◌, ◌<◌, ◌≤◌, ◌^◌, Err, Ok, IfErr, IfOk, length, map};
+ghost use Rattle.std.specs.Prelude.{◌≡◌, ◌≢◌, ◌+◌, ◌<◌, ◌≤◌, Err, Ok, IfErr, IfOk, length, map};
 ghost use Rattle.serde_json.specs.View.{view};
-ghost use Rattle.json_code.specs.Reading.{IsReading};
-ghost use Rattle.json_code.specs.Steps.{code_of, code_of_elements, crossings_from, element_count};
+ghost use Rattle.kh_types.specs.declared.limits.TheConstants.{INPUT_BYTES};
+ghost use Rattle.json_code.specs.Reading.{IsJsonReading};
+ghost use Rattle.json_code.specs.Steps.{json_code_of, code_of_elements, crossings_from, element_count};
 
 use crate::crossing::crossing_of;
 use crate::stop::JsonStop;
@@ -16,19 +17,19 @@ use std::alloc::Global;
 /// arc, and there are no loops. Memory may run out on any text but the empty one. This project's rule.
 pub fn read_json(alloc: Global, text: &[u8]) -> Result<RawCode, JsonStop>
     requires { length text.now ≤ INPUT_BYTES }
-    ensures reads { result ≢ Err JsonStop.NoMemory → IsReading text.now result }
+    ensures reads { result ≢ Err JsonStop.NoMemory → IsJsonReading text.now result }
     ensures memory { result ≡ Err JsonStop.NoMemory → 0 < length text.now }
     ensures few { IfOk result (λ code. length code.crossings ≤ CROSSINGS) }
     ensures no_loops { IfOk result (λ code. code.loops ≡ 0) }
 {
     let value = Value::from_slice(alloc, text)?;
-    code_of(&value)
+    json_code_of(&value)
 }
 
 // The code that a JSON value stands for.
-fn code_of(value: &Value) -> Result<RawCode, JsonStop>
-    requires { element_count (view value.now) < 2 ^ 32 }
-    ensures code { result ≡ code_of (view value.now) }
+fn json_code_of(value: &Value) -> Result<RawCode, JsonStop>
+    requires { element_count (view value.now) ≤ INPUT_BYTES + 1 }
+    ensures code { result ≡ json_code_of (view value.now) }
     ensures few { IfOk result (λ code. length code.crossings ≤ CROSSINGS) }
     ensures no_loops { IfOk result (λ code. code.loops ≡ 0) }
 {
@@ -43,7 +44,7 @@ fn code_of(value: &Value) -> Result<RawCode, JsonStop>
 
 // The code that the elements of an array stand for.
 fn code_of_elements(elements: &[Value]) -> Result<RawCode, JsonStop>
-    requires { length elements.now < 2 ^ 32 }
+    requires { length elements.now ≤ INPUT_BYTES + 1 }
     ensures code { result ≡ code_of_elements (map view elements.now) }
     ensures few { IfOk result (λ code. length code.crossings ≤ CROSSINGS) }
     ensures no_loops { IfOk result (λ code. code.loops ≡ 0) }

@@ -16,4 +16,4 @@ pub use mem_source::MemSource;
 pub use sink::Sink;
 pub use source::{Failed, Source};
 pub use std_edge::{StdSink, StdSource};
-pub use transfer::{ReadStop, read_all, write_all};
+pub use transfer::{ReadStop, read_all, read_most, write_all};

@@ -1,6 +1,6 @@
 //! Reading a source to its end, and writing bytes whole.
 
-ghost use Rattle.std.specs.Prelude.{◌≡◌, ℕ, ◌+◌, ◌<◌, ◌≤◌, ◌↔◌, List, [], length, take, IfOk, OnOk, IsOk, IfSome, Err};
+ghost use Rattle.std.specs.Prelude.{◌≡◌, ◌≢◌, ◌-◌, ◌^◌, ℕ, ◌+◌, ◌<◌, ◌≤◌, ◌↔◌, List, [], length, take, IfOk, OnOk, IsOk, IfSome, Err};
 ghost use Rattle.std.specs.Io.KnownBytes.{Consumes, Appends, IsAtEnd};
 ghost use Rattle.kh_io.specs.Faults.{Rose, HasCause};
 
@@ -53,7 +53,27 @@ pub fn read_all<S: Source>(alloc: Global, source: &mut S) -> Result<Vec<u8>, Rea
         × (result ≡ Err ReadStop.ByteLimit ↔ (INPUT_BYTES < length prefix)) }
     ensures fault { result ≡ Err ReadStop.Fault → Rose (S.faults source.old) (S.faults source.new) }
     ensures later { S.faults source.old ≤ S.faults source.new }
+    ensures stayed { result ≢ Err ReadStop.Fault → S.faults source.new ≡ S.faults source.old }
     ensures reads { S.reads source.new ≤ S.reads source.old + (INPUT_BYTES + 1) }
+    ensures reads_to_end { IfOk result (λ bytes.
+        S.reads source.new ≤ S.reads source.old + (length bytes.items + 1)) }
+{
+    read_most(alloc, source, INPUT_BYTES as u32)
+}
+
+/// All bytes of a source that has at most so many. It stops at the first fault, and where there are more.
+pub fn read_most<S: Source>(alloc: Global, source: &mut S, most: u32) -> Result<Vec<u8>, ReadStop>
+    requires { most < 2 ^ 32 - 2 }
+    ensures bytes { IfOk result (λ bytes. IfSome (S.left source.old) (λ all. bytes.items ≡ all)) }
+    ensures end { OnOk result (IsAtEnd (S.left source.new)) }
+    ensures size { IfOk result (λ bytes. length bytes.items ≤ most) }
+    // More bytes than these are taken exactly where the answer says so.
+    ensures taken { (prefix : List ℕ) × Consumes (S.left source.old) (S.left source.new) prefix
+        × (result ≡ Err ReadStop.ByteLimit ↔ (most < length prefix)) }
+    ensures fault { result ≡ Err ReadStop.Fault → Rose (S.faults source.old) (S.faults source.new) }
+    ensures later { S.faults source.old ≤ S.faults source.new }
+    ensures stayed { result ≢ Err ReadStop.Fault → S.faults source.new ≡ S.faults source.old }
+    ensures reads { S.reads source.new ≤ S.reads source.old + (most + 1) }
     ensures reads_to_end { IfOk result (λ bytes.
         S.reads source.new ≤ S.reads source.old + (length bytes.items + 1)) }
 {
@@ -64,7 +84,7 @@ pub fn read_all<S: Source>(alloc: Global, source: &mut S) -> Result<Vec<u8>, Rea
         if count == 0 {
             return Ok(bytes);
         }
-        if bytes.len() + count > INPUT_BYTES {
+        if bytes.len() + count > most as usize {
             return Err(ReadStop::ByteLimit);
         }
         bytes.extend_from_slice(&buffer[..count])?;

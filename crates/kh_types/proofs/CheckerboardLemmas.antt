@@ -1,55 +1,12 @@
--- The checkerboard equations, and the choices that solve the first of them.
-use Rattle.std.proofs.Common.{◌≡◌, ℕ, inl, inr, ◌-◌, ◌+◌, ◌*◌, ◌^◌, ◌<◌, ◌≤◌, ◌∙◌, List, [], ◌∷◌, length, take, refl, sym, ap, arith, Bool, true, false, not}
-use Rattle.std.specs.Prelude.{Some, None}
-use Rattle.std.specs.List.{list_all, range_with_len}
-use Rattle.std.proofs.lemmas.Bool.{cases_lt}
-use Rattle.std.proofs.lemmas.List.Folds.{list_all-map, list_all_kept}
-use Rattle.std.proofs.lemmas.List.FromFn.{take-map-range_with_len}
+-- The checkerboard condition and its fault.
+use Rattle.std.proofs.Common.{◌≡◌, ℕ, ◌-◌, ◌+◌, ◌*◌, ◌^◌, ◌∙◌, List, [], ◌∷◌, length, refl, sym, ap, arith, Bool, true, false, not}
+use Rattle.std.specs.Prelude.{None}
 use Rattle.kh_types.specs.declared.fault.CodeFault.{CodeFault}
 use Rattle.kh_types.specs.declared.fault.CodeFault.TheVariants.{Checkerboard}
-use Rattle.kh_types.specs.Checkerboard.{equation_of, equations_of, is_solved, solves_at, solves_up_to, has_choice, IsCheckerboard}
+use Rattle.kh_types.specs.Checkerboard.{solves_at, solves_up_to, has_choice, IsCheckerboard}
 use Rattle.kh_types.specs.Acceptance.{checkerboard_at, checkerboard_fault, fault_if}
-use Rattle.kh_types.proofs.Ranges.{list_any-below, list_any-below_none, list_any-found, list_all-range_prefix}
+use Rattle.kh_types.proofs.Ranges.{list_any-below, list_any-found, list_all-range_prefix}
 use Rattle.kh_types.proofs.FaultLemmas.{none_at, none_of_all}
-
--- to solve the arcs up to a is to solve the first a equations
-solves_up_to-is : (crossings : List (List ℕ)) (arc choice : ℕ) → arc ≤ 2 * length crossings
-    → solves_up_to crossings arc choice ≡ list_all (is_solved choice) (take arc (equations_of crossings))
-solves_up_to-is crossings arc choice within =
-    sym (list_all-map (is_solved choice) (equation_of crossings) (range_with_len 1 arc))
-    ∙ ap (λ es. list_all (is_solved choice) es)
-    (sym (take-map-range_with_len (equation_of crossings) 1 (2 * length crossings) arc within))
-
--- no choice up to an arc, where each choice below 2 ^ n fails
-pub checkerboard-fault : (crossings : List (List ℕ)) (arc choices : ℕ) → arc ≤ 2 * length crossings → choices ≡ 2 ^ length crossings
-    → ((k : ℕ) → k < choices → list_all (is_solved k) (take arc (equations_of crossings)) ≡ false)
-    → checkerboard_at crossings arc ≡ Some (Checkerboard arc)
-checkerboard-fault crossings arc choices within is_count fails =
-    let none : has_choice crossings arc ≡ false =
-    list_any-below_none (solves_up_to crossings arc) (2 ^ length crossings)
-    (λ k below. solves_up_to-is crossings arc k within ∙ fails k (omega arith)) in
-    ap (λ b. fault_if (not b) (Checkerboard arc)) none
-
--- no fault, where a choice solves
-pub checkerboard-none : (crossings : List (List ℕ)) (arc choice choices : ℕ) → arc ≤ 2 * length crossings
-    → choices ≡ 2 ^ length crossings → choice < choices
-    → list_all (is_solved choice) (take arc (equations_of crossings)) ≡ true → checkerboard_at crossings arc ≡ None
-checkerboard-none crossings arc choice choices within is_count below solved =
-    let some : has_choice crossings arc ≡ true =
-    list_any-below (solves_up_to crossings arc) (2 ^ length crossings) choice (omega arith)
-    (solves_up_to-is crossings arc choice within ∙ solved) in
-    ap (λ b. fault_if (not b) (Checkerboard arc)) some
-
--- choices that fail for some arcs fail for one arc more, and those that were tried now fail too
-pub tried_more : (crossings : List (List ℕ)) (place before now : ℕ)
-    → ((k : ℕ) → k < before → list_all (is_solved k) (take place (equations_of crossings)) ≡ false)
-    → ((k : ℕ) → before ≤ k → k < now → list_all (is_solved k) (take (place + 1) (equations_of crossings)) ≡ false)
-    → (k : ℕ) → k < now → list_all (is_solved k) (take (place + 1) (equations_of crossings)) ≡ false
-tried_more crossings place before now tried fails k below =
-    elim (cases_lt k before) [
-      | inl earlier ↦ list_all_kept (is_solved k) (equations_of crossings) place (tried k earlier)
-      | inr later ↦ fails k later below
-    ]
 
 -- a test whose failure would be a fault holds where there is none
 kept_true : (holds : Bool) (fault : CodeFault) → fault_if (not holds) fault ≡ None → holds ≡ true

@@ -72,10 +72,10 @@ pub classes-together : (n : ℕ) (pairs : List (ℕ × ℕ)) → AreBelow n pair
 classes-together n pairs below = joined_together n (range_with_len 0 n) pairs (length-range_with_len 0 n) below
 
 -- f has one value on each class
-abbrev IsOneOnClasses : (ℕ → ℕ) → ℕ → List ℕ → Type 0
+abbrev pub IsOneOnClasses : (ℕ → ℕ) → ℕ → List ℕ → Type 0
 IsOneOnClasses f n classes = (x y : ℕ) → x < n → y < n → slice_index classes x ≡ slice_index classes y → f x ≡ f y
 
-one_on_joined : (f : ℕ → ℕ) (n : ℕ) (classes : List ℕ) (pair : ℕ × ℕ) → length classes ≡ n → pair.0 < n → pair.1 < n
+pub one_on_joined : (f : ℕ → ℕ) (n : ℕ) (classes : List ℕ) (pair : ℕ × ℕ) → length classes ≡ n → pair.0 < n → pair.1 < n
     → f pair.0 ≡ f pair.1 → IsOneOnClasses f n classes → IsOneOnClasses f n (joined classes pair)
 one_on_joined f n classes pair is_n first_below second_below respects one x y x_below y_below same =
     let a = slice_index classes pair.0 in

@@ -17,6 +17,7 @@ pub mod DartLemmas
 pub mod DartPairs
 pub mod BitLemmas
 pub mod CheckerboardLemmas
+pub mod ColouringLemmas
 pub mod AcceptedLemmas
 pub mod DartColours
 pub mod DirectionLemmas
@@ -27,6 +28,7 @@ pub mod TwoHeads
 pub mod OneHead
 pub mod Heads
 pub mod WalkLemmas
+pub mod FewComponents
 pub mod Residues
 pub mod Sums
 pub mod FactorLemmas

@@ -126,6 +126,22 @@ list_all-range_prefix p a k n within passes =
     ∙ list_all-append p (range_with_len a k) (range_with_len (a + k) (n - k)) in
     (and_parts (list_all p (range_with_len a k)) (list_all p (range_with_len (a + k) (n - k))) (sym cut ∙ passes)).0
 
+-- the last one passes it
+pub list_all-range_last : (p : ℕ → Bool) (a n j : ℕ) → a + n ≡ j → list_all p (range_with_len a (n + 1)) ≡ true → p j ≡ true
+list_all-range_last p a n j is_j passes =
+    let cut : list_all p (range_with_len a (n + 1)) ≡ (list_all p (range_with_len a n) && (p j && true)) =
+    ap (λ xs. list_all p xs) (range_more a n j is_j) ∙ list_all-append p (range_with_len a n) (j ∷ []) in
+    let last = (and_parts (list_all p (range_with_len a n)) (p j && true) (sym cut ∙ passes)).1 in
+    (and_parts (p j) true last).0
+
+-- what each number of a range passes, all pass
+pub list_all-range_each : (p : ℕ → Bool) (a n : ℕ) → ((x : ℕ) → a ≤ x → x < a + n → p x ≡ true)
+    → list_all p (range_with_len a n) ≡ true
+list_all-range_each p a zero each = refl
+list_all-range_each p a (suc n) each =
+    ap (λ b. b && list_all p (range_with_len (a + 1) n)) (each a (omega arith) (omega arith))
+    ∙ list_all-range_each p (a + 1) n (λ x from below. each x (omega (arith, from)) (omega (arith, below)))
+
 -- the same for ranges that begin with 0 or with 1, in forms that `grind` applies by itself
 pub range_from_zero : (n : ℕ) → range_with_len 0 (n + 1) ≡ range_with_len 0 n ++ n ∷ []
 range_from_zero n = range_more 0 n n (omega arith)

@@ -1,5 +1,5 @@
 -- The checkerboard condition.
-use Rattle.std.specs.Prelude.{ℕ, ◌+◌, ◌%◌, ◌^◌, ◌<◌, List, length, map, nat_eq, Bool, IsTrue}
+use Rattle.std.specs.Prelude.{ℕ, ◌+◌, ◌%◌, ◌^◌, ◌<◌, List, length, nat_eq, Bool, IsTrue}
 use Rattle.std.specs.List.{list_all, list_any, range_with_len}
 use Rattle.kh_types.specs.Code.{place_of, arcs}
 use Rattle.kh_types.specs.Bits.{bit}
@@ -12,10 +12,6 @@ equation_of crossings arc =
     let dart = first_dart crossings arc in
     let other = partner crossings dart in
     record { crossing = dart.crossing; other = other.crossing; slots = dart.slot + other.slot }
-
--- the equations of all arcs, in order
-abbrev pub equations_of : List (List ℕ) → List Equation
-equations_of crossings = map (equation_of crossings) (arcs crossings)
 
 -- a choice of one bit x_c for each crossing c is a number below 2 ^ n. It solves an equation where the two bits and the sum of
 -- the slots are odd together: x_c + p + x_d + q is odd

@@ -26,7 +26,7 @@ pub fn classes_of(count: usize, pairs: &[(u8, u8)]) -> ArrayVec<u8, CLASS_MEMBER
 
 /// The numbers below `count`.
 #[tactic(auto, using(crate::proofs::Ranges::range_steps))]
-fn numbers_below(count: usize) -> ArrayVec<u8, CLASS_MEMBERS>
+pub(crate) fn numbers_below(count: usize) -> ArrayVec<u8, CLASS_MEMBERS>
     requires { count ≤ CLASS_MEMBERS }
     ensures { result.items ≡ range_with_len 0 count }
 {
@@ -39,7 +39,7 @@ fn numbers_below(count: usize) -> ArrayVec<u8, CLASS_MEMBERS>
 
 /// Makes one class of those of the two numbers of a pair.
 #[tactic(auto, using(crate::proofs::ClassLemmas::map_in_place))]
-fn join(classes: &mut [u8], pair: (u8, u8))
+pub(crate) fn join(classes: &mut [u8], pair: (u8, u8))
     ensures { classes.new ≡ joined classes.old pair }
 {
     let x = class_of(classes, pair.0 as usize);

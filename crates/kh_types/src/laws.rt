@@ -7,7 +7,5 @@ pub mod classes;
 pub mod complexes;
 pub mod darts;
 pub mod heads;
-pub mod polynomials;
 pub mod ranks;
 pub mod sizes;
-pub mod tables;

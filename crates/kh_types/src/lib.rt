@@ -12,8 +12,6 @@ mod fault;
 pub mod laws;
 mod limits;
 mod memory;
-#[cfg(test)]
-mod tests;
 mod words;
 
 pub use acceptance::{arcs_in, components_of, next_in};
@@ -24,6 +22,6 @@ pub use dart::{Dart, dart_at, dart_place, turned};
 pub use diagram::Diagram;
 pub use face_count::{FaceCount, count_faces};
 pub use fault::CodeFault;
-pub use limits::{ARCS, CIRCLES, COMPONENTS, CROSSINGS, EXPONENT, INPUT_BYTES, LOOPS};
+pub use limits::{ARCS, CIRCLES, COMPONENTS, CROSSINGS, EXPONENT, INPUT_BYTES, LOOPS, WORKERS};
 pub use memory::NoMemory;
 pub use words::Words;

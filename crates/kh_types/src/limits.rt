@@ -1,13 +1,13 @@
 //! The sizes within which the program works. All of them are this project's rule.
 
 /// The most crossings of a diagram.
-pub const CROSSINGS: usize = 16;
+pub const CROSSINGS: usize = 20;
 
 /// The most arcs of a diagram: each crossing has four ends of arcs, and each arc two ends.
 pub const ARCS: usize = 2 * CROSSINGS;
 
 /// The most components and crossingless loops of a diagram, counted together.
-pub const COMPONENTS: usize = 24;
+pub const COMPONENTS: usize = 28;
 
 /// The most circles of a state: one for each component or loop, and one more at most for each crossing, which is a law.
 pub const CIRCLES: usize = CROSSINGS + COMPONENTS;
@@ -18,6 +18,9 @@ pub const EXPONENT: usize = CIRCLES + 2 * CROSSINGS;
 
 /// The most crossingless loops of a text.
 pub const LOOPS: usize = 8;
+
+/// The most workers that share the blocks of a diagram.
+pub const WORKERS: u32 = 64;
 
 /// The most bytes of an input.
 pub const INPUT_BYTES: usize = 65_536;

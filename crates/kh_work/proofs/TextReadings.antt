@@ -96,7 +96,7 @@ IsGaussRefusal-one gauss_stops.NoMemory a b is_a is_b = absurd is_a
 
 -- JSON texts
 
-IsJsonRefusal-some : (bytes : List ℕ) (stop : JsonStop) → json.IsReading bytes (Err stop) → (reply : Reply) × IsJsonRefusal stop reply
+IsJsonRefusal-some : (bytes : List ℕ) (stop : JsonStop) → json.IsJsonReading bytes (Err stop) → (reply : Reply) × IsJsonRefusal stop reply
 IsJsonRefusal-some bytes json_stops.JsonText read = (refused (codes "json"), refl)
 IsJsonRefusal-some bytes (json_stops.Shape crossing slot) read =
     (refused_with_both (codes "shape at crossing ") crossing (codes " slot ") slot, refl)
@@ -119,14 +119,14 @@ IsReadAs-some forms.Gauss bytes =
     IsRead-some (gauss.IsReading bytes) IsGaussRefusal (IsGaussRefusal-some bytes) (gauss_readings.reading_of bytes)
     (gauss_readings.IsReading-reading_of bytes)
 IsReadAs-some forms.Json bytes =
-    IsRead-some (json.IsReading bytes) IsJsonRefusal (IsJsonRefusal-some bytes) (json_steps.reading_of bytes)
-    (json_readings.reading_of-sound bytes)
+    IsRead-some (json.IsJsonReading bytes) IsJsonRefusal (IsJsonRefusal-some bytes) (json_steps.json_reading_of bytes)
+    (json_readings.json_reading_of-sound bytes)
 
 IsReadAs-one : (form : InputForm) (bytes : List ℕ) (a b : Result Code Reply) → IsReadAs form bytes a → IsReadAs form bytes b → a ≡ b
 IsReadAs-one forms.Pd bytes = IsRead-one (pd.IsReading bytes) IsPdRefusal (pd_readings.IsReading-one bytes) IsPdRefusal-one
 IsReadAs-one forms.Gauss bytes =
     IsRead-one (gauss.IsReading bytes) IsGaussRefusal (gauss_readings.IsReading-one bytes) IsGaussRefusal-one
-IsReadAs-one forms.Json bytes = IsRead-one (json.IsReading bytes) IsJsonRefusal (json_readings.readings-one bytes) IsJsonRefusal-one
+IsReadAs-one forms.Json bytes = IsRead-one (json.IsJsonReading bytes) IsJsonRefusal (json_readings.readings-one bytes) IsJsonRefusal-one
 
 pub IsCodeRead-one : (bytes : List ℕ) (a b : Result Code Reply) → IsCodeRead bytes a → IsCodeRead bytes b → a ≡ b
 IsCodeRead-one bytes = IsReadAs-one (input_form bytes) bytes

@@ -42,7 +42,7 @@ IsGaussRead bytes outcome = IsRead (gauss.IsReading bytes) IsGaussRefusal outcom
 
 -- a JSON text is that of a code, or is refused with a reply
 abbrev pub IsJsonRead : List ℕ → Result Code Reply → Type 0
-IsJsonRead bytes outcome = IsRead (json.IsReading bytes) IsJsonRefusal outcome
+IsJsonRead bytes outcome = IsRead (json.IsJsonReading bytes) IsJsonRefusal outcome
 
 -- bytes are read as a text of a form
 abbrev pub IsReadAs : InputForm → List ℕ → Result Code Reply → Type 0

@@ -3,8 +3,7 @@
 ghost use Rattle.std.specs.Prelude.{◌≡◌, ◌≤◌, ◌+◌, ◌*◌, ◌++◌, map, pos, neg_ℤ, ◌-ℤ◌, ◌≤ℤ◌, IfOk, OnOk};
 ghost use Rattle.std.specs.List.{filter};
 ghost use Rattle.kh_types.specs.Generators.{generators, generators_of};
-ghost use Rattle.kh_types.specs.declared.limits.TheConstants.{CROSSINGS};
-ghost use Rattle.plain_table.specs.declared.circles.TheConstants.{NAMES};
+ghost use Rattle.kh_types.specs.declared.limits.TheConstants.{CIRCLES, CROSSINGS};
 ghost use Rattle.plain_table.specs.Placed.{placed_in, placed_by, shared_in, is_placed_at};
 
 use crate::circles::{circle_names, circles_of};
@@ -75,12 +74,12 @@ fn push_generators(made: &mut Vec<Placed>, diagram: &Diagram, state: u32) -> Res
 /// What the generators of a state share.
 fn shared_by(diagram: &Diagram, state: u32) -> Shared
     ensures shared { result ≡ shared_in diagram.now state }
-    ensures circles { result.circles ≤ NAMES }
+    ensures circles { result.circles ≤ CIRCLES }
     ensures low { neg_ℤ (pos (2 * CROSSINGS)) ≤ℤ result.shift }
     ensures high { result.shift ≤ℤ pos (2 * CROSSINGS) }
 {
     let circles = circle_names(diagram, &circles_of(diagram, state)).len();
-    let raised = ones(usize::from(diagram.count()), u64::from(state));
+    let raised = ones(diagram.crossings().len(), u64::from(state));
     let (plus, minus) = (diagram.plus(), diagram.minus());
     Shared {
         circles,
@@ -110,7 +109,7 @@ fn shift(raised: u8, plus: u8, minus: u8) -> i16
 
 /// A generator with its two degrees.
 fn with_degrees(shared: Shared, generator: Generator) -> Placed
-    requires circles { shared.circles ≤ NAMES }
+    requires circles { shared.circles ≤ CIRCLES }
     requires low { neg_ℤ (pos (2 * CROSSINGS)) ≤ℤ shared.shift }
     requires high { shared.shift ≤ℤ pos (2 * CROSSINGS) }
     ensures { result ≡ placed_by shared generator }

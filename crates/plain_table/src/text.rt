@@ -18,12 +18,12 @@ pub fn table_text_of<F: PrimeField>(alloc: Global, diagram: &Diagram) -> Result<
     table_text::<F>(alloc, &rows)
 }
 
-/// The text of a table: the line of its field, then the lines of its rows.
+/// The text of a table: the line of its version, that of its field, then the lines of its rows.
 fn table_text<F: PrimeField>(alloc: Global, rows: &[Row]) -> Result<String, NoMemory>
     ensures { IfOk result (λ text.
         string_bytes text ≡ table_text (record { field = F.P; rows = rows.now })) }
 {
-    let mut text = format!(in alloc; "field {}\n", F::P)?;
+    let mut text = format!(in alloc; "table 2\nfield {}\n", F::P)?;
     'rows: for row in rows {
         push_row(alloc, &mut text, *row)?;
     }

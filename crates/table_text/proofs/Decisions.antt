@@ -1,5 +1,5 @@
 -- Whether a line is that of a field, or of a row that can follow others.
-use Rattle.std.proofs.Common.{◌≡◌, ℕ, zero, suc, ◌+◌, ◌-◌, ◌*◌, ◌<◌, ◌∙◌, List, [], ◌∷◌, ap, sym, refl, subst, inl, inr, arith, ℤ, pos, negsuc, ◌-ℤ◌}
+use Rattle.std.proofs.Common.{◌≡◌, ℕ, zero, suc, ◌+◌, ◌-◌, ◌*◌, ◌<◌, ◌∙◌, List, [], ◌∷◌, ap, sym, refl, subst, inl, inr, arith, ℤ, pos, negsuc, neg_ℤ, ◌-ℤ◌, ◌≤ℤ◌}
 use Rattle.std.specs.Prelude.{◌⊎◌, None, Some, ◌<ℤ◌}
 use Rattle.std.specs.List.{All}
 use Rattle.std.specs.Str.{bytes_eq}
@@ -9,12 +9,14 @@ use Rattle.std.proofs.lemmas.List.Elements.{All-cons, All-head, All-nil, All-tai
 use Rattle.std.proofs.lemmas.Slice.Eq.{bytes_eq-Decides}
 use Rattle.kh_types.proofs.QuantumDegrees.{IsWithin-place, place-IsWithin}
 use Rattle.kh_types.specs.declared.limits.TheConstants.{CROSSINGS, EXPONENT}
-use Rattle.kh_types.specs.Table.{Row, row_text}
+use Rattle.kh_types.specs.Table.{IsWithin, Row, row_text}
 use Rattle.circle_smoothing.specs.declared.limits.TheConstants.{GENERATORS}
 use Rattle.jones_sum.specs.Tables.{IsRow, IsBefore}
 use Rattle.table_text.specs.Lines.{field_text}
+use Rattle.table_text.specs.Versions.{far, wide, IsRowIn}
 use Rattle.table_text.specs.Words.{IsFieldIn, IsNextRow}
-use Rattle.table_text.proofs.LineTexts.{row_text-injective}
+use Rattle.table_text.specs.declared.version.Version.{Version}
+use Rattle.table_text.proofs.LineTexts.{IsWithin-bounds, bounds-IsWithin, row_text-injective}
 
 -- a fact holds or not
 abbrev pub Decided : Type 0 → Type 0
@@ -108,6 +110,30 @@ by_difference x y (pos zero) is = inr (inl (omega (arith, ints, is)))
 by_difference x y (pos (suc k)) is = inl (omega (arith, ints, is))
 by_difference x y (negsuc k) is = inr (inr (omega (arith, ints, is)))
 
+at_least : (x y : ℤ) → (x ≡ y) ⊎ (y <ℤ x) → y ≤ℤ x
+at_least x y (inl same) = omega (arith, ints, same)
+at_least x y (inr less) = omega (arith, ints, less)
+
+-- the ranges of a version
+
+decided-within : (n : ℕ) (i : ℤ) → Decided (IsWithin n i)
+decided-within n i = elim (by_difference i (neg_ℤ (pos n)) (neg_ℤ (pos n) -ℤ i) refl) [
+  | inl low ↦ inr (λ within. let bounds = IsWithin-bounds n i within in omega (arith, ints, low, bounds.0))
+  | inr from ↦ elim (by_difference (pos n) i (i -ℤ pos n) refl) [
+    | inl high ↦ inr (λ within. let bounds = IsWithin-bounds n i within in omega (arith, ints, high, bounds.1))
+    | inr to ↦ inl (bounds-IsWithin n i (at_least i (neg_ℤ (pos n)) from) (at_least (pos n) i to))
+  ]
+]
+
+decided-row_in : (version : Version) (row : Row) → IsRow row → Decided (IsRowIn version row)
+decided-row_in version row is = elim (decided-within (far version) row.j) [
+  | inr far_off ↦ inr (λ is_in. far_off is_in.j)
+  | inl j ↦ elim (decided-within (wide version) row.i) [
+    | inr wide_off ↦ inr (λ is_in. wide_off is_in.i)
+    | inl i ↦ inl (record { row = is; j = j; i = i })
+  ]
+]
+
 decided-before : (row other : Row) → Decided (IsBefore row other)
 decided-before row other = elim (by_difference row.j other.j (other.j -ℤ row.j) refl) [
   | inl less ↦ inl (inl less)
@@ -129,16 +155,22 @@ decided-above (first ∷ rows) row = elim (decided-before first row) [
   ]
 ]
 
-pub decided-next : (rows : List Row) (line : List ℕ) → ((row : Row) × IsNextRow rows line (Some row)) ⊎ IsNextRow rows line None
-decided-next rows line = elim (decided-row line) [
-  | inr none ↦ inr (λ row can same. none (row, can.within, same))
-  | inl (row, is, same) ↦ elim (decided-above rows row) [
-    | inl above ↦ inl (row, (record { within = is; above = above }, same))
-    | inr not_above ↦ inr (λ other can other_same.
-        not_above
-        (subst (λ (r : Row). All (λ earlier. IsBefore earlier r) rows)
-        (row_text-injective other row can.within is (sym other_same ∙ same)) can.above))
-  ]
+pub decided-next : (version : Version) (rows : List Row) (line : List ℕ)
+    → ((row : Row) × IsNextRow version rows line (Some row)) ⊎ IsNextRow version rows line None
+decided-next version rows line = elim (decided-row line) [
+  | inr none ↦ inr (λ row can same. none (row, can.within.row, same))
+  | inl (row, is, same) ↦
+      let one : (other : Row) → IsRow other → line ≡ row_text other → other ≡ row =
+      λ other other_is other_same. row_text-injective other row other_is is (sym other_same ∙ same) in
+      elim (decided-row_in version row is) [
+        | inr not_in ↦ inr (λ other can other_same.
+            not_in (subst (IsRowIn version) (one other can.within.row other_same) can.within))
+        | inl within ↦ elim (decided-above rows row) [
+          | inl above ↦ inl (row, (record { within = within; above = above }, same))
+          | inr not_above ↦ inr (λ other can other_same.
+              not_above (subst (λ (r : Row). All (λ earlier. IsBefore earlier r) rows) (one other can.within.row other_same) can.above))
+        ]
+      ]
 ]
 
 -- the field of a line

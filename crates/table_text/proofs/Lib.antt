@@ -2,6 +2,7 @@ pub mod TermLemmas
 pub mod LineLemmas
 pub mod LineTexts
 pub mod RowOrder
-pub mod TableTexts
+pub mod TableLines
+pub mod VersionTexts
 pub mod Decisions
 pub mod ReadingLemmas

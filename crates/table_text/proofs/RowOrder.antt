@@ -11,7 +11,9 @@ use Rattle.std.proofs.Math.Seq.{get_or-append_seam}
 use Rattle.prime_field.specs.Residues.{IsSmallPrime}
 use Rattle.kh_types.specs.Table.{Row, Table}
 use Rattle.jones_sum.specs.Tables.{IsRow, IsBefore, IsTable}
-use Rattle.table_text.specs.Lines.{CanFollow}
+use Rattle.table_text.specs.Versions.{IsRowIn, IsTableIn}
+use Rattle.table_text.specs.Words.{CanFollow}
+use Rattle.table_text.specs.declared.version.Version.{Version}
 
 IsBefore-trans : (row middle other : Row) → IsBefore row middle → IsBefore middle other → IsBefore row other
 IsBefore-trans row middle other (inl first) (inl second) = inl (omega (arith, ints, first, second))
@@ -46,23 +48,30 @@ IsTable-none field prime = record {
   ascending = λ i j d less below. absurd (omega (arith, below));
 }
 
-pub IsTable-push : (field : ℕ) (rows : List Row) (row : Row) → IsTable (table_of field rows) → CanFollow rows row
-    → IsTable (table_of field (rows ++ row ∷ []))
-IsTable-push field rows row is can = record {
-  field = is.field;
-  rows = All-push IsRow rows row is.rows can.within;
-  ascending = all_pairs_push IsBefore rows row is.ascending (λ k d below. can.above k d below);
+pub IsTableIn-none : (version : Version) (field : ℕ) → IsSmallPrime field → IsTableIn version (table_of field [])
+IsTableIn-none version field prime = record { table = IsTable-none field prime; rows = All-nil (IsRowIn version) }
+
+pub IsTableIn-push : (version : Version) (field : ℕ) (rows : List Row) (row : Row) → IsTableIn version (table_of field rows)
+    → CanFollow version rows row → IsTableIn version (table_of field (rows ++ row ∷ []))
+IsTableIn-push version field rows row is can = record {
+  table = record {
+    field = is.table.field;
+    rows = All-push IsRow rows row is.table.rows can.within.row;
+    ascending = all_pairs_push IsBefore rows row is.table.ascending (λ k d below. can.above k d below);
+  };
+  rows = All-push (IsRowIn version) rows row is.rows can.within;
 }
 
 -- a row of a table can follow those in front of it
-pub CanFollow-front : (field : ℕ) (rows more : List Row) (row : Row) → IsTable (table_of field (rows ++ row ∷ more)) → CanFollow rows row
-CanFollow-front field rows more row is =
+pub CanFollow-front : (version : Version) (field : ℕ) (rows more : List Row) (row : Row)
+    → IsTableIn version (table_of field (rows ++ row ∷ more)) → CanFollow version rows row
+CanFollow-front version field rows more row is =
     let size : length (rows ++ row ∷ more) ≡ length rows + suc (length more) = length-append rows (row ∷ more) in
     let below : length rows < length (rows ++ row ∷ more) = omega (arith, size) in
     record {
-      within = subst IsRow (get_or-append_seam rows row more row) (is.rows (length rows) row below);
+      within = subst (IsRowIn version) (get_or-append_seam rows row more row) (is.rows (length rows) row below);
       above = λ k d k_below.
           subst (λ (r : Row). IsBefore r row) (get_or_append_left rows (row ∷ more) d k k_below)
           (subst (IsBefore (get_or (rows ++ row ∷ more) k d)) (get_or-append_seam rows row more d)
-          (is.ascending k (length rows) d k_below below));
+          (is.table.ascending k (length rows) d k_below below));
     }

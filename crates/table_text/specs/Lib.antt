@@ -1,4 +1,5 @@
 pub mod Terms
 pub mod Lines
+pub mod Versions
 pub mod Reading
 pub mod Words

@@ -1,9 +1,6 @@
 -- The lines of a table's text.
 use Rattle.std.specs.Prelude.{ℕ, nat_eq, if◌then◌else◌, Bool, List, [], ◌∷◌, ◌++◌, codes}
-use Rattle.std.specs.List.{All}
 use Rattle.std.specs.Fmt.{decimal}
-use Rattle.kh_types.specs.Table.{Row}
-use Rattle.jones_sum.specs.Tables.{IsRow, IsBefore}
 
 -- a byte is a line feed
 abbrev pub is_feed : ℕ → Bool
@@ -17,8 +14,3 @@ first_line (byte ∷ more) = if is_feed byte then byte ∷ [] else byte ∷ firs
 -- the line of a field with so many elements
 abbrev pub field_text : ℕ → List ℕ
 field_text field = codes "field " ++ (decimal field ++ codes "\n")
-
--- a row can stand behind rows of a table: it is within the limits, and each of them comes before it
-pub record CanFollow (rows : List Row) (row : Row) : Type 0 where
-  pub within : IsRow row
-  pub above : All (λ earlier. IsBefore earlier row) rows

@@ -8,13 +8,12 @@ mod lines;
 mod printer;
 mod reader;
 mod stop;
-#[cfg(test)]
-mod tests;
+mod version;
 mod words;
 
 pub use jones_line::print_jones;
 pub use jones_sum::{Row, Table};
-pub use limits::TABLE_BYTES;
+pub use limits::{FIRST_CROSSINGS, FIRST_EXPONENT, TABLE_BYTES};
 pub use printer::print_table;
 pub use reader::read_table;
 pub use stop::TableStop;

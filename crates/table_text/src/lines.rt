@@ -3,15 +3,17 @@
 ghost use Rattle.std.specs.Prelude.{◌≡◌, ◌≤◌, pos, ◌↔◌, IsTrue, IfOk, IfSome, Some, length, drop};
 ghost use Rattle.std.specs.List.{All, AllPairs, position};
 ghost use Rattle.kh_types.specs.Table.{Row, row_text};
-ghost use Rattle.jones_sum.specs.Tables.{IsRow, IsBefore};
+ghost use Rattle.jones_sum.specs.Tables.{IsBefore};
 ghost use Rattle.table_text.specs.Lines.{first_line, is_feed};
+ghost use Rattle.table_text.specs.Versions.{IsRowIn};
 ghost use Rattle.table_text.specs.Words.{IsFieldIn, IsNextRow};
 
 use crate::printer::row_text;
+use crate::version::Version;
 use crate::words::{behind_word, number, word};
 use circle_smoothing::GENERATORS;
 use jones_sum::Row;
-use kh_types::{CROSSINGS, EXPONENT, NoMemory};
+use kh_types::NoMemory;
 use std::alloc::Global;
 
 /// The line that begins at a place: the bytes through the next line feed, or all that are left.
@@ -41,11 +43,16 @@ pub fn field_in(line: &[u8]) -> Option<u8>
 }
 
 /// The row whose line is given, if it is that of a row that can follow the rows before it.
-pub fn next_row(alloc: Global, rows: &[Row], line: &[u8]) -> Result<Option<Row>, NoMemory>
+pub fn next_row(
+    alloc: Global,
+    version: Version,
+    rows: &[Row],
+    line: &[u8],
+) -> Result<Option<Row>, NoMemory>
     requires { AllPairs IsBefore rows.now }
-    ensures { IfOk result (λ found. IsNextRow rows.now line.now found) }
+    ensures { IfOk result (λ found. IsNextRow version rows.now line.now found) }
 {
-    let Some(row) = row_in(line) else {
+    let Some(row) = row_in(version, line) else {
         return Ok(None);
     };
     let text = row_text(alloc, row)?;
@@ -57,27 +64,33 @@ pub fn next_row(alloc: Global, rows: &[Row], line: &[u8]) -> Result<Option<Row>,
 }
 
 /// The only row that a line can be that of.
-fn row_in(line: &[u8]) -> Option<Row>
-    ensures within { IfSome result (λ row. IsRow row) }
-    ensures only { (row : Row) → IsRow row → line.now ≡ row_text row → result ≡ Some row }
+fn row_in(version: Version, line: &[u8]) -> Option<Row>
+    ensures within { IfSome result (λ row. IsRowIn version row) }
+    ensures only { (row : Row) → IsRowIn version row → line.now ≡ row_text row
+        → result ≡ Some row }
 {
     let first = behind_word(line);
     let second = behind_word(behind_word(first));
     let third = behind_word(behind_word(second));
     row_within(
+        version,
         number(word(first))?,
         number(word(second))?,
         number(word(third))?,
     )
 }
 
-/// The row of two degrees and a dimension, where they are within the limits.
-fn row_within(j: i32, i: i32, dim: i32) -> Option<Row>
-    ensures within { IfSome result (λ row. IsRow row) }
-    ensures only { (row : Row) → IsRow row → j ≡ row.j → i ≡ row.i → dim ≡ pos row.dim
+/// The row of two degrees and a dimension, where they are within the limits of a version.
+fn row_within(version: Version, j: i32, i: i32, dim: i32) -> Option<Row>
+    ensures within { IfSome result (λ row. IsRowIn version row) }
+    ensures only { (row : Row) → IsRowIn version row → j ≡ row.j → i ≡ row.i → dim ≡ pos row.dim
         → result ≡ Some row }
 {
-    let (far, wide, most) = (EXPONENT as i32, CROSSINGS as i32, GENERATORS as i32);
+    let (far, wide, most) = (
+        version.far() as i32,
+        version.wide() as i32,
+        GENERATORS as i32,
+    );
     if -far <= j && j <= far && -wide <= i && i <= wide && 1 <= dim && dim <= most {
         Some(Row {
             j: j as i16,

@@ -7,13 +7,13 @@ use jones_sum::{Row, Table};
 use kh_types::NoMemory;
 use std::alloc::Global;
 
-/// The text of a table: the line `field P`, then for each row, ascending by j, then by i, the line
-/// `j J i I dim D`. Source: this project's rule.
+/// The text of a table: the line `table 2`, the line `field P`, then for each row, ascending by j,
+/// then by i, the line `j J i I dim D`. Source: this project's rule.
 pub fn print_table(alloc: Global, table: &Table) -> Result<Vec<u8>, NoMemory>
     ensures { IfOk result (λ text. text.items ≡ table_text table.now) }
 {
     let rows = table.rows();
-    let mut text = format!(in alloc; "field {}\n", table.field())?;
+    let mut text = format!(in alloc; "table 2\nfield {}\n", table.field())?;
     'rows: for row in rows {
         push_row(alloc, &mut text, *row)?;
     }

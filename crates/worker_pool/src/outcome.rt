@@ -23,7 +23,7 @@ pub struct Cancelled<F: PrimeField> {
 #[derive(Clone, Copy, Debug, PartialEq, Eq)]
 pub enum PoolStop {
     /// There are `generators`, which are more than `GENERATORS`.
-    SizeLimit { generators: u64 },
+    SizeLimit { generators: u128 },
     /// Out of memory, whatever the diagram is.
     NoMemory,
 }

@@ -1,6 +1,6 @@
 //! Sources and sinks in memory, reading to the end, and writing whole.
 
-use crate::{Failed, MemSink, MemSource, ReadStop, Sink, Source, read_all, write_all};
+use crate::{Failed, MemSink, MemSource, ReadStop, Sink, Source, read_all, read_most, write_all};
 use std::test::Fail;
 
 #[test]
@@ -37,6 +37,17 @@ fn reads_and_writes_what_there_is_room_for(rt: HostRuntime) -> Result<(), Fail> 
         assert_eq!(rt; write_all(&mut sink, &bytes).is_ok(), is_read, "{count}");
         assert_eq!(rt; sink.bytes().len(), count.min(65_536));
     }
+    Ok(())
+}
+
+#[test]
+fn reads_no_more_than_is_asked(rt: HostRuntime) -> Result<(), Fail> {
+    let mut source = MemSource::new(rt.alloc(), b"0123456789", 3, &[])?;
+    let bytes = read_most(rt.alloc(), &mut source, 10)?;
+    assert!(rt; bytes.as_slice() == b"0123456789".as_slice());
+    let mut long = MemSource::new(rt.alloc(), b"0123456789a", 3, &[])?;
+    let stop = read_most(rt.alloc(), &mut long, 10).err();
+    assert!(rt; stop == Some(ReadStop::ByteLimit));
     Ok(())
 }
 

@@ -1,18 +1,18 @@
 //! The checkerboard condition.
 
-ghost use Rattle.std.specs.Prelude.{◌≡◌, ◌*◌, ◌^◌, ◌≤◌, ◌<◌, ℕ, List, length, map, false, true};
-ghost use Rattle.std.specs.List.{list_all};
-ghost use Rattle.kh_types.specs.declared.limits.TheConstants.{CROSSINGS, ARCS};
-ghost use Rattle.kh_types.specs.Bits.{bit};
-ghost use Rattle.kh_types.specs.Code.{place_of, IsArc};
-ghost use Rattle.kh_types.specs.Checkerboard.{equation_of, equations_of, is_solved};
+ghost use Rattle.std.specs.Prelude.{◌≡◌, ◌^◌, ◌≤◌, ◌<◌, length, slice_index};
+ghost use Rattle.kh_types.specs.declared.limits.TheConstants.{CROSSINGS};
+ghost use Rattle.kh_types.specs.Code.{IsArc, IsCrossing};
+ghost use Rattle.kh_types.specs.Classes.{joined};
+ghost use Rattle.kh_types.specs.Checkerboard.{equation_of};
+ghost use Rattle.kh_types.specs.Colouring.{tie_of, is_coloured, contradicts, changed_colour, colour_after, colours_after};
 ghost use Rattle.kh_types.specs.Acceptance.{checkerboard_fault};
 
 use crate::acceptance::darts::{first_dart, partner};
-use crate::bits::bit;
+use crate::classes::{CLASS_MEMBERS, class_of, join, numbers_below};
 use crate::code::Crossing;
 use crate::fault::CodeFault;
-use crate::limits::{ARCS, CROSSINGS};
+use crate::limits::CROSSINGS;
 use arrayvec::ArrayVec;
 
 /// The equation of an arc: the bits of the crossings at its two ends and the sum of its slots there are odd together.
@@ -23,95 +23,123 @@ pub struct Equation {
     slots: u8,
 }
 
-/// The least arc up to which the equations have no solution. The least choice that solves them can only grow with the arcs,
-/// so all choices are gone through once.
+/// The least arc up to which the equations have no solution. Each crossing has a colour, its bit, and the crossings that the
+/// equations so far tie to each other are in one class, in which each colour follows from any other. An equation within a class is
+/// solved by its colours or by none; one between two classes is solved once the colours of one of them are all changed.
 pub fn checkerboard_fault(crossings: &[Crossing]) -> Option<CodeFault>
     requires { length crossings.now ≤ CROSSINGS }
     ensures { result ≡ checkerboard_fault crossings.now }
 {
-    let equations = equations_of(crossings);
-    let choices = choice_count(crossings);
-    let mut choice = 0;
+    let mut classes = numbers_below(crossings.len());
+    let mut colours = any_colours(crossings.len());
     for place in 0..2 * crossings.len() {
-        choice = first_choice(&equations[..place + 1], choice, choices);
-        if choice == choices {
-            return Some(CodeFault::Checkerboard {
-                arc: place as u8 + 1,
-            });
+        let arc = place as u8 + 1;
+        let equation = equation_of(crossings, arc);
+        if contradicts(&classes, &colours, equation) {
+            return Some(CodeFault::Checkerboard { arc });
         }
+        colours = colours_after(&classes, &colours, equation);
+        classes = tied(classes, equation);
     }
     None
 }
 
-/// How many choices of one bit for each crossing there are.
-fn choice_count(crossings: &[Crossing]) -> u64
-    requires { length crossings.now ≤ CROSSINGS }
-    ensures { result ≡ 2 ^ length crossings.now }
+/// Some colours, of as many crossings.
+fn any_colours(count: usize) -> ArrayVec<u8, CROSSINGS>
+    requires { count ≤ CROSSINGS }
+    ensures { length result.items ≡ count }
 {
-    1 << crossings.len()
-}
-
-/// The first choice, from one on and below `choices`, that solves all of the equations; `choices` where none does.
-fn first_choice(equations: &[Equation], from: u64, choices: u64) -> u64
-    requires { from ≤ choices }
-    ensures within { result ≤ choices }
-    ensures later { from ≤ result }
-    ensures before { (k : ℕ) → from ≤ k → k < result
-        → list_all (is_solved k) equations.now ≡ false }
-    ensures solved { result < choices → list_all (is_solved result) equations.now ≡ true }
-{
-    for choice in from..choices {
-        if solves(equations, choice) {
-            return choice;
-        }
+    let mut colours = ArrayVec::new();
+    for place in 0..count {
+        colours.push((place % 2) as u8);
     }
-    choices
+    colours
 }
 
-/// Whether a choice solves all of the equations.
-fn solves(equations: &[Equation], choice: u64) -> bool
-    ensures { result ≡ list_all (is_solved choice) equations.now }
+/// What an equation ties: the places of its two crossings.
+fn tie_of(equation: Equation) -> (u8, u8)
+    ensures { result ≡ tie_of equation }
 {
-    equations
-        .iter()
-        .all(|equation| is_solved(choice, *equation))
+    (
+        equation.crossing.saturating_sub(1),
+        equation.other.saturating_sub(1),
+    )
 }
 
-/// Whether a choice solves an equation.
-fn is_solved(choice: u64, equation: Equation) -> bool
-    ensures { result ≡ is_solved choice equation }
+/// The classes after an equation: those of its two crossings become one.
+fn tied(classes: ArrayVec<u8, CLASS_MEMBERS>, equation: Equation) -> ArrayVec<u8, CLASS_MEMBERS>
+    ensures { result.items ≡ joined classes.items (tie_of equation) }
 {
+    let mut classes = classes;
+    join(&mut classes, tie_of(equation));
+    classes
+}
+
+/// Whether colours solve an equation.
+fn is_coloured(colours: &[u8], equation: Equation) -> bool
+    ensures { result ≡ is_coloured colours.now equation }
+{
+    let (first, other) = tie_of(equation);
     let slots = u16::from(equation.slots);
-    (bit_for(choice, equation.crossing) + (bit_for(choice, equation.other) + slots)) % 2 == 1
+    (colour_at(colours, first) + (colour_at(colours, other) + slots)) % 2 == 1
 }
 
-/// The bit of a choice for a crossing.
-fn bit_for(choice: u64, crossing: u8) -> u16
-    ensures bit { result ≡ bit choice (place_of crossing) }
-    ensures within { result < 2 }
+/// The colour at a place.
+fn colour_at(colours: &[u8], place: u8) -> u16
+    ensures colour { result ≡ slice_index colours.now place }
+    ensures within { result < 2 ^ 8 }
 {
-    u16::from(bit(choice, usize::from(crossing.saturating_sub(1))))
+    u16::from(colours.get(usize::from(place)).copied().unwrap_or(0))
 }
 
-/// The equations of all arcs, in order.
+/// Whether an equation contradicts those before it: its crossings are in one class, and the colours do not solve it.
+fn contradicts(classes: &[u8], colours: &[u8], equation: Equation) -> bool
+    ensures { result ≡ contradicts classes.now colours.now equation }
+{
+    let (first, other) = tie_of(equation);
+    let is_tied = class_of(classes, usize::from(first)) == class_of(classes, usize::from(other));
+    let is_coloured = is_coloured(colours, equation);
+    !is_coloured && is_tied
+}
+
+/// The colours after an equation: where they do not solve it, the class of its other crossing changes its colours.
 #[tactic(auto, using(crate::proofs::Ranges::range_steps))]
-fn equations_of(crossings: &[Crossing]) -> ArrayVec<Equation, ARCS>
-    requires { length crossings.now ≤ CROSSINGS }
-    ensures equations { result.items ≡ equations_of crossings.now }
-    ensures count { length result.items ≡ 2 * length crossings.now }
+fn colours_after(classes: &[u8], colours: &[u8], equation: Equation) -> ArrayVec<u8, CROSSINGS>
+    requires { length colours.now ≤ CROSSINGS }
+    ensures { result.items ≡ colours_after classes.now colours.now equation }
 {
-    let mut equations = ArrayVec::new();
-    for place in 0..2 * crossings.len() {
-        equations.push(equation_of(crossings, place as u8 + 1));
+    let mut changed = ArrayVec::new();
+    for place in 0..colours.len() {
+        changed.push(colour_after(classes, colours, equation, place as u8));
     }
-    equations
+    changed
+}
+
+/// The colour at a place after an equation.
+fn colour_after(classes: &[u8], colours: &[u8], equation: Equation, place: u8) -> u8
+    ensures { result ≡ colour_after classes.now colours.now equation place }
+{
+    let (_, other) = tie_of(equation);
+    let is_turned = class_of(classes, usize::from(place)) == class_of(classes, usize::from(other));
+    let is_coloured = is_coloured(colours, equation);
+    let colour = colours.get(usize::from(place)).copied().unwrap_or(0);
+    changed_colour(!is_coloured && is_turned, colour)
+}
+
+/// A colour, or the other one where it changes.
+fn changed_colour(changes: bool, colour: u8) -> u8
+    ensures { result ≡ changed_colour changes colour }
+{
+    if changes { 1 - colour % 2 } else { colour }
 }
 
 /// The equation of an arc.
 fn equation_of(crossings: &[Crossing], arc: u8) -> Equation
     requires crossings { length crossings.now ≤ CROSSINGS }
     requires arc { IsArc crossings.now arc }
-    ensures { result ≡ equation_of crossings.now arc }
+    ensures equation { result ≡ equation_of crossings.now arc }
+    ensures crossing { IsCrossing crossings.now result.crossing }
+    ensures other { IsCrossing crossings.now result.other }
 {
     let dart = first_dart(crossings, arc);
     let other = partner(crossings, dart);

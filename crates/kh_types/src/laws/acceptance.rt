@@ -7,7 +7,7 @@ ghost use Rattle.kh_types.specs.WorkedCodes.{without_loops, slots_with, empty_li
 ghost use Rattle.kh_types.specs.Components.{component_count};
 ghost use Rattle.kh_types.specs.Faces.{face_count, piece_count};
 ghost use Rattle.kh_types.specs.Directions.{sign_of, plus_count, minus_count, head_of, tail_of};
-ghost use Rattle.kh_types.specs.Acceptance.{first_fault, accepted, checkerboard_fault};
+ghost use Rattle.kh_types.specs.Acceptance.{first_fault, accepted, under_fault, over_fault, two_arc_fault, checkerboard_fault};
 
 /// These codes are accepted.
 pub fn known_codes_are_accepted()
@@ -19,7 +19,7 @@ pub fn known_codes_are_accepted()
     ensures four { accepted figure_eight ≡ true }
     ensures apart { accepted two_curls ≡ true }
     ensures over { accepted over_circle ≡ true }
-    ensures many_loops { accepted (record empty_link { loops = 24 }) ≡ true }
+    ensures many_loops { accepted (record empty_link { loops = 28 }) ≡ true }
 {}
 
 /// Counts, signs, heads and tails of known codes. A circle of two arcs that is over at both its crossings goes from the smaller
@@ -63,8 +63,8 @@ pub fn codes_break_these_rules_first()
         ≡ Some (Over 1) }
     ensures two_arc { first_fault (without_loops (slots_with 1 4 2 3 ∷ slots_with 1 4 2 3 ∷ []))
         ≡ Some (TwoArc 2) }
-    ensures components { first_fault (record empty_link { loops = 25 }) ≡ Some (Components 25) }
-    ensures component_counts { first_fault (record curl { loops = 24 }) ≡ Some (Components 25) }
+    ensures components { first_fault (record empty_link { loops = 29 }) ≡ Some (Components 29) }
+    ensures component_counts { first_fault (record curl { loops = 28 }) ≡ Some (Components 29) }
     // Of the pairs of under passes at the crossings 1 and 4, and 2 and 3, the one whose second comes first.
     ensures least_second { first_fault
         (without_loops (slots_with 1 5 2 6 ∷ slots_with 3 7 4 8 ∷ slots_with 3 8 4 7
@@ -80,4 +80,33 @@ pub fn codes_break_these_rules_first()
     // One crossing of the trefoil turned: the code has a checkerboard, but it is drawn on a torus.
     ensures checkerboard { checkerboard_fault turned_trefoil.crossings ≡ None }
     ensures torus { first_fault turned_trefoil ≡ Some (Genus 3 5) }
+{}
+
+/// Codes that break several rules, with the first of them and others that come later: the rules have an order.
+pub fn earlier_rules_come_first()
+    ensures under_before_over { first_fault (without_loops (slots_with 4 1 2 3 ∷ slots_with 3 1 2 4 ∷ []))
+        ≡ Some (Under 1) }
+    ensures over_too { over_fault (slots_with 4 1 2 3 ∷ slots_with 3 1 2 4 ∷ []) ≡ Some (Over 1) }
+    ensures over_before_two_arc { first_fault
+        (without_loops (slots_with 2 6 1 4 ∷ slots_with 4 5 5 3 ∷ slots_with 2 3 1 6 ∷ []))
+        ≡ Some (Over 1) }
+    ensures two_arc_later { two_arc_fault
+        (slots_with 2 6 1 4 ∷ slots_with 4 5 5 3 ∷ slots_with 2 3 1 6 ∷ []) ≡ Some (TwoArc 3) }
+    // The under pass that is wrong is that of the last crossing, and the other two rules are broken before it.
+    ensures under_before_both { first_fault
+        (without_loops (slots_with 2 5 1 6 ∷ slots_with 2 4 1 6 ∷ slots_with 5 3 3 4 ∷ []))
+        ≡ Some (Under 3) }
+    ensures over_of_both { over_fault
+        (slots_with 2 5 1 6 ∷ slots_with 2 4 1 6 ∷ slots_with 5 3 3 4 ∷ []) ≡ Some (Over 2) }
+    ensures two_arc_of_both { two_arc_fault
+        (slots_with 2 5 1 6 ∷ slots_with 2 4 1 6 ∷ slots_with 5 3 3 4 ∷ []) ≡ Some (TwoArc 2) }
+    ensures two_arc_before_checkerboard { first_fault
+        (without_loops (slots_with 3 1 4 1 ∷ slots_with 3 2 4 2 ∷ [])) ≡ Some (TwoArc 2) }
+    ensures checkerboard_later { checkerboard_fault (slots_with 3 1 4 1 ∷ slots_with 3 2 4 2 ∷ [])
+        ≡ Some (Checkerboard 1) }
+    ensures interval_before_both { first_fault
+        (without_loops (slots_with 1 4 4 3 ∷ slots_with 3 2 1 2 ∷ [])) ≡ Some (Interval 1) }
+    ensures under_of_both { under_fault (slots_with 1 4 4 3 ∷ slots_with 3 2 1 2 ∷ []) ≡ Some (Under 1) }
+    ensures checkerboard_of_both { checkerboard_fault (slots_with 1 4 4 3 ∷ slots_with 3 2 1 2 ∷ [])
+        ≡ Some (Checkerboard 2) }
 {}

@@ -1,10 +1,13 @@
 //! The sizes of states, of degrees and of tables, and the limits.
 
-ghost use Rattle.std.specs.Prelude.{◌≡◌, ℕ, ◌+◌, ◌*◌, ◌<◌, ◌≤◌, ℤ, List, [], length, IsTrue};
+ghost use Rattle.std.specs.Prelude.{◌≡◌, ◌≢◌, ℕ, Some, ◌+◌, ◌*◌, ◌<◌, ◌≤◌, ℤ, List, [], length, IsTrue};
 ghost use Rattle.std.specs.List.{All, Contains};
-ghost use Rattle.kh_types.specs.declared.limits.TheConstants.{CROSSINGS, ARCS, COMPONENTS, CIRCLES, EXPONENT, LOOPS, INPUT_BYTES};
+ghost use Rattle.kh_types.specs.declared.limits.TheConstants.{CROSSINGS, ARCS, COMPONENTS, CIRCLES, EXPONENT, LOOPS, WORKERS, INPUT_BYTES};
 ghost use Rattle.kh_types.specs.Code.{Code};
-ghost use Rattle.kh_types.specs.Acceptance.{accepted};
+ghost use Rattle.kh_types.specs.declared.fault.CodeFault.TheVariants.{Components};
+ghost use Rattle.kh_types.specs.Acceptance.{accepted, first_fault};
+ghost use Rattle.kh_types.specs.Accepted.{IsDirected};
+ghost use Rattle.kh_types.specs.Directions.{HasNoSingleArcs};
 ghost use Rattle.kh_types.specs.Components.{component_count};
 ghost use Rattle.kh_types.specs.Circles.{circle_count};
 ghost use Rattle.kh_types.specs.Generators.{Generator, homological_degree, quantum_degree, generators_at};
@@ -12,12 +15,13 @@ ghost use Rattle.kh_types.specs.Table.{IsWithin, dimension, row_at, table};
 
 /// The limits. Those on arcs, circles and exponents follow from those on crossings and components.
 pub fn limits()
-    ensures crossings { CROSSINGS ≡ 16 }
+    ensures crossings { CROSSINGS ≡ 20 }
     ensures arcs { ARCS ≡ 2 * CROSSINGS }
-    ensures components { COMPONENTS ≡ 24 }
+    ensures components { COMPONENTS ≡ 28 }
     ensures circles { CIRCLES ≡ CROSSINGS + COMPONENTS }
     ensures exponent { EXPONENT ≡ CIRCLES + 2 * CROSSINGS }
     ensures loops { LOOPS ≡ 8 }
+    ensures workers { WORKERS ≡ 64 }
     ensures input { INPUT_BYTES ≡ 65536 }
 {}
 
@@ -28,6 +32,15 @@ pub fn circles_are_bounded()
         ≤ length code.crossings + component_count code.crossings + code.loops }
     ensures within { (code : Code) (state : ℕ) → IsTrue (accepted code)
         → length code.crossings ≤ CROSSINGS → circle_count code state ≤ CIRCLES }
+{}
+
+/// A directed code in which no component has a single arc has at most as many components as crossings; so the rule on components
+/// and loops is never the first that a code breaks which has no more loops than a text.
+pub fn components_are_few()
+    ensures few { (crossings : List (List ℕ)) → IsDirected crossings → HasNoSingleArcs crossings
+        → component_count crossings ≤ length crossings }
+    ensures texts { (code : Code) (count : ℕ) → length code.crossings ≤ CROSSINGS → code.loops ≤ LOOPS
+        → first_fault code ≢ Some (Components count) }
 {}
 
 /// With n crossings, homological degrees lie from -n to n.

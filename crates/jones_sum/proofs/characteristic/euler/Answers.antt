@@ -1,10 +1,13 @@
-use Rattle.std.proofs.Common.{◌≡◌, ◌+◌, ◌≤◌, ◌∙◌, List, length, ap, sym, subst, arith, take, get_or, ℤ, pos, ◌+ℤ◌, w64, to_z, of_z}
+use Rattle.std.proofs.Common.{◌≡◌, ◌+◌, ◌*◌, ◌≤◌, ◌∙◌, List, length, ap, sym, subst, arith, take, get_or, ℤ, pos, ◌+ℤ◌, to_z, of_z}
 use Rattle.std.specs.Prelude.{unsigned_abs}
 use Rattle.std.specs.List.{All, sum_by}
+use mir.Syntax.{w128}
 use Rattle.std.proofs.lemmas.Int.{ints}
 use Rattle.std.proofs.Math.Seq.{take-length}
+use Rattle.kh_types.specs.declared.limits.TheConstants.{CROSSINGS, EXPONENT}
 use Rattle.kh_types.specs.StateSum.{signed_by}
 use Rattle.kh_types.specs.Table.{Row}
+use Rattle.circle_smoothing.specs.declared.limits.TheConstants.{GENERATORS}
 use Rattle.jones_sum.specs.Coefficients.{coefficients_of}
 use Rattle.jones_sum.specs.Tables.{IsRow}
 use Rattle.jones_sum.proofs.CoefficientLemmas.{within-low, within-high}
@@ -25,7 +28,7 @@ place_of-requires c =
 
 -- the coefficient and the dimension together are in size at most the sum of all dimensions
 small : (c : goal.After-coefficients-1)
-    → unsigned_abs (get_or c.rows.coefficients c.place_of.result (pos 0)) + unsigned_abs c.signed_dim.result ≤ 20069744640
+    → unsigned_abs (get_or c.rows.coefficients c.place_of.result (pos 0)) + unsigned_abs c.signed_dim.result ≤ GENERATORS * ((2 * EXPONENT + 1) * (2 * CROSSINGS + 1))
 small c =
     let rows = c.rows-rows.result.now in
     let row = c.row-item.result in
@@ -56,10 +59,10 @@ rows-preserved c =
     let signed : c.signed_dim.result ≡ signed_by row.i row.dim =
     c.signed_dim.ensures ∙ ap (λ (r : Row). signed_by r.i r.dim) c.row.view_is in
     let h = small c in
-    let sum : to_z w64 (of_z w64 (to_z w64 (of_z w64 (get_or old place (pos 0))) +ℤ to_z w64 (of_z w64 c.signed_dim.result)))
+    let sum : to_z w128 (of_z w128 (to_z w128 (of_z w128 (get_or old place (pos 0))) +ℤ to_z w128 (of_z w128 c.signed_dim.result)))
     ≡ get_or old place (pos 0) +ℤ c.signed_dim.result = omega (arith, ints, h) in
     coefficients_of-row rows row k place old
-    (to_z w64 (of_z w64 (to_z w64 (of_z w64 (get_or old place (pos 0))) +ℤ to_z w64 (of_z w64 c.signed_dim.result))))
+    (to_z w128 (of_z w128 (to_z w128 (of_z w128 (get_or old place (pos 0))) +ℤ to_z w128 (of_z w128 c.signed_dim.result))))
     c.rows-test.true c.row-item.is c.rows.invariant
     (omega (arith, ints, c.place_of.ensures.place, within-low row.j is.j, within-high row.j is.j, same))
     c.place_of.ensures.within (sum ∙ ap (λ (z : ℤ). get_or old place (pos 0) +ℤ z) signed)

@@ -1,9 +1,8 @@
-use Rattle.std.proofs.Common.{arith}
+use Rattle.std.proofs.Common.{◌∙◌, ap}
+use Rattle.kh_types.specs.Code.{Code}
 use Rattle.kh_types.specs.StateSum.{state_sum}
-use Rattle.jones_sum.proofs.CoefficientLemmas.{coefficients_of-filled}
+use Rattle.jones_sum.specs.Coefficients.{coefficients_of}
 use Rattle.jones_sum.proofs.finding.jones.Goals as goal
 
 pub returns : goal.returns
-returns c =
-    coefficients_of-filled (state_sum c.args.diagram.now) c.places.coefficients c.places.invariant.size
-    (λ place below. c.places.invariant.coefficients place (omega arith))
+returns c = c.state_sum.ensures ∙ ap (λ (code : Code). coefficients_of (state_sum code)) c.of_diagram.ensures

@@ -1,14 +1,11 @@
-use Rattle.std.proofs.Common.{◌≡◌, ℕ, ℤ, length}
-use Rattle.std.specs.List.{sum}
-use Rattle.jones_sum.specs.Kinds.{counted_sum}
-use Rattle.jones_sum.specs.declared.terms.TheConstants.{KINDS}
-use Rattle.jones_sum.proofs.KindLemmas.{state_kind_sum}
+use Rattle.std.proofs.Common.{◌≡◌, ℕ, ◌<◌, get_or, length}
+use Rattle.circle_smoothing.specs.Kinds.{kind_circles, kind_count, kind_ones}
+use Rattle.circle_smoothing.specs.declared.kinds.TheConstants.{KINDS}
 use Rattle.jones_sum.proofs.kinds.state_counts.Given as goal
 
-abbrev pub invariant-states : goal.invariant-states
-invariant-states l =
+abbrev pub invariant-kinds : goal.invariant-kinds
+invariant-kinds l =
     record {
-      sums : (value : ℕ → ℤ) → counted_sum value l.counts ≡ state_kind_sum l.diagram value l.state;
-      all : sum l.counts ≡ l.state;
+      counts : (kind : ℕ) → kind < l.kind → get_or l.counts kind 0 ≡ kind_count l.kinds (kind_ones kind) (kind_circles kind);
       size : length l.counts ≡ KINDS;
     }

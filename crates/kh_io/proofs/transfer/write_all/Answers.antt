@@ -6,6 +6,6 @@ pub writing-preserved : goal.writing-preserved
 writing-preserved g c = record {
   prefix = Appends-more _ _ _ _ _ _ c.writing.invariant.prefix c.in_ok-at.ensures.bytes;
   inside = search rules;
-  later = search rules;
+  stayed = search rules;
   same = search rules;
 }

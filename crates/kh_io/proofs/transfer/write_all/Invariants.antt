@@ -7,7 +7,7 @@ abbrev pub invariant-writing : goal.invariant-writing
 invariant-writing g l = record {
   prefix : Appends (g.K.Sink.written l.fn.sink) (g.K.Sink.written l.sink) (take l.at l.bytes);
   inside : l.at ≤ length l.bytes;
-  later : g.K.Sink.faults l.fn.sink ≤ g.K.Sink.faults l.sink;
+  stayed : g.K.Sink.faults l.sink ≡ g.K.Sink.faults l.fn.sink;
   same : l.at ≡ 0 → l.sink ≡ l.fn.sink;
 }
 

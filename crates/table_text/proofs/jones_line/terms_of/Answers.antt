@@ -1,6 +1,8 @@
 use Rattle.std.proofs.Common.{◌≡◌, ◌++◌, ◌∙◌, List, ℕ, ℤ, pos, ◌-ℤ◌, ap, sym, arith, to_z, of_z}
 use Rattle.std.proofs.lemmas.Int.{ints}
 use mir.Syntax.{w16}
+use Rattle.kh_types.specs.declared.limits.TheConstants.{EXPONENT}
+use Rattle.jones_sum.specs.declared.laurent.TheConstants.{COEFFICIENTS}
 use Rattle.jones_sum.specs.Coefficients.{coefficient_in}
 use Rattle.table_text.specs.Terms.{text_at}
 use Rattle.table_text.proofs.TermLemmas.{text_to, text_to-more, text_to-terms}
@@ -11,7 +13,7 @@ places-preserved c =
     let polynomial = coefficient_in c.args.polynomial.now in
     let place = c.places.place in
     let exponent = to_z w16 (of_z w16 c.exponent_at.result) in
-    let is_exponent : exponent ≡ pos place -ℤ pos 72 = omega (arith, ints) in
+    let is_exponent : exponent ≡ pos place -ℤ pos EXPONENT = omega (arith, ints) in
     c.in_ok-push_term.ensures ∙ ap (λ (text : List ℕ). text ++ text_at polynomial exponent) c.places.invariant
     ∙ ap (λ (e : ℤ). text_to polynomial place ++ text_at polynomial e) is_exponent
     ∙ sym (text_to-more polynomial place)
@@ -19,5 +21,5 @@ places-preserved c =
 pub returns : goal.returns
 returns c =
     let polynomial = coefficient_in c.args.polynomial.now in
-    let all : c.places.place ≡ 145 = omega arith in
+    let all : c.places.place ≡ COEFFICIENTS = omega arith in
     c.places.invariant ∙ ap (text_to polynomial) all ∙ text_to-terms polynomial

@@ -1,67 +1,33 @@
-use Rattle.std.proofs.Common.{◌≡◌, ◌+◌, ◌∙◌, List, ℕ, length, take, drop, ap, sym, subst, arith}
-use Rattle.std.specs.Prelude.{Option, None, Some}
-use Rattle.std.proofs.lemmas.List.{length-drop}
-use Rattle.kh_types.specs.Table.{Row, table_text}
-use Rattle.jones_sum.specs.Tables.{IsTable}
-use Rattle.table_text.specs.Lines.{first_line}
-use Rattle.table_text.specs.Words.{IsFieldIn, IsNextRow}
-use Rattle.table_text.proofs.LineLemmas.{length-first_line-le}
-use Rattle.table_text.proofs.RowOrder.{table_of, IsTable-none, IsTable-push}
-use Rattle.table_text.proofs.TableTexts.{HasWrongLine-first, HasWrongLine-next, so_far-first, so_far-next}
+use Rattle.std.proofs.Common.{◌≡◌, ◌∙◌, List, ℕ, ◌++◌, ap, sym, refl, subst}
+use Rattle.std.specs.Prelude.{Ok, Err}
+use Rattle.table_text.specs.Versions.{version_line}
+use Rattle.table_text.specs.Words.{IsReadingIn}
+use Rattle.table_text.specs.declared.stop.TableStop.{TableStop}
+use Rattle.table_text.specs.declared.stop.TableStop.TheVariants.{Text}
+use Rattle.table_text.specs.declared.version.Version.TheVariants.{First, Second}
+use Rattle.table_text.proofs.VersionTexts.{Cut-reading, Cut-second, failed, not_memory}
 use Rattle.table_text.proofs.reader.read_table.Goals as goal
 
-pub returns-in_default : goal.returns-in_default
-returns-in_default c = λ some.
-    HasWrongLine-first c.args.text.now (subst (λ (line : List ℕ). IsFieldIn line None) c.line_at-first.ensures c.in_default.ensures)
-
-pub lines-init : goal.lines-init
-lines-init c =
+pub returns-then-not-is_second : goal.returns-then-not-is_second
+returns-then-not-is_second c some =
     let text = c.args.text.now in
-    let field = c.in-Some.field in
-    let size : length c.line_at-first.result.now ≡ length (first_line text) = ap length c.line_at-first.ensures in
-    let is : first_line text ≡ _ = sym c.line_at-first.ensures ∙ c.in-Some.ensures.1 in
-    record {
-      within = omega (arith, size, length-first_line-le text);
-      so_far = ap (λ (n : ℕ). take n text) size ∙ so_far-first text field is
-          ∙ ap (λ (rows : List Row). table_text (table_of field rows)) (sym c.new-rows.ensures.items);
-      table = subst (λ (rows : List Row). IsTable (table_of field rows)) (sym c.new-rows.ensures.items)
-          (IsTable-none field c.in-Some.ensures.0);
-    }
+    Cut-reading First text text (refl, λ same. cc (c.is_second.ensures.1 same, c.if-not-is_second.true)) c.read_lines.result
+    (c.read_lines.ensures some)
 
-moved : (rows others : List Row) (line other : List ℕ) (found last : Option Row) → rows ≡ others → line ≡ other → found ≡ last
-    → IsNextRow rows line found → IsNextRow others other last
-moved rows others line other found last same_rows same_line same_found next =
-    subst (λ (o : Option Row). IsNextRow others other o) same_found
-    (subst (λ (l : List ℕ). IsNextRow others l found) same_line
-    (subst (λ (rs : List Row). IsNextRow rs line found) same_rows next))
-
-pub returns-in_default-2 : goal.returns-in_default-2
-returns-in_default-2 c = λ some.
+pub returns-in-Ok : goal.returns-in-Ok
+returns-in-Ok c some =
     let text = c.args.text.now in
-    let rows = c.lines.rows.items in
-    let line = first_line (drop c.lines.place text) in
-    HasWrongLine-next text (table_of c.in-Some.field rows) c.lines.place c.lines.invariant.table c.lines.invariant.so_far
-    c.lines-test.true
-    (moved c.deref.result.now rows c.line_at-line.result.now line c.in_ok-row.field-0 None c.deref.ensures.value
-    c.line_at-line.ensures c.in_default-2.is c.in_ok-row.ensures)
+    let cut = Cut-second text (c.is_second.ensures.0 c.if-not-is_second.false)
+    ∙ ap (λ (bytes : List ℕ). version_line ++ bytes) (sym c.behind_version.ensures) in
+    Cut-reading Second text c.behind_version.result.now cut (Ok c.in-Ok.table) (c.in-Ok.ensures some)
 
-pub lines-preserved : goal.lines-preserved
-lines-preserved c =
+pub returns-in-Err-Text : goal.returns-in-Err-Text
+returns-in-Err-Text c some =
     let text = c.args.text.now in
-    let field = c.in-Some.field in
-    let rows = c.lines.rows.items in
-    let place = c.lines.place in
-    let row = c.in-Some-2.row in
-    let line = first_line (drop place text) in
-    let next : IsNextRow rows line (Some row) =
-    moved c.deref.result.now rows c.line_at-line.result.now line c.in_ok-row.field-0 (Some row) c.deref.ensures.value
-    c.line_at-line.ensures c.in-Some-2.is c.in_ok-row.ensures in
-    let size : length c.line_at-line.result.now ≡ length line = ap length c.line_at-line.ensures in
-    record {
-      within = omega (arith, size, length-first_line-le (drop place text), length-drop place text, c.lines.invariant.within);
-      so_far = ap (λ (n : ℕ). take (place + n) text) size
-          ∙ so_far-next text field rows row place c.lines.invariant.so_far next.1
-          ∙ ap (λ (rs : List Row). table_text (table_of field rs)) (sym c.in_ok-push.ensures.items);
-      table = subst (λ (rs : List Row). IsTable (table_of field rs)) (sym c.in_ok-push.ensures.items)
-          (IsTable-push field rows row c.lines.invariant.table next.0);
-    }
+    let cut = Cut-second text (c.is_second.ensures.0 c.if-not-is_second.false)
+    ∙ ap (λ (bytes : List ℕ). version_line ++ bytes) (sym c.behind_version.ensures) in
+    let stop = c.in-Err-Text.field-0 in
+    let is : stop ≡ Text c.in-Err-Text.place = c.in-Err-Text.field-0-is in
+    let lines = c.in-Err-Text.ensures (λ same. not_memory c.in-Err-Text.place (ap failed (sym is) ∙ same)) in
+    Cut-reading Second text c.behind_version.result.now cut (Err (Text c.in-Err-Text.place))
+    (subst (λ (found : TableStop). IsReadingIn Second c.behind_version.result.now (failed found)) is lines)

@@ -1,51 +1,65 @@
-use Rattle.std.proofs.Common.{◌≡◌, ℕ, ◌+◌, ◌*◌, ◌<◌, ◌≤◌, ◌∙◌, length, take, true, false, sym, ap, arith}
-use Rattle.std.specs.List.{list_all}
-use Rattle.kh_types.specs.Checkerboard.{equations_of, is_solved}
+use Rattle.std.proofs.Common.{◌≡◌, ◌+◌, ◌∙◌, List, ℕ, length, refl, sym, ap, subst, arith, true, false}
+use Rattle.std.specs.List.{range_with_len}
 use Rattle.kh_types.specs.Acceptance.{checkerboard_at}
+use Rattle.kh_types.specs.Classes.{joined}
+use Rattle.kh_types.specs.Colouring.{tie_of, contradicts, colours_after}
 use Rattle.kh_types.proofs.FaultLemmas.{first_of_at, none_of_more}
-use Rattle.kh_types.proofs.CheckerboardLemmas.{checkerboard-fault, checkerboard-none, tried_more}
+use Rattle.kh_types.proofs.ColouringLemmas.{AreOfCrossings-more, FollowsTo, FollowsTo-none, FollowsTo-more, FollowsTo-fault, FollowsTo-fine}
 use Rattle.kh_types.proofs.acceptance.checkerboard.checkerboard_fault.Goals as goal
 
-pub returns-then-choice-choices : goal.returns-then-choice-choices
-returns-then-choice-choices c =
+pub loop-place-init : goal.loop-place-init
+loop-place-init c =
     let crossings = c.args.crossings.now in
-    let arc = c.loop-place.place + 1 in
-    let same : equations_of crossings ≡ c.deref.result.now =
-    sym (c.deref.ensures.0 ∙ c.equations_of-equations.ensures.equations) in
-    let fails : (k : ℕ) → c.loop-place.choice ≤ k → k < c.first_choice-choice.result
-    → list_all (is_solved k) (take arc (equations_of crossings)) ≡ false =
-    λ k later below. ap (λ es. list_all (is_solved k) (take arc es)) same
-    ∙ c.first_choice-choice.ensures.before k later below in
-    let tried = tried_more crossings c.loop-place.place c.loop-place.choice c.first_choice-choice.result
-    c.loop-place.invariant.tried fails in
-    let within : arc ≤ 2 * length crossings = omega arith in
-    let fault = checkerboard-fault crossings arc c.first_choice-choice.result within
-    (c.if-choice-choices.true ∙ c.choice_count-choices.ensures) tried in
+    let colours = c.any_colours-colours.result.items in
+    record {
+      none = refl;
+      are = λ arc from within. absurd (omega (arith, from, within));
+      follows =
+          subst (λ (classes : List ℕ). FollowsTo crossings 0 classes colours) (sym c.numbers_below-classes.ensures)
+          (FollowsTo-none crossings colours c.any_colours-colours.ensures);
+    }
+
+pub returns-then-contradicts : goal.returns-then-contradicts
+returns-then-contradicts c =
+    let crossings = c.args.crossings.now in
+    let place = c.loop-place.place in
+    let equation = c.equation_of-equation.result in
+    let are = AreOfCrossings-more crossings place (place + 1) equation c.loop-place.invariant.are refl
+    c.equation_of-equation.ensures.equation c.equation_of-equation.ensures.crossing c.equation_of-equation.ensures.other in
+    let holds : contradicts c.loop-place.classes.items c.loop-place.colours.items equation ≡ true =
+    ap (λ (xs : List ℕ). contradicts xs c.loop-place.colours.items equation) (sym c.deref.ensures.0)
+    ∙ ap (λ (ys : List ℕ). contradicts c.deref.result.now ys equation) (sym c.deref-in-loop-place.ensures.0)
+    ∙ sym c.contradicts.ensures ∙ c.if-contradicts.true in
+    let fault = FollowsTo-fault crossings place (place + 1) equation c.loop-place.classes.items c.loop-place.colours.items
+    c.loop-place.invariant.follows are refl c.equation_of-equation.ensures.equation holds in
     sym (first_of_at _ 1 _ _ _ _ c.loop-place-test.true (omega arith) c.loop-place.invariant.none fault)
 
 pub loop-place-preserved : goal.loop-place-preserved
 loop-place-preserved c =
     let crossings = c.args.crossings.now in
-    let arc = c.loop-place.place + 1 in
-    let same : equations_of crossings ≡ c.deref.result.now =
-    sym (c.deref.ensures.0 ∙ c.equations_of-equations.ensures.equations) in
-    let fails : (k : ℕ) → c.loop-place.choice ≤ k → k < c.first_choice-choice.result
-    → list_all (is_solved k) (take arc (equations_of crossings)) ≡ false =
-    λ k later below. ap (λ es. list_all (is_solved k) (take arc es)) same
-    ∙ c.first_choice-choice.ensures.before k later below in
-    let tried = tried_more crossings c.loop-place.place c.loop-place.choice c.first_choice-choice.result
-    c.loop-place.invariant.tried fails in
-    let within : arc ≤ 2 * length crossings = omega arith in
-    let bound = c.first_choice-choice.ensures.within in
-    let other = c.if-choice-choices.false in
-    let below : c.first_choice-choice.result < c.choice_count-choices.result = omega arith in
-    let solved : list_all (is_solved c.first_choice-choice.result) (take arc (equations_of crossings)) ≡ true =
-    ap (λ es. list_all (is_solved c.first_choice-choice.result) (take arc es)) same
-    ∙ c.first_choice-choice.ensures.solved below in
-    let none = checkerboard-none crossings arc c.first_choice-choice.result c.choice_count-choices.result within
-    c.choice_count-choices.ensures below solved in
+    let place = c.loop-place.place in
+    let equation = c.equation_of-equation.result in
+    let classes = c.loop-place.classes.items in
+    let colours = c.loop-place.colours.items in
+    let are = AreOfCrossings-more crossings place (place + 1) equation c.loop-place.invariant.are refl
+    c.equation_of-equation.ensures.equation c.equation_of-equation.ensures.crossing c.equation_of-equation.ensures.other in
+    let free : contradicts classes colours equation ≡ false =
+    ap (λ (xs : List ℕ). contradicts xs colours equation) (sym c.deref.ensures.0)
+    ∙ ap (λ (ys : List ℕ). contradicts c.deref.result.now ys equation) (sym c.deref-in-loop-place.ensures.0)
+    ∙ sym c.contradicts.ensures ∙ c.if-contradicts.false in
+    let follows = FollowsTo-more crossings place (place + 1) equation classes colours c.loop-place.invariant.follows are refl
+    c.equation_of-equation.ensures.equation free in
+    let is_classes : joined classes (tie_of equation) ≡ c.tied-classes.result.items = sym c.tied-classes.ensures in
+    let is_colours : colours_after classes colours equation ≡ c.colours_after-colours.result.items =
+    ap (λ (xs : List ℕ). colours_after xs colours equation) (sym c.deref-in-loop-place-2.ensures.0)
+    ∙ ap (λ (ys : List ℕ). colours_after c.deref-in-loop-place-2.result.now ys equation) (sym c.deref-in-loop-place-3.ensures.0)
+    ∙ sym c.colours_after-colours.ensures in
     record {
-      none = none_of_more (checkerboard_at crossings) 1 c.loop-place.place arc (omega arith) c.loop-place.invariant.none none;
-      below = bound;
-      tried = tried;
+      none =
+          none_of_more (checkerboard_at crossings) 1 place (place + 1) (omega arith) c.loop-place.invariant.none
+          (FollowsTo-fine crossings (place + 1) (joined classes (tie_of equation)) (colours_after classes colours equation) follows);
+      are = are;
+      follows =
+          subst (λ (new : List ℕ). FollowsTo crossings (place + 1) new c.colours_after-colours.result.items) is_classes
+          (subst (λ (new : List ℕ). FollowsTo crossings (place + 1) (joined classes (tie_of equation)) new) is_colours follows);
     }

@@ -1,6 +1,0 @@
-use Rattle.std.proofs.Common.{◌≡◌, ℕ, ◌<◌, get_or}
-use Rattle.jones_sum.specs.Binomials.{binomial_at}
-use Rattle.jones_sum.proofs.triangle.Triangle.new.Given as goal
-
-abbrev pub invariant-places : goal.invariant-places
-invariant-places l = (place : ℕ) → place < l.place → get_or l.ways place 0 ≡ binomial_at place

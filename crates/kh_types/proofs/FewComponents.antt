@@ -1,0 +1,162 @@
+-- A component of a directed code without single arcs has two arcs or more, so that there are at most as many as crossings.
+use Rattle.std.proofs.Common.{◌≡◌, ◌≢◌, ℕ, zero, suc, inl, inr, ◌+◌, ◌*◌, ◌<◌, ◌≤◌, ◌∙◌, List, [], ◌∷◌, length, refl, sym, ap, subst, arith, Bool, true, false, cond}
+use Rattle.std.specs.Prelude.{Option, Some, None, unwrap_or, nat_eq, nat_lt, slice_index, if◌then◌else◌}
+use Rattle.std.specs.List.{range_with_len, count_by, filter}
+use Rattle.std.specs.Option.{option_or}
+use Rattle.std.proofs.lemmas.Bool.{cases_Bool, cases_lt, eqb-true, false_from_ne_true}
+use Rattle.std.proofs.lemmas.Bool.Decides.{nat_tests}
+use Rattle.std.proofs.lemmas.List.{get_or_past}
+use Rattle.std.proofs.lemmas.List.Sums.{length-filter, sum_by-cons}
+use Rattle.kh_types.specs.declared.fault.CodeFault.{CodeFault}
+use Rattle.kh_types.specs.declared.fault.CodeFault.TheVariants.{ArcRange, ArcTimes, Interval, Under, Over, TwoArc, Checkerboard, Genus, Components}
+use Rattle.kh_types.specs.declared.limits.TheConstants.{CROSSINGS, LOOPS, COMPONENTS}
+use Rattle.kh_types.specs.Code.{Code, arc_count, arcs, crossing_numbers, IsArc}
+use Rattle.kh_types.specs.Classes.{is_least}
+use Rattle.kh_types.specs.Components.{components_of, component_of, component_count, next}
+use Rattle.kh_types.specs.Darts.{dart_count}
+use Rattle.kh_types.specs.Directions.{HasNoSingleArcs}
+use Rattle.kh_types.specs.Accepted.{IsDirected}
+use Rattle.kh_types.specs.Acceptance.{fault_if, first_of, arc_range_at, arc_range_fault, arc_times_at, arc_times_fault, interval_at, interval_fault, under_at, under_fault, over_at, over_fault, two_arc_at, two_arc_fault, direction_fault, checkerboard_at, checkerboard_fault, genus_fault, components_fault, first_fault}
+use Rattle.kh_types.proofs.AcceptedLemmas.{direction_fault-none}
+use Rattle.kh_types.proofs.CheckerboardLemmas.{choice-from_none}
+use Rattle.kh_types.proofs.Heads.{HasNoSingleArcs-checkerboard}
+use Rattle.kh_types.proofs.NextArcs.{IsNamed-components_of, component}
+
+-- the first number of a range, counted
+first_of_range : (p : ℕ → Bool) (a n : ℕ)
+    → count_by p (range_with_len a (suc n)) ≡ cond (p a) 1 0 + count_by p (range_with_len (a + 1) n)
+first_of_range p a n = sum_by-cons (λ x. cond (p x) 1 0) a (range_with_len (a + 1) n)
+
+-- at most half of some numbers pass, where none that passes is the last, and none is followed by one that passes
+pub count_by-half : (p : ℕ → Bool) (a n : ℕ)
+    → ((x : ℕ) → a ≤ x → x < a + n → p x ≡ true → (x + 1 < a + n) × (p (x + 1) ≡ false))
+    → 2 * count_by p (range_with_len a n) ≤ n
+count_by-half p a zero apart = omega arith
+count_by-half p a (suc zero) apart = elim (cases_Bool (p a)) [
+  | inl passes ↦ absurd (omega (arith, (apart a (omega arith) (omega arith) passes).0))
+  | inr fails ↦
+      let none : count_by p (range_with_len a 1) ≡ 0 = first_of_range p a 0 ∙ ap (λ b. cond b 1 0 + 0) fails in omega (arith, none)
+]
+count_by-half p a (suc (suc n)) apart = elim (cases_Bool (p a)) [
+  | inl passes ↦
+      let after = (apart a (omega arith) (omega arith) passes).1 in
+      let rest = count_by-half p (a + 1 + 1) n (λ x from below this.
+      let e = apart x (omega (arith, from)) (omega (arith, below)) this in (omega (arith, e.0), e.1)) in
+      let one : count_by p (range_with_len a (suc (suc n))) ≡ 1 + (0 + count_by p (range_with_len (a + 1 + 1) n)) =
+      first_of_range p a (suc n) ∙ ap (λ b. cond b 1 0 + count_by p (range_with_len (a + 1) (suc n))) passes
+      ∙ ap (λ m. 1 + m) (first_of_range p (a + 1) n ∙ ap (λ b. cond b 1 0 + count_by p (range_with_len (a + 1 + 1) n)) after) in
+      omega (arith, one, rest)
+  | inr fails ↦
+      let rest = count_by-half p (a + 1) (suc n) (λ x from below this.
+      let e = apart x (omega (arith, from)) (omega (arith, below)) this in (omega (arith, e.0), e.1)) in
+      let none : count_by p (range_with_len a (suc (suc n))) ≡ 0 + count_by p (range_with_len (a + 1) (suc n)) =
+      first_of_range p a (suc n) ∙ ap (λ b. cond b 1 0 + count_by p (range_with_len (a + 1) (suc n))) fails in
+      omega (arith, none, rest)
+]
+
+-- what is not the next of itself is followed by an arc of the same component
+step_of : (components : List ℕ) (arc : ℕ) → slice_index components arc ≡ arc
+    → (if nat_eq (component_of components (arc + 1)) (component_of components arc) then arc + 1 else component_of components arc) ≢ arc
+    → slice_index components (arc + 1) ≡ arc
+step_of components arc own differs = elim (cases_Bool (nat_eq (slice_index components (arc + 1)) (slice_index components arc))) [
+  | inl same ↦ eqb-true (slice_index components (arc + 1)) (slice_index components arc) same ∙ own
+  | inr other ↦ absurd (differs (ap (λ b. if b then arc + 1 else component_of components arc) other ∙ own))
+]
+
+-- so the least arc of a component is followed by an arc that is not the least of one
+least-apart : (crossings : List (List ℕ)) → IsDirected crossings → HasNoSingleArcs crossings → (arc : ℕ) → IsArc crossings arc
+    → is_least (components_of crossings) arc ≡ true
+    → (arc + 1 < 1 + arc_count crossings) × (is_least (components_of crossings) (arc + 1) ≡ false)
+least-apart crossings directed no_single arc is least =
+    let components = components_of crossings in
+    let own = eqb-true (slice_index components arc) arc least in
+    let after = step_of components arc own (no_single arc is) in
+    let inside : arc + 1 < 1 + arc_count crossings = elim (cases_lt (arc + 1) (1 + arc_count crossings)) [
+      | inl below ↦ below
+      | inr past ↦
+          let zero_there : slice_index components (arc + 1) ≡ 0 =
+          get_or_past components (arc + 1) 0 (omega (arith, (IsNamed-components_of crossings directed).size, past)) in
+          absurd (omega (arith, after, zero_there, is.positive))
+    ] in (
+      inside,
+      false_from_ne_true (is_least components (arc + 1))
+          (λ same. omega (arith, after, eqb-true (slice_index components (arc + 1)) (arc + 1) same)),
+    )
+
+pub component_count-le : (crossings : List (List ℕ)) → IsDirected crossings → HasNoSingleArcs crossings
+    → component_count crossings ≤ length crossings
+component_count-le crossings directed no_single =
+    let counted = length-filter (is_least (components_of crossings)) (arcs crossings) in
+    let half = count_by-half (is_least (components_of crossings)) 1 (arc_count crossings)
+    (λ arc from below least. least-apart crossings directed no_single arc
+    (record { positive = from; within = omega (arith, below) }) least) in
+    omega (arith, counted, half)
+
+-- the faults of the other rules are none of components
+
+option_or-other : (count : ℕ) (a b : Option CodeFault) → a ≢ Some (Components count) → b ≢ Some (Components count)
+    → option_or a b ≢ Some (Components count)
+option_or-other count None b first second = second
+option_or-other count (Some fault) b first second = first
+
+first_of-other : (count : ℕ) (fault_at : ℕ → Option CodeFault) (xs : List ℕ)
+    → ((x : ℕ) → fault_at x ≢ Some (Components count)) → first_of fault_at xs ≢ Some (Components count)
+first_of-other count fault_at [] each = λ same. absurd (cc)
+first_of-other count fault_at (x ∷ xs) each =
+    option_or-other count (fault_at x) (first_of fault_at xs) (each x) (first_of-other count fault_at xs each)
+
+fault_if-other : (count : ℕ) (holds : Bool) (fault : CodeFault) → fault ≢ Components count
+    → fault_if holds fault ≢ Some (Components count)
+fault_if-other count true fault other = λ same. other (ap (λ o. unwrap_or o fault) same)
+fault_if-other count false fault other = λ same. absurd (cc)
+
+direction_fault-other : (count : ℕ) (crossings : List (List ℕ)) → direction_fault crossings ≢ Some (Components count)
+direction_fault-other count crossings =
+    option_or-other count (arc_range_fault crossings) (option_or (arc_times_fault crossings) (option_or (interval_fault crossings)
+    (option_or (under_fault crossings) (option_or (over_fault crossings) (two_arc_fault crossings)))))
+    (first_of-other count (arc_range_at crossings) (range_with_len 0 (dart_count crossings))
+    (λ place. fault_if-other count _ _ (λ same. absurd (cc))))
+    (option_or-other count (arc_times_fault crossings) (option_or (interval_fault crossings)
+    (option_or (under_fault crossings) (option_or (over_fault crossings) (two_arc_fault crossings))))
+    (first_of-other count (arc_times_at crossings) (arcs crossings) (λ arc. fault_if-other count _ _ (λ same. absurd (cc))))
+    (option_or-other count (interval_fault crossings)
+    (option_or (under_fault crossings) (option_or (over_fault crossings) (two_arc_fault crossings)))
+    (first_of-other count (interval_at (components_of crossings)) (arcs crossings)
+    (λ arc. fault_if-other count _ _ (λ same. absurd (cc))))
+    (option_or-other count (under_fault crossings) (option_or (over_fault crossings) (two_arc_fault crossings))
+    (first_of-other count (under_at crossings (components_of crossings)) (crossing_numbers crossings)
+    (λ crossing. fault_if-other count _ _ (λ same. absurd (cc))))
+    (option_or-other count (over_fault crossings) (two_arc_fault crossings)
+    (first_of-other count (over_at crossings (components_of crossings)) (crossing_numbers crossings)
+    (λ crossing. fault_if-other count _ _ (λ same. absurd (cc))))
+    (first_of-other count (two_arc_at crossings (components_of crossings)) (crossing_numbers crossings)
+    (λ crossing. fault_if-other count _ _ (λ same. absurd (cc))))))))
+
+last_of : (count : ℕ) (direction checkerboard genus components : Option CodeFault) → direction ≢ Some (Components count)
+    → checkerboard ≢ Some (Components count) → genus ≢ Some (Components count)
+    → (direction ≡ None → checkerboard ≡ None → components ≢ Some (Components count))
+    → option_or direction (option_or checkerboard (option_or genus components)) ≢ Some (Components count)
+last_of count (Some fault) checkerboard genus components first second third last = first
+last_of count None (Some fault) genus components first second third last = second
+last_of count None None genus components first second third last = option_or-other count genus components third (last refl refl)
+
+few_fault : (most found : ℕ) (fault : CodeFault) → found ≤ most → fault_if (nat_lt most found) fault ≡ None
+few_fault most found fault few = grind (arith, nat_tests)
+
+-- no rule on components comes first, where there are no more crossings and loops than a text has
+pub first_fault-other : (code : Code) (count : ℕ) → length code.crossings ≤ CROSSINGS → code.loops ≤ LOOPS
+    → first_fault code ≢ Some (Components count)
+unfolding first_fault
+first_fault-other code count few_crossings few_loops =
+    let crossings = code.crossings in
+    last_of count (direction_fault crossings) (checkerboard_fault crossings) (genus_fault crossings) (components_fault code)
+    (direction_fault-other count crossings)
+    (first_of-other count (checkerboard_at crossings) (arcs crossings) (λ arc. fault_if-other count _ _ (λ same. absurd (cc))))
+    (fault_if-other count _ _ (λ same. absurd (cc)))
+    (λ no_direction no_checkerboard same.
+    let directed = (direction_fault-none crossings).0 no_direction in
+    let few = component_count-le crossings directed
+    (HasNoSingleArcs-checkerboard crossings directed (choice-from_none crossings no_checkerboard)) in
+    let none = few_fault COMPONENTS (component_count crossings + code.loops)
+    (Components (component_count crossings + code.loops)) (omega (arith, few, few_crossings, few_loops)) in
+    absurd (cc))
