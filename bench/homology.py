@@ -5,7 +5,7 @@
 
 OTHER is a program that reads a planar diagram text and writes the same lines; it is given `--field` and a field. Runs of the two are
 alternated, over 2 and over 3 elements. For each diagram it prints the least user times, their ratio, the least wall times, the most
-memory of `kh` and whether both write the same; at the end the trefoil against `true`. Build the program first, by `./kh`. The gate does
+memory of `kh` and whether both write the same; at the end the trefoil against `true`. Build the program first, by `./build`. The gate does
 not run it.
 """
 import argparse

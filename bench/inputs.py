@@ -5,7 +5,7 @@
 
 For each input the runs of the two are alternated, so that whatever else the machine does falls on both. It prints the medians, their
 ratio, and whether a run gets by with an address space of 20 MB; with a word only the inputs whose names have it. Build the program
-first, by `./kh`. The gate does not run it.
+first, by `./build`. The gate does not run it.
 """
 import os
 import resource

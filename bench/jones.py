@@ -6,7 +6,7 @@
 OTHER WORDS.. is a program that goes through all states of the diagram whose planar diagram text it reads, with its words; without it the
 times of `kh` stand alone. Runs of the two are alternated. For each diagram it prints the mean user times, their ratio, and whether `kh`
 gets by with an address space of 8 MB; and at the end by how much a crossing more multiplies its time. The system counts user time in
-ticks, so the mean of many runs is taken. Build the program first, by `./kh`. The gate does not run it.
+ticks, so the mean of many runs is taken. Build the program first, by `./build`. The gate does not run it.
 """
 import os
 import resource

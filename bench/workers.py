@@ -8,7 +8,7 @@ both (the system's part is in the user times), how many times faster N workers a
 since a machine's cores share its memory, what N separate runs with one worker come to at once: how many times faster they are than one
 after another, and their ratio of user times. Then a trefoil with 64 workers against one. OTHER is a program that takes the same turns
 (`--braid "STRANDS LETTERS.."`) and says how long one took in its word after `us/turn`; with it the turns of four workers are compared. On
-idle cores alone the wall times tell something; the load is printed. Build the program first, by `./kh`. The gate does not run it.
+idle cores alone the wall times tell something; the load is printed. Build the program first, by `./build`. The gate does not run it.
 """
 import argparse
 import os

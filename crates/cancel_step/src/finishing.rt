@@ -47,7 +47,7 @@ fn clear_degree<F: PrimeField>(
 {
     element_laws::<F>();
     complex_laws(complex);
-    'columns: for column in 0..complex.places(degree) {
+    'columns: for column in 0..complex.columns_left(degree) {
         clear_column(scratch, complex, degree, column)?;
     }
     Ok(())

@@ -7,14 +7,12 @@ mod copied_lines;
 mod copying;
 mod finishing;
 pub mod laws;
-mod merging;
+mod line_pairs;
 mod passing;
 mod patched;
 mod pivot;
 mod reading;
 mod search;
-#[cfg(test)]
-mod tests;
 mod updating;
 
 pub use applying::{apply, apply_fitting, cancel_in_place};

@@ -109,7 +109,7 @@ fn search_degree<F: PrimeField>(complex: &Complex<F>, degree: i16, from: u32) ->
         → entries_of (column_of complex.now.complex degree column) ≡ [] }
 {
     complex_laws(complex);
-    'columns: for column in from..complex.places(degree) {
+    'columns: for column in from..complex.columns_left(degree) {
         if let Some(row) = last_row(complex, degree, column) {
             return Some(Pivot {
                 degree,

@@ -2,6 +2,8 @@
 #![tactic(auto)]
 
 #[cfg(test)]
+mod cancellations;
+#[cfg(test)]
 mod cores;
 #[cfg(test)]
 mod homology_tables;
@@ -9,5 +11,7 @@ mod homology_tables;
 mod locks;
 #[cfg(test)]
 mod shared_blocks;
+#[cfg(test)]
+mod sparse_complexes;
 #[cfg(test)]
 mod workers;

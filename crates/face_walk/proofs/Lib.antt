@@ -8,3 +8,6 @@ pub mod BareCrossings
 pub mod PlanarArcs
 pub mod PartArcs
 pub mod FewFaces
+pub mod PlainCounts
+pub mod Cover
+pub mod Board

@@ -3,3 +3,4 @@
 pub mod arcs;
 pub mod known;
 pub mod numbers;
+pub mod planar;

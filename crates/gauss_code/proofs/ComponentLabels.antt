@@ -12,8 +12,8 @@ use Rattle.kh_types.proofs.Ranges.{range-append}
 use Rattle.orient_arcs.specs.Numbers.{first_arc}
 use Rattle.orient_arcs.proofs.ComponentLemmas.{IsDirected-accepted}
 use Rattle.orient_arcs.proofs.FirstArcs.{component-first_arc, first_is_arc}
-use Rattle.gauss_code.specs.Printing.{component_labels, label_of}
-use Rattle.gauss_code.proofs.CutArcs.{IsFirst, end-within, size}
+use Rattle.code_passes.specs.ComponentLabels.{component_labels, label_of}
+use Rattle.code_passes.proofs.CutArcs.{IsFirst, end-within, size}
 
 -- some numbers of a range that follow one another
 section-range : (a k count n : ℕ) → k + count ≤ n → take count (drop k (range_with_len a n)) ≡ range_with_len (a + k) count

@@ -8,9 +8,9 @@ use Rattle.std.proofs.lemmas.Bool.Decides.{nat_tests, Decides-int_eq}
 use Rattle.gauss_code.specs.declared.stop.GaussStop.{GaussStop}
 use Rattle.gauss_code.specs.declared.stop.GaussStop.TheVariants.{NoSigns, SignCount}
 use Rattle.gauss_code.specs.Listings.{Body, Listing, labels_of, crossing_count}
-use Rattle.gauss_code.specs.Labels.{number_at, bad_label, is_bad_sign, bad_sign}
+use Rattle.code_passes.specs.Labels.{number_at, bad_label, is_bad_sign, bad_sign}
 use Rattle.gauss_code.specs.Faults.{fault_if, crossing_limit, loop_limit, label_fault, no_signs, sign_count, sign_fault, signs_of, first_fault}
-use Rattle.gauss_code.proofs.LabelCounts.{find-none_at}
+use Rattle.code_passes.proofs.LabelCounts.{find-none_at}
 
 option_or-none : {X : Type 0} (a b : Option X) → option_or a b ≡ None → (a ≡ None) × (b ≡ None)
 option_or-none None b none = (refl, none)

@@ -6,7 +6,7 @@ use Rattle.std.proofs.lemmas.List.{at_drop_more}
 use Rattle.std.proofs.lemmas.List.FromFn.{length-map-range_with_len}
 use Rattle.kh_types.proofs.Ranges.{map_from_zero, range_steps}
 use Rattle.gauss_code.specs.Held.{labels_held, numbers_of}
-use Rattle.gauss_code.specs.Passes.{Pass, all_passes, is_over, pass_at, passes_from, turned}
+use Rattle.code_passes.specs.Passes.{Pass, all_passes, is_over, pass_at, passes_from, turned}
 
 -- turning keeps the number of labels
 pub length-turned : (labels : List ℤ) → length (turned labels) ≡ length labels

@@ -14,16 +14,18 @@ use Rattle.kh_types.proofs.PassPairs.{IsArc-at}
 use Rattle.kh_types.proofs.Heads.{HasNoSingleArcs-accepted, IsPass-over, IsPass-under}
 use Rattle.gauss_code.specs.Listings.{groups_of, crossing_count, loop_count}
 use Rattle.gauss_code.specs.Grammar.{number_places}
-use Rattle.gauss_code.specs.Passes.{Pass, all_passes, code_of, pass_of, slots_at, slots_between}
-use Rattle.gauss_code.specs.Printing.{body_of, component_labels, gauss_text, label_at, label_of, labels_of_code}
+use Rattle.code_passes.specs.Passes.{Pass, all_passes, pass_of, slots_at, slots_between}
+use Rattle.gauss_code.specs.Codes.{code_of}
+use Rattle.code_passes.specs.ComponentLabels.{component_labels, label_at, label_of, labels_of_code}
+use Rattle.gauss_code.specs.Printing.{body_of, gauss_text}
 use Rattle.gauss_code.specs.Reading.{IsReading}
-use Rattle.gauss_code.proofs.ArcLabels.{IsOriented, label_of-names, label_of-under}
+use Rattle.code_passes.proofs.ArcLabels.{IsOriented, label_of-names, label_of-under}
 use Rattle.gauss_code.proofs.Bodies.{groups_of-body_of, HasSmallNumbers-body_of, labels_of-body_of, loop_count-body_of}
 use Rattle.gauss_code.proofs.GoodListings.{half-arc_labels, no_fault, signs}
-use Rattle.gauss_code.proofs.CutArcs.{Cut, Cut-first_arcs, end-within, size}
+use Rattle.code_passes.proofs.CutArcs.{Cut, Cut-first_arcs, end-within, size}
 use Rattle.gauss_code.proofs.ListedPasses.{HasLabel-code, all_passes-code, labels-code, pass_of-label, pass_on}
 use Rattle.gauss_code.proofs.PrintedTexts.{AreSmall, IsSmall, Means-listing_text}
-use Rattle.gauss_code.proofs.Searches.{matched_false, matched_true}
+use Rattle.code_passes.proofs.Searches.{matched_false, matched_true}
 
 -- the numbers of the listing are small
 small-range : (label : ℕ → ℤ) (a n : ℕ) → ((x : ℕ) → a ≤ x → x < a + n → IsSmall (label x)) → AreSmall (map label (range_with_len a n))

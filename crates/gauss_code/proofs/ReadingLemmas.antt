@@ -17,10 +17,10 @@ use Rattle.gauss_code.specs.declared.stop.GaussStop.{GaussStop}
 use Rattle.gauss_code.specs.declared.stop.GaussStop.TheVariants.{Text, Number, CrossingLimit, LoopLimit, Label, NoSigns, SignCount, NoMemory}
 use Rattle.gauss_code.specs.Faults.{crossing_limit, fault_if, first_fault, label_fault, loop_limit, no_signs, sign_count, signs_of}
 use Rattle.gauss_code.specs.Grammar.{IsText, Lists, number_places, spelled}
-use Rattle.gauss_code.specs.Labels.{bad_label, bad_sign}
+use Rattle.code_passes.specs.Labels.{bad_label, bad_sign}
 use Rattle.gauss_code.specs.Listings.{Body, Listing, crossing_count, labels_of}
 use Rattle.gauss_code.specs.Machine.{Progress, advanced, is_end, listing_read, start}
-use Rattle.gauss_code.specs.Passes.{code_of}
+use Rattle.gauss_code.specs.Codes.{code_of}
 use Rattle.gauss_code.specs.Reading.{HasFault, IsReading}
 use Rattle.gauss_code.specs.Stops.{stop_of}
 use Rattle.gauss_code.proofs.MachineReads.{reads_grammar}

@@ -5,7 +5,7 @@ use Rattle.kh_types.specs.declared.limits.TheConstants.{CROSSINGS, LOOPS}
 use Rattle.gauss_code.specs.declared.stop.GaussStop.{GaussStop}
 use Rattle.gauss_code.specs.declared.stop.GaussStop.TheVariants.{CrossingLimit, LoopLimit, Label, NoSigns, SignCount}
 use Rattle.gauss_code.specs.Listings.{Body, Listing, labels_of, crossing_count, loop_count}
-use Rattle.gauss_code.specs.Labels.{bad_label, bad_sign}
+use Rattle.code_passes.specs.Labels.{bad_label, bad_sign}
 
 -- a fault, where a test holds
 abbrev pub fault_if : Bool → GaussStop → Option GaussStop

@@ -1,8 +1,7 @@
 pub mod Stops
 pub mod Listings
+pub mod Codes
 pub mod Grammar
-pub mod Labels
-pub mod Passes
 pub mod Faults
 pub mod Held
 pub mod Machine

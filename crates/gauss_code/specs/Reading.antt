@@ -9,7 +9,7 @@ use Rattle.gauss_code.specs.declared.stop.GaussStop.TheVariants.{Text, Number, N
 use Rattle.gauss_code.specs.Listings.{Listing}
 use Rattle.gauss_code.specs.Grammar.{IsText, Lists}
 use Rattle.gauss_code.specs.Faults.{first_fault, signs_of}
-use Rattle.gauss_code.specs.Passes.{code_of}
+use Rattle.gauss_code.specs.Codes.{code_of}
 
 -- a text reads as a code: it lists what has no fault, and the code is that of its body and signs
 pub record ReadsAs (text : List ℕ) (code : Code) : Type 0 where

@@ -5,7 +5,7 @@ ghost use Rattle.kh_types.specs.declared.limits.TheConstants.{CROSSINGS};
 ghost use Rattle.kh_types.specs.Code.{IsArc, arcs, crossing_numbers};
 ghost use Rattle.kh_types.specs.Acceptance.{accepted};
 ghost use Rattle.kh_types.specs.Directions.{sign_of};
-ghost use Rattle.gauss_code.specs.Printing.{label_of, labels_of_code};
+ghost use Rattle.code_passes.specs.ComponentLabels.{label_of, labels_of_code};
 
 use arrayvec::ArrayVec;
 use kh_types::{ARCS, CROSSINGS, Diagram, NoMemory};

@@ -3,7 +3,7 @@
 ghost use Rattle.std.specs.Prelude.{◌≡◌, ◌<◌, IfSome, length};
 ghost use Rattle.std.specs.List.{list_any};
 ghost use Rattle.std.specs.Ordering.{int_eq};
-ghost use Rattle.gauss_code.specs.Labels.{bad_label, bad_sign, is_bad_label, is_bad_sign, names_none, number_at};
+ghost use Rattle.code_passes.specs.Labels.{bad_label, bad_sign, is_bad_label, is_bad_sign, names_none, number_at};
 
 /// The number at a place, and 0 where there is none.
 pub fn number_at(numbers: &[i32], at: usize) -> i32

@@ -6,7 +6,7 @@ pub mod reading;
 
 ghost use Rattle.std.specs.Prelude.{◌≡◌, List, [], ◌∷◌, codes, pos, negsuc, neg_ℤ};
 ghost use Rattle.gauss_code.specs.Listings.{Body};
-ghost use Rattle.gauss_code.specs.Passes.{code_of};
+ghost use Rattle.gauss_code.specs.Codes.{code_of};
 ghost use Rattle.gauss_code.specs.Printing.{gauss_text};
 
 /// What some labels and signs stand for, and how some codes are printed.

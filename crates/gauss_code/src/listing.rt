@@ -7,7 +7,7 @@ ghost use Rattle.gauss_code.specs.Faults.{signs_of};
 ghost use Rattle.gauss_code.specs.Listings.{crossing_count, groups_of, labels_of, loop_count};
 ghost use Rattle.gauss_code.specs.Held.{body_held, labels_held};
 ghost use Rattle.gauss_code.specs.Machine.{ended, with_group};
-ghost use Rattle.gauss_code.specs.Passes.{all_passes};
+ghost use Rattle.code_passes.specs.Passes.{all_passes};
 
 use crate::passes::{Pass, push_all_passes, push_passes};
 use arrayvec::ArrayVec;

@@ -6,8 +6,8 @@ ghost use Rattle.std.specs.Ordering.{int_eq};
 ghost use Rattle.kh_types.specs.declared.limits.TheConstants.{CROSSINGS};
 ghost use Rattle.gauss_code.specs.declared.listing.TheConstants.{LABELS};
 ghost use Rattle.gauss_code.specs.Held.{labels_held, numbers_of};
-ghost use Rattle.gauss_code.specs.Labels.{number_at};
-ghost use Rattle.gauss_code.specs.Passes.{all_passes, no_pass, pass_at, pass_of, passes_from, slots_at, slots_between, turned};
+ghost use Rattle.code_passes.specs.Labels.{number_at};
+ghost use Rattle.code_passes.specs.Passes.{all_passes, no_pass, pass_at, pass_of, passes_from, slots_at, slots_between, turned};
 
 use crate::labels::number_at;
 use crate::listing::LABELS;
@@ -26,7 +26,7 @@ pub struct Pass {
 }
 
 impl Model for Pass {
-    ghost use Rattle.gauss_code.specs.Passes.{Pass};
+    ghost use Rattle.code_passes.specs.Passes.{Pass};
 
     ghost Value = { Pass };
 

@@ -4,7 +4,8 @@ ghost use Rattle.std.specs.Prelude.{◌≡◌, ◌≢◌, ◌≤◌, Err, IfOk, 
 ghost use Rattle.std.specs.List.{range_with_len};
 ghost use Rattle.gauss_code.specs.Faults.{signs_of};
 ghost use Rattle.gauss_code.specs.Listings.{crossing_count, loop_count};
-ghost use Rattle.gauss_code.specs.Passes.{code_of, slots_at};
+ghost use Rattle.code_passes.specs.Passes.{slots_at};
+ghost use Rattle.gauss_code.specs.Codes.{code_of};
 ghost use Rattle.gauss_code.specs.Reading.{IsReading};
 
 use crate::faults::first_fault;

@@ -1,5 +1,6 @@
 //! The program over a system of the tests' own, whose words, input and output are known: what no clause says of it.
 
+mod gates;
 mod system;
 
 use crate::exit_of;

@@ -1,11 +1,7 @@
-pub mod CommandLemmas
 pub mod AnswerLemmas
+pub mod ReplyLemmas
 pub mod ScheduleLemmas
-pub mod TextReadings
 pub mod OneAnswer
-pub mod JonesLemmas
 pub mod Headlines
 pub mod Written
 pub mod Workers
-pub mod PartLemmas
-pub mod WorkerCounts

@@ -4,12 +4,12 @@ use Rattle.std.specs.declared.option.Option.{Option}
 use Rattle.kh_io.specs.Faults.{Rose}
 use Rattle.kh_work.specs.declared.answer.ReplyStop.{ReplyStop}
 use Rattle.kh_work.specs.declared.answer.ReplyStop.TheVariants as stops
-use Rattle.kh_work.specs.declared.status.Status.{Status}
-use Rattle.kh_work.specs.declared.status.Status.TheVariants.{Usage, ReadFault, WriteFault, NoMemory}
+use Rattle.kh_replies.specs.declared.status.Status.{Status}
+use Rattle.kh_replies.specs.declared.status.Status.TheVariants.{Usage, ReadFault, WriteFault, NoMemory}
 use Rattle.kh_work.specs.Answer.{IsAnswer}
-use Rattle.kh_work.specs.Replies.{Reply}
-use Rattle.kh_work.specs.Runs.{IsReplied, IsRun, IsWritten, Seen}
-use Rattle.kh_work.specs.Statuses.{IsWhole}
+use Rattle.kh_replies.specs.Replies.{Reply}
+use Rattle.kh_work.specs.Runs.{IsBlindAnswer, IsReplied, IsProgramRun, IsWritten, Seen}
+use Rattle.kh_replies.specs.Statuses.{IsWhole}
 use Rattle.kh_work.specs.Told.{Gives, GivesPrefix, IsKnownAnswer}
 
 -- what is known of an answer goes with what is known of a reply
@@ -33,92 +33,99 @@ not_both status is (inr same) = let both : WriteFault ≡ NoMemory = sym is ∙ 
 run_whole : (words : List (List ℕ)) (source_before source_after sink_before sink_after : Seen) (same_source same_sink : Type 0)
     (reply : Reply) (status : Status) → IsReplied words source_before source_after same_source (Ok reply)
     → Gives reply status sink_before.bytes sink_after.bytes
-    → IsRun words source_before source_after sink_before sink_after same_source same_sink status
+    → IsProgramRun words source_before source_after sink_before sink_after same_source same_sink status
 run_whole words source_before source_after sink_before sink_after same_source same_sink reply status replied gives =
     let whole : IsWhole status = subst IsWhole (sym gives.status) replied.whole in
     record {
       answered = λ w. with_answer source_before.bytes words reply (λ r. Gives r status sink_before.bytes sink_after.bytes) replied.known gives;
-      usage_answered = λ none w. subst (λ r. Gives r status sink_before.bytes sink_after.bytes) (replied.usage none) gives;
+      blind_answered = λ nothing w. (reply, replied.blind nothing, gives);
       usage_only = λ is. replied.usage_only (sym gives.status ∙ is);
       unread = replied.unread;
       taken = replied.taken;
-      read_out = λ some no_fault memory. replied.read_out some;
+      read_out = λ limit reads no_fault memory. replied.read_out limit reads;
       read_fault = λ is. absurd (subst IsWhole is whole);
       write_fault = λ is. absurd (subst IsWhole is whole);
       unwritten = λ stopped. absurd (not_stopped status whole stopped);
       prefix_written = λ is. absurd (subst IsWhole is whole);
-      usage_prefix = λ is none. absurd (subst IsWhole is whole);
+      blind_prefix = λ nothing is. absurd (subst IsWhole is whole);
       complete = λ read wrote. inl whole;
     }
 
 run_cut : (words : List (List ℕ)) (source_before source_after sink_before sink_after : Seen) (same_source same_sink : Type 0)
     (reply : Reply) (status : Status) → IsReplied words source_before source_after same_source (Ok reply) → status ≡ WriteFault
     → Rose sink_before.faults sink_after.faults → GivesPrefix reply sink_before.bytes sink_after.bytes
-    → IsRun words source_before source_after sink_before sink_after same_source same_sink status
+    → IsProgramRun words source_before source_after sink_before sink_after same_source same_sink status
 run_cut words source_before source_after sink_before sink_after same_source same_sink reply status replied is_fault rose prefix =
     record {
       answered = λ whole. absurd (subst IsWhole is_fault whole);
-      usage_answered = λ none whole. absurd (subst IsWhole is_fault whole);
+      blind_answered = λ nothing whole. absurd (subst IsWhole is_fault whole);
       usage_only = λ is. let both : WriteFault ≡ Usage = sym is_fault ∙ is in absurd (cc);
       unread = replied.unread;
       taken = replied.taken;
-      read_out = λ some no_fault memory. replied.read_out some;
+      read_out = λ limit reads no_fault memory. replied.read_out limit reads;
       read_fault = λ is. absurd (not_both status is_fault (inl is));
       write_fault = λ is. rose;
       unwritten = λ stopped. absurd (not_both status is_fault stopped);
       prefix_written = λ is. with_answer source_before.bytes words reply (λ r. GivesPrefix r sink_before.bytes sink_after.bytes) replied.known prefix;
-      usage_prefix = λ is none. subst (λ r. GivesPrefix r sink_before.bytes sink_after.bytes) (replied.usage none) prefix;
+      blind_prefix = λ nothing is. (reply, replied.blind nothing, prefix);
       complete = λ read wrote. absurd (wrote rose);
     }
 
 run_unread : (words : List (List ℕ)) (source_before source_after sink_before sink_after : Seen) (same_source same_sink : Type 0)
     (status : Status) → IsReplied words source_before source_after same_source (Err stops.ReadFault) → status ≡ ReadFault → same_sink
-    → IsRun words source_before source_after sink_before sink_after same_source same_sink status
+    → IsProgramRun words source_before source_after sink_before sink_after same_source same_sink status
 run_unread words source_before source_after sink_before sink_after same_source same_sink status replied is_fault same =
     record {
       answered = λ whole. absurd (subst IsWhole is_fault whole);
-      usage_answered = λ none whole. absurd (subst IsWhole is_fault whole);
+      blind_answered = λ nothing whole. absurd (subst IsWhole is_fault whole);
       usage_only = λ is. let both : ReadFault ≡ Usage = sym is_fault ∙ is in absurd (cc);
       unread = replied.unread;
       taken = replied.taken;
-      read_out = λ some no_fault memory. absurd (no_fault is_fault);
+      read_out = λ limit reads no_fault memory. absurd (no_fault is_fault);
       read_fault = λ is. replied.fault refl;
       write_fault = λ is. let both : ReadFault ≡ WriteFault = sym is_fault ∙ is in absurd (cc);
       unwritten = λ stopped. same;
       prefix_written = λ is. let both : ReadFault ≡ WriteFault = sym is_fault ∙ is in absurd (cc);
-      usage_prefix = λ is none. let both : ReadFault ≡ WriteFault = sym is_fault ∙ is in absurd (cc);
+      blind_prefix = λ nothing is. let both : ReadFault ≡ WriteFault = sym is_fault ∙ is in absurd (cc);
       complete = λ read wrote. absurd (read (replied.fault refl));
     }
 
 run_unmade : (words : List (List ℕ)) (source_before source_after sink_before sink_after : Seen) (same_source same_sink : Type 0)
     (status : Status) → IsReplied words source_before source_after same_source (Err stops.NoMemory) → status ≡ NoMemory → same_sink
-    → IsRun words source_before source_after sink_before sink_after same_source same_sink status
+    → IsProgramRun words source_before source_after sink_before sink_after same_source same_sink status
 run_unmade words source_before source_after sink_before sink_after same_source same_sink status replied is_memory same =
     record {
       answered = λ whole. absurd (subst IsWhole is_memory whole);
-      usage_answered = λ none whole. absurd (subst IsWhole is_memory whole);
+      blind_answered = λ nothing whole. absurd (subst IsWhole is_memory whole);
       usage_only = λ is. let both : NoMemory ≡ Usage = sym is_memory ∙ is in absurd (cc);
       unread = replied.unread;
       taken = replied.taken;
-      read_out = λ some no_fault memory. absurd (memory is_memory);
+      read_out = λ limit reads no_fault memory. absurd (memory is_memory);
       read_fault = λ is. let both : NoMemory ≡ ReadFault = sym is_memory ∙ is in absurd (cc);
       write_fault = λ is. let both : NoMemory ≡ WriteFault = sym is_memory ∙ is in absurd (cc);
       unwritten = λ stopped. same;
       prefix_written = λ is. let both : NoMemory ≡ WriteFault = sym is_memory ∙ is in absurd (cc);
-      usage_prefix = λ is none. let both : NoMemory ≡ WriteFault = sym is_memory ∙ is in absurd (cc);
+      blind_prefix = λ nothing is. let both : NoMemory ≡ WriteFault = sym is_memory ∙ is in absurd (cc);
       complete = λ read wrote. inr is_memory;
     }
 
 -- whatever a run has come to, once that is written
-pub IsRun-written : (words : List (List ℕ)) (source_before source_after sink_before sink_after : Seen)
+pub IsProgramRun-written : (words : List (List ℕ)) (source_before source_after sink_before sink_after : Seen)
     (same_source same_sink : Type 0) (made : Result Reply ReplyStop) (status : Status)
     → IsReplied words source_before source_after same_source made → IsWritten made sink_before sink_after same_sink status
-    → IsRun words source_before source_after sink_before sink_after same_source same_sink status
-IsRun-written words source_before source_after sink_before sink_after same_source same_sink (Ok reply) status replied (inl gives) =
+    → IsProgramRun words source_before source_after sink_before sink_after same_source same_sink status
+IsProgramRun-written words source_before source_after sink_before sink_after same_source same_sink (Ok reply) status replied (inl gives) =
     run_whole words source_before source_after sink_before sink_after same_source same_sink reply status replied gives
-IsRun-written words source_before source_after sink_before sink_after same_source same_sink (Ok reply) status replied (inr (is, rose, prefix)) =
+IsProgramRun-written words source_before source_after sink_before sink_after same_source same_sink (Ok reply) status replied (inr (is, rose, prefix)) =
     run_cut words source_before source_after sink_before sink_after same_source same_sink reply status replied is rose prefix
-IsRun-written words source_before source_after sink_before sink_after same_source same_sink (Err stops.ReadFault) status replied (is, same) =
+IsProgramRun-written words source_before source_after sink_before sink_after same_source same_sink (Err stops.ReadFault) status replied (is, same) =
     run_unread words source_before source_after sink_before sink_after same_source same_sink status replied is same
-IsRun-written words source_before source_after sink_before sink_after same_source same_sink (Err stops.NoMemory) status replied (is, same) =
+IsProgramRun-written words source_before source_after sink_before sink_after same_source same_sink (Err stops.NoMemory) status replied (is, same) =
     run_unmade words source_before source_after sink_before sink_after same_source same_sink status replied is same
+
+-- a draft that was completed keeps what is known of it
+pub IsReplied-completed : (words : List (List ℕ)) (source_before source_after : Seen) (same_source : Type 0) (this reply : Reply)
+    → reply ≡ this → IsReplied words source_before source_after same_source (Ok this)
+    → IsReplied words source_before source_after same_source (Ok reply)
+IsReplied-completed words source_before source_after same_source this reply same replied =
+    subst (λ (r : Reply). IsReplied words source_before source_after same_source (Ok r)) (sym same) replied

@@ -1,52 +1,66 @@
 -- The answer to a command line and its input: a relation between words, bytes and a reply. A law says that there is exactly one
 -- reply to all words and bytes. All of it is this project's rule.
-use Rattle.std.specs.Prelude.{◌≡◌, ◌⊎◌, ℕ, ◌<◌, ◌≤◌, List, length, Option, Some, None, Result, Ok, Err}
-use Rattle.kh_types.specs.declared.limits.TheConstants.{INPUT_BYTES}
+use Rattle.std.specs.Prelude.{◌≡◌, ◌⊎◌, ℕ, ◌<◌, ◌≤◌, List, length, Option, Some, None}
 use Rattle.kh_types.specs.Code.{Code}
-use Rattle.kh_work.specs.declared.command.Task.{Task}
-use Rattle.kh_work.specs.declared.command.Task.TheVariants.{Homology, Convert, Check, Jones, Schedule}
-use Rattle.kh_work.specs.declared.command.Command.{Command}
-use Rattle.kh_work.specs.Replies.{Reply}
-use Rattle.kh_work.specs.Commands.{command_of}
-use Rattle.kh_work.specs.Refusals.{usage, too_many_bytes}
-use Rattle.kh_work.specs.Parts.{code_in, script_part}
-use Rattle.kh_work.specs.Inputs.{IsDiagramRead}
+use Rattle.word_line.specs.declared.command.Task.{Task}
+use Rattle.word_line.specs.declared.command.Task.TheVariants.{Homology, Convert, Check, Jones, Schedule}
+use Rattle.word_line.specs.declared.command.Command.{Command}
+use Rattle.word_line.specs.Commands.{IsCommand, IsUsage}
+use Rattle.kh_replies.specs.declared.intake.Intake.{Intake}
+use Rattle.kh_replies.specs.declared.intake.Intake.TheVariants as intakes
+use Rattle.kh_replies.specs.Intakes.{byte_limit, intake_of}
+use Rattle.kh_replies.specs.Replies.{Reply}
+use Rattle.kh_replies.specs.Refusals.{usage, too_many_bytes}
+use Rattle.kh_replies.specs.Parts.{code_part, script_part}
+use Rattle.kh_replies.specs.DiagramReplies.{IsDiagramReply}
+use Rattle.kh_replies.specs.Convert.{convert_reply}
+use Rattle.kh_replies.specs.Check.{check_reply}
+use Rattle.kh_replies.specs.Jones.{jones_reply}
 use Rattle.kh_work.specs.Homology.{homology_reply}
-use Rattle.kh_work.specs.Convert.{convert_reply}
-use Rattle.kh_work.specs.Check.{check_reply}
-use Rattle.kh_work.specs.Jones.{jones_reply}
 use Rattle.kh_work.specs.Schedule.{IsScheduleReply}
 
--- the reply of a task to the code of a diagram and the text of a script, which a schedule has
-abbrev pub IsTaskReply : Task → Command → List ℕ → Code → Reply → Type 0
-IsTaskReply Homology command script code reply = reply ≡ homology_reply command.field code
-IsTaskReply Convert command script code reply = reply ≡ convert_reply command.to code
-IsTaskReply Check command script code reply = reply ≡ check_reply code
-IsTaskReply Jones command script code reply = reply ≡ jones_reply code
-IsTaskReply Schedule command script code reply = IsScheduleReply command.field code script reply
+-- the reply of a task that reads a code to the code of a diagram
+abbrev pub IsCodeReply : Task → Command → Code → Reply → Type 0
+IsCodeReply Homology command code reply = reply ≡ homology_reply command.field code
+IsCodeReply Convert command code reply = reply ≡ convert_reply command.to code
+IsCodeReply Check command code reply = reply ≡ check_reply code
+IsCodeReply Jones command code reply = reply ≡ jones_reply code
+IsCodeReply _ command code reply = ⊥
 
--- the reply of a command to what the code in its input was read as, and to the text of a script
-abbrev pub IsReplyTo : Command → List ℕ → Result Code Reply → Reply → Type 0
-IsReplyTo command script (Ok code) reply = IsTaskReply command.task command script code reply
-IsReplyTo command script (Err refusal) reply = reply ≡ refusal
+-- the reply of a task that reads a code and a script to the text of the script and the code of a diagram
+abbrev pub IsScriptedReply : Task → Command → List ℕ → Code → Reply → Type 0
+IsScriptedReply Schedule command script code reply = IsScheduleReply command.field code script reply
+IsScriptedReply _ command script code reply = ⊥
 
--- bytes, not more than an input may have, are read as a diagram, with a script where the task wants one, or refused, and answered
-pub record IsReadReply (command : Command) (bytes : List ℕ) (reply : Reply) : Type 0 where
-  pub few : length bytes ≤ INPUT_BYTES
-  pub outcome : Result Code Reply
-  pub read : IsDiagramRead (code_in command.task bytes) outcome
-  pub answered : IsReplyTo command (script_part bytes) outcome reply
+-- the reply of a task to the bytes of an input, which hold what it reads
+abbrev pub IsIntakeReply : Intake → Task → Command → List ℕ → Reply → Type 0
+IsIntakeReply intakes.Code task command bytes reply = IsDiagramReply (IsCodeReply task command) bytes reply
+IsIntakeReply intakes.CodeAndScript task command bytes reply =
+    IsDiagramReply (IsScriptedReply task command (script_part bytes)) (code_part bytes) reply
+
+-- bytes are more than a limit, and refused for it; or they are not, and answered
+abbrev pub IsLimitedReply : Option ℕ → List ℕ → (Reply → Type 0) → Reply → Type 0
+IsLimitedReply None bytes Answers reply = Answers reply
+IsLimitedReply (Some limit) bytes Answers reply =
+    ((limit < length bytes) × (reply ≡ too_many_bytes limit)) ⊎ ((length bytes ≤ limit) × Answers reply)
 
 -- the reply of a command to the bytes of an input
 abbrev pub IsCommandReply : Command → List ℕ → Reply → Type 0
 IsCommandReply command bytes reply =
-    ((INPUT_BYTES < length bytes) × (reply ≡ too_many_bytes)) ⊎ IsReadReply command bytes reply
+    IsLimitedReply (byte_limit (intake_of command.task)) bytes (IsIntakeReply (intake_of command.task) command.task command bytes) reply
 
--- the reply to a command, if words give one, and the usage line if they do not
-abbrev pub IsAnswerOf : Option Command → List ℕ → Reply → Type 0
-IsAnswerOf None bytes reply = reply ≡ usage
-IsAnswerOf (Some command) bytes reply = IsCommandReply command bytes reply
-
--- the answer to words and to the bytes of an input
+-- the answer to words and to the bytes of an input: the reply of the command that the words mean, and the usage line where they
+-- mean none
 unfoldable pub IsAnswer : List (List ℕ) → List ℕ → Reply → Type 0
-IsAnswer words bytes reply = IsAnswerOf (command_of words) bytes reply
+IsAnswer words bytes reply =
+    ((command : Command) × IsCommand words command × IsCommandReply command bytes reply) ⊎ (IsUsage words × (reply ≡ usage))
+
+-- words read nothing: they mean no command, or one whose task reads nothing
+abbrev pub ReadsNothing : List (List ℕ) → Type 0
+ReadsNothing words = (command : Command) → IsCommand words command → byte_limit (intake_of command.task) ≡ None
+
+-- words read bytes up to a limit: the task of the command that they mean does
+pub record ReadsUpTo (words : List (List ℕ)) (limit : ℕ) : Type 0 where
+  pub command : Command
+  pub meant : IsCommand words command
+  pub limited : byte_limit (intake_of command.task) ≡ Some limit

@@ -1,14 +1,4 @@
-pub mod Statuses
-pub mod Replies
-pub mod Commands
-pub mod Refusals
-pub mod Parts
-pub mod Inputs
-pub mod InputStops
-pub mod Jones
 pub mod Homology
-pub mod Convert
-pub mod Check
 pub mod Schedule
 pub mod Answer
 pub mod Drafts

@@ -1,5 +1,5 @@
 -- The promises of a run.
-use Rattle.std.specs.Prelude.{◌≡◌, ◌≢◌, ◌⊎◌, ℕ, ℤ, ◌≤◌, List, ◌++◌, length, IfOk, IfSome, IsSome, IsTrue, None, OnOk, Some, Result, Ok, Err}
+use Rattle.std.specs.Prelude.{◌≡◌, ◌≢◌, ◌⊎◌, ℕ, ℤ, ◌≤◌, List, ◌++◌, length, IfOk, IfSome, IsTrue, OnOk, Some, Result, Ok, Err}
 use Rattle.std.specs.declared.option.Option.{Option}
 use Rattle.std.specs.Io.KnownBytes.{Appends}
 use Rattle.kh_types.specs.Acceptance.{accepted}
@@ -12,16 +12,15 @@ use Rattle.circle_smoothing.specs.declared.limits.TheConstants.{GENERATORS}
 use Rattle.kh_io.specs.Faults.{Rose}
 use Rattle.kh_work.specs.declared.answer.ReplyStop.{ReplyStop}
 use Rattle.kh_work.specs.declared.answer.ReplyStop.TheVariants as stops
-use Rattle.kh_work.specs.declared.command.Command.{Command}
-use Rattle.kh_work.specs.declared.command.Task.TheVariants.{Homology}
-use Rattle.kh_work.specs.declared.status.Status.{Status}
-use Rattle.kh_work.specs.declared.status.Status.TheVariants.{Done, Usage, ReadFault, WriteFault, NoMemory}
-use Rattle.kh_work.specs.Statuses.{IsWhole}
-use Rattle.kh_work.specs.Replies.{Reply}
-use Rattle.kh_work.specs.Commands.{command_of, size_of}
-use Rattle.kh_work.specs.Inputs.{IsCodeRead}
-use Rattle.kh_work.specs.Refusals.{usage}
-use Rattle.kh_work.specs.Answer.{IsAnswer}
+use Rattle.word_line.specs.declared.command.Command.{Command}
+use Rattle.word_line.specs.declared.command.Task.TheVariants.{Homology}
+use Rattle.word_line.specs.Commands.{IsCommand, IsUsage}
+use Rattle.kh_replies.specs.declared.status.Status.{Status}
+use Rattle.kh_replies.specs.declared.status.Status.TheVariants.{Done, Usage, ReadFault, WriteFault, NoMemory}
+use Rattle.kh_replies.specs.Statuses.{IsWhole}
+use Rattle.kh_replies.specs.Replies.{Reply}
+use Rattle.kh_replies.specs.Inputs.{IsCodeRead}
+use Rattle.kh_work.specs.Answer.{IsAnswer, ReadsNothing, ReadsUpTo}
 use Rattle.kh_work.specs.Told.{Gives, GivesPrefix, IsKnownAnswer, IsTaken, IsReadOut}
 
 -- what is known of a source or a sink at one moment: its bytes, those still to come or those written, and its count of faults
@@ -33,17 +32,21 @@ pub record Seen : Type 0 where
 abbrev pub seen : Option (List ℕ) → ℕ → Seen
 seen bytes faults = record { bytes = bytes; faults = faults }
 
+-- a reply is the answer to words, whatever the bytes of the input are
+abbrev pub IsBlindAnswer : List (List ℕ) → Reply → Type 0
+IsBlindAnswer words reply = (bytes : List ℕ) → IsAnswer words bytes reply
+
 -- a run with these words has come to a reply, or to a stop without one, before it writes; the source was as seen before and after
 -- it, and may be the same
 pub record IsReplied (words : List (List ℕ)) (source_before source_after : Seen) (same_source : Type 0)
     (made : Result Reply ReplyStop) : Type 0 where
   pub known : IfOk made (λ reply. IsKnownAnswer source_before.bytes words reply)
+  pub blind : ReadsNothing words → IfOk made (IsBlindAnswer words)
   pub whole : IfOk made (λ reply. IsWhole reply.status)
-  pub usage : command_of words ≡ None → IfOk made (λ reply. reply ≡ usage)
-  pub usage_only : IfOk made (λ reply. reply.status ≡ Usage → command_of words ≡ None)
-  pub unread : command_of words ≡ None → same_source
+  pub usage_only : IfOk made (λ reply. reply.status ≡ Usage → IsUsage words)
+  pub unread : ReadsNothing words → same_source
   pub taken : IsTaken source_before.bytes source_after.bytes
-  pub read_out : IsSome (command_of words) → OnOk made (IsReadOut source_before.bytes source_after.bytes)
+  pub read_out : (limit : ℕ) → ReadsUpTo words limit → OnOk made (IsReadOut limit source_before.bytes source_after.bytes)
   pub fault : made ≡ Err stops.ReadFault → Rose source_before.faults source_after.faults
 
 -- the status of a stop without a reply
@@ -60,19 +63,20 @@ IsWritten (Ok reply) before after same_sink status =
 IsWritten (Err stop) before after same_sink status = (status ≡ status_of stop) × same_sink
 
 -- a run with these words ended with this status; the source and the sink were as seen before and after it, and each may be the same
-pub record IsRun (words : List (List ℕ)) (source_before source_after sink_before sink_after : Seen) (same_source same_sink : Type 0)
-    (status : Status) : Type 0 where
+pub record IsProgramRun (words : List (List ℕ)) (source_before source_after sink_before sink_after : Seen)
+    (same_source same_sink : Type 0) (status : Status) : Type 0 where
   -- what is written is an answer, whole, and the status is its status
   pub answered : IsWhole status → IfSome source_before.bytes (λ bytes.
       (reply : Reply) × IsAnswer words bytes reply × Gives reply status sink_before.bytes sink_after.bytes)
-  -- words that give no command are answered so whether or not the source's bytes are known, and it is not read
-  pub usage_answered : command_of words ≡ None → IsWhole status → Gives usage status sink_before.bytes sink_after.bytes
-  pub usage_only : status ≡ Usage → command_of words ≡ None
-  pub unread : command_of words ≡ None → same_source
-  -- the source loses a prefix of its bytes, and a command that reads takes all, those beyond the byte limit excepted
+  -- words that read nothing are answered so whether or not the source's bytes are known, and it is not read
+  pub blind_answered : ReadsNothing words → IsWhole status
+      → (reply : Reply) × IsBlindAnswer words reply × Gives reply status sink_before.bytes sink_after.bytes
+  pub unread : ReadsNothing words → same_source
+  pub usage_only : status ≡ Usage → IsUsage words
+  -- the source loses a prefix of its bytes, and words that read take all, those beyond their limit excepted
   pub taken : IsTaken source_before.bytes source_after.bytes
-  pub read_out : IsSome (command_of words) → status ≢ ReadFault → status ≢ NoMemory
-      → IsReadOut source_before.bytes source_after.bytes
+  pub read_out : (limit : ℕ) → ReadsUpTo words limit → status ≢ ReadFault → status ≢ NoMemory
+      → IsReadOut limit source_before.bytes source_after.bytes
   -- a fault comes only where its count rose
   pub read_fault : status ≡ ReadFault → Rose source_before.faults source_after.faults
   pub write_fault : status ≡ WriteFault → Rose sink_before.faults sink_after.faults
@@ -80,7 +84,8 @@ pub record IsRun (words : List (List ℕ)) (source_before source_after sink_befo
   pub unwritten : (status ≡ ReadFault) ⊎ (status ≡ NoMemory) → same_sink
   pub prefix_written : status ≡ WriteFault → IfSome source_before.bytes (λ bytes.
       (reply : Reply) × IsAnswer words bytes reply × GivesPrefix reply sink_before.bytes sink_after.bytes)
-  pub usage_prefix : status ≡ WriteFault → command_of words ≡ None → GivesPrefix usage sink_before.bytes sink_after.bytes
+  pub blind_prefix : ReadsNothing words → status ≡ WriteFault
+      → (reply : Reply) × IsBlindAnswer words reply × GivesPrefix reply sink_before.bytes sink_after.bytes
   -- where no count rose, the answer is written, unless there was no memory
   pub complete : ¬ Rose source_before.faults source_after.faults → ¬ Rose sink_before.faults sink_after.faults
       → IsWhole status ⊎ (status ≡ NoMemory)
@@ -100,10 +105,10 @@ pub record IsAcceptedText (bytes : List ℕ) (code : Code) : Type 0 where
   pub few_crossings : length code.crossings ≤ CROSSINGS
   pub few_generators : generator_count code ≤ GENERATORS
 
--- a run whose words give `homology`, over an input that is the text of the code of an accepted diagram within the limits, writes its
--- homology over the field that the words name, unless a fault or want of memory ends it
+-- a run whose words mean `homology`, over an input that is the text of the code of an accepted diagram within the limits, writes its
+-- homology over the field that the command has, unless a fault or want of memory ends it
 abbrev pub KeepsHeadline : List (List ℕ) → Seen → Seen → Seen → Status → Type 0
 KeepsHeadline words source_before sink_before sink_after status =
-    (bytes : List ℕ) (command : Command) (code : Code) → source_before.bytes ≡ Some bytes → command_of words ≡ Some command
+    (bytes : List ℕ) (command : Command) (code : Code) → source_before.bytes ≡ Some bytes → IsCommand words command
     → command.task ≡ Homology → IsAcceptedText bytes code → IsWhole status
-    → HasWrittenHomology (size_of command.field) code status sink_before.bytes sink_after.bytes
+    → HasWrittenHomology command.field code status sink_before.bytes sink_after.bytes

@@ -6,7 +6,7 @@ use Rattle.std.specs.List.{flat_map, zip}
 use Rattle.kh_types.specs.Code.{Code}
 use Rattle.circle_smoothing.specs.GeneratorCounts.{generator_count}
 use Rattle.circle_smoothing.specs.declared.limits.TheConstants.{GENERATORS}
-use Rattle.shared_block.specs.declared.limits.TheConstants.{WORKERS}
+use Rattle.kh_types.specs.declared.limits.TheConstants.{WORKERS}
 use Rattle.undo_stack.specs.Schedule.{IsSchedule}
 use Rattle.undo_stack.specs.declared.schedule.ScheduleLine.{ScheduleLine}
 use Rattle.undo_stack.specs.declared.schedule.ScheduleLine.TheVariants as lines
@@ -17,11 +17,9 @@ use Rattle.commit_core.specs.declared.event.Event.{Event}
 use Rattle.commit_core.specs.declared.event.Event.TheVariants as events
 use Rattle.commit_core.specs.declared.answer.Answer.{Answer}
 use Rattle.commit_core.specs.declared.answer.Answer.TheVariants.{Looked, Zero, Committed, Stale, Idle, Forgot, NoBlock}
-use Rattle.kh_work.specs.declared.status.Status.TheVariants.{Done}
-use Rattle.kh_work.specs.declared.command.Field.{Field}
-use Rattle.kh_work.specs.Commands.{size_of}
-use Rattle.kh_work.specs.Replies.{Reply, reply_of}
-use Rattle.kh_work.specs.Refusals.{refused_line, too_many_generators, too_many_lines}
+use Rattle.kh_replies.specs.declared.status.Status.TheVariants.{Done}
+use Rattle.kh_replies.specs.Replies.{Reply, reply_of}
+use Rattle.kh_replies.specs.Refusals.{refused_line, too_many_generators, too_many_lines}
 use Rattle.kh_work.specs.Homology.{homology_text}
 
 -- what a line lets its worker do; a look has the hint 0
@@ -49,33 +47,33 @@ abbrev pub answer_line : ℕ × Answer → List ℕ
 answer_line (number, answer) = decimal number ++ (codes " " ++ (answer_text answer ++ codes "\n"))
 
 -- each answer with the number of the line of a script that it is to
-abbrev pub numbered : List (ℕ × ScheduleLine) → List Answer → List (ℕ × Answer)
-numbered script answers = map (λ pair. (pair.0.0, pair.1)) (zip script answers)
+abbrev pub numbered_answers : List (ℕ × ScheduleLine) → List Answer → List (ℕ × Answer)
+numbered_answers script answers = map (λ pair. (pair.0.0, pair.1)) (zip script answers)
 
 -- the lines of these
 abbrev pub answer_lines : List (ℕ × ScheduleLine) → List Answer → List ℕ
-answer_lines script answers = flat_map answer_line (numbered script answers)
+answer_lines script answers = flat_map answer_line (numbered_answers script answers)
 
 -- the lines of what the core answers over a field, whose workers are as many as there may be, and behind them the text of `homology`
-unfoldable pub schedule_text : Field → Code → List (ℕ × ScheduleLine) → List ℕ
+unfoldable pub schedule_text : ℕ → Code → List (ℕ × ScheduleLine) → List ℕ
 schedule_text field code script =
-    answer_lines script (answers (size_of field) code WORKERS (events_of script)) ++ homology_text field code
+    answer_lines script (answers field code WORKERS (events_of script)) ++ homology_text field code
 
 -- this text, where the cube has few enough generators
-abbrev pub schedule_reply : Field → Code → List (ℕ × ScheduleLine) → Reply
+abbrev pub schedule_reply : ℕ → Code → List (ℕ × ScheduleLine) → Reply
 schedule_reply field code script =
     if nat_lt GENERATORS (generator_count code) then too_many_generators (generator_count code)
     else reply_of Done (schedule_text field code script)
 
 -- the reply to what the script was read as
-abbrev pub IsScriptReply : Field → Code → Result (List (ℕ × ScheduleLine)) ScriptStop → Reply → Type 0
+abbrev pub IsScriptReply : ℕ → Code → Result (List (ℕ × ScheduleLine)) ScriptStop → Reply → Type 0
 IsScriptReply field code (Ok script) reply = reply ≡ schedule_reply field code script
 IsScriptReply field code (Err (stops.LineLimit count)) reply = reply ≡ too_many_lines count
 IsScriptReply field code (Err (stops.Line line)) reply = reply ≡ refused_line line
 IsScriptReply field code (Err stops.NoMemory) reply = ⊥
 
 -- the text of a script is read as a schedule, and that is answered
-pub record IsScheduleReply (field : Field) (code : Code) (text : List ℕ) (reply : Reply) : Type 0 where
+pub record IsScheduleReply (field : ℕ) (code : Code) (text : List ℕ) (reply : Reply) : Type 0 where
   pub reading : Result (List (ℕ × ScheduleLine)) ScriptStop
   pub read : IsSchedule text reading
   pub answered : IsScriptReply field code reading reply

@@ -2,10 +2,9 @@
 use Rattle.std.specs.Prelude.{◌≡◌, ℕ, ◌≤◌, List, length, take, IfSome}
 use Rattle.std.specs.declared.option.Option.{Option}
 use Rattle.std.specs.Io.KnownBytes.{Appends, Consumes, IsAtEnd}
-use Rattle.kh_types.specs.declared.limits.TheConstants.{INPUT_BYTES}
-use Rattle.kh_work.specs.declared.status.Status.{Status}
-use Rattle.kh_work.specs.declared.command.Command.{Command}
-use Rattle.kh_work.specs.Replies.{Reply}
+use Rattle.kh_replies.specs.declared.status.Status.{Status}
+use Rattle.word_line.specs.declared.command.Command.{Command}
+use Rattle.kh_replies.specs.Replies.{Reply}
 use Rattle.kh_work.specs.Answer.{IsAnswer, IsCommandReply}
 
 -- a reply is the answer to the words and the bytes that a source had left, where these are known
@@ -31,6 +30,6 @@ pub record IsTaken (before after : Option (List ℕ)) : Type 0 where
   pub bytes : List ℕ
   pub taken : Consumes before after bytes
 
--- a source that had no more bytes than an input may have is read to its end, where its bytes are known
-pub record IsReadOut (before after : Option (List ℕ)) : Type 0 where
-  pub read : IfSome before (λ bytes. length bytes ≤ INPUT_BYTES → IsAtEnd after)
+-- a source that had no more bytes than a limit is read to its end, where its bytes are known
+pub record IsReadOut (limit : ℕ) (before after : Option (List ℕ)) : Type 0 where
+  pub read : IfSome before (λ bytes. length bytes ≤ limit → IsAtEnd after)

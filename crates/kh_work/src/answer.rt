@@ -1,27 +1,28 @@
 //! From words and the bytes of a source to a draft of the reply.
 
-ghost use Rattle.std.specs.Prelude.{◌≡◌, ◌≢◌, ◌≤◌, length, IfOk, IsSome, OnOk, Ok, Err, None};
+ghost use Rattle.std.specs.Prelude.{◌≡◌, ◌≤◌, ℕ, length, IfOk, OnOk, Err};
 ghost use Rattle.kh_io.specs.Faults.{Rose};
-ghost use Rattle.kh_work.specs.Commands.{AreWorkers, command_of};
-ghost use Rattle.kh_work.specs.Refusals.{usage};
-ghost use Rattle.kh_work.specs.Answer.{IsTaskReply, IsCommandReply};
+ghost use Rattle.kh_replies.specs.Intakes.{intake_of};
+ghost use Rattle.kh_replies.specs.Statuses.{IsReplyStatus, IsWhole};
+ghost use Rattle.kh_replies.specs.DiagramReplies.{IsDiagramReply};
+ghost use Rattle.kh_replies.specs.Parts.{code_part, script_part};
+ghost use Rattle.kh_work.specs.Answer.{IsCodeReply, IsCommandReply, IsIntakeReply, IsScriptedReply, ReadsNothing, ReadsUpTo};
 ghost use Rattle.kh_work.specs.Drafts.{IsReady, reply_in};
-ghost use Rattle.kh_work.specs.Parts.{code_in, script_part};
-ghost use Rattle.kh_work.specs.Statuses.{IsWhole};
+ghost use Rattle.kh_work.specs.Runs.{IsBlindAnswer};
 ghost use Rattle.kh_work.specs.Told.{IsKnownAnswer, IsKnownReply, IsTaken, IsReadOut};
+ghost use Rattle.word_line.specs.Commands.{IsUsage};
+ghost use Rattle.word_line.specs.Values.{AreWorkers, IsFieldSize};
 
-use crate::command::{Command, Task, command_of};
-use crate::commands::{
-    draft_of_homology, reply_to_check, reply_to_convert, reply_to_jones, reply_to_schedule,
-};
+use crate::commands::{draft_of_homology, reply_to_schedule};
 use crate::draft::Draft;
-use crate::input::{InputStop, read_diagram};
-use crate::parts::{code_in, script_part};
-use crate::refusals::{too_many_bytes, usage};
-use crate::status::Status;
 use kh_io::{ReadStop, Source, read_all};
+use kh_replies::{
+    InputStop, Intake, Status, code_part, intake_of, read_diagram, reply_to_check,
+    reply_to_convert, reply_to_jones, script_part, too_many_bytes, usage,
+};
 use kh_types::{Diagram, INPUT_BYTES, NoMemory, Words};
 use std::alloc::Global;
+use word_line::{Command, Task, WordStop, read_words};
 
 /// Why there is no reply.
 #[derive(Clone, Copy, Debug, PartialEq, Eq)]
@@ -42,25 +43,27 @@ impl From<NoMemory> for ReplyStop {
     }
 }
 
-/// A draft of the reply to words and a source, which is read where the words give a command.
+/// A draft of the reply to words and a source, which is read where the words mean a command that reads.
 pub fn draft_to<S: Source>(alloc: Global, words: &Words, source: &mut S) -> Result<Draft, ReplyStop>
     ensures known { IfOk result (λ draft.
         IsKnownAnswer (S.left source.old) words.now (reply_in draft)) }
+    ensures blind { ReadsNothing words.now
+        → IfOk result (λ draft. IsBlindAnswer words.now (reply_in draft)) }
     ensures ready { IfOk result IsReady }
     ensures whole { IfOk result (λ draft. IsWhole (reply_in draft).status) }
-    ensures usage { command_of words.now ≡ None → IfOk result (λ draft. reply_in draft ≡ usage) }
-    ensures unread { command_of words.now ≡ None → source.new ≡ source.old }
-    ensures taken { IsTaken (S.left source.old) (S.left source.new) }
-    ensures read_out { IsSome (command_of words.now)
-        → OnOk result (IsReadOut (S.left source.old) (S.left source.new)) }
     ensures usage_only { IfOk result (λ draft.
-        (reply_in draft).status ≡ Status.Usage → command_of words.now ≡ None) }
+        (reply_in draft).status ≡ Status.Usage → IsUsage words.now) }
+    ensures unread { ReadsNothing words.now → source.new ≡ source.old }
+    ensures taken { IsTaken (S.left source.old) (S.left source.new) }
+    ensures read_out { (limit : ℕ) → ReadsUpTo words.now limit
+        → OnOk result (IsReadOut limit (S.left source.old) (S.left source.new)) }
     ensures fault { result ≡ Err ReplyStop.ReadFault
         → Rose (S.faults source.old) (S.faults source.new) }
 {
-    match command_of(words) {
-        Some(command) => draft_to_source(alloc, command, source),
-        None => Ok(Draft::Made(usage(alloc)?)),
+    match read_words(alloc, words) {
+        Ok(command) => draft_to_source(alloc, command, source),
+        Err(WordStop::Usage) => Ok(Draft::Made(usage(alloc)?)),
+        Err(WordStop::NoMemory) => Err(ReplyStop::NoMemory),
     }
 }
 
@@ -70,52 +73,66 @@ fn draft_to_source<S: Source>(
     command: Command,
     source: &mut S,
 ) -> Result<Draft, ReplyStop>
-    requires { AreWorkers command.workers }
+    requires workers { AreWorkers command.workers }
+    requires field { IsFieldSize command.field }
     ensures known { IfOk result (λ draft.
         IsKnownReply (S.left source.old) command (reply_in draft)) }
     ensures ready { IfOk result IsReady }
-    ensures whole { IfOk result (λ draft. IsWhole (reply_in draft).status) }
-    ensures no_usage { IfOk result (λ draft. (reply_in draft).status ≢ Status.Usage) }
+    ensures status { IfOk result (λ draft. IsReplyStatus (reply_in draft).status) }
     ensures taken { IsTaken (S.left source.old) (S.left source.new) }
-    ensures read_out { OnOk result (IsReadOut (S.left source.old) (S.left source.new)) }
+    ensures read_out { OnOk result (IsReadOut INPUT_BYTES (S.left source.old) (S.left source.new)) }
     ensures fault { result ≡ Err ReplyStop.ReadFault
         → Rose (S.faults source.old) (S.faults source.new) }
 {
     match read_all(alloc, source) {
         Ok(bytes) => Ok(draft_to_bytes(alloc, command, &bytes)?),
-        Err(ReadStop::ByteLimit) => Ok(Draft::Made(too_many_bytes(alloc)?)),
+        Err(ReadStop::ByteLimit) => Ok(Draft::Made(too_many_bytes(alloc, INPUT_BYTES as u32)?)),
         Err(ReadStop::Fault) => Err(ReplyStop::ReadFault),
         Err(ReadStop::NoMemory) => Err(ReplyStop::NoMemory),
     }
 }
 
-// A draft of the reply of a command to the bytes of an input.
+// A draft of the reply of a command to the bytes of an input, by what its task reads.
 fn draft_to_bytes(alloc: Global, command: Command, bytes: &[u8]) -> Result<Draft, NoMemory>
     requires few { length bytes.now ≤ INPUT_BYTES }
     requires workers { AreWorkers command.workers }
+    requires field { IsFieldSize command.field }
     ensures known { IfOk result (λ draft. IsCommandReply command bytes.now (reply_in draft)) }
     ensures ready { IfOk result IsReady }
-    ensures whole { IfOk result (λ draft. IsWhole (reply_in draft).status) }
-    ensures no_usage { IfOk result (λ draft. (reply_in draft).status ≢ Status.Usage) }
+    ensures status { IfOk result (λ draft. IsReplyStatus (reply_in draft).status) }
 {
-    match read_diagram(alloc, code_in(command.task, bytes)) {
-        Ok(diagram) => draft_to_diagram(alloc, command, &diagram, script_part(bytes)),
+    match intake_of(command.task) {
+        Intake::Code => draft_to_code(alloc, command, bytes),
+        Intake::CodeAndScript => {
+            draft_to_script(alloc, command, code_part(bytes), script_part(bytes))
+        }
+    }
+}
+
+// A draft of the reply of a command that reads a code to the text of one.
+fn draft_to_code(alloc: Global, command: Command, text: &[u8]) -> Result<Draft, NoMemory>
+    requires few { length text.now ≤ INPUT_BYTES }
+    requires workers { AreWorkers command.workers }
+    requires field { IsFieldSize command.field }
+    requires intake { intake_of command.task ≡ Intake.Code }
+    ensures known { IfOk result (λ draft.
+        IsDiagramReply (IsCodeReply command.task command) text.now (reply_in draft)) }
+    ensures ready { IfOk result IsReady }
+{
+    match read_diagram(alloc, text) {
+        Ok(diagram) => draft_to_diagram(alloc, command, &diagram),
         Err(InputStop::Refused(reply)) => Ok(Draft::Made(reply)),
         Err(InputStop::NoMemory) => Err(NoMemory),
     }
 }
 
-// A draft of the reply of a command to a diagram, and to the text of a script.
-fn draft_to_diagram(
-    alloc: Global,
-    command: Command,
-    diagram: &Diagram,
-    script: &[u8],
-) -> Result<Draft, NoMemory>
-    requires few { length script.now ≤ INPUT_BYTES }
+// A draft of the reply of a command that reads a code to a diagram.
+fn draft_to_diagram(alloc: Global, command: Command, diagram: &Diagram) -> Result<Draft, NoMemory>
     requires workers { AreWorkers command.workers }
+    requires field { IsFieldSize command.field }
+    requires intake { intake_of command.task ≡ Intake.Code }
     ensures known { IfOk result (λ draft.
-        IsTaskReply command.task command script.now diagram.now (reply_in draft)) }
+        IsCodeReply command.task command diagram.now (reply_in draft)) }
     ensures ready { IfOk result IsReady }
 {
     match command.task {
@@ -123,11 +140,53 @@ fn draft_to_diagram(
         Task::Convert => Ok(Draft::Made(reply_to_convert(alloc, command.to, diagram)?)),
         Task::Check => Ok(Draft::Made(reply_to_check(alloc, diagram)?)),
         Task::Jones => Ok(Draft::Made(reply_to_jones(alloc, diagram)?)),
+        Task::Schedule => unreachable!(),
+    }
+}
+
+// A draft of the reply of a command that reads a code and a script to the texts of both.
+fn draft_to_script(
+    alloc: Global,
+    command: Command,
+    text: &[u8],
+    script: &[u8],
+) -> Result<Draft, NoMemory>
+    requires few { length text.now ≤ INPUT_BYTES }
+    requires short { length script.now ≤ INPUT_BYTES }
+    requires field { IsFieldSize command.field }
+    requires intake { intake_of command.task ≡ Intake.CodeAndScript }
+    ensures known { IfOk result (λ draft.
+        IsDiagramReply (IsScriptedReply command.task command script.now) text.now (reply_in draft)) }
+    ensures ready { IfOk result IsReady }
+{
+    match read_diagram(alloc, text) {
+        Ok(diagram) => draft_to_scripted(alloc, command, &diagram, script),
+        Err(InputStop::Refused(reply)) => Ok(Draft::Made(reply)),
+        Err(InputStop::NoMemory) => Err(NoMemory),
+    }
+}
+
+// A draft of the reply of a command that reads a code and a script to a diagram and the text of a script.
+fn draft_to_scripted(
+    alloc: Global,
+    command: Command,
+    diagram: &Diagram,
+    script: &[u8],
+) -> Result<Draft, NoMemory>
+    requires short { length script.now ≤ INPUT_BYTES }
+    requires field { IsFieldSize command.field }
+    requires intake { intake_of command.task ≡ Intake.CodeAndScript }
+    ensures known { IfOk result (λ draft.
+        IsScriptedReply command.task command script.now diagram.now (reply_in draft)) }
+    ensures ready { IfOk result IsReady }
+{
+    match command.task {
         Task::Schedule => Ok(Draft::Made(reply_to_schedule(
             alloc,
             command.field,
             diagram,
             script,
         )?)),
+        Task::Homology | Task::Convert | Task::Check | Task::Jones => unreachable!(),
     }
 }

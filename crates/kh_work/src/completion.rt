@@ -5,8 +5,8 @@ ghost use Rattle.kh_work.specs.Drafts.{IsReady, reply_in};
 
 use crate::commands::reply_with_table;
 use crate::draft::Draft;
-use crate::reply::Reply;
 use crate::tables::{table_alone, table_by};
+use kh_replies::Reply;
 use kh_types::NoMemory;
 use std::alloc::Global;
 use std::sync::Wait;

@@ -1,7 +1,6 @@
 //! Drafts of replies.
 
-use crate::command::Field;
-use crate::reply::Reply;
+use kh_replies::Reply;
 use kh_types::Diagram;
 
 /// A reply, or what it is to be made of.
@@ -9,9 +8,9 @@ use kh_types::Diagram;
 pub enum Draft {
     /// The reply is made.
     Made(Reply),
-    /// The homology table of a diagram is still to be made, by so many workers.
+    /// The homology table of a diagram over a field, by its number of elements, is still to be made, by so many workers.
     Table {
-        field: Field,
+        field: u8,
         workers: u32,
         diagram: Diagram,
     },

@@ -2,26 +2,18 @@
 #![tactic(auto)]
 
 mod answer;
-mod command;
 mod commands;
 mod completion;
 mod draft;
-mod input;
 mod laws;
-mod parts;
-mod refusals;
-mod reply;
-mod status;
 mod tables;
-#[cfg(test)]
-mod tests;
 mod top;
 
+pub use kh_replies::Status;
 pub use laws::{
     accepted_diagrams_are_answered_by_their_polynomial,
     accepted_diagrams_are_answered_by_their_schedule,
     accepted_diagrams_are_answered_by_their_table, jones_line_is_the_euler_characteristic,
     one_answer, workers_do_not_change_answers,
 };
-pub use status::Status;
 pub use top::{run, run_alone};

@@ -1,21 +1,20 @@
 //! The top calls: they read, answer and write.
 
 ghost use Rattle.std.specs.Prelude.{◌≡◌};
-ghost use Rattle.kh_work.specs.Runs.{IsReplied, IsRun, IsWritten, KeepsHeadline, seen};
+ghost use Rattle.kh_work.specs.Runs.{IsProgramRun, IsReplied, IsWritten, KeepsHeadline, seen};
 
 use crate::answer::{ReplyStop, draft_to};
 use crate::completion::{completed_alone, completed_by};
-use crate::reply::Reply;
-use crate::status::Status;
 use kh_io::{Sink, Source, write_all};
+use kh_replies::{Reply, Status};
 use kh_types::Words;
 use std::alloc::Global;
 use std::sync::Wait;
 use std::thread::Threads;
 use worker_pool::Gate;
 
-/// Does all that the program does: takes the words after the program's name, reads the source to its end where they give a
-/// command, makes the whole answer, and writes it. Answers how the run ended. Only `homology` with more than one worker starts
+/// Does all that the program does: takes the words after the program's name, reads the source to its end where they mean a
+/// command that reads, makes the whole answer, and writes it. Answers how the run ended. Only `homology` with more than one worker starts
 /// threads and may wait; its workers call the gate in each of their turns. Source: this project's rule.
 pub fn run<R: Threads + Wait + Sync, S: Source, K: Sink, G: Gate + Sync>(
     rt: &R,
@@ -25,7 +24,7 @@ pub fn run<R: Threads + Wait + Sync, S: Source, K: Sink, G: Gate + Sync>(
     sink: &mut K,
     gate: &G,
 ) -> Status
-    ensures run { IsRun words.now
+    ensures run { IsProgramRun words.now
         (seen (S.left source.old) (S.faults source.old)) (seen (S.left source.new) (S.faults source.new))
         (seen (K.written sink.old) (K.faults sink.old)) (seen (K.written sink.new) (K.faults sink.new))
         (source.new ≡ source.old) (sink.new ≡ sink.old) result }
@@ -43,7 +42,7 @@ pub fn run_alone<S: Source, K: Sink>(
     source: &mut S,
     sink: &mut K,
 ) -> Status
-    ensures run { IsRun words.now
+    ensures run { IsProgramRun words.now
         (seen (S.left source.old) (S.faults source.old)) (seen (S.left source.new) (S.faults source.new))
         (seen (K.written sink.old) (K.faults sink.old)) (seen (K.written sink.new) (K.faults sink.new))
         (source.new ≡ source.old) (sink.new ≡ sink.old) result }
@@ -87,8 +86,8 @@ fn written<K: Sink>(sink: &mut K, made: Result<Reply, ReplyStop>) -> Status
         (sink.new ≡ sink.old) result }
 {
     match made {
-        Ok(reply) => match write_all(sink, reply.text.as_slice()) {
-            Ok(()) => reply.status,
+        Ok(reply) => match write_all(sink, reply.bytes()) {
+            Ok(()) => reply.status(),
             Err(_) => Status::WriteFault,
         },
         Err(ReplyStop::ReadFault) => Status::ReadFault,

@@ -14,7 +14,8 @@ use Rattle.kh_types.specs.Acceptance.{accepted}
 use Rattle.kh_types.proofs.Lists.{Contains-filter}
 use Rattle.kh_types.proofs.NextArcs.{HasPlace-directed, component-inside, component-next, next-injective}
 use Rattle.orient_arcs.specs.Numbers.{component_number, first_arc, end_of, GoesRound}
-use Rattle.orient_arcs.proofs.ComponentLemmas.{IsDirected-accepted, IsFirstOf-directed, components_size}
+use Rattle.code_passes.proofs.LeastArcs.{IsFirstOf-directed, components_size}
+use Rattle.orient_arcs.proofs.ComponentLemmas.{IsDirected-accepted}
 
 -- a number of a range that passes a test
 pub record Passes (p : ℕ → Bool) (a n x : ℕ) : Type 0 where

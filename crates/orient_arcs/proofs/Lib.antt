@@ -1,2 +1,17 @@
 pub mod ComponentLemmas
 pub mod FirstArcs
+pub mod Members
+pub mod Walks
+pub mod AllComponents
+pub mod PairedPasses
+pub mod Labels
+pub mod Bridge
+pub mod Ordered
+pub mod DartSmoothings
+pub mod AlikeCrossings
+pub mod PairedCodes
+pub mod AcceptedParts
+pub mod StepLemmas
+pub mod ComponentSteps
+pub mod OwnNumbers
+pub mod PairedAlike

@@ -1,5 +1,9 @@
 //! Laws of the definitions: each is the contract of a function that does nothing, proved with the crate.
 
+pub mod alike;
+pub mod renumbered;
+pub mod worked;
+
 ghost use Rattle.std.specs.Prelude.{◌≡◌, ◌↔◌, ℕ, ◌+◌, ◌<◌, ◌≤◌, List, [], ◌∷◌, IsTrue};
 ghost use Rattle.kh_types.specs.Code.{Code, IsArc};
 ghost use Rattle.kh_types.specs.Components.{components_of, component_of, component_count, first_arcs, arcs_in, next};

@@ -1,11 +1,14 @@
-//! The components of a diagram, numbered by their least arcs, and the arc that follows an arc along the orientation.
+//! The components of a diagram, numbered by their least arcs, the arc that follows an arc along the orientation, and renumbering:
+//! crossings over any names of arcs, with directions, as a code.
 #![tactic(auto)]
 
 pub mod laws;
 mod numbered;
 mod of_diagram;
-#[cfg(test)]
-mod tests;
+mod parts;
+mod renumbering;
 
 pub use numbered::Components;
 pub use of_diagram::{components, next};
+pub use parts::Parts;
+pub use renumbering::renumber;

@@ -33,20 +33,20 @@ impl Model for Components {
 
     ghost Value = { Code };
 
-    ghost use Rattle.orient_arcs.specs.Inside.{code_of_components, IsComponents, inside_of, inside_of-code_of_components};
+    ghost use Rattle.orient_arcs.specs.Inside.{code_of_components, IsComponents, inside_of_components, inside_of_components-code};
 
     ghost view = { code_of_components };
 
     ghost invariant = { IsComponents };
 
-    ghost inverse = { inside_of };
+    ghost inverse = { inside_of_components };
 
-    ghost inverse_ok = { inside_of-code_of_components };
+    ghost inverse_ok = { inside_of_components-code };
 }
 
 impl Components {
     /// The components of a diagram.
-    #[tactic(auto, using(crate::proofs::ComponentLemmas::components_size))]
+    #[tactic(auto, using(code_passes::proofs::LeastArcs::components_size))]
     pub(crate) fn of_diagram(diagram: &Diagram) -> Components
         ensures { result ≡ diagram.now }
     {

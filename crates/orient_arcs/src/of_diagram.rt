@@ -16,7 +16,7 @@ pub fn components(diagram: &Diagram) -> Components
 
 /// The arc that follows an arc along the orientation: after the last arc of a component comes its first, and after any other arc
 /// the next number. Arcs are 1 to twice the number of crossings. Source: Knot Atlas, "Planar Diagrams".
-#[tactic(auto, using(crate::proofs::ComponentLemmas::components_size))]
+#[tactic(auto, using(code_passes::proofs::LeastArcs::components_size))]
 pub fn next(diagram: &Diagram, arc: u8) -> u8
     requires { IsArc diagram.now.crossings arc }
     ensures follows { result ≡ next diagram.now.crossings arc }

@@ -8,12 +8,11 @@ use Rattle.kh_types.specs.Complex.{Degree, Pivot, IsPivot, cancel, degree_number
 use Rattle.kh_types.specs.Generators.{Generator}
 use Rattle.kh_types.proofs.CancelLemmas.{degrees-cancel}
 use Rattle.prime_field.specs.Residues.{IsField}
-use Rattle.smallvec.specs.SmallVec.{SmallVec}
 use Rattle.sparse_block.specs.declared.entry.Entry.{Entry}
 use Rattle.sparse_block.specs.Clearing.{crossed_out, crossed_out_before, emptied, emptied_before, with_dead}
 use Rattle.sparse_block.specs.Complexes.{NamedComplex, column_in, place_count}
 use Rattle.sparse_block.specs.Entries.{entries_of}
-use Rattle.sparse_block.specs.Inside.{IsKept, lines_in, lists_in}
+use Rattle.sparse_block.specs.Inside.{IsKept, lists_in}
 use Rattle.sparse_block.proofs.CancelledComplexes.{complex-cancel, degree_of-number, places_number-cancel}
 use Rattle.sparse_block.proofs.CancelledLists.{HaveOwn}
 use Rattle.sparse_block.proofs.ClearedLists.{SameSizes, crossed_out-sizes, emptied-sizes, lines_at}
@@ -131,18 +130,18 @@ module _ {p : ℕ} {low : ℤ} {names : List (List Generator)} {alive : List (Li
 
   -- the same of what is written over the vectors in memory
   pub held-written : (alive_len columns_len rows_len : ℕ) (alive_now alive_rest : List (Vec Bool))
-      (columns_now columns_rest rows_now rows_rest : List (Vec (SmallVec Entry)))
+      (columns_now columns_rest rows_now rows_rest : List (List (List Entry)))
       → length alive_now ≡ alive_len → length columns_now ≡ columns_len → length rows_now ≡ rows_len
       → lists_in alive_now ≡ with_dead (k + 1) pivot.row (with_dead k pivot.column alive)
-      → lines_in columns_now ≡ emptied (k + 1) pivot.row (crossed_out_before k pivot.column columns_after)
-      → lines_in rows_now ≡ crossed_out (k + 1) pivot.row (emptied_before k pivot.column rows_after)
+      → columns_now ≡ emptied (k + 1) pivot.row (crossed_out_before k pivot.column columns_after)
+      → rows_now ≡ crossed_out (k + 1) pivot.row (emptied_before k pivot.column rows_after)
       → IsHeldAs p low names (lists_in (take alive_len (alive_now ++ alive_rest)))
-      (lines_in (take columns_len (columns_now ++ columns_rest))) (lines_in (take rows_len (rows_now ++ rows_rest)))
+      (take columns_len (columns_now ++ columns_rest)) (take rows_len (rows_now ++ rows_rest))
       (cancel p named.complex pivot)
   held-written alive_len columns_len rows_len alive_now alive_rest columns_now columns_rest rows_now rows_rest alive_size
       columns_size rows_size are_alive are_columns are_rows =
       held-cancelled (lists_in (take alive_len (alive_now ++ alive_rest)))
-      (lines_in (take columns_len (columns_now ++ columns_rest))) (lines_in (take rows_len (rows_now ++ rows_rest)))
+      (take columns_len (columns_now ++ columns_rest)) (take rows_len (rows_now ++ rows_rest))
       (ap lists_in (taken-whole alive_len alive_now alive_rest alive_size) ∙ are_alive)
-      (ap lines_in (taken-whole columns_len columns_now columns_rest columns_size) ∙ are_columns)
-      (ap lines_in (taken-whole rows_len rows_now rows_rest rows_size) ∙ are_rows)
+      (taken-whole columns_len columns_now columns_rest columns_size ∙ are_columns)
+      (taken-whole rows_len rows_now rows_rest rows_size ∙ are_rows)

@@ -11,7 +11,9 @@ use Rattle.sparse_block.specs.declared.entry.Entry.{Entry}
 use Rattle.sparse_block.specs.Clearing.{AreCrossed, CanClear}
 use Rattle.sparse_block.specs.Complexes.{NamedComplex, column_of, place_count, row_of}
 use Rattle.sparse_block.specs.Entries.{AreEntries, entries_of, value_at}
+use Rattle.sparse_block.specs.Held.{no_entries}
 use Rattle.sparse_block.specs.Inside.{IsKept}
+use Rattle.sparse_block.proofs.FilledLines.{some-entries}
 use Rattle.sparse_block.proofs.ClearedLists.{SameSizes, can_clear-kept, crossed-swapped, line_at, lines_at}
 use Rattle.sparse_block.proofs.ComplexMatrices.{StandsAt, entry-stands}
 use Rattle.sparse_block.proofs.KeptLemmas.{IsSeen, column-at, complex-seen, degree-at, length-column, length-columns, length-row, length-rows, places-at, places-below, row-at, within-alive}
@@ -178,6 +180,28 @@ module _ {p : ℕ} {low : ℤ} {names : List (List Generator)} {alive : List (Li
     pub row_place : pivot.row < length (lines_at rows k)
     row_place =
         omega (arith, stands.row_place, length-row kept seen pivot.degree k is_distance (omega (arith, k-within)))
+
+    -- the pivot's column and its row have an entry
+
+    pub some-columns : no_entries (lines_at columns k) ≡ false
+    some-columns =
+        some-entries (lines_at columns k) pivot.column pivot.row
+        (λ none.
+        is_pivot
+        (sym (value-column named.complex pivot.degree pivot.column pivot.row)
+        ∙ ap (λ (es : List Entry). value_at es pivot.row)
+        (sym (column-at kept seen pivot.degree k pivot.column is_distance (omega (arith, k-within)) stands.column_place))
+        ∙ none))
+
+    pub some-rows : no_entries (lines_at rows k) ≡ false
+    some-rows =
+        some-entries (lines_at rows k) pivot.row pivot.column
+        (λ none.
+        is_pivot
+        (sym (value-row named.complex pivot.degree pivot.row pivot.column)
+        ∙ ap (λ (es : List Entry). value_at es pivot.column)
+        (sym (row-at kept seen pivot.degree k pivot.row is_distance (omega (arith, k-within))))
+        ∙ none))
 
     -- what may be cleared
 

@@ -3,10 +3,10 @@ use Rattle.std.proofs.Common.{◌≡◌, ℕ, zero, suc, ◌+◌, ◌<◌, ◌�
 use Rattle.std.specs.Prelude.{slice_index_or, All}
 use Rattle.std.specs.Global.{Vec}
 use Rattle.std.specs.List.{Contains}
-use Rattle.std.specs.Vec.{with_item, with_items}
+use Rattle.std.specs.Vec.{with_item}
 use Rattle.std.proofs.Math.ListN as plain
 use Rattle.std.proofs.lemmas.Bool.Decides.{eqb_tells}
-use Rattle.std.proofs.lemmas.List.{get_or-map, get_or-set_other, get_or-set_same, length-map, length-set, map-set, take-append-le, take_all, with_items_is}
+use Rattle.std.proofs.lemmas.List.{get_or-map, get_or-set_other, get_or-set_same, length-map, length-set, map-set, take-append-le, take_all}
 use Rattle.std.proofs.lemmas.List.Elements.{All-contains, Contains-append_right}
 use Rattle.std.proofs.lemmas.List.FromFn.{fill_by_all}
 use Rattle.smallvec.specs.SmallVec.{SmallVec}
@@ -14,7 +14,7 @@ use Rattle.sparse_block.specs.declared.entry.Entry.{Entry}
 use Rattle.sparse_block.specs.Changes.{PlacedLine, placed, places_of}
 use Rattle.sparse_block.specs.Clearing.{AreExchanged, with_dead, without}
 use Rattle.sparse_block.specs.Entries.{AreEntries, value_at}
-use Rattle.sparse_block.specs.Inside.{entries_in, lines_in, lists_in}
+use Rattle.sparse_block.specs.Inside.{entries_in, lists_in}
 use Rattle.sparse_block.proofs.AscendingLemmas.{entries-ascend}
 use Rattle.sparse_block.proofs.EntryLemmas.{IsNew, value_at-more, value_at-new}
 use Rattle.sparse_block.proofs.LineLemmas.{items}
@@ -77,35 +77,6 @@ exchanged-more line done initial before after within so_far put =
           ];
     }
 
--- one line or one list of lines in memory changes
-
-pub entries_in-set : (lines : List (SmallVec Entry)) (k : ℕ) (line : SmallVec Entry) (entries : List Entry)
-    → line.items ≡ entries → entries_in (set lines k line) ≡ set (entries_in lines) k entries
-entries_in-set lines k line entries are = map-set items lines k line ∙ ap (set (entries_in lines) k) are
-
-pub line-got : (lines : List (SmallVec Entry)) (k : ℕ) (d : SmallVec Entry) → k < length lines
-    → (get_or lines k d).items ≡ slice_index_or (entries_in lines) k []
-line-got lines k d within = sym (get_or-map items lines k d [] within)
-
-abbrev entries_of_degree : Vec (SmallVec Entry) → List (List Entry)
-entries_of_degree degree = entries_in degree.items
-
-pub lines-got : (degrees : List (Vec (SmallVec Entry))) (k : ℕ) (d : Vec (SmallVec Entry)) → k < length (lines_in degrees)
-    → entries_in (get_or degrees k d).items ≡ slice_index_or (lines_in degrees) k []
-lines-got degrees k d within =
-    sym (get_or-map entries_of_degree degrees k d [] (omega (arith, within, length-map degrees entries_of_degree)))
-
-pub lines_in-set : (degrees : List (Vec (SmallVec Entry))) (k : ℕ) (degree : Vec (SmallVec Entry))
-    → lines_in (set degrees k degree) ≡ set (lines_in degrees) k (entries_in degree.items)
-lines_in-set degrees k degree = map-set entries_of_degree degrees k degree
-
--- the lines of a degree, written over
-pub lines_in-written : (degrees : List (Vec (SmallVec Entry))) (k : ℕ) (old : Vec (SmallVec Entry)) (lines : List (SmallVec Entry))
-    → length lines ≡ old.len → lines_in (set degrees k (with_items old lines)) ≡ set (lines_in degrees) k (entries_in lines)
-lines_in-written degrees k old lines size =
-    lines_in-set degrees k (with_items old lines) ∙ ap (λ (lines : List (SmallVec Entry)). set (lines_in degrees) k (entries_in lines))
-    (with_items_is old lines size)
-
 -- a vector that was written over by as many elements
 pub taken-whole : {X : Type 0} (n : ℕ) (xs ys : List X) → length xs ≡ n → take n (xs ++ ys) ≡ xs
 taken-whole n xs ys size = take-append-le n xs ys (omega (arith, size)) ∙ take_all n xs (omega (arith, size))
@@ -121,25 +92,34 @@ lists_in-dead alive k place d within =
     (sym (get_or-map places alive k d [] within))
 
 -- one line more is put in its place in memory
-pub exchanged-step : (named left rest done : List PlacedLine) (line : PlacedLine) (initial lines : List (SmallVec Entry)) (place : ℕ)
-    (entries : SmallVec Entry) → All (λ line. line.place < length initial) named → length lines ≡ length initial
-    → named ≡ left ++ done → left ≡ rest ++ line ∷ [] → placed place entries.items ≡ line
-    → AreExchanged done (entries_in initial) (entries_in lines)
-    → (later : List PlacedLine) × (named ≡ rest ++ later) × AreExchanged later (entries_in initial) (entries_in (set lines place entries))
-exchanged-step named left rest done line initial lines place entries within size parts last is_line so_far =
-    let all : named ≡ rest ++ line ∷ done = parts ∙ ap (λ (xs : List PlacedLine). xs ++ done) last ∙ append_assoc rest (line ∷ []) done in
-    let has : Contains (rest ++ line ∷ done) line = Contains-append_right rest (line ∷ done) line (0, omega arith, refl) in
-    let line_within : line.place < length initial =
-    All-contains (λ (line : PlacedLine). line.place < length initial) (rest ++ line ∷ done) line
-    (subst (λ (xs : List PlacedLine). All (λ line. line.place < length initial) xs) all within) has in
-    let put : entries_in (set lines place entries) ≡ set (entries_in lines) line.place line.entries =
-    entries_in-set lines place entries entries.items refl
-    ∙ ap (λ (line : PlacedLine). set (entries_in lines) line.place line.entries) is_line in (
-      line ∷ done,
-      all,
-      exchanged-more line done (entries_in initial) (entries_in lines) (entries_in (set lines place entries))
-          (omega (arith, line_within, size, length-map lines items)) so_far put,
-    )
+
+module _ (named left rest done : List PlacedLine) (line : PlacedLine) (initial lines : List (SmallVec Entry)) (place : ℕ)
+    (entries : SmallVec Entry) (within : All (λ line. line.place < length initial) named) (size : length lines ≡ length initial)
+    (parts : named ≡ left ++ done) (last : left ≡ rest ++ line ∷ []) (is_line : placed place entries.items ≡ line) where
+  in_order : named ≡ rest ++ line ∷ done
+  in_order = parts ∙ ap (λ (xs : List PlacedLine). xs ++ done) last ∙ append_assoc rest (line ∷ []) done
+
+  line-within : line.place < length lines
+  line-within =
+      let has : Contains (rest ++ line ∷ done) line = Contains-append_right rest (line ∷ done) line (0, omega arith, refl) in
+      let line_within : line.place < length initial =
+      All-contains (λ (line : PlacedLine). line.place < length initial) (rest ++ line ∷ done) line
+      (subst (λ (xs : List PlacedLine). All (λ line. line.place < length initial) xs) in_order within) has in
+      omega (arith, line_within, size)
+
+  pub exchanged-within : place < length lines
+  exchanged-within = omega (arith, line-within, ap (λ (line : PlacedLine). line.place) is_line)
+
+  pub exchanged-step : (after : List (List Entry)) → AreExchanged done (entries_in initial) (entries_in lines)
+      → after ≡ set (entries_in lines) place entries.items
+      → (later : List PlacedLine) × (named ≡ rest ++ later) × AreExchanged later (entries_in initial) after
+  exchanged-step after so_far put = (
+    line ∷ done,
+    in_order,
+    exchanged-more line done (entries_in initial) (entries_in lines) after
+        (omega (arith, line-within, length-map lines items)) so_far
+        (put ∙ ap (λ (line : PlacedLine). set (entries_in lines) line.place line.entries) is_line),
+  )
 
 -- the entries at a place are taken out of lines one by one
 

@@ -1,22 +1,23 @@
 -- What a complex in memory keeps, at a degree and a place of it.
-use Rattle.std.proofs.Common.{◌≡◌, ℕ, ◌+◌, ◌<◌, ◌^◌, ◌∙◌, List, [], ◌∷◌, ℤ, pos, ◌+ℤ◌, ◌-ℤ◌, ◌<ℤ◌, ◌≤ℤ◌, length, map, ap, sym, subst, arith, refl, Bool, FitsSigned, w16, to_z, of_z}
+use Rattle.std.proofs.Common.{◌≡◌, ℕ, inl, inr, true, ◌+◌, ◌<◌, ◌^◌, ◌∙◌, List, [], ◌∷◌, ℤ, pos, ◌+ℤ◌, ◌-ℤ◌, ◌<ℤ◌, ◌≤ℤ◌, length, map, ap, sym, subst, arith, refl, Bool, FitsSigned, w16, to_z, of_z}
 use Rattle.std.specs.Prelude.{slice_index, slice_index_or, nat_eq, All, ◌&&◌}
 use Rattle.std.specs.List.{count_by, list_all, range_with_len}
 use Rattle.std.proofs.Math.ListN as plain
 use Rattle.std.proofs.lemmas.Int.{ints}
 use Rattle.std.proofs.lemmas.Simd.{map-map}
-use Rattle.std.proofs.lemmas.List.{length-map, get_or-map, get_or_default}
+use Rattle.std.proofs.lemmas.Bool.Decides.{leb_tells}
+use Rattle.std.proofs.lemmas.List.{length-map, get_or-map, get_or_default, get_or_past}
 use Rattle.std.proofs.lemmas.List.FromFn.{length-map-range_with_len, get_or-map-range_with_len, fill_by_all}
 use Rattle.kh_types.specs.Complex.{Complex, Degree, IsComplex, alive_count, degree_of, empty_degree, entry_of, is_zero}
 use Rattle.kh_types.specs.Generators.{Generator, generator_of}
 use Rattle.sparse_block.specs.declared.entry.Entry.{Entry}
 use Rattle.sparse_block.specs.Entries.{entries_of, value_at}
 use Rattle.sparse_block.specs.Complexes.{NamedComplex, column_in, column_of, row_of, high_of, place_count, names_from, name_of, complex_from, degrees_from, degree_from_lists}
-use Rattle.smallvec.specs.SmallVec.{SmallVec}
-use Rattle.std.specs.Global.{Vec}
 use Rattle.std.proofs.lemmas.List.Folds.{list_all-map}
-use Rattle.sparse_block.specs.Inside.{IsKept, column_entries, row_entries, are_empty, entries_in, lines_in}
+use Rattle.sparse_block.specs.Held.{no_entries}
+use Rattle.sparse_block.specs.Inside.{IsKept, column_entries, row_entries}
 use Rattle.sparse_block.proofs.EntryLemmas.{value_at-entries_of, length-entries_of}
+use Rattle.sparse_block.proofs.FilledLines.{line-none}
 use Rattle.sparse_block.proofs.MatrixLemmas.{length-matrix_from}
 use Rattle.sparse_block.proofs.DegreeLemmas.{length-degrees_from, degree-within, degree_of-at, degree_of-below, length-at, length-same}
 
@@ -128,6 +129,18 @@ module _ {p : ℕ} {low : ℤ} {names : List (List Generator)} {alive : List (Li
       (subst (λ (degree : Degree). place < length degree.alive) (sym is_degree) place_within) (omega arith)
       ∙ ap (λ (degree : Degree). entries_of (column_in degree.matrix place)) is_degree
 
+  -- a degree without entries has empty columns
+  pub columns-none : (i : ℤ) (k column : ℕ) → i ≡ low +ℤ pos k → no_entries (slice_index_or columns k []) ≡ true
+      → column < place_count named.complex i → entries_of (column_of named.complex i column) ≡ []
+  columns-none i k column is_distance none column_within =
+      elim (leb_tells (length names) k) [
+        | inl past ↦
+            absurd (omega (arith, column_within, places-at i k is_distance, ap length (get_or_past names k [] past.1)))
+        | inr within ↦
+            sym (column-at i k column is_distance within.1 column_within)
+            ∙ line-none (slice_index_or columns k []) column none
+      ]
+
   pub length-row : (i : ℤ) (k : ℕ) → i ≡ low +ℤ pos k → k < length names
       → length (slice_index_or rows k []) ≡ place_count named.complex (i +ℤ pos 1)
   length-row i k is_distance within =
@@ -157,24 +170,17 @@ list_all-agree f g [] same = refl
 list_all-agree f g (x ∷ xs) same =
     ap (λ b. b && list_all f xs) (same x) ∙ ap (λ b. g x && b) (list_all-agree f g xs same)
 
-abbrev no_entries : List (List Entry) → Bool
-no_entries lists = list_all (λ list. nat_eq (length list) 0) lists
-
 zero-rows : (degree : Degree) → no_entries (row_entries degree) ≡ list_all (λ row. list_all (nat_eq 0) row) degree.matrix
 zero-rows degree =
     list_all-map (λ (list : List Entry). nat_eq (length list) 0) entries_of degree.matrix
     ∙ list_all-agree (λ row. nat_eq (length (entries_of row)) 0) (λ row. list_all (nat_eq 0) row) degree.matrix length-entries_of
 
-pub zero-from_rows : {p : ℕ} {low : ℤ} {names : List (List Generator)} {alive : List (List Bool)} {columns : List (List (List Entry))}
-    {named : NamedComplex} (rows : List (Vec (SmallVec Entry))) → IsKept p low names alive columns (lines_in rows)
-    → IsSeen low names alive columns named → list_all (λ degree. are_empty degree.items) rows ≡ is_zero named.complex
-zero-from_rows {p} {low} {names} {alive} {columns} rows kept seen =
+pub zero-from_rows : {p : ℕ} {low : ℤ} {names : List (List Generator)} {alive : List (List Bool)}
+    {columns rows : List (List (List Entry))} {named : NamedComplex} → IsKept p low names alive columns rows
+    → IsSeen low names alive columns named → list_all no_entries rows ≡ is_zero named.complex
+zero-from_rows {p} {low} {names} {alive} {columns} {rows} kept seen =
     let degrees : List Degree = degrees_from alive columns in
-    list_all-agree (λ (degree : Vec (SmallVec Entry)). are_empty degree.items)
-    (λ (degree : Vec (SmallVec Entry)). no_entries (entries_in degree.items)) rows
-    (λ degree. sym (list_all-map (λ (list : List Entry). nat_eq (length list) 0) (λ (line : SmallVec Entry). line.items) degree.items))
-    ∙ sym (list_all-map no_entries (λ (degree : Vec (SmallVec Entry)). entries_in degree.items) rows)
-    ∙ ap (λ (lists : List (List (List Entry))). list_all no_entries lists) kept.are_rows
+    ap (λ (lists : List (List (List Entry))). list_all no_entries lists) kept.are_rows
     ∙ list_all-map no_entries row_entries degrees
     ∙ list_all-agree (λ degree. no_entries (row_entries degree))
     (λ degree. list_all (λ row. list_all (nat_eq 0) row) degree.matrix) degrees zero-rows

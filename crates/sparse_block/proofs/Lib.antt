@@ -4,6 +4,7 @@ pub mod EntryLemmas
 pub mod RemovalLemmas
 pub mod MatrixLemmas
 pub mod LineLemmas
+pub mod FilledLines
 pub mod ClearingLemmas
 pub mod ClearedLists
 pub mod DegreeLemmas

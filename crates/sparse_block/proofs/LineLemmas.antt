@@ -16,6 +16,15 @@ pub line-entries_in : (lines : List (SmallVec Entry)) (k : ℕ) (line : SmallVec
     → slice_index_or (entries_in lines) k [] ≡ line.items
 line-entries_in lines k line within is_line = get_or-map items lines k line [] within ∙ ap items (sym is_line)
 
+pub line-got : (lines : List (SmallVec Entry)) (k : ℕ) (d : SmallVec Entry) → k < length lines
+    → (get_or lines k d).items ≡ slice_index_or (entries_in lines) k []
+line-got lines k d within = sym (get_or-map items lines k d [] within)
+
+-- a line in memory changes
+pub entries_in-set : (lines : List (SmallVec Entry)) (k : ℕ) (line : SmallVec Entry) (entries : List Entry)
+    → line.items ≡ entries → entries_in (set lines k line) ≡ set (entries_in lines) k entries
+entries_in-set lines k line entries are = map-set items lines k line ∙ ap (set (entries_in lines) k) are
+
 -- an entry is pushed onto a line
 pub entries_in-pushed : (lines : List (SmallVec Entry)) (k : ℕ) (old new : SmallVec Entry) (e : Entry) → k < length lines
     → old ≡ get_or lines k old → new.items ≡ old.items ++ e ∷ []

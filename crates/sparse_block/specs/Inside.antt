@@ -1,7 +1,7 @@
 -- What the program holds of a complex: the entries of its columns, and those of its rows beside them.
-use Rattle.std.specs.Prelude.{◌≡◌, ℕ, ◌<◌, ◌^◌, ℤ, pos, ◌+ℤ◌, ◌≤ℤ◌, List, [], ◌∷◌, ◌++◌, length, map, slice_index_or, nat_eq, Bool, All}
+use Rattle.std.specs.Prelude.{◌≡◌, ℕ, ◌<◌, ◌^◌, ℤ, pos, ◌+ℤ◌, ◌≤ℤ◌, List, [], ◌∷◌, ◌++◌, length, map, slice_index_or, Bool, All}
 use Rattle.std.specs.Global.{Vec}
-use Rattle.std.specs.List.{list_all, range_with_len}
+use Rattle.std.specs.List.{range_with_len}
 use Rattle.smallvec.specs.SmallVec.{SmallVec}
 use Rattle.kh_types.specs.Complex.{Degree, IsComplex}
 use Rattle.kh_types.specs.Generators.{Generator}
@@ -22,9 +22,9 @@ abbrev pub lines_in : List (Vec (SmallVec Entry)) → List (List (List Entry))
 lines_in degrees = map (λ degree. entries_in degree.items) degrees
 
 -- the complex that names, places alive and columns in memory are
-abbrev pub named_complex : ℤ → List (Vec Generator) → List (Vec Bool) → List (Vec (SmallVec Entry)) → NamedComplex
+abbrev pub named_complex : ℤ → List (Vec Generator) → List (Vec Bool) → List (List (List Entry)) → NamedComplex
 named_complex low names alive columns =
-    record { complex = complex_from low (lists_in alive) (lines_in columns); names = lists_in names }
+    record { complex = complex_from low (lists_in alive) columns; names = lists_in names }
 
 -- the entries of each column of a degree
 abbrev pub column_entries : Degree → List (List Entry)
@@ -33,10 +33,6 @@ column_entries degree = map (λ column. entries_of (column_in degree.matrix colu
 -- the entries of each row
 abbrev pub row_entries : Degree → List (List Entry)
 row_entries degree = map entries_of degree.matrix
-
--- no line has an entry
-abbrev pub are_empty : List (SmallVec Entry) → Bool
-are_empty lines = list_all (λ line. nat_eq (length line.items) 0) lines
 
 -- there is a degree, one more than the greatest is at most 32,767, and the places of a degree can be counted; each place has a
 -- name; it is a complex; and the columns and the rows in memory are both the entries of its matrices

@@ -6,6 +6,7 @@ ghost use Rattle.sparse_block.specs.Complexes.{sparse_complex, HaveEntries, Squa
 ghost use Rattle.sparse_block.specs.Inside.{entries_in, lines_in, lists_in, row_entries};
 
 use crate::counts::name_count;
+use crate::held_lines::HeldLines;
 use crate::lines::rows_of;
 use crate::{Complex, Entry, Generator, INLINE_ENTRIES};
 use kh_types::NoMemory;
@@ -36,11 +37,12 @@ pub fn build<F: PrimeField>(
     element_laws::<F>();
     let alive = all_alive(alloc, &names)?;
     let rows = all_rows(alloc, &names, &columns)?;
+    let held = all_held(alloc, columns)?;
     Ok(Complex {
         low,
         names,
         alive,
-        columns,
+        columns: held,
         rows,
         field: PhantomData,
     })
@@ -57,21 +59,35 @@ fn all_alive(alloc: Global, names: &[Vec<Generator>]) -> Result<Vec<Vec<bool>>, 
     Ok(made)
 }
 
+/// The columns of each degree, as they are held.
+fn all_held(
+    alloc: Global,
+    columns: Vec<Vec<SmallVec<Entry, INLINE_ENTRIES>>>,
+) -> Result<Vec<HeldLines>, NoMemory>
+    ensures { IfOk result (λ made. made.items ≡ lines_in columns.items) }
+{
+    let mut made = Vec::with_capacity(alloc, columns.len())?;
+    'degrees: for degree in columns {
+        made.push(HeldLines::of(degree))?;
+    }
+    Ok(made)
+}
+
 /// The rows of the differential out of each degree.
 fn all_rows(
     alloc: Global,
     names: &[Vec<Generator>],
     columns: &[Vec<SmallVec<Entry, INLINE_ENTRIES>>],
-) -> Result<Vec<Vec<SmallVec<Entry, INLINE_ENTRIES>>>, NoMemory>
+) -> Result<Vec<HeldLines>, NoMemory>
     requires counts { All (λ degree. length degree < 2 ^ 32) (lists_in names.now) }
     requires sizes { map length (lines_in columns.now) ≡ map length (lists_in names.now) }
     requires entries { (p : ℕ) × HaveEntries p (lists_in names.now) (lines_in columns.now) }
-    ensures { IfOk result (λ made. lines_in made.items
+    ensures { IfOk result (λ made. made.items
         ≡ map row_entries (degrees_from (all_alive (lists_in names.now)) (lines_in columns.now))) }
 {
     let mut made = Vec::with_capacity(alloc, names.len())?;
     'degrees: for k in 0..names.len() {
-        made.push(degree_rows(alloc, names, columns, k)?)?;
+        made.push(HeldLines::of(degree_rows(alloc, names, columns, k)?))?;
     }
     Ok(made)
 }

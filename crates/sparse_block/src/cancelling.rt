@@ -8,7 +8,7 @@ ghost use Rattle.sparse_block.specs.Entries.{entries_of};
 
 use crate::Complex;
 use crate::change::Change;
-use crate::clearing::{Pair, clear_neighbours, clear_own, exchange_lines, kill};
+use crate::clearing::{Pair, clear_neighbours, clear_own, kill};
 use crate::complex::distance;
 use prime_field::PrimeField;
 use prime_field::laws::element_laws;
@@ -39,8 +39,8 @@ impl<F: PrimeField> Complex<F> {
             rows,
         } = change;
         let k = distance(self.low, degree);
-        exchange_lines(&mut self.columns[k], columns);
-        exchange_lines(&mut self.rows[k], rows);
+        self.columns[k].exchange(columns);
+        self.rows[k].exchange(rows);
         clear_neighbours(&mut self.columns, &mut self.rows, Pair { k, column, row });
         kill(&mut self.alive, Pair { k, column, row });
     }

@@ -3,18 +3,14 @@
 ghost use Rattle.std.specs.Prelude.{◌≡◌, ℕ, ◌+◌, ◌<◌, [], length, map, nat_eq, All};
 ghost use Rattle.std.specs.Prelude.{slice_index_or, slice_set};
 ghost use Rattle.std.specs.List.{position};
-ghost use Rattle.sparse_block.specs.Clearing.{AreCrossed, AreExchanged, CanClear};
+ghost use Rattle.sparse_block.specs.Clearing.{AreCrossed, CanClear};
 ghost use Rattle.sparse_block.specs.Clearing.{crossed_out, crossed_out_before};
 ghost use Rattle.sparse_block.specs.Clearing.{emptied, emptied_before, with_dead, without};
 ghost use Rattle.sparse_block.specs.Entries.{AreEntries, value_at};
-ghost use Rattle.sparse_block.specs.Inside.{entries_in, lines_in, lists_in};
+ghost use Rattle.sparse_block.specs.Inside.{lists_in};
 
-use crate::change::Line;
-use crate::{Entry, INLINE_ENTRIES};
-use smallvec::SmallVec;
-use std::mem;
-
-type Entries = SmallVec<Entry, INLINE_ENTRIES>;
+use crate::Entry;
+use crate::held_lines::{Entries, HeldLines};
 
 /// The two places of a pivot.
 #[derive(Clone, Copy)]
@@ -25,26 +21,14 @@ pub(crate) struct Pair {
     pub(crate) row: u32,
 }
 
-/// Puts each of these lines in the place of the old one there.
-pub(crate) fn exchange_lines(lines: &mut [Entries], named: Vec<Line>)
-    requires { All (λ line. line.place < length lines.old) named.items }
-    ensures { AreExchanged named.items (entries_in lines.old) (entries_in lines.new) }
-{
-    let mut left = named;
-    'lines: while let Some(line) = left.pop() {
-        let Line { place, entries } = line;
-        lines[place as usize] = entries;
-    }
-}
-
 /// Clears the pivot's row and column in its own differential.
-pub(crate) fn clear_own(columns: &mut [Vec<Entries>], rows: &mut [Vec<Entries>], pair: Pair)
-    requires row { CanClear pair.k pair.row (lines_in rows.old) (lines_in columns.old) }
-    requires column { CanClear pair.k pair.column (lines_in columns.old) (lines_in rows.old) }
-    ensures columns { lines_in columns.new
-        ≡ emptied pair.k pair.column (crossed_out pair.k pair.row (lines_in columns.old)) }
-    ensures rows { lines_in rows.new
-        ≡ crossed_out pair.k pair.column (emptied pair.k pair.row (lines_in rows.old)) }
+pub(crate) fn clear_own(columns: &mut [HeldLines], rows: &mut [HeldLines], pair: Pair)
+    requires row { CanClear pair.k pair.row rows.old columns.old }
+    requires column { CanClear pair.k pair.column columns.old rows.old }
+    ensures columns { columns.new
+        ≡ emptied pair.k pair.column (crossed_out pair.k pair.row columns.old) }
+    ensures rows { rows.new
+        ≡ crossed_out pair.k pair.column (emptied pair.k pair.row rows.old) }
 {
     clear(rows, columns, pair.k, pair.row);
     clear(columns, rows, pair.k, pair.column);
@@ -52,19 +36,42 @@ pub(crate) fn clear_own(columns: &mut [Vec<Entries>], rows: &mut [Vec<Entries>],
 
 /// Clears what the neighbouring differentials have at the pivot's places: the row of its column's
 /// place in the one before, and the column of its row's place in the one after.
-pub(crate) fn clear_neighbours(columns: &mut [Vec<Entries>], rows: &mut [Vec<Entries>], pair: Pair)
+pub(crate) fn clear_neighbours(columns: &mut [HeldLines], rows: &mut [HeldLines], pair: Pair)
     requires before { (j : ℕ) → pair.k ≡ j + 1
-        → CanClear j pair.column (lines_in rows.old) (lines_in columns.old) }
-    requires after { CanClear (pair.k + 1) pair.row (lines_in columns.old) (lines_in rows.old) }
-    ensures columns { lines_in columns.new
+        → CanClear j pair.column rows.old columns.old }
+    requires after { CanClear (pair.k + 1) pair.row columns.old rows.old }
+    ensures columns { columns.new
         ≡ emptied (pair.k + 1) pair.row
-        (crossed_out_before pair.k pair.column (lines_in columns.old)) }
-    ensures rows { lines_in rows.new
+        (crossed_out_before pair.k pair.column columns.old) }
+    ensures rows { rows.new
         ≡ crossed_out (pair.k + 1) pair.row
-        (emptied_before pair.k pair.column (lines_in rows.old)) }
+        (emptied_before pair.k pair.column rows.old) }
 {
     clear_before(rows, columns, pair.k, pair.column);
     clear(columns, rows, pair.k + 1, pair.row);
+    give_back(columns, pair.k);
+    give_back(rows, pair.k);
+}
+
+/// Gives the memory of lines back that have no entry, at degree number `k` and the two beside it.
+fn give_back(lines: &mut [HeldLines], k: usize)
+    requires { k + 1 < length lines.old }
+    ensures { lines.new ≡ lines.old }
+{
+    give_back_at(lines, k);
+    give_back_at(lines, k + 1);
+    if k > 0 {
+        give_back_at(lines, k - 1);
+    }
+}
+
+/// Gives the memory of the lines of degree number `k` back, if none has an entry.
+fn give_back_at(lines: &mut [HeldLines], k: usize)
+    ensures { lines.new ≡ lines.old }
+{
+    if k < lines.len() {
+        lines[k].give_back();
+    }
 }
 
 /// Marks the two places dead.
@@ -80,10 +87,10 @@ pub(crate) fn kill(alive: &mut [Vec<bool>], pair: Pair)
 }
 
 /// Empties a line of the degree before number `k`, as `clear` does, where there is one.
-fn clear_before(lines: &mut [Vec<Entries>], across: &mut [Vec<Entries>], k: usize, place: u32)
-    requires { (j : ℕ) → k ≡ j + 1 → CanClear j place (lines_in lines.old) (lines_in across.old) }
-    ensures lines { lines_in lines.new ≡ emptied_before k place (lines_in lines.old) }
-    ensures across { lines_in across.new ≡ crossed_out_before k place (lines_in across.old) }
+fn clear_before(lines: &mut [HeldLines], across: &mut [HeldLines], k: usize, place: u32)
+    requires { (j : ℕ) → k ≡ j + 1 → CanClear j place lines.old across.old }
+    ensures lines { lines.new ≡ emptied_before k place lines.old }
+    ensures across { across.new ≡ crossed_out_before k place across.old }
 {
     if k > 0 {
         clear(lines, across, k - 1, place);
@@ -91,40 +98,40 @@ fn clear_before(lines: &mut [Vec<Entries>], across: &mut [Vec<Entries>], k: usiz
 }
 
 /// Empties a line of degree number `k`, and takes its entries out of the lines across.
-fn clear(lines: &mut [Vec<Entries>], across: &mut [Vec<Entries>], k: usize, place: u32)
-    requires { CanClear k place (lines_in lines.old) (lines_in across.old) }
-    ensures lines { lines_in lines.new ≡ emptied k place (lines_in lines.old) }
-    ensures across { lines_in across.new ≡ crossed_out k place (lines_in across.old) }
+fn clear(lines: &mut [HeldLines], across: &mut [HeldLines], k: usize, place: u32)
+    requires { CanClear k place lines.old across.old }
+    ensures lines { lines.new ≡ emptied k place lines.old }
+    ensures across { across.new ≡ crossed_out k place across.old }
 {
     clear_line(&mut lines[k], &mut across[k], place);
 }
 
-fn clear_line(lines: &mut [Entries], across: &mut [Entries], place: u32)
+/// Empties a line, and takes its entries out of the lines across.
+fn clear_line(lines: &mut HeldLines, across: &mut HeldLines, place: u32)
     requires place { place < length lines.old }
-    requires crossed { (p : ℕ) × AreCrossed p (entries_in lines.old) (entries_in across.old) }
-    ensures lines { entries_in lines.new ≡ slice_set (entries_in lines.old) place [] }
-    ensures across { entries_in across.new ≡ map (without place) (entries_in across.old) }
+    requires crossed { (p : ℕ) × AreCrossed p lines.old across.old }
+    ensures lines { lines.new ≡ slice_set lines.old place [] }
+    ensures across { across.new ≡ map (without place) across.old }
 {
-    let empty = SmallVec::new(*lines[place as usize].allocator());
-    let line = mem::replace(&mut lines[place as usize], empty);
-    remove_from_each(across, line.as_slice(), place);
+    remove_from_each(across, lines.line(place), place);
+    lines.empty(place);
 }
 
 /// Takes the entry at a place out of each line that has one: those that these entries name.
-fn remove_from_each(lines: &mut [Entries], entries: &[Entry], place: u32)
+fn remove_from_each(lines: &mut HeldLines, entries: &[Entry], place: u32)
     requires entries { (p : ℕ) × AreEntries p (length lines.old) entries.now }
-    requires lines { (p : ℕ) × (size : ℕ) × All (AreEntries p size) (entries_in lines.old) }
+    requires lines { (p : ℕ) × (size : ℕ) × All (AreEntries p size) lines.old }
     requires others { (other : ℕ) → value_at entries.now other ≡ 0
-        → value_at (slice_index_or (entries_in lines.old) other []) place ≡ 0 }
-    ensures { entries_in lines.new ≡ map (without place) (entries_in lines.old) }
+        → value_at (slice_index_or lines.old other []) place ≡ 0 }
+    ensures { lines.new ≡ map (without place) lines.old }
 {
     'entries: for entry in entries {
-        remove(&mut lines[entry.place as usize], place);
+        lines.remove(entry.place, place);
     }
 }
 
 /// Takes the entry at a place out of a line.
-fn remove(line: &mut Entries, place: u32)
+pub(crate) fn remove(line: &mut Entries, place: u32)
     requires { (p : ℕ) × (size : ℕ) × AreEntries p size line.old.items }
     ensures { line.new.items ≡ without place line.old.items }
 {

@@ -1,18 +1,18 @@
 //! A complex at one quantum degree.
 
-ghost use Rattle.std.specs.Prelude.{◌≡◌, ◌<◌, pos, ◌+ℤ◌, ◌≤ℤ◌, length, slice_index_or, false};
+ghost use Rattle.std.specs.Prelude.{◌≡◌, ◌<◌, ◌≤◌, ℕ, [], pos, ◌+ℤ◌, ◌≤ℤ◌, length, slice_index_or, false};
 ghost use Rattle.std.specs.List.{list_all};
 ghost use Rattle.kh_types.specs.Complex.{alive_count, degree_of, entry_of, is_zero};
 ghost use Rattle.sparse_block.specs.Complexes.{column_of, high_of, name_of, place_count, row_of};
 ghost use Rattle.sparse_block.specs.Entries.{entries_of};
-ghost use Rattle.sparse_block.specs.Inside.{are_empty};
+ghost use Rattle.sparse_block.specs.Held.{no_entries};
 
 use crate::counts::{alive_at, alive_count, name_count};
+use crate::held_lines::HeldLines;
 use crate::laws::complex_laws;
 use crate::lines::{line_at, value_at};
-use crate::{Entry, Generator, INLINE_ENTRIES};
+use crate::{Entry, Generator};
 use prime_field::PrimeField;
-use smallvec::SmallVec;
 use std::marker::{Model, PhantomData};
 
 /// A complex over a field. Each degree from the least to the greatest has places, numbered from 0,
@@ -23,14 +23,14 @@ pub struct Complex<F: PrimeField> {
     pub(crate) low: i16,
     pub(crate) names: Vec<Vec<Generator>>,
     pub(crate) alive: Vec<Vec<bool>>,
-    pub(crate) columns: Vec<Vec<SmallVec<Entry, INLINE_ENTRIES>>>,
-    pub(crate) rows: Vec<Vec<SmallVec<Entry, INLINE_ENTRIES>>>,
+    pub(crate) columns: Vec<HeldLines>,
+    pub(crate) rows: Vec<HeldLines>,
     pub(crate) field: PhantomData<F>,
 }
 
 impl<F: PrimeField> Model for Complex<F> {
     ghost use Rattle.sparse_block.specs.Complexes.{NamedComplex};
-    ghost use Rattle.sparse_block.specs.Inside.{IsKept, lines_in, lists_in, named_complex};
+    ghost use Rattle.sparse_block.specs.Inside.{IsKept, lists_in, named_complex};
 
     ghost Value = { NamedComplex };
 
@@ -38,7 +38,7 @@ impl<F: PrimeField> Model for Complex<F> {
         held.columns.items };
 
     ghost invariant = { λ held. IsKept F.P held.low (lists_in held.names.items)
-        (lists_in held.alive.items) (lines_in held.columns.items) (lines_in held.rows.items) };
+        (lists_in held.alive.items) held.columns.items held.rows.items };
 }
 
 impl<F: PrimeField> Complex<F> {
@@ -71,6 +71,22 @@ impl<F: PrimeField> Complex<F> {
             return 0;
         }
         name_count(&self.names, distance(self.low, i))
+    }
+
+    /// How many columns out of a degree are left to search: from there on none has an entry. None
+    /// is left where the degree has no entry, without a look at its columns.
+    pub fn columns_left(&self, i: i16) -> u32
+        ensures { (column : ℕ) → result ≤ column → column < place_count self.now.complex i
+            → entries_of (column_of self.now.complex i column) ≡ [] }
+    {
+        if i < self.low {
+            return 0;
+        }
+        let k = distance(self.low, i);
+        if has_no_entries(&self.columns, k) {
+            return 0;
+        }
+        name_count(&self.names, k)
     }
 
     /// How many places of a degree are alive; none outside of the complex.
@@ -138,18 +154,21 @@ impl<F: PrimeField> Complex<F> {
     }
 }
 
-/// Whether no row of any degree has an entry.
-fn all_empty(degrees: &[Vec<SmallVec<Entry, INLINE_ENTRIES>>]) -> bool
-    ensures { result ≡ list_all (λ degree. are_empty degree.items) degrees.now }
+/// Whether no line of degree number `k` has an entry.
+fn has_no_entries(degrees: &[HeldLines], k: usize) -> bool
+    ensures { result ≡ no_entries (slice_index_or degrees.now k []) }
 {
-    degrees.iter().all(|degree| are_empty(degree))
+    match degrees.get(k) {
+        Some(degree) => degree.has_no_entries(),
+        None => true,
+    }
 }
 
-/// Whether no row of a degree has an entry.
-fn are_empty(rows: &[SmallVec<Entry, INLINE_ENTRIES>]) -> bool
-    ensures { result ≡ are_empty rows.now }
+/// Whether no line of any degree has an entry.
+fn all_empty(degrees: &[HeldLines]) -> bool
+    ensures { result ≡ list_all no_entries degrees.now }
 {
-    rows.iter().all(|row| row.is_empty())
+    degrees.iter().all(|degree| degree.has_no_entries())
 }
 
 /// How far a degree is above the least one.

@@ -9,10 +9,9 @@ mod complex;
 mod counts;
 mod entry;
 mod generator;
+mod held_lines;
 pub mod laws;
 mod lines;
-#[cfg(test)]
-mod tests;
 
 pub use building::build;
 pub use change::{Change, Line};

@@ -4,8 +4,9 @@ ghost use Rattle.std.specs.Prelude.{◌≡◌, ℕ, ◌<◌, ◌≤◌, ◌^◌,
 ghost use Rattle.std.specs.Prelude.{slice_set, slice_index_or, All, IfOk, OnOk};
 ghost use Rattle.sparse_block.specs.Complexes.{matrix_from};
 ghost use Rattle.sparse_block.specs.Entries.{AreEntries, entries_of, value_at};
-ghost use Rattle.sparse_block.specs.Inside.{entries_in, lines_in, HaveColumn};
+ghost use Rattle.sparse_block.specs.Inside.{entries_in, HaveColumn};
 
+use crate::held_lines::HeldLines;
 use crate::{Entry, INLINE_ENTRIES};
 use kh_types::NoMemory;
 use smallvec::SmallVec;
@@ -21,18 +22,14 @@ pub(crate) fn value_at(entries: &[Entry], place: u32) -> u8
     }
 }
 
-/// The entries of a column, or a row, of degree number `k`.
-pub(crate) fn line_at(
-    degrees: &[Vec<SmallVec<Entry, INLINE_ENTRIES>>],
-    k: usize,
-    place: u32,
-) -> &[Entry]
-    requires degree { k < length degrees.now }
-    requires place { place < length (slice_index_or (lines_in degrees.now) k []) }
-    ensures { result.now ≡ slice_index_or (slice_index_or (lines_in degrees.now) k []) place [] }
+/// The entries of a column, or a row, of degree number `k`; none where there is no such line.
+pub(crate) fn line_at(degrees: &[HeldLines], k: usize, place: u32) -> &[Entry]
+    ensures { result.now ≡ slice_index_or (slice_index_or degrees.now k []) place [] }
 {
-    let lines = &degrees[k];
-    lines[place as usize].as_slice()
+    match degrees.get(k) {
+        Some(degree) => degree.line(place),
+        None => &[],
+    }
 }
 
 /// The rows of a matrix with `height` rows, from its columns.

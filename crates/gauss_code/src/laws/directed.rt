@@ -10,9 +10,9 @@ ghost use Rattle.kh_types.specs.Acceptance.{accepted, direction_fault, first_fau
 ghost use Rattle.kh_types.specs.Accepted.{IsDirected};
 ghost use Rattle.kh_types.specs.declared.fault.CodeFault.TheVariants.{Checkerboard};
 ghost use Rattle.gauss_code.specs.Listings.{Body, groups_of, labels_of, crossing_count};
-ghost use Rattle.gauss_code.specs.Labels.{number_at, bad_label};
+ghost use Rattle.code_passes.specs.Labels.{number_at, bad_label};
 ghost use Rattle.gauss_code.specs.Faults.{signs_of};
-ghost use Rattle.gauss_code.specs.Passes.{code_of};
+ghost use Rattle.gauss_code.specs.Codes.{code_of};
 ghost use Rattle.gauss_code.specs.Reading.{IsReading, ReadsAs};
 
 /// Where no label of a body is bad, each crossing has one over pass and one under pass: each number

@@ -2,21 +2,17 @@
 
 ghost use Rattle.std.specs.Prelude.{◌≡◌, ◌++◌, IfOk};
 ghost use Rattle.kh_types.specs.Table.{table_text};
-ghost use Rattle.kh_work.specs.Commands.{AreWorkers};
+ghost use Rattle.word_line.specs.Values.{AreWorkers, IsFieldSize};
 ghost use Rattle.kh_work.specs.Drafts.{IsReady, reply_in};
 ghost use Rattle.kh_work.specs.Homology.{homology_reply};
-ghost use Rattle.kh_work.specs.Jones.{jones_line};
-ghost use Rattle.kh_work.specs.Replies.{reply_of};
-ghost use Rattle.kh_work.specs.declared.status.Status.{Status};
+ghost use Rattle.kh_replies.specs.Jones.{jones_line};
+ghost use Rattle.kh_replies.specs.Replies.{reply_of};
+ghost use Rattle.kh_replies.specs.declared.status.Status.{Status};
 
-use crate::command::Field;
-use crate::commands::jones::jones_line;
 use crate::draft::Draft;
-use crate::refusals::too_many_generators;
-use crate::reply::Reply;
-use crate::status::Status;
 use cube_signs::check_size;
 use jones_sum::Table;
+use kh_replies::{Reply, Status, jones_line, reply_made, too_many_generators};
 use kh_types::{Diagram, NoMemory};
 use std::alloc::Global;
 use table_text::print_table;
@@ -24,11 +20,12 @@ use table_text::print_table;
 /// The reply to a diagram, whose homology table is still to be made where it has few enough generators.
 pub fn draft_of_homology(
     alloc: Global,
-    field: Field,
+    field: u8,
     workers: u32,
     diagram: &Diagram,
 ) -> Result<Draft, NoMemory>
-    requires { AreWorkers workers }
+    requires workers { AreWorkers workers }
+    requires field { IsFieldSize field }
     ensures reply { IfOk result (λ draft. reply_in draft ≡ homology_reply field diagram.now) }
     ensures ready { IfOk result IsReady }
 {
@@ -49,8 +46,5 @@ pub fn reply_with_table(alloc: Global, diagram: &Diagram, table: &Table) -> Resu
 {
     let mut text = print_table(alloc, table)?;
     text.extend_from_slice(&jones_line(alloc, diagram)?)?;
-    Ok(Reply {
-        status: Status::Done,
-        text,
-    })
+    Ok(reply_made(Status::Done, text))
 }

@@ -6,21 +6,18 @@ ghost use Rattle.circle_smoothing.specs.declared.limits.TheConstants.{GENERATORS
 ghost use Rattle.commit_core.specs.Answering.{answers};
 ghost use Rattle.kh_types.specs.Table.{table, table_text};
 ghost use Rattle.kh_types.specs.declared.limits.TheConstants.{INPUT_BYTES};
-ghost use Rattle.kh_work.specs.Commands.{size_of};
-ghost use Rattle.kh_work.specs.Schedule.{IsScheduleReply, answer_line, answer_lines, answer_text, event_of, events_of, numbered, schedule_reply, schedule_text};
-ghost use Rattle.shared_block.specs.declared.limits.TheConstants.{WORKERS};
+ghost use Rattle.kh_work.specs.Schedule.{IsScheduleReply, answer_line, answer_lines, answer_text, event_of, events_of, numbered_answers, schedule_reply, schedule_text};
+ghost use Rattle.kh_types.specs.declared.limits.TheConstants.{WORKERS};
 ghost use Rattle.undo_stack.specs.Schedule.{HasWorker};
+ghost use Rattle.word_line.specs.Values.{IsFieldSize};
 
-use crate::command::Field;
-use crate::commands::jones::jones_line;
-use crate::refusals::{refused_line, too_many_generators, too_many_lines};
-use crate::reply::Reply;
-use crate::status::Status;
 use commit_core::{Answer, Event, run_events};
 use cube_signs::check_size;
-use kh_types::{Diagram, NoMemory};
+use kh_replies::{
+    Reply, Status, jones_line, refused_line, reply_made, too_many_generators, too_many_lines,
+};
+use kh_types::{Diagram, NoMemory, WORKERS};
 use prime_field::{F2, F3, F5, F7, PrimeField};
-use shared_block::WORKERS;
 use std::alloc::Global;
 use table_text::print_table;
 use undo_stack::{ScheduleLine, ScriptStop, read_schedule};
@@ -28,11 +25,12 @@ use undo_stack::{ScheduleLine, ScriptStop, read_schedule};
 /// The reply to a diagram and the text of a script: the answer to each line that has words, and then the text of `homology`.
 pub fn reply_to_schedule(
     alloc: Global,
-    field: Field,
+    field: u8,
     diagram: &Diagram,
     script: &[u8],
 ) -> Result<Reply, NoMemory>
-    requires { length script.now ≤ INPUT_BYTES }
+    requires short { length script.now ≤ INPUT_BYTES }
+    requires field { IsFieldSize field }
     ensures { IfOk result (λ reply. IsScheduleReply field diagram.now script.now reply) }
 {
     match read_schedule(alloc, script) {
@@ -46,18 +44,19 @@ pub fn reply_to_schedule(
 // The reply to a script, where the diagram has few enough generators.
 fn reply_to_script(
     alloc: Global,
-    field: Field,
+    field: u8,
     diagram: &Diagram,
     script: &[(u32, ScheduleLine)],
 ) -> Result<Reply, NoMemory>
-    requires { All HasWorker script.now }
+    requires workers { All HasWorker script.now }
+    requires field { IsFieldSize field }
     ensures { IfOk result (λ reply. reply ≡ schedule_reply field diagram.now script.now) }
 {
     match check_size(diagram) {
-        Ok(_) => Ok(Reply {
-            status: Status::Done,
-            text: schedule_text(alloc, field, diagram, script)?,
-        }),
+        Ok(_) => {
+            let text = schedule_text(alloc, field, diagram, script)?;
+            Ok(reply_made(Status::Done, text))
+        }
         Err(limit) => too_many_generators(alloc, limit.generators),
     }
 }
@@ -66,12 +65,13 @@ fn reply_to_script(
 #[tactic(auto, unfolding(crate::specs::Schedule::schedule_text, crate::specs::Homology::homology_text))]
 fn schedule_text(
     alloc: Global,
-    field: Field,
+    field: u8,
     diagram: &Diagram,
     script: &[(u32, ScheduleLine)],
 ) -> Result<Vec<u8>, NoMemory>
     requires size { generator_count diagram.now ≤ GENERATORS }
     requires workers { All HasWorker script.now }
+    requires field { IsFieldSize field }
     ensures { IfOk result (λ text. text.items ≡ schedule_text field diagram.now script.now) }
 {
     let mut text = run_text(alloc, field, diagram, script)?;
@@ -82,21 +82,23 @@ fn schedule_text(
 // The lines of the answers, and the text of the homology table.
 fn run_text(
     alloc: Global,
-    field: Field,
+    field: u8,
     diagram: &Diagram,
     script: &[(u32, ScheduleLine)],
 ) -> Result<Vec<u8>, NoMemory>
     requires size { generator_count diagram.now ≤ GENERATORS }
     requires workers { All HasWorker script.now }
+    requires field { IsFieldSize field }
     ensures { IfOk result (λ text. text.items
-        ≡ answer_lines script.now (answers (size_of field) diagram.now WORKERS (events_of script.now))
-        ++ table_text (table (size_of field) diagram.now)) }
+        ≡ answer_lines script.now (answers field diagram.now WORKERS (events_of script.now))
+        ++ table_text (table field diagram.now)) }
 {
     match field {
-        Field::Two => run_text_over::<F2>(alloc, diagram, script),
-        Field::Three => run_text_over::<F3>(alloc, diagram, script),
-        Field::Five => run_text_over::<F5>(alloc, diagram, script),
-        Field::Seven => run_text_over::<F7>(alloc, diagram, script),
+        2 => run_text_over::<F2>(alloc, diagram, script),
+        3 => run_text_over::<F3>(alloc, diagram, script),
+        5 => run_text_over::<F5>(alloc, diagram, script),
+        7 => run_text_over::<F7>(alloc, diagram, script),
+        _ => unreachable!(),
     }
 }
 
@@ -148,7 +150,7 @@ fn answer_lines(
 ) -> Result<Vec<u8>, NoMemory>
     ensures { IfOk result (λ text. text.items ≡ answer_lines script.now answers.now) }
 {
-    let numbered = numbered(alloc, script, answers)?;
+    let numbered = numbered_answers(alloc, script, answers)?;
     let lines = numbered.as_slice();
     let mut text = String::new(alloc);
     'lines: for line in lines {
@@ -158,12 +160,12 @@ fn answer_lines(
 }
 
 // Each answer with the number of its line.
-fn numbered(
+fn numbered_answers(
     alloc: Global,
     script: &[(u32, ScheduleLine)],
     answers: &[Answer],
 ) -> Result<Vec<(u32, Answer)>, NoMemory>
-    ensures { IfOk result (λ pairs. pairs.items ≡ numbered script.now answers.now) }
+    ensures { IfOk result (λ pairs. pairs.items ≡ numbered_answers script.now answers.now) }
 {
     let pairs = script.iter().zip(answers.iter());
     let numbered = pairs.map(|(line, answer)| (line.0, *answer));

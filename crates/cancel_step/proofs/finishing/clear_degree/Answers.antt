@@ -47,12 +47,12 @@ returns-clause-empty g c column =
     (elim (leb_tells (place_count after i) column) [
       | inl past ↦ column-past p after i column is past.1
       | inr within ↦
-          c.columns.invariant.empty column
-          (omega (
-            arith,
-            within.1,
-            c.columns-test.false,
-            c.places-column-end.ensures,
-            places-comes p first after i c.columns.invariant.comes,
-          ))
+          elim (leb_tells c.columns_left-column-end.result column) [
+            | inl rest ↦
+                empty-comes p first after i column c.element_laws.ensures.field c.complex_laws.ensures.complex
+                c.columns.invariant.comes
+                (c.columns_left-column-end.ensures column rest.1
+                (omega (arith, within.1, places-comes p first after i c.columns.invariant.comes)))
+            | inr before ↦ c.columns.invariant.empty column (omega (arith, before.1, c.columns-test.false))
+          ]
     ])

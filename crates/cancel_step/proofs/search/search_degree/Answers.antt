@@ -15,5 +15,8 @@ returns-clause-none g c is_none column from =
     (elim (leb_tells (place_count complex i) column) [
       | inl past ↦ column-past g.F.PrimeField.P complex i column c.complex_laws.ensures.complex past.1
       | inr within ↦
-          c.columns.invariant column from (omega (arith, within.1, c.columns-test.false, c.places-column-end.ensures))
+          elim (leb_tells c.columns_left-column-end.result column) [
+            | inl rest ↦ c.columns_left-column-end.ensures column rest.1 within.1
+            | inr before ↦ c.columns.invariant column from (omega (arith, before.1, c.columns-test.false))
+          ]
     ])

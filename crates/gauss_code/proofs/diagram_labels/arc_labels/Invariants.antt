@@ -1,6 +1,6 @@
 use Rattle.std.proofs.Common.{◌≡◌, map}
 use Rattle.std.specs.List.{range_with_len}
-use Rattle.gauss_code.specs.Printing.{label_of}
+use Rattle.code_passes.specs.ComponentLabels.{label_of}
 use Rattle.gauss_code.proofs.diagram_labels.arc_labels.Given as goal
 
 -- the labels of the arcs so far

@@ -1,6 +1,6 @@
 use Rattle.std.proofs.Common.{◌≡◌, map, take}
 use Rattle.kh_types.specs.Components.{first_arcs}
-use Rattle.gauss_code.specs.Printing.{component_labels}
+use Rattle.code_passes.specs.ComponentLabels.{component_labels}
 use Rattle.gauss_code.proofs.diagram_labels.component_labels.Given as goal
 
 -- the labels of the components so far

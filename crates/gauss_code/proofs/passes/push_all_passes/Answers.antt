@@ -1,5 +1,5 @@
 use Rattle.std.proofs.Common.{◌+◌, ◌++◌, ap, arith, length, length-append, ◌∙◌}
-use Rattle.gauss_code.specs.Passes.{passes_from, turned}
+use Rattle.code_passes.specs.Passes.{passes_from, turned}
 use Rattle.gauss_code.proofs.PassLemmas.{labels_left, length-passes_from, passes_more}
 use Rattle.gauss_code.proofs.passes.push_all_passes.Goals as goal
 

@@ -1,7 +1,7 @@
 use Rattle.std.proofs.Common.{◌≡◌, ◌+◌, ◌≤◌, ◌++◌, drop, length}
 use Rattle.gauss_code.specs.declared.listing.TheConstants.{LABELS}
 use Rattle.gauss_code.specs.Held.{labels_held, numbers_of}
-use Rattle.gauss_code.specs.Passes.{all_passes}
+use Rattle.code_passes.specs.Passes.{all_passes}
 use Rattle.gauss_code.proofs.passes.push_all_passes.Given as goal
 
 -- the passes so far, and then those that are left, for which there is room

@@ -1,5 +1,5 @@
 use Rattle.std.proofs.Common.{arith, lit<}
-use Rattle.gauss_code.specs.Passes.{turned}
+use Rattle.code_passes.specs.Passes.{turned}
 use Rattle.gauss_code.proofs.PassLemmas.{passes-length, passes-push}
 use Rattle.gauss_code.proofs.passes.push_passes.Goals as goal
 

@@ -1,6 +1,6 @@
 use Rattle.std.proofs.Common.{◌≡◌, ◌++◌, map}
 use Rattle.std.specs.List.{range_with_len}
-use Rattle.gauss_code.specs.Passes.{pass_at, turned}
+use Rattle.code_passes.specs.Passes.{pass_at, turned}
 use Rattle.gauss_code.proofs.passes.push_passes.Given as goal
 
 -- the passes that were there, and then the ones so far

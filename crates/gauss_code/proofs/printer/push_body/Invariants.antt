@@ -1,6 +1,6 @@
 use Rattle.std.proofs.Common.{◌≡◌, ◌++◌, [], map}
 use Rattle.std.specs.Prelude.{replicate}
-use Rattle.gauss_code.specs.Printing.{labels_of_code}
+use Rattle.code_passes.specs.ComponentLabels.{labels_of_code}
 use Rattle.gauss_code.proofs.printer.push_body.Given as goal
 
 -- behind the components, the loops so far are groups

@@ -1,6 +1,6 @@
 use Rattle.std.proofs.Common.{◌≡◌, map}
 use Rattle.std.specs.List.{range_with_len}
-use Rattle.gauss_code.specs.Passes.{slots_at}
+use Rattle.code_passes.specs.Passes.{slots_at}
 use Rattle.gauss_code.proofs.reader.crossings_of.Given as goal
 
 -- the crossings so far

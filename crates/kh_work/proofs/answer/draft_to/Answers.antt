@@ -1,11 +1,23 @@
-use Rattle.std.proofs.Common.{sym}
-use Rattle.kh_work.proofs.AnswerLemmas.{IsKnownAnswer-command, IsKnownAnswer-usage}
+use Rattle.std.proofs.Common.{ap, Err}
+use Rattle.kh_work.proofs.AnswerLemmas.{IsBlindAnswer-usage, IsKnownAnswer-blind, IsKnownAnswer-command, usage_reads_nothing}
 use Rattle.kh_work.proofs.answer.draft_to.Goals as goal
 
-pub returns-in-Some-clause-known : goal.returns-in-Some-clause-known
-returns-in-Some-clause-known g c =
-    IsKnownAnswer-command c.draft_to_source.result _ c.args.words.now c.in-Some.command (sym c.in-Some.ensures.command) c.draft_to_source.ensures.known
+pub returns-in-Ok-clause-known : goal.returns-in-Ok-clause-known
+returns-in-Ok-clause-known g c =
+    IsKnownAnswer-command c.draft_to_source.result _ c.args.words.now c.in-Ok.command c.in-Ok.ensures.command c.draft_to_source.ensures.known
 
-pub returns-in_ok-usage-in-None-clause-known : goal.returns-in_ok-usage-in-None-clause-known
-returns-in_ok-usage-in-None-clause-known g c =
-    IsKnownAnswer-usage _ c.args.words.now _ (sym c.in-None.ensures.command) c.in_ok-usage-in-None.ensures
+pub returns-in_ok-usage-in-Err-Usage-clause-known : goal.returns-in_ok-usage-in-Err-Usage-clause-known
+returns-in_ok-usage-in-Err-Usage-clause-known g c =
+    IsKnownAnswer-blind _ c.args.words.now _
+    (IsBlindAnswer-usage c.args.words.now _ (c.in-Err-Usage.ensures.usage (ap Err c.in-Err-Usage.field-0-is)) c.in_ok-usage-in-Err-Usage.ensures)
+
+pub returns-in_ok-usage-in-Err-Usage-clause-blind : goal.returns-in_ok-usage-in-Err-Usage-clause-blind
+returns-in_ok-usage-in-Err-Usage-clause-blind g c =
+    λ nothing. IsBlindAnswer-usage c.args.words.now _ (c.in-Err-Usage.ensures.usage (ap Err c.in-Err-Usage.field-0-is)) c.in_ok-usage-in-Err-Usage.ensures
+
+pub returns-in_ok-usage-in-Err-Usage-clause-usage_only : goal.returns-in_ok-usage-in-Err-Usage-clause-usage_only
+returns-in_ok-usage-in-Err-Usage-clause-usage_only g c = λ is. c.in-Err-Usage.ensures.usage (ap Err c.in-Err-Usage.field-0-is)
+
+pub returns-in_ok-usage-in-Err-Usage-clause-read_out : goal.returns-in_ok-usage-in-Err-Usage-clause-read_out
+returns-in_ok-usage-in-Err-Usage-clause-read_out g c =
+    λ limit reads. usage_reads_nothing c.args.words.now limit (c.in-Err-Usage.ensures.usage (ap Err c.in-Err-Usage.field-0-is)) reads

@@ -1,12 +1,12 @@
 use Rattle.std.proofs.Common.{◌≡◌}
 use Rattle.kh_work.specs.Runs.{seen}
 use Rattle.kh_work.proofs.Headlines.{headline-run}
-use Rattle.kh_work.proofs.Written.{IsRun-written}
+use Rattle.kh_work.proofs.Written.{IsProgramRun-written}
 use Rattle.kh_work.proofs.top.run.Goals as goal
 
 pub returns-clause-run : goal.returns-clause-run
 returns-clause-run g c =
-    IsRun-written c.args.words.now (seen (g.S.Source.left c.args.source.now) (g.S.Source.faults c.args.source.now))
+    IsProgramRun-written c.args.words.now (seen (g.S.Source.left c.args.source.now) (g.S.Source.faults c.args.source.now))
     (seen (g.S.Source.left c.reply_by-made.new.source) (g.S.Source.faults c.reply_by-made.new.source))
     (seen (g.K.Sink.written c.args.sink.now) (g.K.Sink.faults c.args.sink.now))
     (seen (g.K.Sink.written c.written.new.sink) (g.K.Sink.faults c.written.new.sink))

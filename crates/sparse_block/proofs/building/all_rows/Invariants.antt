@@ -6,5 +6,5 @@ use Rattle.sparse_block.proofs.building.all_rows.Given as goal
 
 abbrev pub invariant-degrees : goal.invariant-degrees
 invariant-degrees l =
-    lines_in l.made.items
+    l.made.items
     ≡ map row_entries (map (degree_from_lists (all_alive (lists_in l.names)) (lines_in l.columns)) (range_with_len 0 l.k))

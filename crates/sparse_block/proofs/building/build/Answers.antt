@@ -26,7 +26,7 @@ invariant_of-result g c =
     let names = c.args.names.items in
     let columns = c.args.columns.items in
     let alive = lists_in c.in_ok-alive.alive.items in
-    let rows = lines_in c.in_ok-rows.rows.items in
+    let rows = c.in_ok-rows.rows.items in
     let count = length-map names (λ (degree : Vec Generator). degree.items) in
     let low : c.args.low ≡ to_z w16 (of_z w16 c.args.low) = omega (arith, ints, c.ranges.low) in
     let end : (c.args.low +ℤ pos (length (lists_in names))) ≤ℤ pos 32767 = omega (arith, ints, c.requires.end, count) in
@@ -42,4 +42,6 @@ invariant_of-result g c =
     c.deref-2.ensures.value
     ∙ ap (λ (columns : List (Vec (SmallVec Entry))). map row_entries (degrees_from (all_alive (lists_in names)) (lines_in columns)))
     c.deref-3.ensures.value) in
-    subst (λ (low : ℤ). IsKept p low (lists_in names) alive (lines_in columns) rows) low kept
+    subst (λ (columns : List (List (List Entry))). IsKept p (to_z w16 (of_z w16 c.args.low)) (lists_in names) alive columns rows)
+    (sym c.in_ok-held.ensures)
+    (subst (λ (low : ℤ). IsKept p low (lists_in names) alive (lines_in columns) rows) low kept)

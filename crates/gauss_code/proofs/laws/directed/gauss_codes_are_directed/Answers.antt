@@ -4,7 +4,7 @@ use Rattle.kh_types.specs.Accepted.{IsDirected}
 use Rattle.kh_types.proofs.AcceptedLemmas.{direction_fault-none}
 use Rattle.gauss_code.specs.Listings.{groups_of}
 use Rattle.gauss_code.specs.Faults.{signs_of}
-use Rattle.gauss_code.proofs.DirectedText.{IsDirected-crossings}
+use Rattle.code_passes.proofs.DirectedText.{IsDirected-crossings}
 use Rattle.gauss_code.proofs.FaultLemmas.{bad_label-none}
 use Rattle.gauss_code.proofs.laws.directed.gauss_codes_are_directed.Goals as goal
 

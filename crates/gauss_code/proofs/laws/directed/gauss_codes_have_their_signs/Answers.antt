@@ -5,18 +5,17 @@ use Rattle.kh_types.specs.Code.{Code, IsCrossing}
 use Rattle.kh_types.specs.Directions.{sign_of, HasNoSingleArcs}
 use Rattle.kh_types.proofs.Heads.{HasNoSingleArcs-accepted}
 use Rattle.gauss_code.specs.Listings.{groups_of}
-use Rattle.gauss_code.specs.Labels.{number_at}
+use Rattle.code_passes.specs.Labels.{number_at}
 use Rattle.gauss_code.specs.Faults.{signs_of}
 use Rattle.gauss_code.specs.Reading.{ReadsAs}
-use Rattle.gauss_code.proofs.TextCrossings.{length-crossings}
-use Rattle.gauss_code.proofs.TextSigns.{is_positive-listed}
-use Rattle.gauss_code.proofs.SingleArcs.{HasNoSingleArcs-labels}
+use Rattle.code_passes.proofs.TextCrossings.{length-crossings}
+use Rattle.code_passes.proofs.TextSigns.{is_positive-moves}
+use Rattle.code_passes.proofs.SingleArcs.{HasNoSingleArcs-labels}
 use Rattle.gauss_code.proofs.FaultLemmas.{bad_label-none, good-sign_of, sign-good}
 use Rattle.gauss_code.proofs.laws.directed.gauss_codes_have_their_signs.Goals as goal
 
 pub returns-clause-positive : goal.returns-clause-positive
-returns-clause-positive c = λ body signs none moves crossing is.
-    is_positive-listed (record { groups = groups_of body; signs = signs; none = none; moves = moves }) crossing is
+returns-clause-positive c = λ body signs none moves crossing is. is_positive-moves (groups_of body) signs none moves crossing is
 
 pub returns-clause-many : goal.returns-clause-many
 returns-clause-many c = λ body signs none many.
@@ -36,7 +35,7 @@ sign-of_text text code reads moves crossing is =
     let moves_here = subst (λ (other : Code). HasNoSingleArcs other.crossings) reads.same moves in
     ap (λ (other : Code). sign_of other.crossings crossing) reads.same
     ∙ ap (λ (positive : Bool). if positive then pos 1 else neg_ℤ (pos 1))
-    (is_positive-listed (record { groups = groups_of body; signs = signs; none = none; moves = moves_here }) crossing here)
+    (is_positive-moves (groups_of body) signs none moves_here crossing here)
     ∙ sign-good listed
     (good-sign_of reads.listing reads.places reads.good (crossing - 1)
     (omega (arith, here.positive, here.within, length-crossings (groups_of body) signs)))

@@ -1,6 +1,6 @@
 use Rattle.std.proofs.lemmas.List.Elements.{All-from_recursion}
 use Rattle.gauss_code.specs.Listings.{labels_of, crossing_count}
-use Rattle.gauss_code.proofs.LabelCounts.{Names, length-labels, labels-name, stands-once}
+use Rattle.code_passes.proofs.LabelCounts.{Names, length-labels, labels-name, stands-once}
 use Rattle.gauss_code.proofs.laws.directed.labels_stand_once.Goals as goal
 
 pub returns-clause-even : goal.returns-clause-even

@@ -1,38 +1,8 @@
-use Rattle.std.proofs.Common.{◌∙◌, [], List, length, ap, arith, rules}
+use Rattle.std.proofs.Common.{◌∙◌, [], List, ap, rules}
 use Rattle.std.specs.Prelude.{slice_index_or}
-use Rattle.std.specs.Global.{Vec}
-use Rattle.std.proofs.lemmas.List.{length-map}
-use Rattle.smallvec.specs.SmallVec.{SmallVec}
 use Rattle.sparse_block.specs.declared.entry.Entry.{Entry}
-use Rattle.sparse_block.specs.Inside.{lines_in, entries_in}
-use Rattle.sparse_block.proofs.KeptLemmas.{distance-from, within-degrees, length-columns, length-column, column-at}
+use Rattle.sparse_block.proofs.KeptLemmas.{distance-from, within-degrees, column-at}
 use Rattle.sparse_block.proofs.complex.Complex.column.Goals as goal
-
-pub line_at-requires-clause-degree : goal.line_at-requires-clause-degree
-line_at-requires-clause-degree g c =
-    let k = c.distance.result in
-    let is_distance = distance-from c.self.inside.low c.args.i k (search rules) c.ranges.i c.distance.ensures in
-    let within = within-degrees c.self.invariant c.self.view_is c.args.i k is_distance c.requires.high in
-    let lines = c.self.inside.columns.items in
-    omega (
-      arith,
-      within,
-      length-columns c.self.invariant,
-      length-map lines (λ (degree : Vec (SmallVec Entry)). entries_in degree.items),
-      ap length c.deref.ensures.value,
-    )
-
-pub line_at-requires-clause-place : goal.line_at-requires-clause-place
-line_at-requires-clause-place g c =
-    let k = c.distance.result in
-    let is_distance = distance-from c.self.inside.low c.args.i k (search rules) c.ranges.i c.distance.ensures in
-    let within = within-degrees c.self.invariant c.self.view_is c.args.i k is_distance c.requires.high in
-    omega (
-      arith,
-      c.requires.place,
-      length-column c.self.invariant c.self.view_is c.args.i k is_distance within,
-      ap (λ (degrees : List (Vec (SmallVec Entry))). length (slice_index_or (lines_in degrees) k [])) c.deref.ensures.value,
-    )
 
 pub returns : goal.returns
 returns g c =
@@ -41,6 +11,6 @@ returns g c =
     let is_distance = distance-from c.self.inside.low c.args.i k (search rules) c.ranges.i c.distance.ensures in
     let within = within-degrees c.self.invariant c.self.view_is c.args.i k is_distance c.requires.high in
     c.line_at.ensures
-    ∙ ap (λ (degrees : List (Vec (SmallVec Entry))). slice_index_or (slice_index_or (lines_in degrees) k []) place [])
+    ∙ ap (λ (degrees : List (List (List Entry))). slice_index_or (slice_index_or degrees k []) place [])
     c.deref.ensures.value
     ∙ column-at c.self.invariant c.self.view_is c.args.i k place is_distance within c.requires.place

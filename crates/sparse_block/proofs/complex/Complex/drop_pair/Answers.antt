@@ -2,11 +2,10 @@ use Rattle.std.proofs.Common.{◌≡◌, ◌+◌, ◌∙◌, List, [], pos, ◌+
 use Rattle.std.specs.Prelude.{slice_index_or}
 use Rattle.std.specs.Global.{Vec}
 use Rattle.std.proofs.lemmas.List.{length-map}
-use Rattle.smallvec.specs.SmallVec.{SmallVec}
 use Rattle.sparse_block.specs.declared.entry.Entry.{Entry}
 use Rattle.sparse_block.specs.Changes.{pivot_at}
 use Rattle.sparse_block.specs.Clearing.{CanClear, crossed_out, crossed_out_before, emptied, emptied_before, with_dead}
-use Rattle.sparse_block.specs.Inside.{lines_in, lists_in}
+use Rattle.sparse_block.specs.Inside.{lists_in}
 use Rattle.sparse_block.proofs.CancelledLists.{HaveOwn, alive-within, column-alive, row-alive, clear-after, clear-before, clear-own_column, clear-own_row, pivot-from_low}
 use Rattle.sparse_block.proofs.CancelledHeld.{held-written}
 use Rattle.sparse_block.proofs.ClearingLemmas.{places, taken-whole}
@@ -30,9 +29,9 @@ clear_own-requires-clause-row g c =
     let at = (goal.at.clear_own-requires-clause-row g c).After-distance-k in
     let k = c.distance-k.result in
     let row = c.args.row in
-    subst (λ (rows : List (Vec (SmallVec Entry))). CanClear k row (lines_in rows) (lines_in c.deref_mut.result.now))
+    subst (λ (rows : List (List (List Entry))). CanClear k row rows c.deref_mut.result.now)
     (sym c.deref_mut-2.ensures.value)
-    (subst (λ (columns : List (Vec (SmallVec Entry))). CanClear k row (lines_in c.self.inside.rows.items) (lines_in columns))
+    (subst (λ (columns : List (List (List Entry))). CanClear k row c.self.inside.rows.items columns)
     (sym c.deref_mut.ensures.value)
     (clear-own_row c.self.invariant c.self.view_is (pivot_at c.args.degree c.args.column row) c.requires.pivot k
     (is_distance g at)))
@@ -42,18 +41,18 @@ clear_own-requires-clause-column g c =
     let at = (goal.at.clear_own-requires-clause-column g c).After-distance-k in
     let k = c.distance-k.result in
     let column = c.args.column in
-    subst (λ (columns : List (Vec (SmallVec Entry))). CanClear k column (lines_in columns) (lines_in c.deref_mut-2.result.now))
+    subst (λ (columns : List (List (List Entry))). CanClear k column columns c.deref_mut-2.result.now)
     (sym c.deref_mut.ensures.value)
-    (subst (λ (rows : List (Vec (SmallVec Entry))). CanClear k column (lines_in c.self.inside.columns.items) (lines_in rows))
+    (subst (λ (rows : List (List (List Entry))). CanClear k column c.self.inside.columns.items rows)
     (sym c.deref_mut-2.ensures.value)
     (clear-own_column c.self.invariant c.self.view_is (pivot_at c.args.degree column c.args.row) c.requires.pivot k
     (is_distance g at)))
 
 own : (g : Over) (c : After-deref_mut-4 g)
     → HaveOwn g.F.PrimeField.P c.args.self.now.complex (pivot_at c.args.degree c.args.column c.args.row) c.distance-k.result
-    (lines_in c.self.inside.columns.items) (lines_in c.self.inside.rows.items)
-    (emptied c.distance-k.result c.args.column (crossed_out c.distance-k.result c.args.row (lines_in c.self.inside.columns.items)))
-    (crossed_out c.distance-k.result c.args.column (emptied c.distance-k.result c.args.row (lines_in c.self.inside.rows.items)))
+    c.self.inside.columns.items c.self.inside.rows.items
+    (emptied c.distance-k.result c.args.column (crossed_out c.distance-k.result c.args.row c.self.inside.columns.items))
+    (crossed_out c.distance-k.result c.args.column (emptied c.distance-k.result c.args.row c.self.inside.rows.items))
 own g c =
     let at = (goal.at.clear_neighbours-requires-clause-before g c).After-distance-k in
     let pivot = pivot_at c.args.degree c.args.column c.args.row in
@@ -61,29 +60,27 @@ own g c =
     c.element_laws.ensures.field (alone-from_entries c.args.self.now.complex pivot c.requires.pivot c.requires.alone)
 
 now_columns : (g : Over) (c : After-deref_mut-4 g)
-    → lines_in c.deref_mut-3.result.now
-    ≡ emptied c.distance-k.result c.args.column (crossed_out c.distance-k.result c.args.row (lines_in c.self.inside.columns.items))
+    → c.deref_mut-3.result.now
+    ≡ emptied c.distance-k.result c.args.column (crossed_out c.distance-k.result c.args.row c.self.inside.columns.items)
 now_columns g c =
     let k = c.distance-k.result in
-    ap lines_in
     (c.deref_mut-3.ensures.value
     ∙ taken-whole c.self.inside.columns.len c.clear_own.new.columns _
     (omega (arith, c.clear_own.auto.columns, c.deref_mut.ensures.len)))
     ∙ c.clear_own.ensures.columns
-    ∙ ap (λ (columns : List (Vec (SmallVec Entry))). emptied k c.args.column (crossed_out k c.args.row (lines_in columns)))
+    ∙ ap (λ (columns : List (List (List Entry))). emptied k c.args.column (crossed_out k c.args.row columns))
     c.deref_mut.ensures.value
 
 now_rows : (g : Over) (c : After-deref_mut-4 g)
-    → lines_in c.deref_mut-4.result.now
-    ≡ crossed_out c.distance-k.result c.args.column (emptied c.distance-k.result c.args.row (lines_in c.self.inside.rows.items))
+    → c.deref_mut-4.result.now
+    ≡ crossed_out c.distance-k.result c.args.column (emptied c.distance-k.result c.args.row c.self.inside.rows.items)
 now_rows g c =
     let k = c.distance-k.result in
-    ap lines_in
     (c.deref_mut-4.ensures.value
     ∙ taken-whole c.self.inside.rows.len c.clear_own.new.rows _
     (omega (arith, c.clear_own.auto.rows, c.deref_mut-2.ensures.len)))
     ∙ c.clear_own.ensures.rows
-    ∙ ap (λ (rows : List (Vec (SmallVec Entry))). crossed_out k c.args.column (emptied k c.args.row (lines_in rows)))
+    ∙ ap (λ (rows : List (List (List Entry))). crossed_out k c.args.column (emptied k c.args.row rows))
     c.deref_mut-2.ensures.value
 
 pub clear_neighbours-requires-clause-before : goal.clear_neighbours-requires-clause-before
@@ -91,9 +88,9 @@ clear_neighbours-requires-clause-before g c j next =
     let at = (goal.at.clear_neighbours-requires-clause-before g c).After-distance-k in
     let k = c.distance-k.result in
     let column = c.args.column in
-    subst (λ (rows : List (List (List Entry))). CanClear j column rows (lines_in c.deref_mut-3.result.now)) (sym (now_rows g c))
+    subst (λ (rows : List (List (List Entry))). CanClear j column rows c.deref_mut-3.result.now) (sym (now_rows g c))
     (subst
-    (CanClear j column (crossed_out k column (emptied k c.args.row (lines_in c.self.inside.rows.items))))
+    (CanClear j column (crossed_out k column (emptied k c.args.row c.self.inside.rows.items)))
     (sym (now_columns g c))
     (clear-before c.self.invariant c.self.view_is (pivot_at c.args.degree column c.args.row) c.requires.pivot k
     (is_distance g at) (own g c) j next))
@@ -103,10 +100,10 @@ clear_neighbours-requires-clause-after g c =
     let at = (goal.at.clear_neighbours-requires-clause-after g c).After-distance-k in
     let k = c.distance-k.result in
     let row = c.args.row in
-    subst (λ (columns : List (List (List Entry))). CanClear (k + 1) row columns (lines_in c.deref_mut-4.result.now))
+    subst (λ (columns : List (List (List Entry))). CanClear (k + 1) row columns c.deref_mut-4.result.now)
     (sym (now_columns g c))
     (subst
-    (CanClear (k + 1) row (emptied k c.args.column (crossed_out k row (lines_in c.self.inside.columns.items))))
+    (CanClear (k + 1) row (emptied k c.args.column (crossed_out k row c.self.inside.columns.items)))
     (sym (now_rows g c))
     (clear-after c.self.invariant c.self.view_is (pivot_at c.args.degree c.args.column row) c.requires.pivot k
     (is_distance g at) (own g c)))

@@ -1,0 +1,204 @@
+#!/usr/bin/env python3
+"""Measures the figures that this repository holds itself to, prints them as a table, and writes `bench/RESULTS.md`.
+
+    bench/all.py [RUNS] [--program PATH] [--only WORD] [--no-results] [OTHER]
+
+OTHER, or `KH_BASELINE`, is a program that reads a planar diagram text and writes the same table but for its first line: it is given
+`--field` and a field, and with `--stats` tells `states SECONDSs build SECONDSs`. Runs of the two are alternated and the least of some
+runs is taken, so that what else the machine does falls on both; wall times and what several workers do tell something on idle cores
+alone, so the load is written along. Times are user and system time but where wall time is said. With a word only the figures whose names
+have it are taken, and no results are written. Build the program first, by `./build`. The gate does not run it.
+
+The diagrams are the closed braids of `braids.txt` and those of 17 and 20 crossings below. A generator's time is that of the run by the
+number of generators.
+"""
+import argparse
+import datetime
+import os
+import shutil
+import statistics
+import subprocess
+import sys
+
+from braids import braids, planar_diagram
+from homology import PROGRAM, run
+
+TOP = os.path.dirname(os.path.dirname(os.path.abspath(__file__)))
+RESULTS = os.path.join(TOP, "bench", "RESULTS.md")
+LARGEST = 10
+LEAST_CROSSINGS = 11
+
+# Closed braids of 17 crossings within the limit on generators: strands and letters.
+SEVENTEEN = [
+    (3, [1, -2] * 8 + [1]),
+    (3, [1, 2] * 8 + [1]),
+    (4, [1, 3, -2, 1, 3, -2, 1, -2, 3, -2, 1, -2, 3, 1, -2, 3, -2]),
+    (5, [1, 2, 3, 4] * 4 + [1]),
+    (6, [1, 2, 3, 4, 5, 1, 2, 3, 4, 5, 1, 2, 3, 4, 5, 1, 2]),
+]
+FOURTEEN = [(3, [1, -2] * 7), (4, [1, -2, 3, -2, 1, -2, 3, -2, 1, -2, 3, -2, 1, -2]), (3, [1, 2] * 7)]
+TWENTY = [(3, [1, -2] * 10), (5, [1, 2, 3, 4] * 5), (6, [1, -2, 3, -4, 5] * 4), (2, [1] * 20)]
+
+
+class Bench:
+    """The two programs, how often each is run, and the figures so far."""
+
+    def __init__(self, arguments):
+        self.program, self.other, self.runs = os.path.abspath(arguments.program), arguments.other, arguments.runs
+        self.rows = []
+
+    def mine(self, words, text):
+        return run([self.program, *words], text)
+
+    def others(self, words, text):
+        return run([self.other, *words], text)
+
+    def both(self, words, other_words, text):
+        """The least times of both, alternated, and whether both write the same table and polynomial."""
+        pairs = [(self.mine(words, text), self.others(other_words, text)) for _ in range(self.runs)]
+        lines = [[line for line in pairs[0][k][0].splitlines() if line != "table 2"] for k in (0, 1)]
+        return min(one[1] for one, _ in pairs), min(two[1] for _, two in pairs), lines[0] == lines[1]
+
+    def note(self, work, found, wanted, fits):
+        self.rows.append((work, found, wanted, "yes" if fits else "no"))
+        print(f"{work}: {found}; wanted {wanted}: {'yes' if fits else 'NO'}", flush=True)
+
+
+def generators(bench, text):
+    """How many generators a diagram of 14 crossings or more has: eight loops more take it beyond the limit, whose line has the number."""
+    wrote = bench.mine(["homology"], text[:-1] + ",Loop[1]" * 8 + "]")[0].split()
+    return int(wrote[2]) >> 8
+
+
+def homology(bench):
+    """One worker, over two and three elements, from 11 crossings on."""
+    ratios, differ = [], 0
+    for name, strands, letters in braids():
+        if len(letters) >= LEAST_CROSSINGS:
+            for field in "23":
+                words = ["--field", field]
+                mine, other, same = bench.both(["homology", *words], words, planar_diagram(strands, letters))
+                differ += not same
+                if other >= 0.02:  # (below, the clock's ticks are all that is seen)
+                    ratios.append(mine / other)
+                print(f"  {name} over {field}: {mine:.3f} s, other {other:.3f} s, {mine / max(other, 0.001):.2f}", flush=True)
+    middle, worst = statistics.median(ratios), max(ratios)
+    bench.note("homology, one worker: times of the other, median", f"{middle:.2f}", "1.3", middle <= 1.3)
+    bench.note("homology, one worker: worst", f"{worst:.2f}", "1.6", worst <= 1.6)
+    bench.note("homology, one worker: other answers", differ, "0", differ == 0)
+
+
+def seventeen(bench):
+    """17 crossings, and a generator's time there and at 14 crossings."""
+    ratios, each = [], {}
+    for braid in SEVENTEEN + FOURTEEN:
+        text, count = planar_diagram(*braid), len(braid[1])
+        mine, other, same = bench.both(["homology"], [], text)
+        each.setdefault(count, []).append(mine / generators(bench, text))
+        if count == 17:
+            ratios.append(mine / other)
+        print(f"  {count} crossings on {braid[0]} strands: {mine:.3f} s, other {other:.3f} s, {'same' if same else 'OTHER'}", flush=True)
+    worst = max(ratios)
+    bench.note("homology, 17 crossings: times of the other, worst", f"{worst:.2f}", "1.6", worst <= 1.6)
+    growth = statistics.median(each[17]) / statistics.median(each[14])
+    bench.note("a generator at 17 crossings: times one at 14", f"{growth:.2f}", "1.3", growth <= 1.3)
+
+
+def building(bench):
+    """Columns and rows of all blocks, as bench/cube.py takes it."""
+    if not (shutil.which("gdb") and shutil.which("nm")):
+        bench.note("building all blocks", "not measured, for want of gdb or nm", "2", False)
+        return
+    words = [sys.executable, os.path.join(TOP, "bench", "cube.py"), str(bench.runs), "--program", bench.program, bench.other]
+    done = subprocess.run(words, capture_output=True, text=True)
+    last = (done.stdout or done.stderr or "nothing").strip().splitlines()[-1]
+    ratio = float(last.split()[2].rstrip(",")) if last.startswith("greatest ratio") else None
+    bench.note("building all blocks: times of the other, worst", ratio or last[:80], "2", ratio is not None and ratio <= 2)
+
+
+def jones(bench):
+    """All states of 20 crossings, against the other's way through them."""
+    ratios = []
+    for braid in TWENTY:
+        mine, other, _ = bench.both(["jones"], ["--enum"], planar_diagram(*braid))
+        ratios.append(mine / max(other, 0.001))
+        print(f"  jones, 20 crossings on {braid[0]} strands: {mine:.3f} s, other {other:.3f} s", flush=True)
+    bench.note("jones, 20 crossings: times of the other, worst", f"{max(ratios):.2f}", "0.2", max(ratios) <= 0.2)
+
+
+def limit(bench):
+    """The line of the limit at 20 crossings, its time and memory."""
+    ratios, memory = [], 0
+    for braid in TWENTY:
+        text = planar_diagram(*braid)
+        mine, other, _ = bench.both(["homology"], [], text)
+        ratios.append(mine / max(other, 0.001))
+        memory = max(memory, bench.mine(["homology"], text)[3])
+    bench.note("limit generators, 20 crossings: times of the other, worst", f"{max(ratios):.2f}", "1", max(ratios) <= 1)
+    bench.note("limit generators, 20 crossings: memory", f"{memory:.0f} MB", "20 MB", memory <= 20)
+
+
+def workers(bench):
+    """Four workers against one, on the ten largest braids."""
+    texts = [(name, planar_diagram(strands, letters)) for name, strands, letters in braids() if len(letters) >= 13]
+    timed = sorted(((bench.mine(["homology"], text)[1], name, text) for name, text in texts), reverse=True)[:LARGEST]
+    wall, user, memory = [], [], {1: 0, 4: 0}
+    for _, name, text in timed:
+        pairs = [(bench.mine(["homology"], text), bench.mine(["homology", "--workers", "4"], text)) for _ in range(bench.runs)]
+        wall.append(min(one[2] for one, _ in pairs) / min(four[2] for _, four in pairs))
+        user.append(min(four[1] for _, four in pairs) / min(one[1] for one, _ in pairs))
+        memory[1] = max(memory[1], *(one[3] for one, _ in pairs))
+        memory[4] = max(memory[4], *(four[3] for _, four in pairs))
+        print(f"  {name}: 4 workers {wall[-1]:.2f} times faster, user time {user[-1]:.2f} times", flush=True)
+    bench.note("4 workers, wall: times faster than 1, least of the ten largest", f"{min(wall):.2f}", "2.5", min(wall) >= 2.5)
+    bench.note("4 workers, user time: times that of 1, worst", f"{max(user):.2f}", "1.3", max(user) <= 1.3)
+    bench.note("memory at the limit, one worker", f"{memory[1]:.0f} MB", "350 MB", memory[1] <= 350)
+    bench.note("memory at the limit, four workers", f"{memory[4]:.0f} MB", "700 MB", memory[4] <= 700)
+
+
+def small(bench):
+    """Acceptance, faces and pieces of 20 crossings, as a whole process, against `true`."""
+    nothing = min(run(["true"], "")[2] for _ in range(200))
+    ratio = min(bench.mine(["check"], planar_diagram(*TWENTY[0]))[2] for _ in range(200)) / nothing
+    bench.note("check of 20 crossings, whole process, wall: times `true`", f"{ratio:.2f}", "3", ratio <= 3)
+
+
+def results(bench, began):
+    """The table as a page."""
+    commit = subprocess.run(["git", "-C", TOP, "log", "-1", "--format=%H %cs"], capture_output=True, text=True).stdout.strip()
+    lines = [
+        "# Results",
+        "",
+        f"`bench/all.py {bench.runs}` at commit {commit}, {datetime.date.today()}; {os.cpu_count()} processors, load {began} before and",
+        f"{os.getloadavg()[0]:.1f} after. What is measured, and against what, is said at the head of `bench/all.py`.",
+        "",
+        "| Work | Found | Wanted | Met |",
+        "|---|---|---|---|",
+        *(f"| {' | '.join(map(str, row))} |" for row in bench.rows),
+    ]
+    with open(RESULTS, "w", encoding="utf-8") as file:
+        file.write("\n".join(lines) + "\n")
+
+
+PARTS = (homology, seventeen, building, jones, limit, workers, small)
+
+
+def main(arguments):
+    if not arguments.other:
+        sys.exit(__doc__)
+    bench, began = Bench(arguments), f"{os.getloadavg()[0]:.1f}"
+    for part in PARTS:
+        if arguments.only in part.__name__:
+            part(bench)
+    if not (arguments.only or arguments.no_results):
+        results(bench, began)
+
+
+if __name__ == "__main__":
+    parser = argparse.ArgumentParser()
+    parser.add_argument("runs", nargs="?", type=int, default=3)
+    parser.add_argument("other", nargs="?", default=os.environ.get("KH_BASELINE"))
+    parser.add_argument("--program", default=PROGRAM)
+    parser.add_argument("--only", default="")
+    parser.add_argument("--no-results", action="store_true")
+    main(parser.parse_intermixed_args())

@@ -1,0 +1,334 @@
+-- In the parts of a closed braid each name that stands at all stands once as a head and once as a tail.
+use Rattle.std.proofs.Common.{◌≡◌, ◌≢◌, ℕ, zero, suc, ◌⊎◌, inl, inr, ◌+◌, ◌*◌, ◌/◌, ◌%◌, ◌<◌, ◌≤◌, ◌∙◌, List, [], ◌∷◌, length, refl, sym, ap, ap₂, subst, arith, Bool, true, false, cond}
+use Rattle.std.specs.Prelude.{nat_eq, if◌then◌else◌}
+use Rattle.std.specs.List.{count_by, flat_map, range_with_len, sum_by}
+use Rattle.std.proofs.lemmas.Bool.{cases_eq, eq-eqb, eqb-true, ne_eqb}
+use Rattle.std.proofs.lemmas.List.Sums.{sum_by-append, sum_by-cons}
+use Rattle.std.proofs.lemmas.List.FromFn.{get_or-map-range_with_len}
+use Rattle.kh_types.specs.Code.{arc_in}
+use Rattle.kh_types.proofs.Ranges.{sum_by-range_more}
+use Rattle.code_passes.specs.Passes.{Pass}
+use Rattle.orient_arcs.specs.Parts.{ArePaired, Parts, head_count, is_positive_at, passes_at, over_pass, slots_in, tail_count, under_pass}
+use Rattle.braid_maker.specs.Closures.{named_parts}
+use Rattle.braid_maker.proofs.CircleJoins.{arc_at, arc_at-slot}
+use Rattle.braid_maker.proofs.Corners.{corner_of, corner_of-place, corner_place, corner_place-crossing, length-crossings}
+use Rattle.braid_maker.proofs.FewClasses.{ends-alike}
+use Rattle.braid_maker.proofs.Names.{AreAlike-named}
+use Rattle.braid_maker.proofs.Nearest.{Last-is, found, none}
+use Rattle.braid_maker.proofs.Partners.{IsEnd-dart, at_lower, at_upper, arc_at_lower, end-of, place-below}
+use Rattle.braid_maker.proofs.Strands.{IsStrand}
+use Rattle.braid_maker.proofs.Weights.{sum-alike}
+
+abbrev counted : Bool → ℕ
+counted passes = cond passes 1 0
+
+sum-flat_map : {X Y : Type 0} (f : Y → ℕ) (g : X → List Y) (xs : List X) → sum_by f (flat_map g xs) ≡ sum_by (λ x. sum_by f (g x)) xs
+sum-flat_map f g [] = refl
+sum-flat_map f g (x ∷ xs) =
+    sum_by-append f (g x) (flat_map g xs) ∙ ap (λ k. sum_by f (g x) + k) (sum-flat_map f g xs)
+    ∙ sym (sum_by-cons (λ y. sum_by f (g y)) x xs)
+
+sum-two : {X : Type 0} (f : X → ℕ) (x y : X) → sum_by f (x ∷ y ∷ []) ≡ f x + f y
+sum-two f x y = omega (arith, sum_by-cons f x (y ∷ []), sum_by-cons f y [])
+
+-- one place counts once
+sum-none : (n k : ℕ) → n ≤ k → sum_by (λ i. counted (nat_eq i k)) (range_with_len 0 n) ≡ 0
+sum-none zero k within = refl
+sum-none (suc n) k within =
+    let e : suc n ≡ n + 1 = omega arith in
+    omega (
+      arith,
+      ap (λ m. sum_by (λ i. counted (nat_eq i k)) (range_with_len 0 m)) e,
+      sum_by-range_more (λ i. counted (nat_eq i k)) 0 n n (omega arith),
+      ap counted (ne_eqb n k (λ same. omega (arith, same, within))),
+      sum-none n k (omega (arith, within)),
+    )
+
+sum-once : (n k : ℕ) → k < n → sum_by (λ i. counted (nat_eq i k)) (range_with_len 0 n) ≡ 1
+sum-once zero k below = absurd (omega (arith, below))
+sum-once (suc n) k below =
+    let e : suc n ≡ n + 1 = omega arith in
+    elim (cases_eq n k) [
+      | inl same ↦
+          omega (
+            arith,
+            ap (λ m. sum_by (λ i. counted (nat_eq i k)) (range_with_len 0 m)) e,
+            sum_by-range_more (λ i. counted (nat_eq i k)) 0 n n (omega arith),
+            ap counted (eq-eqb n k same),
+            sum-none n k (omega (arith, same)),
+          )
+      | inr apart ↦
+          omega (
+            arith,
+            ap (λ m. sum_by (λ i. counted (nat_eq i k)) (range_with_len 0 m)) e,
+            sum_by-range_more (λ i. counted (nat_eq i k)) 0 n n (omega arith),
+            ap counted (ne_eqb n k apart),
+            sum-once n k (omega (arith, below, apart)),
+          )
+    ]
+
+sum-nothing : (n : ℕ) → sum_by (λ i. 0) (range_with_len 0 n) ≡ 0
+sum-nothing zero = refl
+sum-nothing (suc n) =
+    let e : suc n ≡ n + 1 = omega arith in
+    omega (
+      arith,
+      ap (λ m. sum_by (λ (i : ℕ). 0) (range_with_len 0 m)) e,
+      sum_by-range_more (λ i. 0) 0 n n (omega arith),
+      sum-nothing n,
+    )
+
+-- whether a corner has a name
+abbrev holds : List (List ℕ) → (ℕ → Bool) → ℕ → ℕ → ℕ → Bool
+holds others is_over name place corner = nat_eq (arc_at others (corner_place is_over place corner)) name
+
+-- the passes at a place enter at its lower corners and leave at its upper ones
+entered : (b : Bool) (name : ℕ) (at : ℕ → ℕ)
+    → counted (nat_eq (at 0) name) + counted (nat_eq (at (if b then 3 else 1)) name)
+    ≡ counted (nat_eq (at ((0 + cond b 3 0) % 4)) name) + counted (nat_eq (at ((1 + cond b 3 0) % 4)) name)
+entered true name at = omega arith
+entered false name at = refl
+
+left_again : (b : Bool) (name : ℕ) (at : ℕ → ℕ)
+    → counted (nat_eq (at 2) name) + counted (nat_eq (at (if b then 1 else 3)) name)
+    ≡ counted (nat_eq (at ((2 + cond b 3 0) % 4)) name) + counted (nat_eq (at ((3 + cond b 3 0) % 4)) name)
+left_again true name at = omega arith
+left_again false name at = refl
+
+heads-at : (strands n : ℕ) (left : ℕ → ℕ) (is_over : ℕ → Bool) (loops name place : ℕ) → place < n
+    → count_by (λ (pass : Pass). nat_eq pass.enters name) (passes_at (named_parts strands n left is_over loops) place)
+    ≡ counted (holds (named_parts strands n left is_over loops).crossings is_over name place 0)
+    + counted (holds (named_parts strands n left is_over loops).crossings is_over name place 1)
+heads-at strands n left is_over loops name place below =
+    let parts : Parts = named_parts strands n left is_over loops in
+    let at : ℕ → ℕ = λ s. arc_in (slots_in parts.crossings place) s in
+    let slot : (c : ℕ) → at ((c + cond (is_over place) 3 0) % 4) ≡ arc_at parts.crossings (corner_place is_over place c) =
+    λ c. sym (arc_at-slot parts.crossings place ((c + cond (is_over place) 3 0) % 4) (omega arith)) in
+    let sign : is_positive_at parts.positive place ≡ is_over place = get_or-map-range_with_len is_over 0 n place place false below (omega arith) in
+    sum-two (λ (pass : Pass). counted (nat_eq pass.enters name)) (under_pass (slots_in parts.crossings place) place)
+    (over_pass (slots_in parts.crossings place) (is_positive_at parts.positive place) place)
+    ∙ ap (λ b. counted (nat_eq (at 0) name) + counted (nat_eq (at (if b then 3 else 1)) name)) sign
+    ∙ entered (is_over place) name at
+    ∙ ap₂ (λ x y. counted (nat_eq x name) + counted (nat_eq y name)) (slot 0) (slot 1)
+
+tails-at : (strands n : ℕ) (left : ℕ → ℕ) (is_over : ℕ → Bool) (loops name place : ℕ) → place < n
+    → count_by (λ (pass : Pass). nat_eq pass.leaves name) (passes_at (named_parts strands n left is_over loops) place)
+    ≡ counted (holds (named_parts strands n left is_over loops).crossings is_over name place 2)
+    + counted (holds (named_parts strands n left is_over loops).crossings is_over name place 3)
+tails-at strands n left is_over loops name place below =
+    let parts : Parts = named_parts strands n left is_over loops in
+    let at : ℕ → ℕ = λ s. arc_in (slots_in parts.crossings place) s in
+    let slot : (c : ℕ) → at ((c + cond (is_over place) 3 0) % 4) ≡ arc_at parts.crossings (corner_place is_over place c) =
+    λ c. sym (arc_at-slot parts.crossings place ((c + cond (is_over place) 3 0) % 4) (omega arith)) in
+    let sign : is_positive_at parts.positive place ≡ is_over place = get_or-map-range_with_len is_over 0 n place place false below (omega arith) in
+    sum-two (λ (pass : Pass). counted (nat_eq pass.leaves name)) (under_pass (slots_in parts.crossings place) place)
+    (over_pass (slots_in parts.crossings place) (is_positive_at parts.positive place) place)
+    ∙ ap (λ b. counted (nat_eq (at 2) name) + counted (nat_eq (at (if b then 1 else 3)) name)) sign
+    ∙ left_again (is_over place) name at
+    ∙ ap₂ (λ x y. counted (nat_eq x name) + counted (nat_eq y name)) (slot 2) (slot 3)
+
+-- the counts are sums over the places
+heads-sum : (strands n : ℕ) (left : ℕ → ℕ) (is_over : ℕ → Bool) (loops name : ℕ)
+    → head_count (named_parts strands n left is_over loops) name
+    ≡ sum_by (λ i. counted (holds (named_parts strands n left is_over loops).crossings is_over name i 0)
+    + counted (holds (named_parts strands n left is_over loops).crossings is_over name i 1)) (range_with_len 0 n)
+heads-sum strands n left is_over loops name =
+    let parts : Parts = named_parts strands n left is_over loops in
+    let size : length parts.crossings ≡ n = (AreAlike-named strands n left is_over loops).size ∙ length-crossings n left is_over in
+    sum-flat_map (λ (pass : Pass). counted (nat_eq pass.enters name)) (passes_at parts) (range_with_len 0 (length parts.crossings))
+    ∙ ap (λ k. sum_by (λ i. count_by (λ (pass : Pass). nat_eq pass.enters name) (passes_at parts i)) (range_with_len 0 k)) size
+    ∙ sum-alike (λ i. count_by (λ (pass : Pass). nat_eq pass.enters name) (passes_at parts i))
+    (λ i. counted (holds parts.crossings is_over name i 0) + counted (holds parts.crossings is_over name i 1)) n
+    (λ i below. heads-at strands n left is_over loops name i below)
+
+tails-sum : (strands n : ℕ) (left : ℕ → ℕ) (is_over : ℕ → Bool) (loops name : ℕ)
+    → tail_count (named_parts strands n left is_over loops) name
+    ≡ sum_by (λ i. counted (holds (named_parts strands n left is_over loops).crossings is_over name i 2)
+    + counted (holds (named_parts strands n left is_over loops).crossings is_over name i 3)) (range_with_len 0 n)
+tails-sum strands n left is_over loops name =
+    let parts : Parts = named_parts strands n left is_over loops in
+    let size : length parts.crossings ≡ n = (AreAlike-named strands n left is_over loops).size ∙ length-crossings n left is_over in
+    sum-flat_map (λ (pass : Pass). counted (nat_eq pass.leaves name)) (passes_at parts) (range_with_len 0 (length parts.crossings))
+    ∙ ap (λ k. sum_by (λ i. count_by (λ (pass : Pass). nat_eq pass.leaves name) (passes_at parts i)) (range_with_len 0 k)) size
+    ∙ sum-alike (λ i. count_by (λ (pass : Pass). nat_eq pass.leaves name) (passes_at parts i))
+    (λ i. counted (holds parts.crossings is_over name i 2) + counted (holds parts.crossings is_over name i 3)) n
+    (λ i below. tails-at strands n left is_over loops name i below)
+
+-- a name stands at the two ends of one strand
+record IsName (strands n : ℕ) (left : ℕ → ℕ) (is_over : ℕ → Bool) (loops name q place from lower upper : ℕ) : Type 0 where
+  pub strand : IsStrand n left q place from lower upper
+  pub same : arc_at (named_parts strands n left is_over loops).crossings (corner_place is_over place lower) ≡ name
+
+-- so at no other corner
+name-at : (strands n : ℕ) (left : ℕ → ℕ) (is_over : ℕ → Bool) (loops name q place from lower upper i corner : ℕ)
+    → IsName strands n left is_over loops name q place from lower upper → i < n → corner < 4
+    → arc_at (named_parts strands n left is_over loops).crossings (corner_place is_over i corner) ≡ name
+    → ((i ≡ place) × (corner ≡ lower)) ⊎ ((i ≡ from) × (corner ≡ upper))
+name-at strands n left is_over loops name q place from lower upper i corner is below small same =
+    let alike = AreAlike-named strands n left is_over loops in
+    let size = length-crossings n left is_over in
+    let strand = is.strand in
+    let dart = corner_place is_over i corner in
+    let low = corner_place is_over place lower in
+    let dart_below = place-below n is_over i corner below in
+    let low_below = place-below n is_over place lower strand.place_below in
+    let arc = alike.back dart low (omega (arith, size, dart_below)) (omega (arith, size, low_below)) (same ∙ sym is.same)
+    ∙ arc_at_lower n left is_over q place from lower upper strand in
+    let parts : (k c : ℕ) → c < 4 → dart ≡ corner_place is_over k c → (i ≡ k) × (corner ≡ c) =
+    λ k c c_below at. (
+      sym (corner_place-crossing is_over i corner) ∙ ap (λ d. d / 4) at ∙ corner_place-crossing is_over k c,
+      sym (corner_of-place is_over i corner small) ∙ ap (corner_of is_over) at ∙ corner_of-place is_over k c c_below,
+    ) in
+    elim (end-of n left is_over q place from lower upper dart strand dart_below arc) [
+      | inl at ↦ inl (parts place lower (omega (arith, strand.lower_below)) at)
+      | inr at ↦ inr (parts from upper strand.upper_below at)
+    ]
+
+two_cases : (x y name : ℕ) (k : ℕ) → ((x ≡ name) ⊎ (y ≡ name)) → (x ≡ name → y ≡ name → ⊥) → k ≡ 1
+    → counted (nat_eq x name) + counted (nat_eq y name) ≡ k
+two_cases x y name k either both one = elim either [
+  | inl first ↦
+      omega (
+        arith,
+        ap counted (eq-eqb x name first),
+        ap counted (ne_eqb y name (λ second. both first second)),
+        one,
+      )
+  | inr second ↦
+      omega (
+        arith,
+        ap counted (ne_eqb x name (λ first. both first second)),
+        ap counted (eq-eqb y name second),
+        one,
+      )
+]
+
+no_cases : (x y name k : ℕ) → x ≢ name → y ≢ name → k ≡ 0 → counted (nat_eq x name) + counted (nat_eq y name) ≡ k
+no_cases x y name k first second none_is =
+    omega (arith, ap counted (ne_eqb x name first), ap counted (ne_eqb y name second), none_is)
+
+low_either : (others : List (List ℕ)) (is_over : ℕ → Bool) (place lower name : ℕ) → lower < 2
+    → arc_at others (corner_place is_over place lower) ≡ name
+    → (arc_at others (corner_place is_over place 0) ≡ name) ⊎ (arc_at others (corner_place is_over place 1) ≡ name)
+low_either others is_over place zero name below same = inl same
+low_either others is_over place (suc zero) name below same = inr same
+low_either others is_over place (suc (suc lower)) name below same = absurd (omega (arith, below))
+
+high_either : (others : List (List ℕ)) (is_over : ℕ → Bool) (place upper name : ℕ) → 2 ≤ upper → upper < 4
+    → arc_at others (corner_place is_over place upper) ≡ name
+    → (arc_at others (corner_place is_over place 2) ≡ name) ⊎ (arc_at others (corner_place is_over place 3) ≡ name)
+high_either others is_over place zero name two below same = absurd (omega (arith, two))
+high_either others is_over place (suc zero) name two below same = absurd (omega (arith, two))
+high_either others is_over place (suc (suc zero)) name two below same = inl same
+high_either others is_over place (suc (suc (suc zero))) name two below same = inr same
+high_either others is_over place (suc (suc (suc (suc c)))) name two below same = absurd (omega (arith, below))
+
+heads-name : (strands n : ℕ) (left : ℕ → ℕ) (is_over : ℕ → Bool) (loops name q place from lower upper : ℕ)
+    → IsName strands n left is_over loops name q place from lower upper → head_count (named_parts strands n left is_over loops) name ≡ 1
+heads-name strands n left is_over loops name q place from lower upper is =
+    let others = (named_parts strands n left is_over loops).crossings in
+    let strand = is.strand in
+    let at = name-at strands n left is_over loops name q place from lower upper in
+    let only : (i c : ℕ) → i < n → c < 2 → arc_at others (corner_place is_over i c) ≡ name → (i ≡ place) × (c ≡ lower) =
+    λ i c below small same. elim (at i c is below (omega (arith, small)) same) [
+      | inl this ↦ this
+      | inr other ↦ absurd (omega (arith, other.1, small, strand.upper_from))
+    ] in
+    heads-sum strands n left is_over loops name
+    ∙ sum-alike (λ i. counted (holds others is_over name i 0) + counted (holds others is_over name i 1)) (λ i. counted (nat_eq i place)) n
+    (λ i below. elim (cases_eq i place) [
+      | inl here ↦
+          two_cases (arc_at others (corner_place is_over i 0)) (arc_at others (corner_place is_over i 1)) name (counted (nat_eq i place))
+          (subst (λ (k : ℕ). (arc_at others (corner_place is_over k 0) ≡ name) ⊎ (arc_at others (corner_place is_over k 1) ≡ name)) (sym here)
+          (low_either others is_over place lower name strand.lower_below is.same))
+          (λ first second.
+          omega (arith, (only i 0 below (omega arith) first).1, (only i 1 below (omega arith) second).1))
+          (ap counted (eq-eqb i place here))
+      | inr apart ↦
+          no_cases (arc_at others (corner_place is_over i 0)) (arc_at others (corner_place is_over i 1)) name (counted (nat_eq i place))
+          (λ first. apart (only i 0 below (omega arith) first).0)
+          (λ second. apart (only i 1 below (omega arith) second).0)
+          (ap counted (ne_eqb i place apart))
+    ])
+    ∙ sum-once n place strand.place_below
+
+tails-name : (strands n : ℕ) (left : ℕ → ℕ) (is_over : ℕ → Bool) (loops name q place from lower upper : ℕ)
+    → IsName strands n left is_over loops name q place from lower upper → tail_count (named_parts strands n left is_over loops) name ≡ 1
+tails-name strands n left is_over loops name q place from lower upper is =
+    let others = (named_parts strands n left is_over loops).crossings in
+    let strand = is.strand in
+    let at = name-at strands n left is_over loops name q place from lower upper in
+    let only : (i c : ℕ) → i < n → 2 ≤ c → c < 4 → arc_at others (corner_place is_over i c) ≡ name → (i ≡ from) × (c ≡ upper) =
+    λ i c below two small same. elim (at i c is below small same) [
+      | inl other ↦ absurd (omega (arith, other.1, two, strand.lower_below))
+      | inr this ↦ this
+    ] in
+    let top : arc_at others (corner_place is_over from upper) ≡ name =
+    sym (ends-alike n left is_over others q place from lower upper (AreAlike-named strands n left is_over loops) strand) ∙ is.same in
+    tails-sum strands n left is_over loops name
+    ∙ sum-alike (λ i. counted (holds others is_over name i 2) + counted (holds others is_over name i 3)) (λ i. counted (nat_eq i from)) n
+    (λ i below. elim (cases_eq i from) [
+      | inl here ↦
+          two_cases (arc_at others (corner_place is_over i 2)) (arc_at others (corner_place is_over i 3)) name (counted (nat_eq i from))
+          (subst (λ (k : ℕ). (arc_at others (corner_place is_over k 2) ≡ name) ⊎ (arc_at others (corner_place is_over k 3) ≡ name)) (sym here)
+          (high_either others is_over from upper name strand.upper_from strand.upper_below top))
+          (λ first second.
+          omega (arith, (only i 2 below (omega arith) (omega arith) first).1, (only i 3 below (omega arith) (omega arith) second).1))
+          (ap counted (eq-eqb i from here))
+      | inr apart ↦
+          no_cases (arc_at others (corner_place is_over i 2)) (arc_at others (corner_place is_over i 3)) name (counted (nat_eq i from))
+          (λ first. apart (only i 2 below (omega arith) (omega arith) first).0)
+          (λ second. apart (only i 3 below (omega arith) (omega arith) second).0)
+          (ap counted (ne_eqb i from apart))
+    ])
+    ∙ sum-once n from strand.from_below
+
+pub ArePaired-named : (strands n : ℕ) (left : ℕ → ℕ) (is_over : ℕ → Bool) (loops : ℕ) → ArePaired (named_parts strands n left is_over loops)
+ArePaired-named strands n left is_over loops =
+    let parts : Parts = named_parts strands n left is_over loops in
+    let both : (name : ℕ) → (head_count parts name ≤ 1) × (tail_count parts name ≡ head_count parts name) = both_counts in
+    record { heads = λ name. (both name).0; tails = λ name. (both name).1 }
+  where
+    of_strand : (name q place from lower upper : ℕ) → IsName strands n left is_over loops name q place from lower upper
+        → (head_count (named_parts strands n left is_over loops) name ≤ 1)
+        × (tail_count (named_parts strands n left is_over loops) name ≡ head_count (named_parts strands n left is_over loops) name)
+    of_strand name q place from lower upper is =
+        let heads = heads-name strands n left is_over loops name q place from lower upper is in
+        let tails = tails-name strands n left is_over loops name q place from lower upper is in
+        (omega (arith, heads), tails ∙ sym heads)
+
+    both_counts : (name : ℕ) → (head_count (named_parts strands n left is_over loops) name ≤ 1)
+        × (tail_count (named_parts strands n left is_over loops) name ≡ head_count (named_parts strands n left is_over loops) name)
+    both_counts name =
+        let others = (named_parts strands n left is_over loops).crossings in
+        let test : ℕ → Bool = λ d. nat_eq (arc_at others d) name in
+        elim (Last-is test (4 * n)) [
+          | found d below passes last is ↦
+              let same = eqb-true (arc_at others d) name passes in
+              elim (IsEnd-dart n left is_over d below) [
+                | at_lower q place from lower upper strand at ↦
+                    of_strand name q place from lower upper
+                    (record { strand = strand; same = sym (ap (λ k. arc_at others k) at) ∙ same })
+                | at_upper q place from lower upper strand at ↦
+                    of_strand name q place from lower upper
+                    (record {
+                      strand = strand;
+                      same = ends-alike n left is_over others q place from lower upper (AreAlike-named strands n left is_over loops) strand
+                          ∙ sym (ap (λ k. arc_at others k) at) ∙ same;
+                    })
+              ]
+          | none all is ↦
+              let fails : (i c : ℕ) → i < n → counted (holds others is_over name i c) ≡ 0 =
+              λ i c i_below. ap counted (all (corner_place is_over i c) (place-below n is_over i c i_below)) in
+              let heads : head_count (named_parts strands n left is_over loops) name ≡ 0 =
+              heads-sum strands n left is_over loops name
+              ∙ sum-alike (λ i. counted (holds others is_over name i 0) + counted (holds others is_over name i 1)) (λ i. 0) n
+              (λ i i_below. omega (arith, fails i 0 i_below, fails i 1 i_below))
+              ∙ sum-nothing n in
+              let tails : tail_count (named_parts strands n left is_over loops) name ≡ 0 =
+              tails-sum strands n left is_over loops name
+              ∙ sum-alike (λ i. counted (holds others is_over name i 2) + counted (holds others is_over name i 3)) (λ i. 0) n
+              (λ i i_below. omega (arith, fails i 2 i_below, fails i 3 i_below))
+              ∙ sum-nothing n in
+              (omega (arith, heads), tails ∙ sym heads)
+        ]

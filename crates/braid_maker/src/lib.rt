@@ -1,0 +1,12 @@
+//! Closed braids as codes: each is accepted, and those of numbers have few generators.
+#![tactic(auto)]
+
+mod closing;
+pub mod laws;
+mod limits;
+mod numbered;
+mod rising;
+
+pub use closing::closure;
+pub use limits::{LETTERS, NUMBERS, STRANDS};
+pub use numbered::{NumberLimit, from_number};

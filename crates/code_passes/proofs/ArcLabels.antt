@@ -1,0 +1,91 @@
+-- The labels of the arcs of a directed code: each names a crossing, and no two arcs have one label.
+use Rattle.std.proofs.Common.{◌≡◌, ◌⊎◌, inl, inr, ℕ, zero, suc, ◌≤◌, ◌∙◌, ℤ, pos, neg_ℤ, nat_abs, List, refl, sym, ap, arith, Bool, true, false}
+use Rattle.std.specs.Prelude.{nat_eq, if◌then◌else◌}
+use Rattle.std.proofs.lemmas.Bool.Decides.{nat_tests}
+use Rattle.kh_types.specs.declared.dart.Dart.{Dart}
+use Rattle.kh_types.specs.Code.{arc_in, slots_of, IsArc, IsCrossing}
+use Rattle.kh_types.specs.Darts.{arc_of}
+use Rattle.kh_types.specs.Directions.{is_positive, is_head, head_of, HasEnds, HasNoSingleArcs}
+use Rattle.kh_types.specs.Accepted.{IsDirected}
+use Rattle.kh_types.proofs.DirectedPasses.{same_dart, head-cases}
+use Rattle.kh_types.proofs.Heads.{HasEnds-directed, IsPass-under}
+use Rattle.code_passes.specs.ComponentLabels.{label_at, label_of}
+
+-- a directed code, no component of which has a single arc
+pub record IsOriented (crossings : List (List ℕ)) : Type 0 where
+  pub directed : IsDirected crossings
+  pub moves : HasNoSingleArcs crossings
+
+pub HasEnds-arc : (crossings : List (List ℕ)) → IsOriented crossings → (arc : ℕ) → IsArc crossings arc → HasEnds crossings arc
+HasEnds-arc crossings oriented = HasEnds-directed crossings oriented.directed oriented.moves
+
+-- a number with a sign
+abbrev signed : Bool → ℕ → ℤ
+signed minus size = if minus then neg_ℤ (pos size) else pos size
+
+same_signed : (minus other : Bool) (size more : ℕ) → 1 ≤ size → 1 ≤ more → signed minus size ≡ signed other more
+    → (minus ≡ other) × (size ≡ more)
+same_signed minus other zero more positive positive_more same = absurd (omega (arith, positive))
+same_signed minus other (suc size) zero positive positive_more same = absurd (omega (arith, positive_more))
+same_signed true true (suc size) (suc more) positive positive_more same = (refl, ap nat_abs same)
+same_signed true false (suc size) (suc more) positive positive_more same = absurd (cc)
+same_signed false true (suc size) (suc more) positive positive_more same = absurd (cc)
+same_signed false false (suc size) (suc more) positive positive_more same = (refl, ap nat_abs same)
+
+size-signed : (minus : Bool) (size : ℕ) → nat_abs (signed minus size) ≡ size
+size-signed true zero = refl
+size-signed true (suc size) = refl
+size-signed false size = refl
+
+-- the size of a label is the number of a crossing
+pub label_of-size : (crossings : List (List ℕ)) (arc : ℕ) → nat_abs (label_of crossings arc) ≡ (head_of crossings arc).crossing
+label_of-size crossings arc = size-signed (nat_eq (head_of crossings arc).slot 0) (head_of crossings arc).crossing
+
+pub label_of-names : (crossings : List (List ℕ)) → IsOriented crossings → (arc : ℕ) → IsArc crossings arc
+    → IsCrossing crossings (nat_abs (label_of crossings arc))
+label_of-names crossings oriented arc is =
+    let crossing = (HasEnds-arc crossings oriented arc is).head.within.crossing in
+    record {
+      positive = omega (arith, label_of-size crossings arc, crossing.positive);
+      within = omega (arith, label_of-size crossings arc, crossing.within);
+    }
+
+-- two heads at one crossing that are both at slot 0, or both not, are one
+same_slot : (positive : Bool) (slot other : ℕ) → (slot ≡ 0) ⊎ (((positive ≡ true) × (slot ≡ 3)) ⊎ ((positive ≡ false) × (slot ≡ 1)))
+    → (other ≡ 0) ⊎ (((positive ≡ true) × (other ≡ 3)) ⊎ ((positive ≡ false) × (other ≡ 1))) → nat_eq slot 0 ≡ nat_eq other 0
+    → slot ≡ other
+same_slot true slot other head other_head same = grind (arith, nat_tests)
+same_slot false slot other head other_head same = grind (arith, nat_tests)
+
+same_head : (crossings : List (List ℕ)) (dart other : Dart) → dart.crossing ≡ other.crossing → is_head crossings dart ≡ true
+    → is_head crossings other ≡ true → nat_eq dart.slot 0 ≡ nat_eq other.slot 0 → dart ≡ other
+same_head crossings dart other same head other_head under =
+    let other_cases = head-cases crossings other other_head in
+    let turned : is_positive crossings other.crossing ≡ is_positive crossings dart.crossing = ap (is_positive crossings) (sym same) in
+    same_dart dart other same
+    (same_slot (is_positive crossings dart.crossing) dart.slot other.slot (head-cases crossings dart head) (elim other_cases [
+      | inl zero_slot ↦ inl zero_slot
+      | inr over ↦ elim over [
+        | inl positive ↦ inr (inl (sym turned ∙ positive.0, positive.1))
+        | inr negative ↦ inr (inr (sym turned ∙ negative.0, negative.1))
+      ]
+    ]) under)
+
+-- no two arcs have one label
+pub label_of-once : (crossings : List (List ℕ)) → IsOriented crossings → (arc other : ℕ) → IsArc crossings arc → IsArc crossings other
+    → label_of crossings arc ≡ label_of crossings other → arc ≡ other
+label_of-once crossings oriented arc other is other_is same =
+    let ends = HasEnds-arc crossings oriented arc is in
+    let other_ends = HasEnds-arc crossings oriented other other_is in
+    let dart = head_of crossings arc in
+    let other_dart = head_of crossings other in
+    let parts = same_signed (nat_eq dart.slot 0) (nat_eq other_dart.slot 0) dart.crossing other_dart.crossing
+    ends.head.within.crossing.positive other_ends.head.within.crossing.positive same in
+    let one = same_head crossings dart other_dart parts.1 ends.enters other_ends.enters parts.0 in
+    sym ends.head.on_arc ∙ ap (arc_of crossings) one ∙ other_ends.head.on_arc
+
+-- the arc of an under pass has minus the number of the crossing as its label
+pub label_of-under : (crossings : List (List ℕ)) → IsOriented crossings → (crossing : ℕ) → IsCrossing crossings crossing
+    → label_of crossings (arc_in (slots_of crossings crossing) 0) ≡ neg_ℤ (pos crossing)
+label_of-under crossings oriented crossing is =
+    ap label_at (IsPass-under crossings oriented.directed oriented.moves crossing is).head

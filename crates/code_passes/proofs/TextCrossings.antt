@@ -1,0 +1,117 @@
+-- The crossings of the code of some components and signs: their slots, and the pairs of arcs that their passes join.
+use Rattle.std.proofs.Common.{◌≡◌, ℕ, zero, suc, inl, inr, ◌⊎◌, ◌-◌, ◌<◌, List, [], ◌∷◌, length, map, refl, sym, subst, arith, true, false, ℤ, pos}
+use Rattle.std.specs.Prelude.{None, slice_index_or, if◌then◌else◌}
+use Rattle.std.specs.List.{flat_map, range_with_len, AllByRecursion}
+use Rattle.std.specs.Ordering.{int_eq}
+use Rattle.std.proofs.lemmas.List.FromFn.{length-map-range_with_len, get_or-map-range_with_len}
+use Rattle.kh_types.specs.Code.{arc_in, arc_count, slots_of, IsCrossing}
+use Rattle.kh_types.specs.Components.{passes_of}
+use Rattle.kh_types.proofs.PassPairs.{passes-all}
+use Rattle.code_passes.specs.Labels.{number_at, bad_label}
+use Rattle.code_passes.specs.Passes.{Pass, all_passes, slots_between, slots_at, all_labels, crossings_in, crossings_of}
+use Rattle.code_passes.proofs.LabelCounts.{length-labels}
+use Rattle.code_passes.proofs.CrossingPasses.{under_pass, over_pass, under-holds, over-holds, all-passes_hold}
+
+pub length-crossings : (groups : List (List ℤ)) (signs : List ℤ) → length (crossings_of groups signs) ≡ crossings_in groups
+length-crossings groups signs = length-map-range_with_len (slots_at (all_passes 1 groups) signs) 0 (crossings_in groups)
+
+-- there are as many arcs as labels
+pub arc_count-crossings : (groups : List (List ℤ)) (signs : List ℤ) → bad_label (all_labels groups) ≡ None
+    → arc_count (crossings_of groups signs) ≡ length (all_labels groups)
+arc_count-crossings groups signs none = omega (arith, length-crossings groups signs, length-labels (all_labels groups) none)
+
+-- the slots of a crossing, given its passes: those of the over pass are 1 and 3, in one direction or the other
+pub record HasSlots (under over : Pass) (slots : List ℕ) : Type 0 where
+  pub under_from : arc_in slots 0 ≡ under.enters
+  pub under_to : arc_in slots 2 ≡ under.leaves
+  pub over_arcs : ((arc_in slots 1 ≡ over.leaves) × (arc_in slots 3 ≡ over.enters))
+      ⊎ ((arc_in slots 1 ≡ over.enters) × (arc_in slots 3 ≡ over.leaves))
+
+HasSlots-between : (under over : Pass) (sign : ℤ) → HasSlots under over (slots_between under over sign)
+HasSlots-between under over sign =
+    elim (int_eq sign (pos 1))
+    as (λ b. HasSlots under over
+    (if b then under.enters ∷ over.leaves ∷ under.leaves ∷ over.enters ∷ []
+    else under.enters ∷ over.enters ∷ under.leaves ∷ over.leaves ∷ [])) [
+      | true ↦ record { under_from = refl; under_to = refl; over_arcs = inl (refl, refl) }
+      | false ↦ record { under_from = refl; under_to = refl; over_arcs = inr (refl, refl) }
+    ]
+
+pub slots-at : (groups : List (List ℤ)) (signs : List ℤ) (place : ℕ) → place < crossings_in groups
+    → slice_index_or (crossings_of groups signs) place [] ≡ slots_at (all_passes 1 groups) signs place
+slots-at groups signs place below =
+    get_or-map-range_with_len (slots_at (all_passes 1 groups) signs) 0 (crossings_in groups) place place [] below (omega arith)
+
+pub HasSlots-at : (groups : List (List ℤ)) (signs : List ℤ) (place : ℕ) → place < crossings_in groups
+    → HasSlots (under_pass groups place) (over_pass groups place) (slice_index_or (crossings_of groups signs) place [])
+HasSlots-at groups signs place below =
+    subst (HasSlots (under_pass groups place) (over_pass groups place)) (sym (slots-at groups signs place below))
+    (HasSlots-between (under_pass groups place) (over_pass groups place) (number_at signs place))
+
+pub HasSlots-of : (groups : List (List ℤ)) (signs : List ℤ) (crossing : ℕ) → IsCrossing (crossings_of groups signs) crossing
+    → HasSlots (under_pass groups (crossing - 1)) (over_pass groups (crossing - 1)) (slots_of (crossings_of groups signs) crossing)
+HasSlots-of groups signs crossing is =
+    HasSlots-at groups signs (crossing - 1) (omega (arith, is.positive, is.within, length-crossings groups signs))
+
+-- what holds of the pairs of all crossings holds of those of each
+pairs-each : (P : ℕ × ℕ → Type 0) (crossings : List (List ℕ)) → AllByRecursion P (flat_map passes_of crossings)
+    → (place : ℕ) → place < length crossings → AllByRecursion P (passes_of (slice_index_or crossings place []))
+pairs-each P [] all place below = absurd (omega (arith, below))
+pairs-each P (slots ∷ rest) all zero below = (all.0, (all.1.0, tt))
+pairs-each P (slots ∷ rest) all (suc place) below = pairs-each P rest all.1.1 place (omega (arith, below))
+
+-- what passes have in either direction, the pairs of arcs that they join have, and the other way round
+module _ (R : ℕ → ℕ → Type 0) (turns : (x y : ℕ) → R x y → R y x) where
+  same_pair : (x y a b : ℕ) → x ≡ a → y ≡ b → R a b → R x y
+  same_pair x y a b same_first same_second holds =
+      subst (λ (z : ℕ). R z y) (sym same_first) (subst (λ (z : ℕ). R a z) (sym same_second) holds)
+
+  pairs-of_slots : (under over : Pass) (slots : List ℕ) → HasSlots under over slots → R under.enters under.leaves
+      → R over.enters over.leaves → AllByRecursion (λ pair. R pair.0 pair.1) (passes_of slots)
+  pairs-of_slots under over slots has at_under at_over = (
+    same_pair (arc_in slots 0) (arc_in slots 2) under.enters under.leaves has.under_from has.under_to at_under,
+    (
+      elim has.over_arcs [
+        | inl back ↦
+            same_pair (arc_in slots 1) (arc_in slots 3) over.leaves over.enters back.0 back.1 (turns over.enters over.leaves at_over)
+        | inr onward ↦
+            same_pair (arc_in slots 1) (arc_in slots 3) over.enters over.leaves onward.0 onward.1 at_over
+      ],
+      tt,
+    ),
+  )
+
+  slots-of_pairs : (under over : Pass) (slots : List ℕ) → HasSlots under over slots
+      → AllByRecursion (λ pair. R pair.0 pair.1) (passes_of slots) → R under.enters under.leaves × R over.enters over.leaves
+  slots-of_pairs under over slots has all = (
+    same_pair under.enters under.leaves (arc_in slots 0) (arc_in slots 2) (sym has.under_from) (sym has.under_to) all.0,
+    elim has.over_arcs [
+      | inl back ↦
+          same_pair over.enters over.leaves (arc_in slots 3) (arc_in slots 1) (sym back.1) (sym back.0)
+          (turns (arc_in slots 1) (arc_in slots 3) all.1.0)
+      | inr onward ↦
+          same_pair over.enters over.leaves (arc_in slots 1) (arc_in slots 3) (sym onward.0) (sym onward.1) all.1.0
+    ],
+  )
+
+  pub pairs-of_passes : (groups : List (List ℤ)) (signs : List ℤ) → bad_label (all_labels groups) ≡ None
+      → AllByRecursion (λ (pass : Pass). R pass.enters pass.leaves) (all_passes 1 groups)
+      → AllByRecursion (λ pair. R pair.0 pair.1) (flat_map passes_of (crossings_of groups signs))
+  pairs-of_passes groups signs none all =
+      passes-all (λ pair. R pair.0 pair.1) (crossings_of groups signs)
+      (λ crossing is.
+      let below : crossing - 1 < crossings_in groups = omega (arith, is.positive, is.within, length-crossings groups signs) in
+      pairs-of_slots (under_pass groups (crossing - 1)) (over_pass groups (crossing - 1)) (slots_of (crossings_of groups signs) crossing)
+      (HasSlots-of groups signs crossing is)
+      (under-holds groups none (λ (pass : Pass). R pass.enters pass.leaves) (crossing - 1) below all)
+      (over-holds groups none (λ (pass : Pass). R pass.enters pass.leaves) (crossing - 1) below all))
+
+  pub passes-of_pairs : (groups : List (List ℤ)) (signs : List ℤ) → bad_label (all_labels groups) ≡ None
+      → AllByRecursion (λ pair. R pair.0 pair.1) (flat_map passes_of (crossings_of groups signs))
+      → AllByRecursion (λ (pass : Pass). R pass.enters pass.leaves) (all_passes 1 groups)
+  passes-of_pairs groups signs none all =
+      all-passes_hold groups none (λ (pass : Pass). R pass.enters pass.leaves)
+      (λ place below.
+      slots-of_pairs (under_pass groups place) (over_pass groups place) (slice_index_or (crossings_of groups signs) place [])
+      (HasSlots-at groups signs place below)
+      (pairs-each (λ pair. R pair.0 pair.1) (crossings_of groups signs) all place (omega (arith, below, length-crossings groups signs))))

@@ -1,0 +1,167 @@
+//! Lines of words, and what each comes to. The rows are this project's.
+
+use kh_types::Words;
+use std::alloc::Global;
+use std::test::Fail;
+use word_line::{Command, Form, Task, WordStop, read_words};
+
+const HOMOLOGY: Command = Command {
+    task: Task::Homology,
+    field: 2,
+    workers: 1,
+    to: Form::Pd,
+};
+
+// Lines that mean a command, and the command.
+const COMMANDS: [(&[&str], Command); 12] = [
+    (&["homology"], HOMOLOGY),
+    (
+        &["--field=3", "homology"],
+        Command {
+            field: 3,
+            ..HOMOLOGY
+        },
+    ),
+    (
+        &["--field", "3", "homology"],
+        Command {
+            field: 3,
+            ..HOMOLOGY
+        },
+    ),
+    (
+        &["homology", "--field", "5"],
+        Command {
+            field: 5,
+            ..HOMOLOGY
+        },
+    ),
+    (&["--", "homology"], HOMOLOGY),
+    (&["homology", "--"], HOMOLOGY),
+    (
+        &["--field=7", "--", "homology"],
+        Command {
+            field: 7,
+            ..HOMOLOGY
+        },
+    ),
+    (
+        &["homology", "--workers", "64"],
+        Command {
+            workers: 64,
+            ..HOMOLOGY
+        },
+    ),
+    (
+        &["homology", "--workers=01"],
+        Command {
+            workers: 1,
+            ..HOMOLOGY
+        },
+    ),
+    (
+        &["--to", "gauss", "convert"],
+        Command {
+            task: Task::Convert,
+            to: Form::Gauss,
+            ..HOMOLOGY
+        },
+    ),
+    (
+        &["--to=pd", "check", "--workers", "12"],
+        Command {
+            task: Task::Check,
+            workers: 12,
+            ..HOMOLOGY
+        },
+    ),
+    (
+        &["schedule"],
+        Command {
+            task: Task::Schedule,
+            ..HOMOLOGY
+        },
+    ),
+];
+
+// Lines that mean none.
+const USAGES: [&[&str]; 54] = [
+    &[],
+    &[""],
+    &["--"],
+    &["-"],
+    &["help"],
+    &["--help"],
+    &["-h"],
+    &["homology", "--help"],
+    &["homology", "-h"],
+    &["--version"],
+    &["-V"],
+    &["Homology"],
+    &["homology "],
+    &["homolog"],
+    &["homology", ""],
+    &["homology", "homology"],
+    &["homology", "jones"],
+    &["homology", "-"],
+    &["homology", "--", "-"],
+    &["homology", "--", "--"],
+    &["homology", "--", "--field=3"],
+    &["--", "--field", "3"],
+    &["--", "homology", "--"],
+    &["homology", "--workers", "0"],
+    &["homology", "--workers", "00"],
+    &["homology", "--workers", "65"],
+    &["homology", "--workers", "001"],
+    &["homology", "--workers", "+1"],
+    &["homology", "--workers", "-1"],
+    &["homology", "--workers", " 1"],
+    &["homology", "--workers", ""],
+    &["homology", "--workers="],
+    &["homology", "--workers"],
+    &["homology", "--workers", "--"],
+    &["homology", "--field", "2", "--field", "2"],
+    &["homology", "--field=2", "--field", "2"],
+    &["homology", "--field", "4"],
+    &["homology", "--field", "02"],
+    &["homology", "--field=2=2"],
+    &["homology", "--field==2"],
+    &["homology", "--fiel", "2"],
+    &["homology", "--fields", "2"],
+    &["homology", "-field", "2"],
+    &["homology", "-f", "2"],
+    &["homology", "--Field", "2"],
+    &["homology", "---field", "2"],
+    &["homology", "--=2"],
+    &["--field", "--", "homology"],
+    &["--field", "--", "2", "homology"],
+    &["--field", "--workers", "2", "homology"],
+    &["--field", "-2", "homology"],
+    &["convert", "--to", "PD"],
+    &["bench"],
+    &["check", "--number", "7"],
+];
+
+fn reads(alloc: Global, line: &[&str]) -> Result<Result<Command, WordStop>, Fail> {
+    let mut words = Words::new(alloc)?;
+    for word in line {
+        words.push(alloc, word)?;
+    }
+    Ok(read_words(alloc, &words))
+}
+
+#[test]
+fn words_mean_a_command(rt: HostRuntime) -> Result<(), Fail> {
+    for (line, command) in COMMANDS {
+        assert!(rt; reads(rt.alloc(), line)? == Ok(command));
+    }
+    Ok(())
+}
+
+#[test]
+fn words_mean_none(rt: HostRuntime) -> Result<(), Fail> {
+    for line in USAGES {
+        assert!(rt; reads(rt.alloc(), line)? == Err(WordStop::Usage));
+    }
+    Ok(())
+}

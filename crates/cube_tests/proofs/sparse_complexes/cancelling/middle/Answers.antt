@@ -1,0 +1,43 @@
+use Rattle.std.proofs.Common.{◌≡◌, List, pos, neg_ℤ, subst₂}
+use Rattle.std.specs.Prelude.{IfOk}
+use Rattle.kh_types.specs.Generators.{Generator}
+use Rattle.sparse_block.specs.declared.entry.Entry.{Entry}
+use Rattle.sparse_block.specs.Complexes.{sparse_complex}
+use Rattle.sparse_block.specs.Inside.{lists_in, lines_in}
+use Rattle.sparse_block.proofs.WorkedLemmas.{middle-build}
+use Rattle.cube_tests.proofs.sparse_complexes.cancelling.middle.Goals as goal
+
+pub build-requires-clause-counts : goal.build-requires-clause-counts
+build-requires-clause-counts c =
+    let can =
+    middle-build (lists_in c.in_ok-names.names.items) (lines_in c.in_ok-columns.columns.items) c.in_ok-names.ensures
+    c.in_ok-columns.ensures in
+    can.counts
+
+pub build-requires-clause-sizes : goal.build-requires-clause-sizes
+build-requires-clause-sizes c =
+    let can =
+    middle-build (lists_in c.in_ok-names.names.items) (lines_in c.in_ok-columns.columns.items) c.in_ok-names.ensures
+    c.in_ok-columns.ensures in
+    can.sizes
+
+pub build-requires-clause-entries : goal.build-requires-clause-entries
+build-requires-clause-entries c =
+    let can =
+    middle-build (lists_in c.in_ok-names.names.items) (lines_in c.in_ok-columns.columns.items) c.in_ok-names.ensures
+    c.in_ok-columns.ensures in
+    can.entries
+
+pub build-requires-clause-squares : goal.build-requires-clause-squares
+build-requires-clause-squares c =
+    let can =
+    middle-build (lists_in c.in_ok-names.names.items) (lines_in c.in_ok-columns.columns.items) c.in_ok-names.ensures
+    c.in_ok-columns.ensures in
+    can.squares
+
+pub returns : goal.returns
+returns c =
+    subst₂
+    (λ (names : List (List Generator)) (columns : List (List (List Entry))).
+    IfOk c.build.result (λ made. made ≡ sparse_complex (neg_ℤ (pos 1)) names columns))
+    c.in_ok-names.ensures c.in_ok-columns.ensures c.build.ensures

@@ -1,0 +1,255 @@
+//! What no clause says: that `build` succeeds where there is memory, and what a worked complex
+//! reads as. Its matrices stand in `Worked` of sparse_block, and were multiplied by hand.
+
+ghost use Rattle.std.specs.Prelude.{◌≡◌, map, slice_index, IfOk};
+ghost use Rattle.std.specs.List.{range_with_len};
+ghost use Rattle.kh_types.specs.Generators.{generator_of};
+ghost use Rattle.sparse_block.specs.Complexes.{HaveEntries, SquaresToZero};
+ghost use Rattle.sparse_block.specs.Entries.{entry_at};
+ghost use Rattle.sparse_block.specs.Inside.{entries_in, lines_in, lists_in};
+ghost use Rattle.sparse_block.specs.Worked.{worked_columns, worked_complex, worked_names};
+
+use kh_types::NoMemory;
+use prime_field::{F3, F5, PrimeField};
+use smallvec::SmallVec;
+use sparse_block::{Complex, Entry, Generator, INLINE_ENTRIES, build};
+use std::alloc::Global;
+use std::test::Fail;
+
+const NONE: [Entry; 0] = [];
+
+mod cancelling;
+
+type Columns = Vec<SmallVec<Entry, INLINE_ENTRIES>>;
+
+fn entry(place: u32, value: u8) -> Entry
+    ensures { result ≡ entry_at (place, value) }
+{
+    Entry { place, value }
+}
+
+fn name(state: u32, label: u64) -> Generator
+    ensures { result ≡ generator_of state label }
+{
+    Generator { state, label }
+}
+
+fn labels(alloc: Global, state: u32, count: u64) -> Result<Vec<Generator>, NoMemory>
+    ensures { IfOk result (λ made.
+        made.items ≡ map (generator_of state) (range_with_len 0 count)) }
+{
+    let mut made = Vec::new(alloc);
+    'labels: for label in 0..count {
+        made.push(name(state, label))?;
+    }
+    Ok(made)
+}
+
+fn names(alloc: Global) -> Result<Vec<Vec<Generator>>, NoMemory>
+    ensures { IfOk result (λ made. lists_in made.items ≡ worked_names) }
+{
+    let first = labels(alloc, 0, 6)?;
+    let second = labels(alloc, 1, 3)?;
+    let third = labels(alloc, 3, 1)?;
+    let fourth = labels(alloc, 7, 0)?;
+    Ok(vec![in alloc; first, second, third, fourth]?)
+}
+
+fn lines<const N: usize>(alloc: Global, columns: &[[Entry; N]]) -> Result<Columns, NoMemory>
+    ensures { IfOk result (λ made. entries_in made.items ≡ columns.now) }
+{
+    let mut made = Vec::new(alloc);
+    'columns: for column in columns {
+        made.push(SmallVec::from_slice(alloc, column)?)?;
+    }
+    Ok(made)
+}
+
+fn columns(alloc: Global, last: [u8; 3]) -> Result<Vec<Columns>, NoMemory>
+    ensures { IfOk result (λ made. lines_in made.items ≡ worked_columns
+        (slice_index last 0) (slice_index last 1) (slice_index last 2)) }
+{
+    let one = Entry { place: 1, value: 1 };
+    let left = [Entry { place: 0, value: 1 }, one];
+    let right = [one, Entry { place: 2, value: 2 }];
+    let first = lines(alloc, &[left, right, left, left, right, left])?;
+    let [x, y, z] = last;
+    let row = [
+        [Entry { place: 0, value: x }],
+        [Entry { place: 0, value: y }],
+        [Entry { place: 0, value: z }],
+    ];
+    let second = lines(alloc, &row)?;
+    let third = lines(alloc, &[NONE])?;
+    let fourth = Vec::new(alloc);
+    Ok(vec![in alloc; first, second, third, fourth]?)
+}
+
+fn worked<F: PrimeField>(alloc: Global, last: [u8; 3]) -> Result<Complex<F>, NoMemory>
+    requires entries { HaveEntries F.P worked_names
+        (worked_columns (slice_index last 0) (slice_index last 1) (slice_index last 2)) }
+    requires squares { SquaresToZero F.P
+        (worked_complex (slice_index last 0) (slice_index last 1) (slice_index last 2)).complex }
+    ensures { IfOk result (λ made.
+        made ≡ worked_complex (slice_index last 0) (slice_index last 1) (slice_index last 2)) }
+{
+    let names = names(alloc)?;
+    let columns = columns(alloc, last)?;
+    build(alloc, -1, names, columns)
+}
+
+fn over_three(alloc: Global) -> Result<Complex<F3>, NoMemory>
+    ensures { IfOk result (λ made. made ≡ worked_complex 2 1 1) }
+{
+    worked(alloc, [2, 1, 1])
+}
+
+fn over_five(alloc: Global) -> Result<Complex<F5>, NoMemory>
+    ensures { IfOk result (λ made. made ≡ worked_complex 2 3 1) }
+{
+    worked(alloc, [2, 3, 1])
+}
+
+/// The complex with one place, at degree 7.
+fn point(alloc: Global) -> Result<Complex<F3>, NoMemory> {
+    let names = vec![in alloc; vec![in alloc; name(0, 0)]?]?;
+    let columns = vec![in alloc; lines(alloc, &[NONE])?]?;
+    build(alloc, 7, names, columns)
+}
+
+fn column_at<F: PrimeField>(complex: &Complex<F>, i: i16, place: u32) -> Option<&[Entry]> {
+    if complex.low() <= i && i <= complex.high() && place < complex.places(i) {
+        return Some(complex.column(i, place));
+    }
+    None
+}
+
+fn row_at<F: PrimeField>(complex: &Complex<F>, i: i16, place: u32) -> Option<&[Entry]> {
+    if complex.low() <= i && i < complex.high() && place < complex.places(i + 1) {
+        return Some(complex.row(i, place));
+    }
+    None
+}
+
+fn name_at<F: PrimeField>(complex: &Complex<F>, i: i16, place: u32) -> Option<Generator> {
+    if complex.low() <= i && i <= complex.high() && place < complex.places(i) {
+        return Some(complex.name(i, place));
+    }
+    None
+}
+
+/// The entries of a row, one by one, up to six.
+fn numbers<F: PrimeField>(complex: &Complex<F>, i: i16, row: u32) -> [u8; 6] {
+    let mut found = [9; 6];
+    for column in 0..6u32 {
+        if complex.low() <= i
+            && i < complex.high()
+            && row < complex.places(i + 1)
+            && column < complex.places(i)
+        {
+            found[column as usize] = complex.entry(i, row, column).value();
+        }
+    }
+    found
+}
+
+/// Each row is a degree, a place, and the entries of the column there.
+#[test]
+fn columns_have_their_entries(rt: HostRuntime) -> Result<(), Fail> {
+    let complex = over_three(rt.alloc())?;
+    for (i, place, entries) in [
+        (-1, 0, Some([entry(0, 1), entry(1, 1)].as_slice())),
+        (-1, 4, Some([entry(1, 1), entry(2, 2)].as_slice())),
+        (-1, 6, None),
+        (0, 0, Some([entry(0, 2)].as_slice())),
+        (1, 0, Some(NONE.as_slice())),
+        (2, 0, None),
+        (3, 0, None),
+        (-2, 0, None),
+    ] {
+        assert_eq!(rt; column_at(&complex, i, place), entries, "{i} {place}");
+    }
+    Ok(())
+}
+
+/// Each row is a degree, a place of the next, and the entries of the row there.
+#[test]
+fn rows_have_the_same_entries(rt: HostRuntime) -> Result<(), Fail> {
+    let complex = over_five(rt.alloc())?;
+    let whole = [
+        entry(0, 1),
+        entry(1, 1),
+        entry(2, 1),
+        entry(3, 1),
+        entry(4, 1),
+        entry(5, 1),
+    ];
+    for (i, place, entries) in [
+        (-1, 1, Some(whole.as_slice())),
+        (-1, 2, Some([entry(1, 2), entry(4, 2)].as_slice())),
+        (-1, 3, None),
+        (
+            0,
+            0,
+            Some([entry(0, 2), entry(1, 3), entry(2, 1)].as_slice()),
+        ),
+        (1, 0, None),
+        (2, 0, None),
+    ] {
+        assert_eq!(rt; row_at(&complex, i, place), entries, "{i} {place}");
+    }
+    Ok(())
+}
+
+/// Each row is a degree, a place of the next, and the row there; 9 stands where there is no column.
+#[test]
+fn entries_are_those_of_the_matrices(rt: HostRuntime) -> Result<(), Fail> {
+    let complex = over_five(rt.alloc())?;
+    for (i, row, entries) in [
+        (-1, 0, [1, 0, 1, 1, 0, 1]),
+        (-1, 1, [1, 1, 1, 1, 1, 1]),
+        (-1, 2, [0, 2, 0, 0, 2, 0]),
+        (0, 0, [2, 3, 1, 9, 9, 9]),
+        (1, 0, [9, 9, 9, 9, 9, 9]),
+    ] {
+        assert_eq!(rt; numbers(&complex, i, row), entries, "{i} {row}");
+    }
+    Ok(())
+}
+
+/// Each row is a degree, how many places it has, and the name of the last.
+#[test]
+fn degrees_have_their_places(rt: HostRuntime) -> Result<(), Fail> {
+    let complex = over_three(rt.alloc())?;
+    assert_eq!(rt;
+        (complex.low(), complex.high(), complex.is_zero()),
+        (-1, 2, false)
+    );
+    for (i, places, last) in [
+        (-32768, 0, None),
+        (-2, 0, None),
+        (-1, 6, Some(name(0, 5))),
+        (0, 3, Some(name(1, 2))),
+        (1, 1, Some(name(3, 0))),
+        (2, 0, None),
+        (32767, 0, None),
+    ] {
+        assert_eq!(rt;
+            (complex.places(i), complex.alive(i)),
+            (places, places),
+            "{i}"
+        );
+        assert_eq!(rt; name_at(&complex, i, places.saturating_sub(1)), last, "{i}");
+    }
+    Ok(())
+}
+
+#[test]
+fn a_point_is_zero(rt: HostRuntime) -> Result<(), Fail> {
+    let complex = point(rt.alloc())?;
+    assert_eq!(rt;
+        (complex.low(), complex.high(), complex.is_zero()),
+        (7, 7, true)
+    );
+    Ok(())
+}

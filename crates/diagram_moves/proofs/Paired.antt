@@ -1,0 +1,258 @@
+-- Crossings whose arcs have two ends each are paired.
+use Rattle.std.proofs.Common.{◌≡◌, ℕ, zero, suc, ◌⊎◌, inl, inr, ◌+◌, ◌*◌, ◌/◌, ◌%◌, ◌<◌, ◌≤◌, ◌∙◌, List, ◌∷◌, length, refl, sym, ap, ap₂, arith, Bool, true, false, cond, not, ◌&&◌, eq-eqb, eqb-true}
+use Rattle.std.specs.Prelude.{nat_eq, if◌then◌else◌}
+use Rattle.std.specs.List.{count_by, flat_map, range_with_len}
+use Rattle.std.proofs.lemmas.Bool.{cases_Bool, and_parts}
+use Rattle.std.proofs.lemmas.List.Sums.{sum_by-append, sum_by-cons}
+use Rattle.kh_types.proofs.RangeCounts.{found-counted, count_by-but}
+use Rattle.code_passes.specs.Passes.{Pass}
+use Rattle.kinks_and_fingers.specs.Strands.{Strands, dart_name, name_at, enters, sign_at, is_head_at, HasTwoEnds}
+use Rattle.orient_arcs.specs.Parts.{ArePaired, passes_at, head_count, tail_count}
+use Rattle.diagram_moves.specs.Joinable.{parts_in}
+
+-- whether a dart is a head of a name, or a tail of it
+abbrev pub is_head_of : Strands → ℕ → ℕ → Bool
+is_head_of strands name x = is_head_at strands.signs x && nat_eq (dart_name strands.crossings x) name
+
+abbrev pub is_tail_of : Strands → ℕ → ℕ → Bool
+is_tail_of strands name x = not (is_head_at strands.signs x) && nat_eq (dart_name strands.crossings x) name
+
+count-step : (p : ℕ → Bool) (x : ℕ) (xs : List ℕ) → count_by p (x ∷ xs) ≡ cond (p x) 1 0 + count_by p xs
+count-step p x xs = sum_by-cons (λ y. cond (p y) 1 0) x xs
+
+-- a count over the darts, crossing by crossing
+pub count-darts : (p : ℕ → Bool) (a n : ℕ)
+    → count_by p (range_with_len (4 * a) (4 * suc n))
+    ≡ cond (p (4 * a)) 1 0 + cond (p (4 * a + 1)) 1 0 + cond (p (4 * a + 2)) 1 0 + cond (p (4 * a + 3)) 1 0
+    + count_by p (range_with_len (4 * (a + 1)) (4 * n))
+count-darts p a n =
+    let e : 4 * suc n ≡ suc (suc (suc (suc (4 * n)))) = omega arith in
+    let two : 4 * a + 1 + 1 ≡ 4 * a + 2 = omega arith in
+    let three : 4 * a + 1 + 1 + 1 ≡ 4 * a + 3 = omega arith in
+    let four : 4 * a + 1 + 1 + 1 + 1 ≡ 4 * (a + 1) = omega arith in
+    omega (
+      arith,
+      ap (λ m. count_by p (range_with_len (4 * a) m)) e,
+      count-step p (4 * a) (range_with_len (4 * a + 1) (suc (suc (suc (4 * n))))),
+      count-step p (4 * a + 1) (range_with_len (4 * a + 1 + 1) (suc (suc (4 * n)))),
+      count-step p (4 * a + 1 + 1) (range_with_len (4 * a + 1 + 1 + 1) (suc (4 * n))),
+      count-step p (4 * a + 1 + 1 + 1) (range_with_len (4 * a + 1 + 1 + 1 + 1) (4 * n)),
+      ap {B = ℕ} (λ x. cond (p x) 1 0) two,
+      ap {B = ℕ} (λ x. cond (p x) 1 0) three,
+      ap (λ x. count_by p (range_with_len x (4 * n))) four,
+    )
+
+-- the dart at a slot of a crossing
+
+pub head-at : (signs : List Bool) (a s : ℕ) → s < 4 → is_head_at signs (4 * a + s) ≡ enters (sign_at signs a) s
+head-at signs a s below =
+    let p : (4 * a + s) / 4 ≡ a = omega (arith, below) in
+    let r : (4 * a + s) % 4 ≡ s = omega (arith, below) in
+    ap₂ (λ k l. enters (sign_at signs k) l) p r
+
+pub name-at : (crossings : List (List ℕ)) (a s : ℕ) → s < 4 → dart_name crossings (4 * a + s) ≡ name_at crossings a s
+name-at crossings a s below =
+    let p : (4 * a + s) / 4 ≡ a = omega (arith, below) in
+    let r : (4 * a + s) % 4 ≡ s = omega (arith, below) in
+    ap₂ (name_at crossings) p r
+
+-- the passes of a crossing have the ends that its darts are
+
+heads-here : (strands : Strands) (name a : ℕ)
+    → count_by (λ (pass : Pass). nat_eq pass.enters name) (passes_at (parts_in strands) a)
+    ≡ cond (is_head_of strands name (4 * a)) 1 0 + cond (is_head_of strands name (4 * a + 1)) 1 0
+    + cond (is_head_of strands name (4 * a + 2)) 1 0 + cond (is_head_of strands name (4 * a + 3)) 1 0
+heads-here strands name a =
+    let z : 4 * a ≡ 4 * a + 0 = omega arith in
+    let b = sign_at strands.signs a in
+    let p : ℕ → Bool = λ s. nat_eq (name_at strands.crossings a s) name in
+    let at : (s : ℕ) → s < 4 → is_head_of strands name (4 * a + s) ≡ (enters (sign_at strands.signs a) s && nat_eq (name_at strands.crossings a s) name) =
+    λ s below. ap₂ (λ h m. h && nat_eq m name) (head-at strands.signs a s below) (name-at strands.crossings a s below) in
+    let zeroth : is_head_of strands name (4 * a) ≡ (enters (sign_at strands.signs a) 0 && nat_eq (name_at strands.crossings a 0) name) =
+    ap (is_head_of strands name) z ∙ at 0 (omega arith) in
+    by (sign_at strands.signs a) p
+    ∙ sym (sums zeroth (at 1 (omega arith)) (at 2 (omega arith)) (at 3 (omega arith)))
+  where
+    by : (b : Bool) (p : ℕ → Bool)
+        → 0 + cond (p 0) 1 0 + cond (p (if b then 3 else 1)) 1 0
+        ≡ cond (enters b 0 && p 0) 1 0 + cond (enters b 1 && p 1) 1 0 + cond (enters b 2 && p 2) 1 0 + cond (enters b 3 && p 3) 1 0
+    by true p = omega arith
+    by false p = omega arith
+
+    sums : {x y z w p q r s : Bool} → x ≡ p → y ≡ q → z ≡ r → w ≡ s
+        → cond x 1 0 + cond y 1 0 + cond z 1 0 + cond w 1 0 ≡ cond p 1 0 + cond q 1 0 + cond r 1 0 + cond s 1 0
+    sums {x} {y} {z} {w} {p} {q} {r} {s} one two three four =
+        omega (arith, ap {B = ℕ} (λ t. cond t 1 0) one, ap {B = ℕ} (λ t. cond t 1 0) two, ap {B = ℕ} (λ t. cond t 1 0) three, ap {B = ℕ} (λ t. cond t 1 0) four)
+
+tails-here : (strands : Strands) (name a : ℕ)
+    → count_by (λ (pass : Pass). nat_eq pass.leaves name) (passes_at (parts_in strands) a)
+    ≡ cond (is_tail_of strands name (4 * a)) 1 0 + cond (is_tail_of strands name (4 * a + 1)) 1 0
+    + cond (is_tail_of strands name (4 * a + 2)) 1 0 + cond (is_tail_of strands name (4 * a + 3)) 1 0
+tails-here strands name a =
+    let z : 4 * a ≡ 4 * a + 0 = omega arith in
+    let p : ℕ → Bool = λ s. nat_eq (name_at strands.crossings a s) name in
+    let at : (s : ℕ) → s < 4
+    → is_tail_of strands name (4 * a + s) ≡ (not (enters (sign_at strands.signs a) s) && nat_eq (name_at strands.crossings a s) name) =
+    λ s below. ap₂ (λ h m. not h && nat_eq m name) (head-at strands.signs a s below) (name-at strands.crossings a s below) in
+    let zeroth : is_tail_of strands name (4 * a) ≡ (not (enters (sign_at strands.signs a) 0) && nat_eq (name_at strands.crossings a 0) name) =
+    ap (is_tail_of strands name) z ∙ at 0 (omega arith) in
+    by (sign_at strands.signs a) p
+    ∙ sym (sums zeroth (at 1 (omega arith)) (at 2 (omega arith)) (at 3 (omega arith)))
+  where
+    by : (b : Bool) (p : ℕ → Bool)
+        → 0 + cond (p 2) 1 0 + cond (p (if b then 1 else 3)) 1 0
+        ≡ cond (not (enters b 0) && p 0) 1 0 + cond (not (enters b 1) && p 1) 1 0 + cond (not (enters b 2) && p 2) 1 0
+        + cond (not (enters b 3) && p 3) 1 0
+    by true p = omega arith
+    by false p = omega arith
+
+    sums : {x y z w p q r s : Bool} → x ≡ p → y ≡ q → z ≡ r → w ≡ s
+        → cond x 1 0 + cond y 1 0 + cond z 1 0 + cond w 1 0 ≡ cond p 1 0 + cond q 1 0 + cond r 1 0 + cond s 1 0
+    sums {x} {y} {z} {w} {p} {q} {r} {s} one two three four =
+        omega (arith, ap {B = ℕ} (λ t. cond t 1 0) one, ap {B = ℕ} (λ t. cond t 1 0) two, ap {B = ℕ} (λ t. cond t 1 0) three, ap {B = ℕ} (λ t. cond t 1 0) four)
+
+heads-counted : (strands : Strands) (name a n : ℕ)
+    → count_by (λ (pass : Pass). nat_eq pass.enters name) (flat_map (passes_at (parts_in strands)) (range_with_len a n))
+    ≡ count_by (is_head_of strands name) (range_with_len (4 * a) (4 * n))
+heads-counted strands name a zero = refl
+heads-counted strands name a (suc n) =
+    let rest = flat_map (passes_at (parts_in strands)) (range_with_len (a + 1) n) in
+    omega (
+      arith,
+      sum_by-append (λ (pass : Pass). cond (nat_eq pass.enters name) 1 0) (passes_at (parts_in strands) a) rest,
+      heads-here strands name a,
+      heads-counted strands name (a + 1) n,
+      count-darts (is_head_of strands name) a n,
+    )
+
+tails-counted : (strands : Strands) (name a n : ℕ)
+    → count_by (λ (pass : Pass). nat_eq pass.leaves name) (flat_map (passes_at (parts_in strands)) (range_with_len a n))
+    ≡ count_by (is_tail_of strands name) (range_with_len (4 * a) (4 * n))
+tails-counted strands name a zero = refl
+tails-counted strands name a (suc n) =
+    let rest = flat_map (passes_at (parts_in strands)) (range_with_len (a + 1) n) in
+    omega (
+      arith,
+      sum_by-append (λ (pass : Pass). cond (nat_eq pass.leaves name) 1 0) (passes_at (parts_in strands) a) rest,
+      tails-here strands name a,
+      tails-counted strands name (a + 1) n,
+      count-darts (is_tail_of strands name) a n,
+    )
+
+-- counts of at most one
+
+count-at_most : (p : ℕ → Bool) (a n : ℕ)
+    → ((x y : ℕ) → a ≤ x → x < a + n → a ≤ y → y < a + n → p x ≡ true → p y ≡ true → x ≡ y) → count_by p (range_with_len a n) ≤ 1
+count-at_most p a zero one = omega arith
+count-at_most p a (suc n) one =
+    let rest = range_with_len (a + 1) n in
+    let step = count-step p a (range_with_len (a + 1) n) in
+    elim (cases_Bool (p a)) [
+      | inr off ↦
+          let none : cond (p a) 1 0 ≡ 0 = ap {B = ℕ} (λ t. cond t 1 0) off in
+          let later = count-at_most p (a + 1) n
+          (λ x y x_from x_below y_from y_below. one x y (omega (arith, x_from)) (omega (arith, x_below)) (omega (arith, y_from)) (omega (arith, y_below))) in
+          omega (arith, step, none, later)
+      | inl on ↦
+          let here : cond (p a) 1 0 ≡ 1 = ap {B = ℕ} (λ t. cond t 1 0) on in
+          elim (none_or_some (count_by p (range_with_len (a + 1) n))) [
+            | inl none ↦ omega (arith, step, here, none)
+            | inr some ↦
+                let found = found-counted p (a + 1) n some in
+                let same = one a found.0 (omega arith) (omega arith) (omega (arith, found.1.from)) (omega (arith, found.1.below)) on found.1.passes in
+                absurd (omega (arith, same, found.1.from))
+          ]
+    ]
+  where
+    none_or_some : (k : ℕ) → (k ≡ 0) ⊎ (0 < k)
+    none_or_some k = grind arith
+
+pub count-some : (p : ℕ → Bool) (n x : ℕ) → x < n → p x ≡ true → 0 < count_by p (range_with_len 0 n)
+count-some p n x below holds =
+    let but_one = count_by-but p 0 n x (omega arith) (omega (arith, below)) holds in
+    omega (arith, but_one)
+
+both : (a b : Bool) → a ≡ true → b ≡ true → (a && b) ≡ true
+both true b first second = second
+both false b first second = first
+
+not_false : (b : Bool) → not b ≡ true → b ≡ false
+not_false true is = sym is
+not_false false is = refl
+
+pub head-of : (strands : Strands) (name x : ℕ) → is_head_at strands.signs x ≡ true → dart_name strands.crossings x ≡ name
+    → is_head_of strands name x ≡ true
+head-of strands name x head same =
+    both (is_head_at strands.signs x) (nat_eq (dart_name strands.crossings x) name) head (eq-eqb (dart_name strands.crossings x) name same)
+
+pub of-head : (strands : Strands) (name x : ℕ) → is_head_of strands name x ≡ true
+    → (is_head_at strands.signs x ≡ true) × (dart_name strands.crossings x ≡ name)
+of-head strands name x holds =
+    let parts = and_parts (is_head_at strands.signs x) (nat_eq (dart_name strands.crossings x) name) holds in
+    (parts.0, eqb-true (dart_name strands.crossings x) name parts.1)
+
+tail-of : (strands : Strands) (name x : ℕ) → is_head_at strands.signs x ≡ false → dart_name strands.crossings x ≡ name
+    → is_tail_of strands name x ≡ true
+tail-of strands name x tail same =
+    both (not (is_head_at strands.signs x)) (nat_eq (dart_name strands.crossings x) name) (ap not tail)
+    (eq-eqb (dart_name strands.crossings x) name same)
+
+of-tail : (strands : Strands) (name x : ℕ) → is_tail_of strands name x ≡ true
+    → (is_head_at strands.signs x ≡ false) × (dart_name strands.crossings x ≡ name)
+of-tail strands name x holds =
+    let parts = and_parts (not (is_head_at strands.signs x)) (nat_eq (dart_name strands.crossings x) name) holds in
+    (not_false (is_head_at strands.signs x) parts.0, eqb-true (dart_name strands.crossings x) name parts.1)
+
+pub ArePaired-strands : (strands : Strands) → HasTwoEnds strands.crossings strands.signs → ArePaired (parts_in strands)
+ArePaired-strands strands ends =
+    let n = length strands.crossings in
+    let heads_are : (name : ℕ) → head_count (parts_in strands) name
+    ≡ count_by (is_head_of strands name) (range_with_len 0 (4 * length strands.crossings)) =
+    λ name. heads-counted strands name 0 (length strands.crossings) in
+    let tails_are : (name : ℕ) → tail_count (parts_in strands) name
+    ≡ count_by (is_tail_of strands name) (range_with_len 0 (4 * length strands.crossings)) =
+    λ name. tails-counted strands name 0 (length strands.crossings) in
+    let one_head : (name : ℕ) → count_by (is_head_of strands name) (range_with_len 0 (4 * length strands.crossings)) ≤ 1 =
+    λ name. count-at_most (is_head_of strands name) 0 (4 * length strands.crossings)
+    (λ x y x_from x_below y_from y_below x_is y_is.
+    let first = of-head strands name x x_is in
+    let second = of-head strands name y y_is in
+    ends.one_head x y (omega (arith, x_below)) (omega (arith, y_below)) first.0 second.0 (first.1 ∙ sym second.1)) in
+    let one_tail : (name : ℕ) → count_by (is_tail_of strands name) (range_with_len 0 (4 * length strands.crossings)) ≤ 1 =
+    λ name. count-at_most (is_tail_of strands name) 0 (4 * length strands.crossings)
+    (λ x y x_from x_below y_from y_below x_is y_is.
+    let first = of-tail strands name x x_is in
+    let second = of-tail strands name y y_is in
+    ends.one_tail x y (omega (arith, x_below)) (omega (arith, y_below)) first.0 second.0 (first.1 ∙ sym second.1)) in
+    let onward : (name : ℕ) → 0 < count_by (is_head_of strands name) (range_with_len 0 (4 * length strands.crossings))
+    → 0 < count_by (is_tail_of strands name) (range_with_len 0 (4 * length strands.crossings)) =
+    λ name some.
+    let found = found-counted (is_head_of strands name) 0 (4 * length strands.crossings) some in
+    let is = of-head strands name found.0 found.1.passes in
+    let other = ends.tail_of found.0 (omega (arith, found.1.below)) is.0 in
+    count-some (is_tail_of strands name) (4 * length strands.crossings) other.0 other.1
+    (tail-of strands name other.0 other.2 (sym other.3 ∙ is.1)) in
+    let back : (name : ℕ) → 0 < count_by (is_tail_of strands name) (range_with_len 0 (4 * length strands.crossings))
+    → 0 < count_by (is_head_of strands name) (range_with_len 0 (4 * length strands.crossings)) =
+    λ name some.
+    let found = found-counted (is_tail_of strands name) 0 (4 * length strands.crossings) some in
+    let is = of-tail strands name found.0 found.1.passes in
+    let other = ends.head_of found.0 (omega (arith, found.1.below)) is.0 in
+    count-some (is_head_of strands name) (4 * length strands.crossings) other.0 other.1
+    (head-of strands name other.0 other.2 (sym other.3 ∙ is.1)) in
+    record {
+      heads = λ name. omega (arith, heads_are name, one_head name);
+      tails = λ name.
+          tails_are name
+          ∙ alike (count_by (is_tail_of strands name) (range_with_len 0 (4 * length strands.crossings)))
+          (count_by (is_head_of strands name) (range_with_len 0 (4 * length strands.crossings))) (one_tail name) (one_head name) (back name) (onward name)
+          ∙ sym (heads_are name);
+    }
+  where
+    alike : (a b : ℕ) → a ≤ 1 → b ≤ 1 → (0 < a → 0 < b) → (0 < b → 0 < a) → a ≡ b
+    alike zero zero first second onward back = refl
+    alike (suc zero) (suc zero) first second onward back = refl
+    alike zero (suc b) first second onward back = absurd (omega (arith, back (omega arith)))
+    alike (suc a) zero first second onward back = absurd (omega (arith, onward (omega arith)))
+    alike (suc (suc a)) b first second onward back = absurd (omega (arith, first))
+    alike a (suc (suc b)) first second onward back = absurd (omega (arith, second))

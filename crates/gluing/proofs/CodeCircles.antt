@@ -1,0 +1,191 @@
+-- The circles of a code's state by its darts, and the bits of states with one crossing more.
+use Rattle.std.proofs.Common.{◌≡◌, ℕ, zero, suc, ◌+◌, ◌*◌, ◌/◌, ◌%◌, ◌^◌, ◌<◌, ◌≤◌, ◌∙◌, List, [], ◌∷◌, ◌++◌, sym, refl, length, ap, ap₂, arith, Bool, true, false, cond}
+use Rattle.std.specs.Prelude.{slice_index, slice_index_or, nat_eq}
+use Rattle.std.specs.List.{filter, flat_map, enumerate_from, range_with_len, sum_by}
+use Rattle.std.proofs.Math.Nat.{div-eq_of_lt}
+use Rattle.std.proofs.lemmas.List.{map-append}
+use Rattle.std.proofs.lemmas.List.Sums.{sum_by-cons}
+use Rattle.std.proofs.lemmas.Grind.{flat_map-append}
+use Rattle.kh_types.specs.Bits.{bit, ones}
+use Rattle.kh_types.specs.Code.{Code, arc_in}
+use Rattle.kh_types.specs.Classes.{is_least, class_count, AreBelow}
+use Rattle.kh_types.specs.Circles.{smoothing_of, smoothings_of, circles_of, circle_count}
+use Rattle.kh_types.proofs.Ranges.{sum_by-range_more}
+use Rattle.gluing.specs.Arcs.{arc_at}
+use Rattle.kh_types.proofs.JoinedClasses.{IsNamed-classes_of}
+use Rattle.gluing.proofs.OldLemmas.{own_passes}
+use Rattle.kh_types.proofs.EdgeBits.{bit-set_there, bit-set_other}
+use Rattle.gluing.specs.Glue.{renamed, Places}
+use Rattle.gluing.specs.Codes.{darts_of, dart_smoothings, arc_of_dart, name_count, HoldsArcs}
+use Rattle.gluing.proofs.Renamed.{AreBelow-append}
+
+-- smoothings, on any four names
+
+abbrev pub smoothing_by : Bool → ℕ → ℕ → ℕ → ℕ → List (ℕ × ℕ)
+smoothing_by is_zero w x y z = cond is_zero ((w, x) ∷ (y, z) ∷ []) ((w, z) ∷ (x, y) ∷ [])
+
+pub smoothing_by-renamed : (f : ℕ → ℕ) (is_zero : Bool) (w x y z : ℕ)
+    → smoothing_by is_zero (f w) (f x) (f y) (f z) ≡ renamed f (smoothing_by is_zero w x y z)
+smoothing_by-renamed f true w x y z = refl
+smoothing_by-renamed f false w x y z = refl
+
+pub smoothing_by-same : (is_zero : Bool) (w x y z a b c d : ℕ) → w ≡ a → x ≡ b → y ≡ c → z ≡ d
+    → smoothing_by is_zero w x y z ≡ smoothing_by is_zero a b c d
+smoothing_by-same is_zero w x y z a b c d is_a is_b is_c is_d =
+    ap₂ (λ k l. smoothing_by is_zero k l y z) is_a is_b ∙ ap₂ (λ k l. smoothing_by is_zero a b k l) is_c is_d
+
+pub smoothing_by-below : (n : ℕ) (is_zero : Bool) (w x y z : ℕ) → w < n → x < n → y < n → z < n → AreBelow n (smoothing_by is_zero w x y z)
+smoothing_by-below n true w x y z w_below x_below y_below z_below = ((w_below, x_below), ((y_below, z_below), tt))
+smoothing_by-below n false w x y z w_below x_below y_below z_below = ((w_below, z_below), ((x_below, y_below), tt))
+
+-- the smoothings of a code are those of its darts, each dart standing for its arc
+
+abbrev at_dart : (ℕ → ℕ → ℕ) → ℕ → ℕ
+at_dart arc dart = arc (dart / 4) (dart % 4)
+
+smoothing_of-darts : (arc : ℕ → ℕ → ℕ) (smoothing place : ℕ) (quadruple : List ℕ)
+    → ((slot : ℕ) → slot < 4 → arc_in quadruple slot ≡ arc place slot)
+    → smoothing_of smoothing quadruple ≡ renamed (at_dart arc) (smoothing_of smoothing (darts_of place))
+smoothing_of-darts arc smoothing place quadruple same =
+    let q0 : 4 * place / 4 ≡ place = omega arith in
+    let q1 : (4 * place + 1) / 4 ≡ place = omega arith in
+    let q2 : (4 * place + 2) / 4 ≡ place = omega arith in
+    let q3 : (4 * place + 3) / 4 ≡ place = omega arith in
+    let r0 : 4 * place % 4 ≡ 0 = omega arith in
+    let r1 : (4 * place + 1) % 4 ≡ 1 = omega arith in
+    let r2 : (4 * place + 2) % 4 ≡ 2 = omega arith in
+    let r3 : (4 * place + 3) % 4 ≡ 3 = omega arith in
+    smoothing_by-same (nat_eq smoothing 0) (arc_in quadruple 0) (arc_in quadruple 1) (arc_in quadruple 2) (arc_in quadruple 3)
+    (at_dart arc (4 * place)) (at_dart arc (4 * place + 1)) (at_dart arc (4 * place + 2)) (at_dart arc (4 * place + 3))
+    (same 0 (omega arith) ∙ sym (ap₂ arc q0 r0)) (same 1 (omega arith) ∙ sym (ap₂ arc q1 r1))
+    (same 2 (omega arith) ∙ sym (ap₂ arc q2 r2)) (same 3 (omega arith) ∙ sym (ap₂ arc q3 r3))
+    ∙ smoothing_by-renamed (at_dart arc) (nat_eq smoothing 0) (4 * place) (4 * place + 1) (4 * place + 2) (4 * place + 3)
+
+smoothings-from : (arc : ℕ → ℕ → ℕ) (state at : ℕ) (xs : List (List ℕ))
+    → ((k slot : ℕ) → k < length xs → slot < 4 → arc_in (slice_index_or xs k []) slot ≡ arc (at + k) slot)
+    → flat_map (λ c. smoothing_of (bit state c.0) c.1) (enumerate_from at xs)
+    ≡ renamed (at_dart arc) (flat_map (λ place. smoothing_of (bit state place) (darts_of place)) (range_with_len at (length xs)))
+smoothings-from arc state at [] same = refl
+smoothings-from arc state at (x ∷ xs) same =
+    let here : at + 0 ≡ at = omega arith in
+    let more = flat_map (λ place. smoothing_of (bit state place) (darts_of place)) (range_with_len (at + 1) (length xs)) in
+    ap₂ (λ ps qs. ps ++ qs)
+    (smoothing_of-darts arc (bit state at) at x (λ slot below. same 0 slot (omega arith) below ∙ ap (λ k. arc k slot) here))
+    (smoothings-from arc state (at + 1) xs (λ k slot below slot_below.
+    let next : at + (k + 1) ≡ at + 1 + k = omega arith in
+    let e : k + 1 ≡ suc k = omega arith in
+    let shifted : slice_index_or (x ∷ xs) (k + 1) [] ≡ slice_index_or xs k [] = ap (λ j. slice_index_or (x ∷ xs) j []) e in
+    sym (ap (λ q. arc_in q slot) shifted) ∙ same (k + 1) slot (omega arith) slot_below ∙ ap (λ j. arc j slot) next))
+    ∙ sym (map-append (λ pair. (at_dart arc pair.0, at_dart arc pair.1)) (smoothing_of (bit state at) (darts_of at)) more)
+
+pub smoothings_of-darts : (crossings : List (List ℕ)) (state : ℕ)
+    → smoothings_of crossings state ≡ renamed (arc_of_dart crossings) (dart_smoothings (length crossings) state)
+smoothings_of-darts crossings state =
+    smoothings-from (arc_at crossings) state 0 crossings
+    (λ k slot below slot_below. let e : k ≡ 0 + k = omega arith in ap (λ j. arc_at crossings j slot) e)
+
+dart_smoothings-from : (n state at count : ℕ) → at + count ≤ n
+    → AreBelow (4 * n) (flat_map (λ place. smoothing_of (bit state place) (darts_of place)) (range_with_len at count))
+dart_smoothings-from n state at zero within = tt
+dart_smoothings-from n state at (suc count) within =
+    AreBelow-append (4 * n) (smoothing_of (bit state at) (darts_of at))
+    (flat_map (λ place. smoothing_of (bit state place) (darts_of place)) (range_with_len (at + 1) count))
+    (smoothing_by-below (4 * n) (nat_eq (bit state at) 0) (4 * at) (4 * at + 1) (4 * at + 2) (4 * at + 3)
+    (omega arith) (omega arith) (omega arith) (omega arith))
+    (dart_smoothings-from n state (at + 1) count (omega arith))
+
+pub dart_smoothings-below : (count state : ℕ) → AreBelow (4 * count) (dart_smoothings count state)
+dart_smoothings-below count state = dart_smoothings-from count state 0 count (omega arith)
+
+-- the darts of a code stand for numbers below its name count
+pub Places-darts : (code : Code) → HoldsArcs code → Places (arc_of_dart code.crossings) (4 * length code.crossings) (name_count code)
+Places-darts code holds dart below = holds (dart / 4) (dart % 4) (omega arith) (omega arith)
+
+-- the number 0 is a class of its own, which is no circle
+pub class_count-circles : (code : Code) (state : ℕ) → AreBelow (name_count code) (smoothings_of code.crossings state)
+    → class_count (circles_of code state) ≡ circle_count code state + 1
+class_count-circles code state below =
+    let m = 2 * length code.crossings + code.loops in
+    let classes = circles_of code state in
+    let named = IsNamed-classes_of (name_count code) (smoothings_of code.crossings state) below in
+    let zero_own : slice_index classes 0 ≡ 0 = omega (arith, named.least 0 (omega arith)) in
+    let e : m + 1 ≡ suc m = omega arith in
+    ap (λ k. length (filter (is_least classes) (range_with_len 0 k))) (named.size ∙ e)
+    ∙ ap (λ b. length (cond b (0 ∷ filter (is_least classes) (range_with_len 1 m)) (filter (is_least classes) (range_with_len 1 m))))
+    (own_passes (slice_index classes 0) 0 zero_own)
+    ∙ (let last : suc (circle_count code state) ≡ circle_count code state + 1 = omega arith in last)
+
+-- states of one crossing more: the new bit is the highest
+
+pub bit-above : (n state : ℕ) → state < 2 ^ n → bit state n ≡ 0
+bit-above n state below = ap (λ q. q % 2) (div-eq_of_lt below)
+
+pub bit-highest : (n state : ℕ) → state < 2 ^ n → bit (2 ^ n + state) n ≡ 1
+bit-highest n state below =
+    let turned : 2 ^ n + state ≡ state + 2 ^ n = omega arith in
+    ap (λ s. bit s n) turned ∙ bit-set_there state n (bit-above n state below)
+
+pub bit-lower : (n state k : ℕ) → state < 2 ^ n → k < n → bit (2 ^ n + state) k ≡ bit state k
+bit-lower n state k below k_below =
+    let turned : 2 ^ n + state ≡ state + 2 ^ n = omega arith in
+    ap (λ s. bit s k) turned ∙ bit-set_other state n (bit-above n state below) k (λ same. absurd (omega arith))
+
+sum_by-range_same : (f g : ℕ → ℕ) (a n : ℕ) → ((k : ℕ) → a ≤ k → k < a + n → f k ≡ g k)
+    → sum_by f (range_with_len a n) ≡ sum_by g (range_with_len a n)
+sum_by-range_same f g a zero same = refl
+sum_by-range_same f g a (suc n) same =
+    sum_by-cons f a (range_with_len (a + 1) n)
+    ∙ ap₂ (λ x y. x + y) (same a (omega arith) (omega arith))
+    (sum_by-range_same f g (a + 1) n (λ k from below. same k (omega arith) (omega arith)))
+    ∙ sym (sum_by-cons g a (range_with_len (a + 1) n))
+
+pub ones-more : (n state : ℕ) → ones (n + 1) state ≡ ones n state + bit state n
+ones-more n state = sum_by-range_more (bit state) 0 n n (omega arith)
+
+pub ones-highest : (n state : ℕ) → state < 2 ^ n → ones (n + 1) (2 ^ n + state) ≡ ones n state + 1
+ones-highest n state below =
+    ones-more n (2 ^ n + state)
+    ∙ ap₂ (λ x y. x + y)
+    (sum_by-range_same (bit (2 ^ n + state)) (bit state) 0 n (λ k from k_below. bit-lower n state k below (omega arith)))
+    (bit-highest n state below)
+
+pub ones-not_highest : (n state : ℕ) → state < 2 ^ n → ones (n + 1) state ≡ ones n state
+ones-not_highest n state below = let none = bit-above n state below in ones-more n state ∙ omega (arith, none)
+
+pub dart_smoothings-same_from : (first second at count : ℕ) → ((k : ℕ) → at ≤ k → k < at + count → bit first k ≡ bit second k)
+    → flat_map (λ place. smoothing_of (bit first place) (darts_of place)) (range_with_len at count)
+    ≡ flat_map (λ place. smoothing_of (bit second place) (darts_of place)) (range_with_len at count)
+dart_smoothings-same_from first second at zero same = refl
+dart_smoothings-same_from first second at (suc count) same =
+    ap₂ (λ ps qs. ps ++ qs) (ap (λ b. smoothing_of b (darts_of at)) (same at (omega arith) (omega arith)))
+    (dart_smoothings-same_from first second (at + 1) count (λ k from below. same k (omega arith) (omega arith)))
+
+pub dart_smoothings-highest : (n state : ℕ) → state < 2 ^ n → dart_smoothings n (2 ^ n + state) ≡ dart_smoothings n state
+dart_smoothings-highest n state below =
+    dart_smoothings-same_from (2 ^ n + state) state 0 n (λ k from k_below. bit-lower n state k below (omega arith))
+
+-- one crossing more, at the end of the list
+
+enumerate_from-append : (at : ℕ) (xs ys : List (List ℕ))
+    → enumerate_from at (xs ++ ys) ≡ enumerate_from at xs ++ enumerate_from (at + length xs) ys
+enumerate_from-append at [] ys = let e : at ≡ at + 0 = omega arith in ap (λ k. enumerate_from k ys) e
+enumerate_from-append at (x ∷ xs) ys =
+    let e : at + 1 + length xs ≡ at + length (x ∷ xs) = omega arith in
+    ap (λ ps. (let p : ℕ × List ℕ = (at, x) in p) ∷ ps)
+    (enumerate_from-append (at + 1) xs ys ∙ ap (λ k. enumerate_from (at + 1) xs ++ enumerate_from k ys) e)
+
+pub append-nothing : (ps : List (ℕ × ℕ)) → ps ++ [] ≡ ps
+append-nothing [] = refl
+append-nothing (p ∷ ps) = ap (λ qs. p ∷ qs) (append-nothing ps)
+
+pub smoothings_of-more : (crossings : List (List ℕ)) (quadruple : List ℕ) (state : ℕ)
+    → smoothings_of (crossings ++ quadruple ∷ []) state
+    ≡ smoothings_of crossings state ++ smoothing_of (bit state (length crossings)) quadruple
+smoothings_of-more crossings quadruple state =
+    let g : ℕ × List ℕ → List (ℕ × ℕ) = λ c. smoothing_of (bit state c.0) c.1 in
+    let e : 0 + length crossings ≡ length crossings = omega arith in
+    ap (λ cs. flat_map g cs) (enumerate_from-append 0 crossings (quadruple ∷ []))
+    ∙ flat_map-append g (enumerate_from 0 crossings) (enumerate_from (0 + length crossings) (quadruple ∷ []))
+    ∙ ap (λ ps. flat_map g (enumerate_from 0 crossings) ++ ps)
+    (append-nothing (smoothing_of (bit state (0 + length crossings)) quadruple)
+    ∙ ap (λ k. smoothing_of (bit state k) quadruple) e)

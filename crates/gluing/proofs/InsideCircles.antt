@@ -1,0 +1,565 @@
+-- The circles of a diagram round a triangle: those closed inside, and those of the rest with the ends joined.
+use Rattle.std.proofs.Common.{◌≡◌, ◌≢◌, ℕ, zero, suc, ◌⊎◌, inl, inr, ◌+◌, ◌-◌, ◌<◌, ◌≤◌, ◌∙◌, List, [], ◌∷◌, ◌++◌, sym, refl, length, ap, ap₂, arith, cond}
+use Rattle.std.specs.Prelude.{slice_index, nat_eq, nat_lt}
+use Rattle.std.specs.List.{range_with_len, filter}
+use Rattle.std.proofs.lemmas.Bool.Decides.{nat_tests}
+use Rattle.std.proofs.lemmas.List.{map-append}
+use Rattle.kh_types.specs.Classes.{classes_of, is_least, class_count, Respects, AreBelow}
+use Rattle.kh_types.specs.Circles.{smoothings_of}
+use Rattle.kh_types.proofs.ClassLemmas.{classes-together, classes-finest}
+use Rattle.kh_types.proofs.JoinedClasses.{IsNamed-classes_of, slice_index-range}
+use Rattle.gluing.proofs.OldLemmas.{own_passes}
+use Rattle.gluing.specs.Glue.{renamed, Places, JoinAlike}
+use Rattle.gluing.specs.Slides.{ties_of, ends_joined, closed_inside, IsPlacedTriangle, IsNoSide, TouchNoSide, stubs, at_stubs, rest_circles}
+use Rattle.gluing.proofs.Glued.{class_count-glued_parts}
+use Rattle.gluing.proofs.Renamed.{class_count-range, AreBelow-renamed, AreBelow-append, classes_of-turned, class_count-renamed, class_count-fresh}
+use Rattle.gluing.proofs.TiedTable.{IsTied}
+
+-- pairs and functions
+
+pub Respects-renamed : (f g : ℕ → ℕ) (pairs : List (ℕ × ℕ)) → Respects (λ x. f (g x)) pairs → Respects f (renamed g pairs)
+Respects-renamed f g [] respects = tt
+Respects-renamed f g (pair ∷ pairs) respects = (respects.0, Respects-renamed f g pairs respects.1)
+
+pub Respects-from_renamed : (f g : ℕ → ℕ) (pairs : List (ℕ × ℕ)) → Respects f (renamed g pairs) → Respects (λ x. f (g x)) pairs
+Respects-from_renamed f g [] respects = tt
+Respects-from_renamed f g (pair ∷ pairs) respects = (respects.0, Respects-from_renamed f g pairs respects.1)
+
+-- what takes its values from a function that respects pairs, respects them
+Respects-through : (n : ℕ) (f g h : ℕ → ℕ) (pairs : List (ℕ × ℕ)) → AreBelow n pairs → ((x : ℕ) → x < n → g x ≡ h (f x))
+    → Respects f pairs → Respects g pairs
+Respects-through n f g h [] below through respects = tt
+Respects-through n f g h (pair ∷ pairs) below through respects =
+    (through pair.0 below.0.0 ∙ ap h respects.0 ∙ sym (through pair.1 below.0.1), Respects-through n f g h pairs below.1 through respects.1)
+
+AreBelow-more : (n k : ℕ) (pairs : List (ℕ × ℕ)) → n ≤ k → AreBelow n pairs → AreBelow k pairs
+AreBelow-more n k [] within below = tt
+AreBelow-more n k (pair ∷ pairs) within below =
+    let first = below.0.0 in
+    let second = below.0.1 in
+    ((omega arith, omega arith), AreBelow-more n k pairs within below.1)
+
+-- names that a function keeps
+renamed-kept : (f : ℕ → ℕ) (arcs : ℕ → ℕ) (pairs : List (ℕ × ℕ)) → ((x : ℕ) → IsNoSide arcs x → f x ≡ x) → TouchNoSide arcs pairs
+    → renamed f pairs ≡ pairs
+renamed-kept f arcs [] kept touch = refl
+renamed-kept f arcs (pair ∷ pairs) kept touch =
+    ap₂ (λ x y. (let p : ℕ × ℕ = (x, y) in p) ∷ renamed f pairs) (kept pair.0 touch.0.0) (kept pair.1 touch.0.1)
+    ∙ ap (λ ps. pair ∷ ps) (renamed-kept f arcs pairs kept touch.1)
+
+renamed-below : (f : ℕ → ℕ) (n : ℕ) (pairs : List (ℕ × ℕ)) → ((x : ℕ) → x < n → f x ≡ x) → AreBelow n pairs → renamed f pairs ≡ pairs
+renamed-below f n [] kept below = refl
+renamed-below f n (pair ∷ pairs) kept below =
+    ap₂ (λ x y. (let p : ℕ × ℕ = (x, y) in p) ∷ renamed f pairs) (kept pair.0 below.0.0) (kept pair.1 below.0.1)
+    ∙ ap (λ ps. pair ∷ ps) (renamed-below f n pairs kept below.1)
+
+pub renamed-twice : (n : ℕ) (f g h : ℕ → ℕ) (pairs : List (ℕ × ℕ)) → ((x : ℕ) → x < n → f (g x) ≡ h x) → AreBelow n pairs
+    → renamed f (renamed g pairs) ≡ renamed h pairs
+renamed-twice n f g h [] same below = refl
+renamed-twice n f g h (pair ∷ pairs) same below =
+    ap₂ (λ x y. (let p : ℕ × ℕ = (x, y) in p) ∷ renamed f (renamed g pairs)) (same pair.0 below.0.0) (same pair.1 below.0.1)
+    ∙ ap (λ ps. (let p : ℕ × ℕ = (h pair.0, h pair.1) in p) ∷ ps) (renamed-twice n f g h pairs same below.1)
+
+pub append-three : (ps qs rs : List (ℕ × ℕ)) → (ps ++ qs) ++ rs ≡ ps ++ (qs ++ rs)
+append-three [] qs rs = refl
+append-three (p ∷ ps) qs rs = ap (λ xs. p ∷ xs) (append-three ps qs rs)
+
+-- stubs
+
+-- the arc of each number, where the numbers from n on are stubs
+unstubbed : ℕ → (ℕ → ℕ) → ℕ → ℕ
+unstubbed n arcs x = cond (nat_lt x n) x (arcs (x - n + 1))
+
+unstubbed-below : (n : ℕ) (arcs : ℕ → ℕ) (x : ℕ) → x < n → unstubbed n arcs x ≡ x
+unfolding unstubbed
+unstubbed-below n arcs x below = chosen x n (arcs (x - n + 1)) below
+  where
+    chosen : (x n y : ℕ) → x < n → cond (nat_lt x n) x y ≡ x
+    chosen x n y below = grind (arith, nat_tests)
+
+unstubbed-stub : (n : ℕ) (arcs : ℕ → ℕ) (i : ℕ) → unstubbed n arcs (n + i) ≡ arcs (i + 1)
+unfolding unstubbed
+unstubbed-stub n arcs i =
+    let e : n + i - n + 1 ≡ i + 1 = omega arith in
+    chosen (n + i) n (arcs (n + i - n + 1)) (omega arith) ∙ ap arcs e
+  where
+    chosen : (x n y : ℕ) → n ≤ x → cond (nat_lt x n) x y ≡ y
+    chosen x n y above = grind (arith, nat_tests)
+
+stubs-below : (n : ℕ) (arcs : ℕ → ℕ) (count : ℕ) → ((i : ℕ) → i < 10 → arcs i < n) → count ≤ 6 → AreBelow (n + count) (stubs n arcs count)
+stubs-below n arcs zero below within = tt
+stubs-below n arcs (suc count) below within =
+    let end = below (count + 1) (omega arith) in (
+      (omega arith, omega arith),
+      AreBelow-more (n + count) (n + suc count) (stubs n arcs count) (omega arith)
+          (stubs-below n arcs count below (omega arith)),
+    )
+
+-- a stub is a class with its arc, so that stubs add no class
+class_count-stubs : (n : ℕ) (arcs : ℕ → ℕ) (count : ℕ) → ((i : ℕ) → i < 10 → arcs i < n) → count ≤ 6
+    → class_count (classes_of (n + count) (stubs n arcs count)) ≡ n
+class_count-stubs n arcs zero below within =
+    let e : n + zero ≡ n = omega arith in ap (λ k. class_count (range_with_len 0 k)) e ∙ class_count-range n
+class_count-stubs n arcs (suc count) below within =
+    let e : n + suc count ≡ n + count + 1 = omega arith in
+    let end = below (count + 1) (omega arith) in
+    ap (λ k. class_count (classes_of k (stubs n arcs (suc count)))) e
+    ∙ class_count-fresh (n + count) (arcs (count + 1)) (stubs n arcs count) (stubs-below n arcs count below (omega arith)) (omega arith)
+    ∙ class_count-stubs n arcs count below (omega arith)
+
+last_or_before : (i count : ℕ) → i < suc count → (i ≡ count) ⊎ (i < count)
+last_or_before i count below = grind (arith, nat_tests)
+
+Respects-stub : (f : ℕ → ℕ) (n : ℕ) (arcs : ℕ → ℕ) (count i : ℕ) → Respects f (stubs n arcs count) → i < count
+    → f (arcs (i + 1)) ≡ f (n + i)
+Respects-stub f n arcs zero i respects below = absurd (omega arith)
+Respects-stub f n arcs (suc count) i respects below = elim (last_or_before i count below) [
+  | inl last ↦ ap (λ k. f (arcs (k + 1))) last ∙ respects.0 ∙ ap (λ k. f (n + k)) (sym last)
+  | inr before ↦ Respects-stub f n arcs count i respects.1 before
+]
+
+unstubbed-respects : (n : ℕ) (arcs : ℕ → ℕ) (count : ℕ) → ((i : ℕ) → i < 10 → arcs i < n) → count ≤ 6
+    → Respects (unstubbed n arcs) (stubs n arcs count)
+unstubbed-respects n arcs zero below within = tt
+unstubbed-respects n arcs (suc count) below within = (
+  unstubbed-below n arcs (arcs (count + 1)) (below (count + 1) (omega arith)) ∙ sym (unstubbed-stub n arcs count),
+  unstubbed-respects n arcs count below (omega arith),
+)
+
+below_or_stub : (x n : ℕ) → x < n + 6 → (x < n) ⊎ ((x ≡ n + (x - n)) × (x - n < 6))
+below_or_stub x n below = grind (arith, nat_tests)
+
+-- each number is in a class with its arc
+class-unstubbed : (n : ℕ) (arcs : ℕ → ℕ) → ((i : ℕ) → i < 10 → arcs i < n) → (x : ℕ) → x < n + 6
+    → slice_index (classes_of (n + 6) (stubs n arcs 6)) x ≡ slice_index (classes_of (n + 6) (stubs n arcs 6)) (unstubbed n arcs x)
+class-unstubbed n arcs below x x_below =
+    let classes = classes_of (n + 6) (stubs n arcs 6) in
+    elim (below_or_stub x n x_below) [
+      | inl old ↦ ap (λ z. slice_index classes z) (sym (unstubbed-below n arcs x old))
+      | inr stub ↦
+          ap (λ z. slice_index classes z) stub.0
+          ∙ sym (Respects-stub (λ z. slice_index classes z) n arcs 6 (x - n)
+          (classes-together (n + 6) (stubs n arcs 6) (stubs-below n arcs 6 below (omega arith))) stub.1)
+          ∙ ap (λ z. slice_index classes z) (sym (ap (λ z. unstubbed n arcs z) stub.0 ∙ unstubbed-stub n arcs (x - n)))
+    ]
+
+unstubbed-places : (n : ℕ) (arcs : ℕ → ℕ) → ((i : ℕ) → i < 10 → arcs i < n) → Places (unstubbed n arcs) (n + 6) n
+unstubbed-places n arcs below x x_below = elim (below_or_stub x n x_below) [
+  | inl old ↦ let is = unstubbed-below n arcs x old in omega arith
+  | inr stub ↦
+      let is = ap (λ z. unstubbed n arcs z) stub.0 ∙ unstubbed-stub n arcs (x - n) in
+      let small = stub.1 in
+      let end = below (x - n + 1) (omega arith) in
+      omega arith
+]
+
+-- pairs on stubs have as many classes, with the stubs joined to their arcs, as the pairs on the arcs themselves
+class_count-unstubbed : (n : ℕ) (arcs : ℕ → ℕ) (pairs : List (ℕ × ℕ)) → ((i : ℕ) → i < 10 → arcs i < n) → AreBelow (n + 6) pairs
+    → class_count (classes_of n (renamed (unstubbed n arcs) pairs)) ≡ class_count (classes_of (n + 6) (stubs n arcs 6 ++ pairs))
+class_count-unstubbed n arcs pairs below pairs_below =
+    let classes = classes_of (n + 6) (stubs n arcs 6) in
+    let places = unstubbed-places n arcs below in
+    let small = stubs-below n arcs 6 below (omega arith) in
+    let alike : JoinAlike (n + 6) (λ x. x) (unstubbed n arcs) classes (range_with_len 0 n) = record {
+      onward = λ x y x_below y_below same. ap (λ z. slice_index (range_with_len 0 n) z)
+          (classes-finest (unstubbed n arcs) (n + 6) (stubs n arcs 6) (unstubbed-respects n arcs 6 below (omega arith)) small
+          x y x_below y_below same);
+      back = λ x y x_below y_below same.
+          class-unstubbed n arcs below x x_below
+          ∙ ap (λ z. slice_index classes z)
+          (sym (slice_index-range n (unstubbed n arcs x) (places x x_below)) ∙ same
+          ∙ slice_index-range n (unstubbed n arcs y) (places y y_below))
+          ∙ sym (class-unstubbed n arcs below y y_below);
+    } in
+    let law = class_count-glued_parts (n + 6) (n + 6) n (λ x. x) (unstubbed n arcs) pairs (stubs n arcs 6) [] pairs_below small tt
+    (λ x x_below. x_below) places alike in
+    let same = ap (λ ps. class_count (classes_of (n + 6) (stubs n arcs 6 ++ ps))) (renamed-below (λ x. x) (n + 6) pairs (λ x x_below. refl) pairs_below) in
+    omega (arith, law, same, class_count-stubs n arcs 6 below (omega arith), class_count-range n)
+
+-- the triangle with its ends at stubs
+
+at_stubs-side : (n : ℕ) (arcs : ℕ → ℕ) (i : ℕ) → 7 ≤ i → at_stubs n arcs i ≡ arcs i
+at_stubs-side n arcs i from = chosen i (arcs i) (cond (nat_eq i 0) 0 (n + (i - 1))) from
+  where
+    chosen : (i x y : ℕ) → 7 ≤ i → cond (nat_lt 6 i) x y ≡ x
+    chosen i x y from = grind (arith, nat_tests)
+
+at_stubs-zero : (n : ℕ) (arcs : ℕ → ℕ) (i : ℕ) → i ≡ 0 → at_stubs n arcs i ≡ 0
+at_stubs-zero n arcs i is_zero = ap (λ k. at_stubs n arcs k) is_zero
+
+at_stubs-end : (n : ℕ) (arcs : ℕ → ℕ) (i : ℕ) → 1 ≤ i → i < 7 → at_stubs n arcs i ≡ n + (i - 1)
+at_stubs-end n arcs i from below = chosen i (arcs i) (n + (i - 1)) from below
+  where
+    chosen : (i x y : ℕ) → 1 ≤ i → i < 7 → cond (nat_lt 6 i) x (cond (nat_eq i 0) 0 y) ≡ y
+    chosen i x y from below = grind (arith, nat_tests)
+
+kind_of : (i : ℕ) → i < 10 → (i ≡ 0) ⊎ (((1 ≤ i) × (i < 7)) ⊎ (7 ≤ i))
+kind_of i below = grind (arith, nat_tests)
+
+at_stubs-places : (n : ℕ) (arcs : ℕ → ℕ) → IsPlacedTriangle n arcs → Places (at_stubs n arcs) 10 (n + 6)
+at_stubs-places n arcs placed i below = elim (kind_of i below) [
+  | inl is_zero ↦ let is = at_stubs-zero n arcs i is_zero in omega arith
+  | inr other ↦ elim other [
+    | inl end ↦
+        let is = at_stubs-end n arcs i end.0 end.1 in
+        let small = end.1 in
+        let large = end.0 in
+        omega arith
+    | inr side ↦
+        let is = at_stubs-side n arcs i side in
+        let small = placed.below i below in
+        omega arith
+  ]
+]
+
+-- the arc of each inside number's place
+unstubbed-at_stubs : (n : ℕ) (arcs : ℕ → ℕ) → IsPlacedTriangle n arcs → (i : ℕ) → i < 10 → unstubbed n arcs (at_stubs n arcs i) ≡ arcs i
+unstubbed-at_stubs n arcs placed i below = elim (kind_of i below) [
+  | inl is_zero ↦
+      let some = placed.below 0 (omega arith) in
+      ap (λ z. unstubbed n arcs z) (at_stubs-zero n arcs i is_zero) ∙ unstubbed-below n arcs 0 (omega arith) ∙ sym placed.zero_kept
+      ∙ ap arcs (sym is_zero)
+  | inr other ↦ elim other [
+    | inl end ↦
+        let from = end.0 in
+        let e : i - 1 + 1 ≡ i = omega arith in
+        ap (λ z. unstubbed n arcs z) (at_stubs-end n arcs i end.0 end.1) ∙ unstubbed-stub n arcs (i - 1) ∙ ap arcs e
+    | inr side ↦
+        ap (λ z. unstubbed n arcs z) (at_stubs-side n arcs i side) ∙ unstubbed-below n arcs (arcs i) (placed.below i below)
+  ]
+]
+
+-- an end or the number 0 is at no side's place
+end-no_side : (n : ℕ) (arcs : ℕ → ℕ) → IsPlacedTriangle n arcs → (i : ℕ) → i < 7 → IsNoSide arcs (at_stubs n arcs i)
+end-no_side n arcs placed i below side from side_below same = elim (kind_of i (omega arith)) [
+  | inl is_zero ↦
+      placed.apart 0 side (omega arith) from side_below (placed.zero_kept ∙ sym (at_stubs-zero n arcs i is_zero) ∙ same)
+  | inr other ↦ elim other [
+    | inl end ↦
+        let is = at_stubs-end n arcs i end.0 end.1 in
+        let small = placed.below side side_below in
+        absurd (omega (arith, is, same, small))
+    | inr large ↦ absurd (omega arith)
+  ]
+]
+
+at_stubs-apart_ordered : (n : ℕ) (arcs : ℕ → ℕ) → IsPlacedTriangle n arcs → (i j : ℕ) → i < j → j < 10
+    → at_stubs n arcs i ≡ at_stubs n arcs j → ⊥
+at_stubs-apart_ordered n arcs placed i j less below same = elim (kind_of j below) [
+  | inl is_zero ↦ absurd (omega arith)
+  | inr other ↦ elim other [
+    | inl end ↦
+        let is_j = at_stubs-end n arcs j end.0 end.1 in
+        let small = end.1 in
+        let some = placed.below 0 (omega arith) in
+        elim (kind_of i (omega arith)) [
+          | inl is_zero ↦ let is_i = at_stubs-zero n arcs i is_zero in absurd (omega (arith, is_i, is_j, same, some, less))
+          | inr either ↦ elim either [
+            | inl end_i ↦
+                let is_i = at_stubs-end n arcs i end_i.0 end_i.1 in
+                let from = end_i.0 in
+                absurd (omega (arith, is_i, is_j, same, less, from))
+            | inr large ↦ absurd (omega arith)
+          ]
+        ]
+    | inr side ↦ elim (kind_of i (omega arith)) [
+      | inl is_zero ↦ end-no_side n arcs placed i (omega arith) j side below (same ∙ at_stubs-side n arcs j side)
+      | inr either ↦ elim either [
+        | inl end_i ↦ end-no_side n arcs placed i end_i.1 j side below (same ∙ at_stubs-side n arcs j side)
+        | inr large ↦
+            placed.apart i j less side below (sym (at_stubs-side n arcs i large) ∙ same ∙ at_stubs-side n arcs j side)
+      ]
+    ]
+  ]
+]
+
+order_of : (i j : ℕ) → (i ≡ j) ⊎ ((i < j) ⊎ (j < i))
+order_of i j = grind (arith, nat_tests)
+
+at_stubs-apart : (n : ℕ) (arcs : ℕ → ℕ) → IsPlacedTriangle n arcs → (i j : ℕ) → i < 10 → j < 10
+    → at_stubs n arcs i ≡ at_stubs n arcs j → i ≡ j
+at_stubs-apart n arcs placed i j i_below j_below same = elim (order_of i j) [
+  | inl is ↦ is
+  | inr other ↦ elim other [
+    | inl less ↦ absurd (at_stubs-apart_ordered n arcs placed i j less j_below same)
+    | inr greater ↦ absurd (at_stubs-apart_ordered n arcs placed j i greater i_below (sym same))
+  ]
+]
+
+-- what lies outside sees of the triangle only how the ends are joined
+
+-- a value for each class of inside numbers: that of a class with an end is the class of the other diagram
+value_of_class : ℕ → (ℕ → ℕ) → ℕ → ℕ
+value_of_class limit at class = cond (nat_lt class 7) (at class) (limit + class)
+
+-- and for each number of the diagram, where the sides stand at p, q and r
+value_of : ℕ → ℕ → ℕ → ℕ → ℕ → ℕ → (ℕ → ℕ) → ℕ → ℕ
+value_of p q r at_p at_q at_r other x = cond (nat_eq x p) at_p (cond (nat_eq x q) at_q (cond (nat_eq x r) at_r (other x)))
+
+value_of-other : (p q r at_p at_q at_r : ℕ) (other : ℕ → ℕ) (x : ℕ) → x ≢ p → x ≢ q → x ≢ r
+    → value_of p q r at_p at_q at_r other x ≡ other x
+unfolding value_of
+value_of-other p q r at_p at_q at_r other x not_p not_q not_r = chosen p q r at_p at_q at_r (other x) x not_p not_q not_r
+  where
+    chosen : (p q r at_p at_q at_r y x : ℕ) → x ≢ p → x ≢ q → x ≢ r
+        → cond (nat_eq x p) at_p (cond (nat_eq x q) at_q (cond (nat_eq x r) at_r y)) ≡ y
+    chosen p q r at_p at_q at_r y x not_p not_q not_r = grind (arith, nat_tests)
+
+value_of-first : (p q r at_p at_q at_r : ℕ) (other : ℕ → ℕ) (x : ℕ) → x ≡ p → value_of p q r at_p at_q at_r other x ≡ at_p
+unfolding value_of
+value_of-first p q r at_p at_q at_r other x is_p = chosen p at_p (cond (nat_eq x q) at_q (cond (nat_eq x r) at_r (other x))) x is_p
+  where
+    chosen : (p at_p y x : ℕ) → x ≡ p → cond (nat_eq x p) at_p y ≡ at_p
+    chosen p at_p y x is_p = grind (arith, nat_tests)
+
+value_of-second : (p q r at_p at_q at_r : ℕ) (other : ℕ → ℕ) (x : ℕ) → x ≡ q → p ≢ q
+    → value_of p q r at_p at_q at_r other x ≡ at_q
+unfolding value_of
+value_of-second p q r at_p at_q at_r other x is_q apart =
+    chosen p q at_p at_q (cond (nat_eq x r) at_r (other x)) x is_q apart
+  where
+    chosen : (p q at_p at_q y x : ℕ) → x ≡ q → p ≢ q → cond (nat_eq x p) at_p (cond (nat_eq x q) at_q y) ≡ at_q
+    chosen p q at_p at_q y x is_q apart = grind (arith, nat_tests)
+
+value_of-third : (p q r at_p at_q at_r : ℕ) (other : ℕ → ℕ) (x : ℕ) → x ≡ r → p ≢ r → q ≢ r
+    → value_of p q r at_p at_q at_r other x ≡ at_r
+unfolding value_of
+value_of-third p q r at_p at_q at_r other x is_r apart apart_too =
+    chosen p q r at_p at_q at_r (other x) x is_r apart apart_too
+  where
+    chosen : (p q r at_p at_q at_r y x : ℕ) → x ≡ r → p ≢ r → q ≢ r
+        → cond (nat_eq x p) at_p (cond (nat_eq x q) at_q (cond (nat_eq x r) at_r y)) ≡ at_r
+    chosen p q r at_p at_q at_r y x is_r apart apart_too = grind (arith, nat_tests)
+
+value_of_class-end : (limit : ℕ) (at : ℕ → ℕ) (class : ℕ) → class < 7 → value_of_class limit at class ≡ at class
+unfolding value_of_class
+value_of_class-end limit at class below = chosen class (at class) (limit + class) below
+  where
+    chosen : (class x y : ℕ) → class < 7 → cond (nat_lt class 7) x y ≡ x
+    chosen class x y below = grind (arith, nat_tests)
+
+side_is : (i : ℕ) → 7 ≤ i → i < 10 → (i ≡ 7) ⊎ ((i ≡ 8) ⊎ (i ≡ 9))
+side_is i from below = grind (arith, nat_tests)
+
+end_or_side : (i : ℕ) → (i < 7) ⊎ (7 ≤ i)
+end_or_side i = grind (arith, nat_tests)
+
+-- where inside pairs and others join the ends alike, two numbers that are no sides and that the first join, the others join
+onward-inside : (n : ℕ) (arcs : ℕ → ℕ) (inside others : List (ℕ × ℕ)) → IsPlacedTriangle n arcs → AreBelow 10 inside → AreBelow 10 others
+    → ((x : ℕ) → x < 7 → slice_index (classes_of 10 inside) x ≡ slice_index (classes_of 10 others) x)
+    → (x y : ℕ) → x < n + 6 → y < n + 6 → IsNoSide arcs x → IsNoSide arcs y
+    → slice_index (classes_of (n + 6) (renamed (at_stubs n arcs) inside)) x
+    ≡ slice_index (classes_of (n + 6) (renamed (at_stubs n arcs) inside)) y
+    → slice_index (classes_of (n + 6) (renamed (at_stubs n arcs) others)) x
+    ≡ slice_index (classes_of (n + 6) (renamed (at_stubs n arcs) others)) y
+onward-inside n arcs inside others placed below others_below alike x y x_below y_below x_out y_out same =
+    let g = at_stubs n arcs in
+    let places = at_stubs-places n arcs placed in
+    let c = λ (i : ℕ). slice_index (classes_of 10 inside) i in
+    let d = λ (i : ℕ). slice_index (classes_of 10 others) i in
+    let c_named = IsNamed-classes_of 10 inside below in
+    let wide_below = AreBelow-renamed 10 (n + 6) g inside places below in
+    let wide_others_below = AreBelow-renamed 10 (n + 6) g others places others_below in
+    let w = λ (z : ℕ). slice_index (classes_of (n + 6) (renamed g others)) z in
+    let seen = λ (class : ℕ). value_of_class (n + 6) (λ i. w (g i)) class in
+    let v = λ (z : ℕ). value_of (arcs 7) (arcs 8) (arcs 9) (seen (c 7)) (seen (c 8)) (seen (c 9)) w z in
+    let out : (z : ℕ) → IsNoSide arcs z → v z ≡ w z =
+    λ z z_out. value_of-other (arcs 7) (arcs 8) (arcs 9) (seen (c 7)) (seen (c 8)) (seen (c 9)) w z
+    (z_out 7 (omega arith) (omega arith)) (z_out 8 (omega arith) (omega arith)) (z_out 9 (omega arith) (omega arith)) in
+    let joined : (i j : ℕ) → i < 10 → j < 10 → d i ≡ d j → w (g i) ≡ w (g j) =
+    classes-finest (λ i. w (g i)) 10 others
+    (Respects-from_renamed w g others (classes-together (n + 6) (renamed g others) wide_others_below)) others_below in
+    let through : (i : ℕ) → i < 10 → v (g i) ≡ seen (c i) =
+    λ i i_below. elim (end_or_side i) [
+      | inl end ↦
+          let least = c_named.least i i_below in
+          let own : d i ≡ d (c i) = sym (alike i end) ∙ sym (c_named.own i i_below) ∙ alike (c i) (omega arith) in
+          out (g i) (end-no_side n arcs placed i end) ∙ joined i (c i) i_below (omega arith) own
+          ∙ sym (value_of_class-end (n + 6) (λ j. w (g j)) (c i) (omega arith))
+      | inr side ↦ elim (side_is i side i_below) [
+        | inl is ↦
+            value_of-first (arcs 7) (arcs 8) (arcs 9) (seen (c 7)) (seen (c 8)) (seen (c 9)) w (g i)
+            (at_stubs-side n arcs i side ∙ ap arcs is) ∙ ap (λ k. seen (c k)) (sym is)
+        | inr other ↦ elim other [
+          | inl is ↦
+              value_of-second (arcs 7) (arcs 8) (arcs 9) (seen (c 7)) (seen (c 8)) (seen (c 9)) w (g i)
+              (at_stubs-side n arcs i side ∙ ap arcs is) (placed.apart 7 8 (omega arith) (omega arith) (omega arith))
+              ∙ ap (λ k. seen (c k)) (sym is)
+          | inr is ↦
+              value_of-third (arcs 7) (arcs 8) (arcs 9) (seen (c 7)) (seen (c 8)) (seen (c 9)) w (g i)
+              (at_stubs-side n arcs i side ∙ ap arcs is) (placed.apart 7 9 (omega arith) (omega arith) (omega arith))
+              (placed.apart 8 9 (omega arith) (omega arith) (omega arith)) ∙ ap (λ k. seen (c k)) (sym is)
+        ]
+      ]
+    ] in
+    let respects : Respects v (renamed g inside) =
+    Respects-renamed v g inside
+    (Respects-through 10 c (λ i. v (g i)) seen inside below through (classes-together 10 inside below)) in
+    sym (out x x_out) ∙ classes-finest v (n + 6) (renamed g inside) respects wide_below x y x_below y_below same ∙ out y y_out
+
+-- the number 0 in place of a side
+seen_at : (ℕ → ℕ) → ℕ → ℕ
+seen_at arcs x = value_of (arcs 7) (arcs 8) (arcs 9) 0 0 0 (λ z. z) x
+
+no_side_or_zero : (arcs : ℕ → ℕ) (x : ℕ) → (IsNoSide arcs x) ⊎ ((x ≡ arcs 7) ⊎ ((x ≡ arcs 8) ⊎ (x ≡ arcs 9)))
+no_side_or_zero arcs x = elim (order_of x (arcs 7)) [
+  | inl is ↦ inr (inl is)
+  | inr not_7 ↦ elim (order_of x (arcs 8)) [
+    | inl is ↦ inr (inr (inl is))
+    | inr not_8 ↦ elim (order_of x (arcs 9)) [
+      | inl is ↦ inr (inr (inr is))
+      | inr not_9 ↦ inl (λ side from below same. elim (side_is side from below) [
+        | inl is ↦ differ x (arcs 7) not_7 (same ∙ ap arcs is)
+        | inr other ↦ elim other [
+          | inl is ↦ differ x (arcs 8) not_8 (same ∙ ap arcs is)
+          | inr is ↦ differ x (arcs 9) not_9 (same ∙ ap arcs is)
+        ]
+      ])
+    ]
+  ]
+]
+  where
+    differ : (x y : ℕ) → (x < y) ⊎ (y < x) → x ≡ y → ⊥
+    differ x y other same = elim other [ inl less ↦ absurd (omega (arith, less, same)) | inr greater ↦ absurd (omega (arith, greater, same)) ]
+
+seen_at-kept : (arcs : ℕ → ℕ) (x : ℕ) → IsNoSide arcs x → seen_at arcs x ≡ x
+unfolding seen_at
+seen_at-kept arcs x out =
+    value_of-other (arcs 7) (arcs 8) (arcs 9) 0 0 0 (λ z. z) x (out 7 (omega arith) (omega arith)) (out 8 (omega arith) (omega arith))
+    (out 9 (omega arith) (omega arith))
+
+seen_at-side : (n : ℕ) (arcs : ℕ → ℕ) → IsPlacedTriangle n arcs → (x : ℕ) → (x ≡ arcs 7) ⊎ ((x ≡ arcs 8) ⊎ (x ≡ arcs 9))
+    → seen_at arcs x ≡ 0
+unfolding seen_at
+seen_at-side n arcs placed x side = elim side [
+  | inl is ↦ value_of-first (arcs 7) (arcs 8) (arcs 9) 0 0 0 (λ z. z) x is
+  | inr other ↦ elim other [
+    | inl is ↦ value_of-second (arcs 7) (arcs 8) (arcs 9) 0 0 0 (λ z. z) x is (placed.apart 7 8 (omega arith) (omega arith) (omega arith))
+    | inr is ↦
+        value_of-third (arcs 7) (arcs 8) (arcs 9) 0 0 0 (λ z. z) x is (placed.apart 7 9 (omega arith) (omega arith) (omega arith))
+        (placed.apart 8 9 (omega arith) (omega arith) (omega arith))
+  ]
+]
+
+zero-no_side : (n : ℕ) (arcs : ℕ → ℕ) → IsPlacedTriangle n arcs → IsNoSide arcs 0
+zero-no_side n arcs placed side from below same = placed.apart 0 side (omega arith) from below (placed.zero_kept ∙ same)
+
+seen_at-no_side : (n : ℕ) (arcs : ℕ → ℕ) → IsPlacedTriangle n arcs → (x : ℕ) → x < n + 6
+    → IsNoSide arcs (seen_at arcs x) × (seen_at arcs x < n + 6)
+seen_at-no_side n arcs placed x below = elim (no_side_or_zero arcs x) [
+  | inl out ↦
+      let is = seen_at-kept arcs x out in
+      (λ side from side_below same. out side from side_below (sym is ∙ same), omega arith)
+  | inr side ↦
+      let is = seen_at-side n arcs placed x side in
+      (λ other from other_below same. zero-no_side n arcs placed other from other_below (sym is ∙ same), omega arith)
+]
+
+TouchNoSide-stubs : (n : ℕ) (arcs : ℕ → ℕ) (count : ℕ) → IsPlacedTriangle n arcs → count ≤ 6 → TouchNoSide arcs (stubs n arcs count)
+TouchNoSide-stubs n arcs zero placed within = tt
+TouchNoSide-stubs n arcs (suc count) placed within = (
+  (
+    λ side from below same. placed.apart (count + 1) side (omega arith) from below same,
+    λ side from below same. (let small = placed.below side below in absurd (omega (arith, small, same))),
+  ),
+  TouchNoSide-stubs n arcs count placed (omega arith),
+)
+
+TouchNoSide-append : (arcs : ℕ → ℕ) (pairs more : List (ℕ × ℕ)) → TouchNoSide arcs pairs → TouchNoSide arcs more
+    → TouchNoSide arcs (pairs ++ more)
+TouchNoSide-append arcs [] more touch more_touch = more_touch
+TouchNoSide-append arcs (pair ∷ pairs) more touch more_touch = (touch.0, TouchNoSide-append arcs pairs more touch.1 more_touch)
+
+-- the classes of a diagram round a triangle are the circles that are closed inside, and the classes of the rest, where the ends are
+-- joined as the state joins them
+pub class_count-inside : (n : ℕ) (arcs : ℕ → ℕ) (outer : List (ℕ × ℕ)) (crossings : List (List ℕ)) (state : ℕ)
+    → IsPlacedTriangle n arcs → AreBelow n outer → TouchNoSide arcs outer → IsTied crossings state
+    → class_count (classes_of n (outer ++ renamed arcs (smoothings_of crossings state)))
+    ≡ closed_inside crossings state + rest_circles n arcs outer (ends_joined crossings state)
+class_count-inside n arcs outer crossings state placed outer_below touch tied =
+    let k = n + 6 in
+    let g = at_stubs n arcs in
+    let inside = smoothings_of crossings state in
+    let ties = ties_of (ends_joined crossings state) in
+    let places = at_stubs-places n arcs placed in
+    let all_outer = stubs n arcs 6 ++ outer in
+    let stubs_below = stubs-below n arcs 6 placed.below (omega arith) in
+    let wide_outer = AreBelow-more n k outer (omega arith) outer_below in
+    let all_below = AreBelow-append k (stubs n arcs 6) outer stubs_below wide_outer in
+    let inside_below = AreBelow-renamed 10 k g inside places tied.below in
+    let ties_below = AreBelow-renamed 10 k g ties places tied.ties_below in
+    let out = seen_at-no_side n arcs placed in
+    let seen_places : Places (seen_at arcs) k k = λ x below. (out x below).1 in
+    let alike : JoinAlike k (seen_at arcs) (seen_at arcs) (classes_of k (renamed g inside)) (classes_of k (renamed g ties)) = record {
+      onward = λ x y x_below y_below.
+          onward-inside n arcs inside ties placed tied.below tied.ties_below tied.alike (seen_at arcs x) (seen_at arcs y)
+          ((out x x_below).1) ((out y y_below).1) ((out x x_below).0) ((out y y_below).0);
+      back = λ x y x_below y_below.
+          onward-inside n arcs ties inside placed tied.ties_below tied.below (λ z below. sym (tied.alike z below)) (seen_at arcs x)
+          (seen_at arcs y) ((out x x_below).1) ((out y y_below).1) ((out x x_below).0) ((out y y_below).0);
+    } in
+    let law = class_count-glued_parts k k k (seen_at arcs) (seen_at arcs) all_outer (renamed g inside) (renamed g ties) all_below
+    inside_below ties_below seen_places seen_places alike in
+    let kept : renamed (seen_at arcs) all_outer ≡ all_outer =
+    renamed-kept (seen_at arcs) arcs all_outer (seen_at-kept arcs)
+    (TouchNoSide-append arcs (stubs n arcs 6) outer (TouchNoSide-stubs n arcs 6 placed (omega arith)) touch) in
+    let law_inside = ap (λ ps. class_count (classes_of k (renamed g inside ++ ps))) kept in
+    let law_ties = ap (λ ps. class_count (classes_of k (renamed g ties ++ ps))) kept in
+    let apart = at_stubs-apart n arcs placed in
+    let count_inside = class_count-renamed 10 k g inside tied.below places apart in
+    let count_ties = class_count-renamed 10 k g ties tied.ties_below places apart in
+    let turn : class_count (classes_of k (renamed g inside ++ all_outer)) ≡ class_count (classes_of k (stubs n arcs 6 ++ (outer ++ renamed g inside))) =
+    ap class_count (classes_of-turned k (renamed g inside) all_outer inside_below all_below)
+    ∙ ap (λ ps. class_count (classes_of k ps)) (append-three (stubs n arcs 6) outer (renamed g inside)) in
+    let unstub = class_count-unstubbed n arcs (outer ++ renamed g inside) placed.below
+    (AreBelow-append k outer (renamed g inside) wide_outer inside_below) in
+    let back : renamed (unstubbed n arcs) (outer ++ renamed g inside) ≡ outer ++ renamed arcs inside =
+    map-append (λ pair. (unstubbed n arcs pair.0, unstubbed n arcs pair.1)) outer (renamed g inside)
+    ∙ ap₂ (λ ps qs. ps ++ qs) (renamed-below (unstubbed n arcs) n outer (unstubbed-below n arcs) outer_below)
+    (renamed-twice 10 (unstubbed n arcs) g arcs inside (unstubbed-at_stubs n arcs placed) tied.below) in
+    let back_count = ap (λ ps. class_count (classes_of n ps)) back in
+    let table = tied.count in
+    omega (arith, law, law_inside, law_ties, count_inside, count_ties, turn, unstub, back_count, table)
+
+-- where there are numbers, the number 0 names a class
+class_count-positive : (n : ℕ) (pairs : List (ℕ × ℕ)) → AreBelow n pairs → 0 < n → 1 ≤ class_count (classes_of n pairs)
+class_count-positive n pairs below some =
+    let classes = classes_of n pairs in
+    let named = IsNamed-classes_of n pairs below in
+    let zero_own : slice_index classes 0 ≡ 0 = omega (arith, named.least 0 some) in
+    let e : n ≡ suc (n - 1) = omega arith in
+    let others = filter (is_least classes) (range_with_len 1 (n - 1)) in
+    let count : class_count classes ≡ suc (length others) =
+    ap (λ k. length (filter (is_least classes) (range_with_len 0 k))) (named.size ∙ e)
+    ∙ ap (λ b. length (cond b (0 ∷ others) others)) (own_passes (slice_index classes 0) 0 zero_own) in
+    omega (arith, count)
+
+pub rest_circles-positive : (n : ℕ) (arcs : ℕ → ℕ) (outer : List (ℕ × ℕ)) (joined : List ℕ) → IsPlacedTriangle n arcs → AreBelow n outer
+    → AreBelow 10 (ties_of joined) → 1 ≤ rest_circles n arcs outer joined
+rest_circles-positive n arcs outer joined placed outer_below ties_below =
+    class_count-positive (n + 6) (renamed (at_stubs n arcs) (ties_of joined) ++ (stubs n arcs 6 ++ outer))
+    (AreBelow-append (n + 6) (renamed (at_stubs n arcs) (ties_of joined)) (stubs n arcs 6 ++ outer)
+    (AreBelow-renamed 10 (n + 6) (at_stubs n arcs) (ties_of joined) (at_stubs-places n arcs placed) ties_below)
+    (AreBelow-append (n + 6) (stubs n arcs 6) outer (stubs-below n arcs 6 placed.below (omega arith))
+    (AreBelow-more n (n + 6) outer (omega arith) outer_below)))
+    (omega arith)
+
+-- what is left with the ends joined, on the arcs themselves
+pub rest_circles-on_arcs : (n : ℕ) (arcs : ℕ → ℕ) (outer : List (ℕ × ℕ)) (joined : List ℕ) → IsPlacedTriangle n arcs → AreBelow n outer
+    → AreBelow 10 (ties_of joined)
+    → rest_circles n arcs outer joined ≡ class_count (classes_of n (outer ++ renamed arcs (ties_of joined)))
+rest_circles-on_arcs n arcs outer joined placed outer_below ties_below =
+    let k = n + 6 in
+    let g = at_stubs n arcs in
+    let ties = ties_of joined in
+    let all_outer = stubs n arcs 6 ++ outer in
+    let wide_outer = AreBelow-more n k outer (omega arith) outer_below in
+    let all_below = AreBelow-append k (stubs n arcs 6) outer (stubs-below n arcs 6 placed.below (omega arith)) wide_outer in
+    let wide_ties = AreBelow-renamed 10 k g ties (at_stubs-places n arcs placed) ties_below in
+    ap class_count (classes_of-turned k (renamed g ties) all_outer wide_ties all_below)
+    ∙ ap (λ ps. class_count (classes_of k ps)) (append-three (stubs n arcs 6) outer (renamed g ties))
+    ∙ sym (class_count-unstubbed n arcs (outer ++ renamed g ties) placed.below (AreBelow-append k outer (renamed g ties) wide_outer wide_ties))
+    ∙ ap (λ ps. class_count (classes_of n ps))
+    (map-append (λ pair. (unstubbed n arcs pair.0, unstubbed n arcs pair.1)) outer (renamed g ties)
+    ∙ ap₂ (λ ps qs. ps ++ qs) (renamed-below (unstubbed n arcs) n outer (unstubbed-below n arcs) outer_below)
+    (renamed-twice 10 (unstubbed n arcs) g arcs ties (unstubbed-at_stubs n arcs placed) ties_below))

@@ -1,0 +1,127 @@
+-- Renaming numbers, adding a number, and the two parts of a diagram by what they tie.
+use Rattle.std.proofs.Common.{◌≡◌, ℕ, zero, suc, ◌+◌, ◌<◌, ◌∙◌, List, [], ◌∷◌, ◌++◌, sym, refl, length, ap, arith, true}
+use Rattle.std.specs.Prelude.{slice_index}
+use Rattle.std.specs.List.{filter, range_with_len}
+use Rattle.std.proofs.lemmas.List.FromFn.{length-range_with_len}
+use Rattle.std.proofs.lemmas.Bool.Decides.{nat_tests}
+use Rattle.kh_types.specs.Classes.{merged, joined, classes_of, is_least, class_count, Respects, AreBelow}
+use Rattle.kh_types.proofs.ClassLemmas.{slice_index-joined}
+use Rattle.kh_types.proofs.JoinedClasses.{IsNamed-range, slice_index-range, classes_of-same, class_count-joined}
+use Rattle.gluing.proofs.OldLemmas.{filter-same, own_passes}
+use Rattle.gluing.specs.Glue.{renamed, Places, JoinAlike}
+use Rattle.gluing.proofs.Glued.{class_count-glued_parts}
+
+-- n numbers that are all alone are n classes
+
+length-filter_all : (a n : ℕ) → length (filter (λ x. true) (range_with_len a n)) ≡ n
+length-filter_all a zero = refl
+length-filter_all a (suc n) = let rest = length-filter_all (a + 1) n in omega arith
+
+pub class_count-range : (n : ℕ) → class_count (range_with_len 0 n) ≡ n
+class_count-range n =
+    ap (λ k. length (filter (is_least (range_with_len 0 n)) (range_with_len 0 k))) (length-range_with_len 0 n)
+    ∙ ap length (filter-same (λ x. true) (is_least (range_with_len 0 n)) 0 n
+    (λ x from below. own_passes (slice_index (range_with_len 0 n) x) x (slice_index-range n x (omega arith))))
+    ∙ length-filter_all 0 n
+
+-- pairs placed in two ways
+
+pub renamed-same : (pairs : List (ℕ × ℕ)) → renamed (λ x. x) pairs ≡ pairs
+renamed-same [] = refl
+renamed-same (pair ∷ pairs) = ap (λ ps. pair ∷ ps) (renamed-same pairs)
+
+pub AreBelow-renamed : (m n : ℕ) (f : ℕ → ℕ) (pairs : List (ℕ × ℕ)) → Places f m n → AreBelow m pairs → AreBelow n (renamed f pairs)
+AreBelow-renamed m n f [] places below = below
+AreBelow-renamed m n f (pair ∷ pairs) places below =
+    ((places pair.0 below.0.0, places pair.1 below.0.1), AreBelow-renamed m n f pairs places below.1)
+
+pub AreBelow-append : (n : ℕ) (pairs more : List (ℕ × ℕ)) → AreBelow n pairs → AreBelow n more → AreBelow n (pairs ++ more)
+AreBelow-append n [] more below more_below = more_below
+AreBelow-append n (pair ∷ pairs) more below more_below = (below.0, AreBelow-append n pairs more below.1 more_below)
+
+pub Respects-append : (f : ℕ → ℕ) (pairs more : List (ℕ × ℕ)) → Respects f pairs → Respects f more → Respects f (pairs ++ more)
+Respects-append f [] more respects more_respects = more_respects
+Respects-append f (pair ∷ pairs) more respects more_respects =
+    (respects.0, Respects-append f pairs more respects.1 more_respects)
+
+pub Respects-front : (f : ℕ → ℕ) (pairs more : List (ℕ × ℕ)) → Respects f (pairs ++ more) → Respects f pairs
+Respects-front f [] more respects = tt
+Respects-front f (pair ∷ pairs) more respects = (respects.0, Respects-front f pairs more respects.1)
+
+pub Respects-back : (f : ℕ → ℕ) (pairs more : List (ℕ × ℕ)) → Respects f (pairs ++ more) → Respects f more
+Respects-back f [] more respects = respects
+Respects-back f (pair ∷ pairs) more respects = Respects-back f pairs more respects.1
+
+turned : (f : ℕ → ℕ) (pairs more : List (ℕ × ℕ)) → Respects f (pairs ++ more) → Respects f (more ++ pairs)
+turned f pairs more respects =
+    Respects-append f more pairs (Respects-back f pairs more respects) (Respects-front f pairs more respects)
+
+-- it does not matter which of two parts comes first
+pub classes_of-turned : (n : ℕ) (pairs more : List (ℕ × ℕ)) → AreBelow n pairs → AreBelow n more
+    → classes_of n (pairs ++ more) ≡ classes_of n (more ++ pairs)
+classes_of-turned n pairs more below more_below =
+    classes_of-same n (pairs ++ more) (more ++ pairs) (AreBelow-append n pairs more below more_below)
+    (AreBelow-append n more pairs more_below below) (λ f respects. turned f pairs more respects)
+    (λ f respects. turned f more pairs respects)
+
+-- renumbering, with each number still itself: as many classes, but for the numbers that no old one is renumbered to
+pub class_count-renamed : (n k : ℕ) (f : ℕ → ℕ) (pairs : List (ℕ × ℕ)) → AreBelow n pairs → Places f n k
+    → ((x y : ℕ) → x < n → y < n → f x ≡ f y → x ≡ y)
+    → class_count (classes_of k (renamed f pairs)) + n ≡ class_count (classes_of n pairs) + k
+class_count-renamed n k f pairs below places apart =
+    let alike : JoinAlike n (λ x. x) f (range_with_len 0 n) (range_with_len 0 k) = record {
+      onward = λ x y x_below y_below same. ap (λ z. slice_index (range_with_len 0 k) (f z))
+          (sym (slice_index-range n x x_below) ∙ same ∙ slice_index-range n y y_below);
+      back = λ x y x_below y_below same. ap (λ z. slice_index (range_with_len 0 n) z)
+          (apart x y x_below y_below
+          (sym (slice_index-range k (f x) (places x x_below)) ∙ same ∙ slice_index-range k (f y) (places y y_below)));
+    } in
+    let same = ap (λ ps. class_count (classes_of n ps)) (renamed-same pairs) in
+    let law = class_count-glued_parts n n k (λ x. x) f pairs [] [] below tt tt (λ x x_below. x_below) places alike in
+    omega (arith, law, same, class_count-range n, class_count-range k)
+
+-- one number more, which is joined to an old one
+pub class_count-fresh : (n old : ℕ) (pairs : List (ℕ × ℕ)) → AreBelow n pairs → old < n
+    → class_count (classes_of (n + 1) ((old, n) ∷ pairs)) ≡ class_count (classes_of n pairs)
+class_count-fresh n old pairs below old_below =
+    let at : (x : ℕ) → x < n → slice_index (joined (range_with_len 0 (n + 1)) (old, n)) x ≡ x =
+    λ x x_below. slice_index-joined (range_with_len 0 (n + 1)) (old, n) x (omega (arith, length-range_with_len 0 (n + 1)))
+    ∙ kept (slice_index (range_with_len 0 (n + 1)) old) (slice_index (range_with_len 0 (n + 1)) n)
+    (slice_index (range_with_len 0 (n + 1)) x) old n x (slice_index-range (n + 1) old (omega arith))
+    (slice_index-range (n + 1) n (omega arith)) (slice_index-range (n + 1) x (omega arith)) old_below x_below in
+    let alike : JoinAlike n (λ x. x) (λ x. x) (range_with_len 0 n) (classes_of (n + 1) ((old, n) ∷ [])) = record {
+      onward = λ x y x_below y_below same. ap (λ z. slice_index (joined (range_with_len 0 (n + 1)) (old, n)) z)
+          (sym (slice_index-range n x x_below) ∙ same ∙ slice_index-range n y y_below);
+      back = λ x y x_below y_below same. ap (λ z. slice_index (range_with_len 0 n) z) (sym (at x x_below) ∙ same ∙ at y y_below);
+    } in
+    let same = ap (λ ps. class_count (classes_of n ps)) (renamed-same pairs) in
+    let same_more = ap (λ ps. class_count (classes_of (n + 1) ((old, n) ∷ ps))) (renamed-same pairs) in
+    let one_less = class_count-joined (n + 1) (range_with_len 0 (n + 1)) (old, n) (IsNamed-range (n + 1)) (omega arith) (omega arith)
+    (λ is. absurd (omega (arith, is, slice_index-range (n + 1) old (omega arith), slice_index-range (n + 1) n (omega arith)))) in
+    let law = class_count-glued_parts n n (n + 1) (λ x. x) (λ x. x) pairs [] ((old, n) ∷ []) below tt
+    ((omega arith, omega arith), tt) (λ x x_below. x_below) (λ x x_below. omega arith) alike in
+    omega (arith, law, same, same_more, one_less, class_count-range n, class_count-range (n + 1))
+  where
+    kept : (a b c old n x : ℕ) → a ≡ old → b ≡ n → c ≡ x → old < n → x < n → merged a b c ≡ x
+    kept a b c old n x is_old is_n is_x old_below x_below = grind (arith, nat_tests)
+
+-- two parts of a diagram, and for each of them pairs of ends that tie the ends as the part does: the circles of the whole are those
+-- of the tied ends, and those that each part has beyond its tied ends
+pub class_count-parts : (m e n : ℕ) (f ends : ℕ → ℕ) (outer inner outer_ties inner_ties : List (ℕ × ℕ))
+    → AreBelow m outer → AreBelow n inner → AreBelow e outer_ties → AreBelow e inner_ties → Places f m n → Places ends e n
+    → JoinAlike m f f (classes_of n inner) (classes_of n (renamed ends inner_ties))
+    → JoinAlike e ends ends (classes_of n (renamed f outer)) (classes_of n (renamed ends outer_ties))
+    → class_count (classes_of n (inner ++ renamed f outer))
+    + (class_count (classes_of n (renamed ends outer_ties)) + class_count (classes_of n (renamed ends inner_ties)))
+    ≡ class_count (classes_of n (renamed ends outer_ties ++ renamed ends inner_ties))
+    + (class_count (classes_of n (renamed f outer)) + class_count (classes_of n inner))
+class_count-parts m e n f ends outer inner outer_ties inner_ties below inner_below outer_ties_below inner_ties_below places
+    ends_place alike outer_alike =
+    let ties_below = AreBelow-renamed e n ends inner_ties ends_place inner_ties_below in
+    let outer_below = AreBelow-renamed m n f outer places below in
+    let by_inner = class_count-glued_parts m n n f f outer inner (renamed ends inner_ties) below inner_below ties_below places places
+    alike in
+    let by_outer = class_count-glued_parts e n n ends ends inner_ties (renamed f outer) (renamed ends outer_ties) inner_ties_below
+    outer_below (AreBelow-renamed e n ends outer_ties ends_place outer_ties_below) ends_place ends_place outer_alike in
+    let turn = ap class_count (classes_of-turned n (renamed ends inner_ties) (renamed f outer) ties_below outer_below) in
+    omega (arith, by_inner, by_outer, turn)

@@ -1,0 +1,53 @@
+-- The table of the third Reidemeister move, computed.
+use Rattle.std.proofs.Common.{◌≡◌, ℕ, zero, suc, ◌+◌, ◌<◌, ◌≤◌, ◌⊎◌, inl, inr, Bool, true, false, not, ◌&&◌, ◌||◌, refl, sym, ap, ◌∙◌, [], ◌∷◌, map, arith}
+use Rattle.std.specs.List.{range_with_len, list_all}
+use Rattle.std.proofs.lemmas.Bool.Decides.{nat_tests}
+use Rattle.gluing.specs.Slides.{slide_keeps_sum, inside_terms, triangle_before, triangle_after, have_one_sum, closed_inside, is_slidable}
+
+-- of the eight states of a triangle at slots 0, 0 and 1 one closes a circle inside
+closed_inside-001 : map (closed_inside (triangle_before 0 0 1)) (range_with_len 0 8) ≡ 0 ∷ 0 ∷ 0 ∷ 0 ∷ 1 ∷ 0 ∷ 0 ∷ 0 ∷ []
+closed_inside-001 = refl
+
+-- where all slots have one parity the sums differ
+not-000 : have_one_sum (inside_terms (triangle_before 0 0 0)) (inside_terms (triangle_after 0 0 0)) ≡ false
+not-000 = refl
+
+all_slots : list_all (λ p. list_all (λ q. list_all (λ r. slide_keeps_sum p q r) (range_with_len 0 4)) (range_with_len 0 4)) (range_with_len 0 4)
+    ≡ true
+all_slots = refl
+
+pub both_true : (a b : Bool) → (a && b) ≡ true → (a ≡ true) × (b ≡ true)
+both_true true b both = (refl, both)
+both_true false b both = (both, absurd (grind (arith, both)))
+
+first_or_later : (a x n : ℕ) → a ≤ x → x < a + suc n → (a ≡ x) ⊎ ((a + 1 ≤ x) × (x < a + 1 + n))
+first_or_later a x n from below = grind (arith, nat_tests)
+
+pub list_all-range : (p : ℕ → Bool) (a n x : ℕ) → list_all p (range_with_len a n) ≡ true → a ≤ x → x < a + n → p x ≡ true
+list_all-range p a zero x all from below = absurd (omega arith)
+list_all-range p a (suc n) x all from below =
+    let parts = both_true (p a) (list_all p (range_with_len (a + 1) n)) all in
+    elim (first_or_later a x n from below) [
+      | inl here ↦ ap p (sym here) ∙ parts.0
+      | inr later ↦ list_all-range p (a + 1) n x parts.1 later.0 later.1
+    ]
+
+pub slide_keeps_sum-all : (p q r : ℕ) → p < 4 → q < 4 → r < 4 → slide_keeps_sum p q r ≡ true
+slide_keeps_sum-all p q r p_below q_below r_below =
+    list_all-range (λ z. slide_keeps_sum p q z) 0 4 r
+    (list_all-range (λ y. list_all (λ z. slide_keeps_sum p y z) (range_with_len 0 4)) 0 4 q
+    (list_all-range (λ x. list_all (λ y. list_all (λ z. slide_keeps_sum x y z) (range_with_len 0 4)) (range_with_len 0 4)) 0 4 p
+    all_slots (omega arith) (omega arith))
+    (omega arith) (omega arith))
+    (omega arith) (omega arith)
+
+-- a triangle of a third Reidemeister move has one sum before and after
+pub have_one_sum-slide : (p q r : ℕ) → p < 4 → q < 4 → r < 4 → is_slidable p q r ≡ true
+    → have_one_sum (inside_terms (triangle_before p q r)) (inside_terms (triangle_after p q r)) ≡ true
+have_one_sum-slide p q r p_below q_below r_below slidable =
+    other_true (is_slidable p q r) (have_one_sum (inside_terms (triangle_before p q r)) (inside_terms (triangle_after p q r)))
+    (slide_keeps_sum-all p q r p_below q_below r_below) slidable
+  where
+    other_true : (a b : Bool) → (not a || b) ≡ true → a ≡ true → b ≡ true
+    other_true true b either is = either
+    other_true false b either is = absurd (grind (arith, is))

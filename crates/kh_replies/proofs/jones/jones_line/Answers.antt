@@ -1,0 +1,5 @@
+use Rattle.kh_replies.proofs.JonesLemmas.{line_of_sum}
+use Rattle.kh_replies.proofs.jones.jones_line.Goals as goal
+
+pub returns : goal.returns
+returns c = line_of_sum c.args.diagram.now c.jones.result c.in_ok-line.line.items c.jones.ensures c.in_ok-line.ensures.text

@@ -1,0 +1,11 @@
+pub mod Statuses
+pub mod Replies
+pub mod Refusals
+pub mod Intakes
+pub mod Parts
+pub mod Inputs
+pub mod InputStops
+pub mod DiagramReplies
+pub mod Jones
+pub mod Convert
+pub mod Check

@@ -1,0 +1,103 @@
+-- The replies that refuse: every line of a refusal or a limit. All of it is this project's rule.
+use Rattle.std.specs.Prelude.{◌≡◌, ℕ, ◌+◌, List, ◌++◌, codes}
+use Rattle.std.specs.Fmt.{decimal}
+use Rattle.kh_types.specs.declared.limits.TheConstants.{CROSSINGS, COMPONENTS, LOOPS}
+use Rattle.kh_types.specs.declared.fault.CodeFault.{CodeFault}
+use Rattle.kh_types.specs.declared.fault.CodeFault.TheVariants as faults
+use Rattle.pd_code.specs.declared.stop.PdStop.{PdStop}
+use Rattle.pd_code.specs.declared.stop.PdStop.TheVariants as pd
+use Rattle.gauss_code.specs.declared.stop.GaussStop.{GaussStop}
+use Rattle.gauss_code.specs.declared.stop.GaussStop.TheVariants as gauss
+use Rattle.json_code.specs.declared.stop.JsonStop.{JsonStop}
+use Rattle.json_code.specs.declared.stop.JsonStop.TheVariants as json
+use Rattle.circle_smoothing.specs.declared.limits.TheConstants.{GENERATORS}
+use Rattle.undo_stack.specs.declared.limits.TheConstants.{SCRIPT_LINES}
+use Rattle.kh_replies.specs.declared.status.Status.TheVariants.{CodeRefused, Usage, Limit}
+use Rattle.kh_replies.specs.Replies.{Reply, reply_of}
+
+-- the words give no command
+abbrev pub usage : Reply
+usage = reply_of Usage (codes "usage: kh COMMAND [OPTIONS]\n")
+
+-- a code is refused, with words that say why
+abbrev pub refused : List ℕ → Reply
+refused words = reply_of CodeRefused (codes "refused " ++ (words ++ codes "\n"))
+
+-- the same with a number behind the words
+abbrev pub refused_with : List ℕ → ℕ → Reply
+refused_with words number = reply_of CodeRefused (codes "refused " ++ (words ++ (decimal number ++ codes "\n")))
+
+-- the same with two numbers, each behind words of its own
+abbrev pub refused_with_both : List ℕ → ℕ → List ℕ → ℕ → Reply
+refused_with_both words number more other =
+    reply_of CodeRefused (codes "refused " ++ (words ++ (decimal number ++ (more ++ (decimal other ++ codes "\n")))))
+
+-- a limit on things of a name is passed, by so many of them
+abbrev pub limit_on : List ℕ → ℕ → ℕ → Reply
+limit_on name count most =
+    reply_of Limit (codes "limit " ++ (name ++ (codes " " ++ (decimal count ++ (codes " of " ++ (decimal most ++ codes "\n"))))))
+
+-- a byte more than a limit was read
+abbrev pub too_many_bytes : ℕ → Reply
+too_many_bytes limit = limit_on (codes "bytes") (limit + 1) limit
+
+-- a text has more crossings than a diagram may have
+abbrev pub too_many_crossings : ℕ → Reply
+too_many_crossings count = limit_on (codes "crossings") count CROSSINGS
+
+-- a text has more loops than a text may have
+abbrev pub too_many_loops : ℕ → Reply
+too_many_loops count = limit_on (codes "loops") count LOOPS
+
+-- a diagram has more generators than a diagram whose homology is computed
+abbrev pub too_many_generators : ℕ → Reply
+too_many_generators count = limit_on (codes "generators") count GENERATORS
+
+-- a script has more lines than a script may have
+abbrev pub too_many_lines : ℕ → Reply
+too_many_lines count = limit_on (codes "lines") count SCRIPT_LINES
+
+-- a script has a line that has words and is no command, and this is the number of the first
+abbrev pub refused_line : ℕ → Reply
+refused_line line = refused_with (codes "line ") line
+
+-- a PD text is refused for this stop with this reply
+abbrev pub IsPdRefusal : PdStop → Reply → Type 0
+IsPdRefusal (pd.Text place) reply = reply ≡ refused_with (codes "text at ") place
+IsPdRefusal (pd.Number place) reply = reply ≡ refused_with (codes "number at ") place
+IsPdRefusal (pd.CrossingLimit count) reply = reply ≡ too_many_crossings count
+IsPdRefusal (pd.LoopLimit count) reply = reply ≡ too_many_loops count
+IsPdRefusal pd.NoMemory reply = ⊥
+
+-- a signed Gauss text is refused for this stop with this reply
+abbrev pub IsGaussRefusal : GaussStop → Reply → Type 0
+IsGaussRefusal (gauss.Text place) reply = reply ≡ refused_with (codes "text at ") place
+IsGaussRefusal (gauss.Number place) reply = reply ≡ refused_with (codes "number at ") place
+IsGaussRefusal (gauss.CrossingLimit count) reply = reply ≡ too_many_crossings count
+IsGaussRefusal (gauss.LoopLimit count) reply = reply ≡ too_many_loops count
+IsGaussRefusal (gauss.Label place) reply = reply ≡ refused_with (codes "label at ") place
+IsGaussRefusal gauss.NoSigns reply = reply ≡ refused (codes "no signs")
+IsGaussRefusal (gauss.SignCount found wanted) reply = reply ≡ refused_with_both (codes "signs ") found (codes " wanted ") wanted
+IsGaussRefusal gauss.NoMemory reply = ⊥
+
+-- a JSON text is refused for this stop with this reply
+abbrev pub IsJsonRefusal : JsonStop → Reply → Type 0
+IsJsonRefusal json.JsonText reply = reply ≡ refused (codes "json")
+IsJsonRefusal (json.Shape crossing slot) reply =
+    reply ≡ refused_with_both (codes "shape at crossing ") crossing (codes " slot ") slot
+IsJsonRefusal (json.CrossingLimit count) reply = reply ≡ too_many_crossings count
+IsJsonRefusal json.NoMemory reply = ⊥
+
+-- the reply to a code that breaks a rule. The limit on components and loops together is passed by no text: each component of a
+-- code that breaks no rule before it has two arcs or more, so a text's crossings and loops have no more than COMPONENTS
+abbrev pub fault_refusal : CodeFault → Reply
+fault_refusal (faults.ArcRange crossing slot) =
+    refused_with_both (codes "arc range at crossing ") crossing (codes " slot ") slot
+fault_refusal (faults.ArcTimes arc times) = refused_with_both (codes "arc ") arc (codes " times ") times
+fault_refusal (faults.Interval arc) = refused_with (codes "interval of arc ") arc
+fault_refusal (faults.Under crossing) = refused_with (codes "under pass at crossing ") crossing
+fault_refusal (faults.Over crossing) = refused_with (codes "over pass at crossing ") crossing
+fault_refusal (faults.TwoArc crossing) = refused_with (codes "two-arc component at crossing ") crossing
+fault_refusal (faults.Checkerboard arc) = refused_with (codes "checkerboard at arc ") arc
+fault_refusal (faults.Genus faces wanted) = refused_with_both (codes "genus faces ") faces (codes " wanted ") wanted
+fault_refusal (faults.Components count) = refused_with_both (codes "components ") count (codes " of ") COMPONENTS

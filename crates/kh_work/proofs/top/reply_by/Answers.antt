@@ -1,0 +1,21 @@
+use Rattle.std.proofs.Common.{◌≡◌}
+use Rattle.kh_work.specs.Drafts.{reply_in}
+use Rattle.kh_work.specs.Runs.{seen}
+use Rattle.kh_work.proofs.Written.{IsReplied-completed}
+use Rattle.kh_work.proofs.top.reply_by.Goals as goal
+
+pub returns : goal.returns
+returns g c =
+    IsReplied-completed c.args.words.now (seen (g.S.Source.left c.args.source.now) (g.S.Source.faults c.args.source.now))
+    (seen (g.S.Source.left c.draft_to.new.source) (g.S.Source.faults c.draft_to.new.source))
+    (c.draft_to.new.source ≡ c.args.source.now) (reply_in c.in_ok-draft.draft) c.in_ok-completed_by.field-0 c.in_ok-completed_by.ensures
+    (record {
+      known = c.in_ok-draft.ensures.known;
+      blind = c.in_ok-draft.ensures.blind;
+      whole = c.in_ok-draft.ensures.whole;
+      usage_only = c.in_ok-draft.ensures.usage_only;
+      unread = c.in_ok-draft.ensures.unread;
+      taken = c.in_ok-draft.ensures.taken;
+      read_out = c.in_ok-draft.ensures.read_out;
+      fault = λ is. absurd (cc);
+    })

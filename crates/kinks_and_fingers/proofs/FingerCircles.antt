@@ -1,0 +1,630 @@
+-- The circles of the four states at two crossings that meet in a bigon.
+use Rattle.std.proofs.Common.{◌≡◌, ◌≢◌, ℕ, zero, suc, ◌⊎◌, inl, inr, ◌+◌, ◌*◌, ◌%◌, ◌<◌, ◌≤◌, ◌∙◌, List, [], ◌∷◌, ◌++◌, sym, ap, subst, arith, refl, Bool, true, false, cond, not, ◌||◌, length, eq-eqb, eqb-true}
+use Rattle.std.specs.Prelude.{nat_eq}
+use Rattle.std.specs.List.{AllByRecursion, filter, flat_map, range_with_len}
+use Rattle.std.proofs.lemmas.Bool.{both_ways, cases_eq, cases_Bool, ne_eqb}
+use Rattle.kh_types.specs.Bits.{bit}
+use Rattle.kh_types.specs.Classes.{classes_of, class_count, Respects, AreBelow}
+use Rattle.kh_types.specs.Code.{arc_in, arc_count}
+use Rattle.kh_types.specs.Components.{passes_of}
+use Rattle.kh_types.specs.Circles.{smoothing_of, smoothings_of}
+use Rattle.kh_types.specs.Darts.{HasArcsTwice, partner_at}
+use Rattle.kh_types.proofs.ClassLemmas.{classes-finest}
+use Rattle.kh_types.proofs.JoinedClasses.{classes_of-same, class_count-apart}
+use Rattle.kh_types.proofs.Lists.{AllByRecursion-append}
+use Rattle.kinks_and_fingers.specs.Strands.{slots_at, name_at, dart_name}
+use Rattle.kinks_and_fingers.specs.Drops.{straight_pairs, is_of_two}
+use Rattle.kinks_and_fingers.specs.Dropping.{HasBigonAt}
+use Rattle.kinks_and_fingers.specs.Pulls.{dart_in}
+use Rattle.kinks_and_fingers.specs.DropCircles.{joined_at, outer_pairs, through_at, closing_at}
+use Rattle.kinks_and_fingers.proofs.Smoothed.{dart_in-below}
+use Rattle.kinks_and_fingers.proofs.OldDarts.{partner-named, dart_name-in, dart_name-partner}
+use Rattle.kinks_and_fingers.proofs.KeptCodes.{name_at-below, all-gone, gone-all}
+use Rattle.kinks_and_fingers.proofs.KinkCircles.{smoothings-all, smoothings-each, outer-all, outer-each, joined-below, passes-low, smoothing-zero, smoothing-one, to-zero, to-one, all_first, all_second}
+
+-- what the smoothings of a crossing join, and its passes, by its slots from p on
+
+pub closing-joined : (f : ℕ → ℕ) (slots : List ℕ) (p b : ℕ) → p < 4 → b ≡ closing_at p → Respects f (smoothing_of b slots)
+    → (f (arc_in slots p) ≡ f (arc_in slots ((p + 1) % 4))) × (f (arc_in slots ((p + 2) % 4)) ≡ f (arc_in slots ((p + 3) % 4)))
+closing-joined f slots zero b below is respects = let z = smoothing-zero f slots b is respects in (z.0, z.1)
+closing-joined f slots (suc zero) b below is respects = let o = smoothing-one f slots b is respects in (o.1, sym o.0)
+closing-joined f slots (suc (suc zero)) b below is respects = let z = smoothing-zero f slots b is respects in (z.1, z.0)
+closing-joined f slots (suc (suc (suc zero))) b below is respects = let o = smoothing-one f slots b is respects in (sym o.0, o.1)
+closing-joined f slots (suc (suc (suc (suc p)))) b below is respects = absurd (omega (arith, below))
+
+pub joined-closing : (f : ℕ → ℕ) (slots : List ℕ) (p b : ℕ) → p < 4 → b ≡ closing_at p
+    → f (arc_in slots p) ≡ f (arc_in slots ((p + 1) % 4)) → f (arc_in slots ((p + 2) % 4)) ≡ f (arc_in slots ((p + 3) % 4))
+    → Respects f (smoothing_of b slots)
+joined-closing f slots zero b below is first second = to-zero f slots b is first second
+joined-closing f slots (suc zero) b below is first second = to-one f slots b is (sym second) first
+joined-closing f slots (suc (suc zero)) b below is first second = to-zero f slots b is second first
+joined-closing f slots (suc (suc (suc zero))) b below is first second = to-one f slots b is (sym first) second
+joined-closing f slots (suc (suc (suc (suc p)))) b below is first second = absurd (omega (arith, below))
+
+pub through-joined : (f : ℕ → ℕ) (slots : List ℕ) (p b : ℕ) → p < 4 → b ≡ through_at p → Respects f (smoothing_of b slots)
+    → (f (arc_in slots ((p + 1) % 4)) ≡ f (arc_in slots ((p + 2) % 4))) × (f (arc_in slots ((p + 3) % 4)) ≡ f (arc_in slots p))
+through-joined f slots zero b below is respects = let o = smoothing-one f slots b is respects in (o.1, sym o.0)
+through-joined f slots (suc zero) b below is respects = let z = smoothing-zero f slots b is respects in (z.1, z.0)
+through-joined f slots (suc (suc zero)) b below is respects = let o = smoothing-one f slots b is respects in (sym o.0, o.1)
+through-joined f slots (suc (suc (suc zero))) b below is respects = let z = smoothing-zero f slots b is respects in (z.0, z.1)
+through-joined f slots (suc (suc (suc (suc p)))) b below is respects = absurd (omega (arith, below))
+
+pub joined-through : (f : ℕ → ℕ) (slots : List ℕ) (p b : ℕ) → p < 4 → b ≡ through_at p
+    → f (arc_in slots ((p + 1) % 4)) ≡ f (arc_in slots ((p + 2) % 4)) → f (arc_in slots ((p + 3) % 4)) ≡ f (arc_in slots p)
+    → Respects f (smoothing_of b slots)
+joined-through f slots zero b below is first second = to-one f slots b is (sym second) first
+joined-through f slots (suc zero) b below is first second = to-zero f slots b is second first
+joined-through f slots (suc (suc zero)) b below is first second = to-one f slots b is (sym first) second
+joined-through f slots (suc (suc (suc zero))) b below is first second = to-zero f slots b is first second
+joined-through f slots (suc (suc (suc (suc p)))) b below is first second = absurd (omega (arith, below))
+
+pub straight-pass : (f : ℕ → ℕ) (slots : List ℕ) (p : ℕ) → p < 4 → Respects f (passes_of slots)
+    → (f (arc_in slots p) ≡ f (arc_in slots ((p + 2) % 4))) × (f (arc_in slots ((p + 1) % 4)) ≡ f (arc_in slots ((p + 3) % 4)))
+straight-pass f slots zero below respects = (respects.0, respects.1.0)
+straight-pass f slots (suc zero) below respects = (respects.1.0, sym respects.0)
+straight-pass f slots (suc (suc zero)) below respects = (sym respects.0, sym respects.1.0)
+straight-pass f slots (suc (suc (suc zero))) below respects = (sym respects.1.0, respects.0)
+straight-pass f slots (suc (suc (suc (suc p)))) below respects = absurd (omega (arith, below))
+
+pub pass-straight : (f : ℕ → ℕ) (slots : List ℕ) (p : ℕ) → p < 4 → f (arc_in slots p) ≡ f (arc_in slots ((p + 2) % 4))
+    → f (arc_in slots ((p + 1) % 4)) ≡ f (arc_in slots ((p + 3) % 4)) → Respects f (passes_of slots)
+pass-straight f slots zero below first second = (first, (second, tt))
+pass-straight f slots (suc zero) below first second = (sym second, (first, tt))
+pass-straight f slots (suc (suc zero)) below first second = (sym first, (sym second, tt))
+pass-straight f slots (suc (suc (suc zero))) below first second = (second, (sym first, tt))
+pass-straight f slots (suc (suc (suc (suc p)))) below first second = absurd (omega (arith, below))
+
+-- lists of pairs with a few pairs at their end
+
+packed : (P : ℕ × ℕ → Type 0) (outer : List (ℕ × ℕ)) (e1 e2 l1 l2 : ℕ × ℕ) → AllByRecursion P outer → P e1 → P e2 → P l1 → P l2
+    → AllByRecursion P (((outer ++ e1 ∷ e2 ∷ []) ++ l1 ∷ []) ++ l2 ∷ [])
+packed P outer e1 e2 l1 l2 holds one two three four =
+    AllByRecursion-append P ((outer ++ e1 ∷ e2 ∷ []) ++ l1 ∷ []) (l2 ∷ [])
+    (AllByRecursion-append P (outer ++ e1 ∷ e2 ∷ []) (l1 ∷ [])
+    (AllByRecursion-append P outer (e1 ∷ e2 ∷ []) holds (one, (two, tt))) (three, tt)) (four, tt)
+
+record Unpacked (P : ℕ × ℕ → Type 0) (outer : List (ℕ × ℕ)) (e1 e2 l1 l2 : ℕ × ℕ) : Type 0 where
+  outer_holds : AllByRecursion P outer
+  one : P e1
+  two : P e2
+  three : P l1
+  four : P l2
+
+unpacked : (P : ℕ × ℕ → Type 0) (outer : List (ℕ × ℕ)) (e1 e2 l1 l2 : ℕ × ℕ)
+    → AllByRecursion P (((outer ++ e1 ∷ e2 ∷ []) ++ l1 ∷ []) ++ l2 ∷ []) → Unpacked P outer e1 e2 l1 l2
+unpacked P outer e1 e2 l1 l2 holds =
+    let first = all_first P ((outer ++ e1 ∷ e2 ∷ []) ++ l1 ∷ []) (l2 ∷ []) holds in
+    let last = all_second P ((outer ++ e1 ∷ e2 ∷ []) ++ l1 ∷ []) (l2 ∷ []) holds in
+    let middle = all_first P (outer ++ e1 ∷ e2 ∷ []) (l1 ∷ []) first in
+    let before = all_second P (outer ++ e1 ∷ e2 ∷ []) (l1 ∷ []) first in
+    let ends = all_second P outer (e1 ∷ e2 ∷ []) middle in
+    record {
+      outer_holds = all_first P outer (e1 ∷ e2 ∷ []) middle;
+      one = ends.0;
+      two = ends.1.0;
+      three = before.0;
+      four = last.0;
+    }
+
+-- a name that no pair joins with another
+
+abbrev mark : ℕ → ℕ → ℕ
+mark v z = cond (nat_eq z v) 1 0
+
+mark-off : (v z : ℕ) → z ≢ v → mark v z ≡ 0
+mark-off v z apart = ap (λ t. cond t 1 0) (ne_eqb z v apart)
+
+mark-own : (v : ℕ) → mark v v ≡ 1
+mark-own v = ap (λ t. cond t 1 0) (eq-eqb v v refl)
+
+count-leaf : (n : ℕ) (pairs : List (ℕ × ℕ)) (a b : ℕ) → AreBelow n pairs → Respects (λ z. mark a z) pairs → a < n → b < n → b ≢ a
+    → class_count (classes_of n pairs) ≡ class_count (classes_of n (pairs ++ (a, b) ∷ [])) + 1
+count-leaf n pairs a b below respects a_below b_below apart =
+    class_count-apart n pairs (a, b) below a_below b_below
+    (λ same.
+    let found = classes-finest (λ z. mark a z) n pairs respects below a b a_below b_below same in
+    let one_zero : 1 ≡ 0 = sym (mark-own a) ∙ found ∙ mark-off a b apart in
+    omega (arith, one_zero))
+
+-- two such names
+count-leaves : (n : ℕ) (pairs : List (ℕ × ℕ)) (a s b t : ℕ) → AreBelow n pairs → Respects (λ z. mark a z) pairs
+    → Respects (λ z. mark b z) pairs → a < n → s < n → b < n → t < n → s ≢ a → t ≢ b → a ≢ b → s ≢ b
+    → class_count (classes_of n pairs) ≡ class_count (classes_of n ((pairs ++ (a, s) ∷ []) ++ (b, t) ∷ [])) + 2
+count-leaves n pairs a s b t below a_free b_free a_below s_below b_below t_below s_a t_b a_b s_b =
+    let first = count-leaf n pairs a s below a_free a_below s_below s_a in
+    let more = AllByRecursion-append (λ pair. (pair.0 < n) × (pair.1 < n)) pairs ((a, s) ∷ []) below ((a_below, s_below), tt) in
+    let second = count-leaf n (pairs ++ (a, s) ∷ []) b t more
+    (AllByRecursion-append (λ pair. mark b pair.0 ≡ mark b pair.1) pairs ((a, s) ∷ []) b_free
+    (mark-off b a a_b ∙ sym (mark-off b s s_b), tt)) b_below t_below t_b in
+    omega (arith, first, second)
+
+-- all smoothings, with those of two crossings apart
+
+smoothed-as : (crossings : List (List ℕ)) (n state c d : ℕ) (whole : List (ℕ × ℕ)) → HasArcsTwice crossings
+    → arc_count crossings + 1 ≤ n → c < length crossings → d < length crossings → AreBelow n whole
+    → ((f : ℕ → ℕ) → Respects f (outer_pairs crossings (is_of_two c d) state) → Respects f (joined_at crossings state c)
+    → Respects f (joined_at crossings state d) → Respects f whole)
+    → ((f : ℕ → ℕ) → Respects f whole → Respects f (outer_pairs crossings (is_of_two c d) state)
+    × Respects f (joined_at crossings state c) × Respects f (joined_at crossings state d))
+    → classes_of n (smoothings_of crossings state) ≡ classes_of n whole
+smoothed-as crossings n state c d whole twice large c_below d_below low onward back =
+    classes_of-same n (smoothings_of crossings state) whole
+    (smoothings-all (λ pair. (pair.0 < n) × (pair.1 < n)) crossings state
+    (λ place below. joined-below crossings n state place twice large below)) low
+    (λ f respects.
+    onward f
+    (outer-all (λ pair. f pair.0 ≡ f pair.1) crossings (is_of_two c d) state
+    (λ place below stays. smoothings-each (λ pair. f pair.0 ≡ f pair.1) crossings state place respects below))
+    (smoothings-each (λ pair. f pair.0 ≡ f pair.1) crossings state c respects c_below)
+    (smoothings-each (λ pair. f pair.0 ≡ f pair.1) crossings state d respects d_below))
+    (λ f respects.
+    let parts = back f respects in
+    smoothings-all (λ pair. f pair.0 ≡ f pair.1) crossings state
+    (λ place below.
+    elim (cases_Bool (nat_eq c place)) [
+      | inl at_c ↦ subst (λ (k : ℕ). Respects f (joined_at crossings state k)) (eqb-true c place at_c) parts.1
+      | inr not_c ↦ elim (cases_Bool (nat_eq d place)) [
+        | inl at_d ↦ subst (λ (k : ℕ). Respects f (joined_at crossings state k)) (eqb-true d place at_d) parts.2
+        | inr not_d ↦
+            outer-each (λ pair. f pair.0 ≡ f pair.1) crossings (is_of_two c d) state place parts.0 below
+            (ap (λ t. t || nat_eq d place) not_c ∙ not_d)
+      ]
+    ]))
+
+straight-as : (crossings : List (List ℕ)) (n state c d : ℕ) (whole : List (ℕ × ℕ)) → HasArcsTwice crossings
+    → arc_count crossings + 1 ≤ n → c < length crossings → d < length crossings → AreBelow n whole
+    → ((f : ℕ → ℕ) → Respects f (outer_pairs crossings (is_of_two c d) state) → Respects f (passes_of (slots_at crossings c))
+    → Respects f (passes_of (slots_at crossings d)) → Respects f whole)
+    → ((f : ℕ → ℕ) → Respects f whole → Respects f (outer_pairs crossings (is_of_two c d) state)
+    × Respects f (passes_of (slots_at crossings c)) × Respects f (passes_of (slots_at crossings d)))
+    → classes_of n (straight_pairs crossings (is_of_two c d) ++ outer_pairs crossings (is_of_two c d) state) ≡ classes_of n whole
+straight-as crossings n state c d whole twice large c_below d_below low onward back =
+    let straight = straight_pairs crossings (is_of_two c d) in
+    let outer = outer_pairs crossings (is_of_two c d) state in
+    let c_gone : (nat_eq c c || nat_eq d c) ≡ true = ap (λ t. t || nat_eq d c) (eq-eqb c c refl) in
+    let d_gone : (nat_eq c d || nat_eq d d) ≡ true = gone_second (nat_eq c d) (nat_eq d d) (eq-eqb d d refl) in
+    classes_of-same n (straight_pairs crossings (is_of_two c d) ++ outer_pairs crossings (is_of_two c d) state) whole
+    (AllByRecursion-append (λ pair. (pair.0 < n) × (pair.1 < n)) straight outer
+    (all-gone (λ pair. (pair.0 < n) × (pair.1 < n)) (λ place. passes_of (slots_at crossings place)) (is_of_two c d) 0 (length crossings)
+    (λ place from below gone_there. passes-low crossings n place twice large (omega (arith, below))))
+    (outer-all (λ pair. (pair.0 < n) × (pair.1 < n)) crossings (is_of_two c d) state
+    (λ place below stays. joined-below crossings n state place twice large below))) low
+    (λ f respects.
+    let front = all_first (λ pair. f pair.0 ≡ f pair.1) straight outer respects in
+    let at : (place : ℕ) → place < length crossings → is_of_two c d place ≡ true → Respects f (passes_of (slots_at crossings place)) =
+    λ place below gone_there.
+    gone-all (λ pair. f pair.0 ≡ f pair.1) (λ place. passes_of (slots_at crossings place)) (is_of_two c d) 0 (length crossings) place
+    front (omega arith) (omega (arith, below)) gone_there in
+    onward f (all_second (λ pair. f pair.0 ≡ f pair.1) straight outer respects) (at c c_below c_gone) (at d d_below d_gone))
+    (λ f respects.
+    let parts = back f respects in
+    AllByRecursion-append (λ pair. f pair.0 ≡ f pair.1) straight outer
+    (all-gone (λ pair. f pair.0 ≡ f pair.1) (λ place. passes_of (slots_at crossings place)) (is_of_two c d) 0 (length crossings)
+    (λ place from below gone_there.
+    elim (cases_Bool (nat_eq c place)) [
+      | inl at_c ↦ subst (λ (k : ℕ). Respects f (passes_of (slots_at crossings k))) (eqb-true c place at_c) parts.1
+      | inr not_c ↦
+          subst (λ (k : ℕ). Respects f (passes_of (slots_at crossings k)))
+          (eqb-true d place (sym (ap (λ t. t || nat_eq d place) not_c) ∙ gone_there)) parts.2
+    ])) parts.0)
+  where
+    gone_second : (a b : Bool) → b ≡ true → (a || b) ≡ true
+    gone_second true b is = refl
+    gone_second false b is = is
+
+-- the names round a bigon: a and b on its sides, x, y, u and v on the arcs that lead away
+pub record AreBigonNames (crossings : List (List ℕ)) (c d p q a b x y u v : ℕ) : Type 0 where
+  pub c_below : c < length crossings
+  pub d_below : d < length crossings
+  pub p_slot : p < 4
+  pub q_slot : q < 4
+  pub a_first : name_at crossings c p ≡ a
+  pub a_second : name_at crossings d ((q + 1) % 4) ≡ a
+  pub b_first : name_at crossings c ((p + 1) % 4) ≡ b
+  pub b_second : name_at crossings d q ≡ b
+  pub x_is : name_at crossings c ((p + 2) % 4) ≡ x
+  pub y_is : name_at crossings c ((p + 3) % 4) ≡ y
+  pub u_is : name_at crossings d ((q + 2) % 4) ≡ u
+  pub v_is : name_at crossings d ((q + 3) % 4) ≡ v
+  pub x_a : x ≢ a
+  pub y_a : y ≢ a
+  pub u_a : u ≢ a
+  pub v_a : v ≢ a
+  pub x_b : x ≢ b
+  pub y_b : y ≢ b
+  pub u_b : u ≢ b
+  pub v_b : v ≢ b
+  pub a_b : a ≢ b
+  pub others_a : (place slot : ℕ) → place < length crossings → slot < 4 → place ≢ c → place ≢ d → name_at crossings place slot ≢ a
+  pub others_b : (place slot : ℕ) → place < length crossings → slot < 4 → place ≢ c → place ≢ d → name_at crossings place slot ≢ b
+
+-- a name stands at two darts alone
+named-own : (crossings : List (List ℕ)) (s place slot : ℕ) → HasArcsTwice crossings → s < 4 * length crossings → place < length crossings
+    → slot < 4 → name_at crossings place slot ≡ dart_name crossings s
+    → (4 * place + slot ≡ s) ⊎ (4 * place + slot ≡ partner_at crossings s)
+named-own crossings s place slot twice s_below below slot_below same =
+    let z = dart_in place slot in
+    let e : slot % 4 ≡ slot = omega (arith, slot_below) in
+    let is : dart_in place slot ≡ 4 * place + slot = ap (λ r. 4 * place + r) e in
+    elim (cases_eq (dart_in place slot) s) [
+      | inl own ↦ inl (sym is ∙ own)
+      | inr other ↦
+          inr
+          (sym is
+          ∙ sym
+          (partner-named crossings twice s (dart_in place slot) s_below (dart_in-below (length crossings) place slot below) other
+          (dart_name-in crossings place slot ∙ ap (name_at crossings place) e ∙ same)))
+    ]
+
+pub AreBigonNames-bigon : (crossings : List (List ℕ)) (c d p q : ℕ) → HasArcsTwice crossings → HasBigonAt crossings c d p q → p < 4 → q < 4
+    → AreBigonNames crossings c d p q (name_at crossings c p) (name_at crossings d q) (name_at crossings c ((p + 2) % 4))
+    (name_at crossings c ((p + 3) % 4)) (name_at crossings d ((q + 2) % 4)) (name_at crossings d ((q + 3) % 4))
+AreBigonNames-bigon crossings c d p q twice bigon p_slot q_slot =
+    let n = length crossings in
+    let p_is : p % 4 ≡ p = omega (arith, p_slot) in
+    let q_is : q % 4 ≡ q = omega (arith, q_slot) in
+    let first_low = dart_in-below (length crossings) c p bigon.first_below in
+    let second_low = dart_in-below (length crossings) d q bigon.second_below in
+    let name_first : dart_name crossings (dart_in c p) ≡ name_at crossings c p =
+    dart_name-in crossings c p ∙ ap (name_at crossings c) p_is in
+    let name_second : dart_name crossings (dart_in d q) ≡ name_at crossings d q =
+    dart_name-in crossings d q ∙ ap (name_at crossings d) q_is in
+    let own_a : (place slot : ℕ) → place < length crossings → slot < 4 → name_at crossings place slot ≡ name_at crossings c p
+    → (4 * place + slot ≡ dart_in c p) ⊎ (4 * place + slot ≡ dart_in d (q + 1)) =
+    λ place slot below slot_below same.
+    elim (named-own crossings (dart_in c p) place slot twice first_low below slot_below (same ∙ sym name_first)) [
+      | inl own ↦ inl own
+      | inr own ↦ inr (own ∙ bigon.first_side)
+    ] in
+    let own_b : (place slot : ℕ) → place < length crossings → slot < 4 → name_at crossings place slot ≡ name_at crossings d q
+    → (4 * place + slot ≡ dart_in d q) ⊎ (4 * place + slot ≡ dart_in c (p + 1)) =
+    λ place slot below slot_below same.
+    elim (named-own crossings (dart_in d q) place slot twice second_low below slot_below (same ∙ sym name_second)) [
+      | inl own ↦ inl own
+      | inr own ↦ inr (own ∙ bigon.second_side)
+    ] in
+    let c_b = bigon.first_below in
+    let d_b = bigon.second_below in
+    let apart = bigon.apart in
+    record {
+      c_below = bigon.first_below;
+      d_below = bigon.second_below;
+      p_slot = p_slot;
+      q_slot = q_slot;
+      a_first = refl;
+      a_second = sym (dart_name-in crossings d (q + 1)) ∙ ap (dart_name crossings) (sym bigon.first_side)
+          ∙ dart_name-partner crossings twice (dart_in c p) first_low ∙ name_first;
+      b_first = sym (dart_name-in crossings c (p + 1)) ∙ ap (dart_name crossings) (sym bigon.second_side)
+          ∙ dart_name-partner crossings twice (dart_in d q) second_low ∙ name_second;
+      b_second = refl;
+      x_is = refl;
+      y_is = refl;
+      u_is = refl;
+      v_is = refl;
+      x_a = λ same. neither c d c p (q + 1) ((p + 2) % 4) (omega arith) (own_a c ((p + 2) % 4) c_b (omega arith) same)
+          (λ off. slot_two c p p_slot off) (λ off. elsewhere c d ((p + 2) % 4) (q + 1) (omega arith) apart off);
+      y_a = λ same. neither c d c p (q + 1) ((p + 3) % 4) (omega arith) (own_a c ((p + 3) % 4) c_b (omega arith) same)
+          (λ off. slot_three c p p_slot off) (λ off. elsewhere c d ((p + 3) % 4) (q + 1) (omega arith) apart off);
+      u_a = λ same. neither c d d p (q + 1) ((q + 2) % 4) (omega arith) (own_a d ((q + 2) % 4) d_b (omega arith) same)
+          (λ off. elsewhere d c ((q + 2) % 4) p (omega arith) (λ is. apart (sym is)) off) (λ off. slot_one_two d q off);
+      v_a = λ same. neither c d d p (q + 1) ((q + 3) % 4) (omega arith) (own_a d ((q + 3) % 4) d_b (omega arith) same)
+          (λ off. elsewhere d c ((q + 3) % 4) p (omega arith) (λ is. apart (sym is)) off) (λ off. slot_one_three d q off);
+      x_b = λ same. neither d c c q (p + 1) ((p + 2) % 4) (omega arith) (own_b c ((p + 2) % 4) c_b (omega arith) same)
+          (λ off. elsewhere c d ((p + 2) % 4) q (omega arith) apart off) (λ off. slot_one_two c p off);
+      y_b = λ same. neither d c c q (p + 1) ((p + 3) % 4) (omega arith) (own_b c ((p + 3) % 4) c_b (omega arith) same)
+          (λ off. elsewhere c d ((p + 3) % 4) q (omega arith) apart off) (λ off. slot_one_three c p off);
+      u_b = λ same. neither d c d q (p + 1) ((q + 2) % 4) (omega arith) (own_b d ((q + 2) % 4) d_b (omega arith) same)
+          (λ off. slot_two d q q_slot off) (λ off. elsewhere d c ((q + 2) % 4) (p + 1) (omega arith) (λ is. apart (sym is)) off);
+      v_b = λ same. neither d c d q (p + 1) ((q + 3) % 4) (omega arith) (own_b d ((q + 3) % 4) d_b (omega arith) same)
+          (λ off. slot_three d q q_slot off) (λ off. elsewhere d c ((q + 3) % 4) (p + 1) (omega arith) (λ is. apart (sym is)) off);
+      a_b = λ same. neither d c c q (p + 1) p p_slot (own_b c p c_b p_slot same)
+          (λ off. elsewhere c d p q p_slot apart off) (λ off. slot_own_one c p p_slot off);
+      others_a = λ place slot below slot_below not_c not_d same.
+          neither c d place p (q + 1) slot slot_below (own_a place slot below slot_below same)
+          (λ off. elsewhere place c slot p slot_below not_c off) (λ off. elsewhere place d slot (q + 1) slot_below not_d off);
+      others_b = λ place slot below slot_below not_c not_d same.
+          neither d c place q (p + 1) slot slot_below (own_b place slot below slot_below same)
+          (λ off. elsewhere place d slot q slot_below not_d off) (λ off. elsewhere place c slot (p + 1) slot_below not_c off);
+    }
+  where
+    neither : (s t place r w slot : ℕ) → slot < 4 → (4 * place + slot ≡ dart_in s r) ⊎ (4 * place + slot ≡ dart_in t w)
+        → (4 * place + slot ≡ dart_in s r → ⊥) → (4 * place + slot ≡ dart_in t w → ⊥) → ⊥
+    neither s t place r w slot below (inl own) first second = first own
+    neither s t place r w slot below (inr own) first second = second own
+
+    elsewhere : (place other slot r : ℕ) → slot < 4 → place ≢ other → 4 * place + slot ≡ dart_in other r → ⊥
+    elsewhere place other slot r below apart same = omega (arith, below, apart, same)
+
+    slot_two : (c p : ℕ) → p < 4 → 4 * c + (p + 2) % 4 ≡ dart_in c p → ⊥
+    slot_two c p below same = omega (arith, below, same)
+
+    slot_three : (c p : ℕ) → p < 4 → 4 * c + (p + 3) % 4 ≡ dart_in c p → ⊥
+    slot_three c p below same = omega (arith, below, same)
+
+    slot_one_two : (c p : ℕ) → 4 * c + (p + 2) % 4 ≡ dart_in c (p + 1) → ⊥
+    slot_one_two c p same = omega (arith, same)
+
+    slot_one_three : (c p : ℕ) → 4 * c + (p + 3) % 4 ≡ dart_in c (p + 1) → ⊥
+    slot_one_three c p same = omega (arith, same)
+
+    slot_own_one : (c p : ℕ) → p < 4 → 4 * c + p ≡ dart_in c (p + 1) → ⊥
+    slot_own_one c p below same = omega (arith, below, same)
+
+-- what holds of the four darts' names at each crossing that stays holds of its smoothing
+pub marked : (f : ℕ → ℕ) (b : ℕ) (slots : List ℕ) → ((slot : ℕ) → slot < 4 → f (arc_in slots slot) ≡ 0) → Respects f (smoothing_of b slots)
+marked f b slots at = elim (cases_Bool (nat_eq b 0)) [
+  | inl is ↦
+      subst (λ (t : Bool). Respects f (cond t ((arc_in slots 0, arc_in slots 1) ∷ (arc_in slots 2, arc_in slots 3) ∷ [])
+      ((arc_in slots 0, arc_in slots 3) ∷ (arc_in slots 1, arc_in slots 2) ∷ []))) (sym is)
+      (at 0 (omega arith) ∙ sym (at 1 (omega arith)), (at 2 (omega arith) ∙ sym (at 3 (omega arith)), tt))
+  | inr is ↦
+      subst (λ (t : Bool). Respects f (cond t ((arc_in slots 0, arc_in slots 1) ∷ (arc_in slots 2, arc_in slots 3) ∷ [])
+      ((arc_in slots 0, arc_in slots 3) ∷ (arc_in slots 1, arc_in slots 2) ∷ []))) (sym is)
+      (at 0 (omega arith) ∙ sym (at 3 (omega arith)), (at 1 (omega arith) ∙ sym (at 2 (omega arith)), tt))
+]
+
+outer-free : (crossings : List (List ℕ)) (c d state a : ℕ)
+    → ((place slot : ℕ) → place < length crossings → slot < 4 → place ≢ c → place ≢ d → name_at crossings place slot ≢ a)
+    → Respects (λ z. mark a z) (outer_pairs crossings (is_of_two c d) state)
+outer-free crossings c d state a others =
+    outer-all (λ pair. mark a pair.0 ≡ mark a pair.1) crossings (is_of_two c d) state
+    (λ place below stays.
+    let away = apart_of (nat_eq c place) (nat_eq d place) stays in
+    marked (λ z. mark a z) (bit state place) (slots_at crossings place)
+    (λ slot slot_below.
+    mark-off a (name_at crossings place slot)
+    (others place slot below slot_below (λ same. both_ways (nat_eq c place) away.0 (eq-eqb c place (sym same)))
+    (λ same. both_ways (nat_eq d place) away.1 (eq-eqb d place (sym same))))))
+  where
+    apart_of : (a b : Bool) → (a || b) ≡ false → (a ≡ false) × (b ≡ false)
+    apart_of true b is = absurd (both_ways true is refl)
+    apart_of false b is = (refl, is)
+
+-- the smoothings of the crossings that stay depend on their bits alone
+
+pairs-same : (crossings : List (List ℕ)) (gone : ℕ → Bool) (state other a n : ℕ)
+    → ((place : ℕ) → place < a + n → gone place ≡ false → bit other place ≡ bit state place)
+    → flat_map (joined_at crossings other) (filter (λ place. not (gone place)) (range_with_len a n))
+    ≡ flat_map (joined_at crossings state) (filter (λ place. not (gone place)) (range_with_len a n))
+pairs-same crossings gone state other a zero same = refl
+pairs-same crossings gone state other a (suc n) same =
+    let rest = pairs-same crossings gone state other (a + 1) n (λ place below. same place (omega (arith, below))) in
+    let kept = filter (λ place. not (gone place)) (range_with_len (a + 1) n) in
+    elim (cases_Bool (gone a)) [
+      | inl away ↦
+          ap (λ t. flat_map (joined_at crossings other) (cond (not t) (a ∷ kept) kept)) away ∙ rest
+          ∙ sym (ap (λ t. flat_map (joined_at crossings state) (cond (not t) (a ∷ kept) kept)) away)
+      | inr stays ↦
+          ap (λ t. flat_map (joined_at crossings other) (cond (not t) (a ∷ kept) kept)) stays
+          ∙ ap (λ b. smoothing_of b (slots_at crossings a) ++ flat_map (joined_at crossings other) kept) (same a (omega arith) stays)
+          ∙ ap (λ ps. joined_at crossings state a ++ ps) rest
+          ∙ sym (ap (λ t. flat_map (joined_at crossings state) (cond (not t) (a ∷ kept) kept)) stays)
+    ]
+
+outer-same : (crossings : List (List ℕ)) (c d state other : ℕ) → ((place : ℕ) → place < length crossings → place ≢ c → place ≢ d → bit other place ≡ bit state place)
+    → outer_pairs crossings (is_of_two c d) other ≡ outer_pairs crossings (is_of_two c d) state
+outer-same crossings c d state other same =
+    pairs-same crossings (is_of_two c d) state other 0 (length crossings)
+    (λ place below stays.
+    let away = apart_of (nat_eq c place) (nat_eq d place) stays in
+    same place (omega (arith, below)) (λ is. both_ways (nat_eq c place) away.0 (eq-eqb c place (sym is)))
+    (λ is. both_ways (nat_eq d place) away.1 (eq-eqb d place (sym is))))
+  where
+    apart_of : (a b : Bool) → (a || b) ≡ false → (a ≡ false) × (b ≡ false)
+    apart_of true b is = absurd (both_ways true is refl)
+    apart_of false b is = (refl, is)
+
+-- the circles of the four states, and of what is joined straight
+pub record FourStates (crossings : List (List ℕ)) (n c d p q : ℕ) : Type 0 where
+  pub mixed : (state other : ℕ) → ((place : ℕ) → place < length crossings → place ≢ c → place ≢ d → bit other place ≡ bit state place)
+      → bit state c ≡ closing_at p → bit state d ≡ through_at q → bit other c ≡ through_at p → bit other d ≡ closing_at q
+      → class_count (classes_of n (smoothings_of crossings other)) ≡ class_count (classes_of n (smoothings_of crossings state))
+  pub more : (state other : ℕ) → ((place : ℕ) → place < length crossings → place ≢ c → place ≢ d → bit other place ≡ bit state place)
+      → bit state c ≡ closing_at p → bit state d ≡ through_at q → bit other c ≡ closing_at p → bit other d ≡ closing_at q
+      → class_count (classes_of n (smoothings_of crossings other)) ≡ class_count (classes_of n (smoothings_of crossings state)) + 1
+  pub straight : (state : ℕ) → bit state c ≡ through_at p → bit state d ≡ through_at q
+      → class_count (classes_of n (smoothings_of crossings state))
+      ≡ class_count (classes_of n (straight_pairs crossings (is_of_two c d) ++ outer_pairs crossings (is_of_two c d) state))
+
+abbrev turned_in : List (List ℕ) → ℕ → ℕ → ℕ → ℕ → ℕ → ℕ → ℕ → List (ℕ × ℕ)
+turned_in crossings state c d x y u v = outer_pairs crossings (is_of_two c d) state ++ (x, y) ∷ (u, v) ∷ []
+
+below-in : (crossings : List (List ℕ)) (n state c d x y u v : ℕ) → HasArcsTwice crossings → arc_count crossings + 1 ≤ n
+    → x < n → y < n → u < n → v < n → AreBelow n (turned_in crossings state c d x y u v)
+below-in crossings n state c d x y u v twice large x_low y_low u_low v_low =
+    AllByRecursion-append (λ pair. (pair.0 < n) × (pair.1 < n)) (outer_pairs crossings (is_of_two c d) state) ((x, y) ∷ (u, v) ∷ [])
+    (outer-all (λ pair. (pair.0 < n) × (pair.1 < n)) crossings (is_of_two c d) state
+    (λ place below stays. joined-below crossings n state place twice large below)) ((x_low, y_low), ((u_low, v_low), tt))
+
+free-in : (crossings : List (List ℕ)) (state c d x y u v a : ℕ)
+    → ((place slot : ℕ) → place < length crossings → slot < 4 → place ≢ c → place ≢ d → name_at crossings place slot ≢ a)
+    → x ≢ a → y ≢ a → u ≢ a → v ≢ a → Respects (λ z. mark a z) (turned_in crossings state c d x y u v)
+free-in crossings state c d x y u v a others x_a y_a u_a v_a =
+    AllByRecursion-append (λ pair. mark a pair.0 ≡ mark a pair.1) (outer_pairs crossings (is_of_two c d) state) ((x, y) ∷ (u, v) ∷ [])
+    (outer-free crossings c d state a others)
+    (mark-off a x x_a ∙ sym (mark-off a y y_a), (mark-off a u u_a ∙ sym (mark-off a v v_a), tt))
+
+pub FourStates-bigon : (crossings : List (List ℕ)) (n c d p q a b x y u v : ℕ) → HasArcsTwice crossings → arc_count crossings + 1 ≤ n
+    → AreBigonNames crossings c d p q a b x y u v → FourStates crossings n c d p q
+FourStates-bigon crossings n c d p q a b x y u v twice large names =
+    let c_slots = slots_at crossings c in
+    let d_slots = slots_at crossings d in
+    let low_c : (slot name : ℕ) → slot < 4 → name_at crossings c slot ≡ name → name < n =
+    λ slot name below is. omega (arith, large, sym is, name_at-below crossings c slot twice names.c_below below) in
+    let low_d : (slot name : ℕ) → slot < 4 → name_at crossings d slot ≡ name → name < n =
+    λ slot name below is. omega (arith, large, sym is, name_at-below crossings d slot twice names.d_below below) in
+    let a_low : a < n = low_c p a names.p_slot names.a_first in
+    let b_low : b < n = low_d q b names.q_slot names.b_second in
+    let x_low : x < n = low_c ((p + 2) % 4) x (omega arith) names.x_is in
+    let y_low : y < n = low_c ((p + 3) % 4) y (omega arith) names.y_is in
+    let u_low : u < n = low_d ((q + 2) % 4) u (omega arith) names.u_is in
+    let v_low : v < n = low_d ((q + 3) % 4) v (omega arith) names.v_is in
+    -- the pairs without a and b, and with them
+    let turned_low : (state : ℕ) → AreBelow n (turned_in crossings state c d x y u v) =
+    λ state. below-in crossings n state c d x y u v twice large x_low y_low u_low v_low in
+    let straight_low : (state : ℕ) → AreBelow n (turned_in crossings state c d x v y u) =
+    λ state. below-in crossings n state c d x v y u twice large x_low v_low y_low u_low in
+    let turned_a : (state : ℕ) → Respects (λ z. mark a z) (turned_in crossings state c d x y u v) =
+    λ state. free-in crossings state c d x y u v a names.others_a names.x_a names.y_a names.u_a names.v_a in
+    let turned_b : (state : ℕ) → Respects (λ z. mark b z) (turned_in crossings state c d x y u v) =
+    λ state. free-in crossings state c d x y u v b names.others_b names.x_b names.y_b names.u_b names.v_b in
+    let straight_a : (state : ℕ) → Respects (λ z. mark a z) (turned_in crossings state c d x v y u) =
+    λ state. free-in crossings state c d x v y u a names.others_a names.x_a names.v_a names.y_a names.u_a in
+    let straight_b : (state : ℕ) → Respects (λ z. mark b z) (turned_in crossings state c d x v y u) =
+    λ state. free-in crossings state c d x v y u b names.others_b names.x_b names.v_b names.y_b names.u_b in
+    let all_low : (state e1 e2 e3 e4 s t : ℕ) → e1 < n → e2 < n → e3 < n → e4 < n → s < n → t < n → (l m : ℕ) → l < n → m < n
+    → AreBelow n ((turned_in crossings state c d e1 e2 e3 e4 ++ (l, s) ∷ []) ++ (m, t) ∷ []) =
+    λ state e1 e2 e3 e4 s t e1_low e2_low e3_low e4_low s_low t_low l m l_low m_low.
+    AllByRecursion-append (λ pair. (pair.0 < n) × (pair.1 < n)) (turned_in crossings state c d e1 e2 e3 e4 ++ (l, s) ∷ []) ((m, t) ∷ [])
+    (AllByRecursion-append (λ pair. (pair.0 < n) × (pair.1 < n)) (turned_in crossings state c d e1 e2 e3 e4) ((l, s) ∷ [])
+    (below-in crossings n state c d e1 e2 e3 e4 twice large e1_low e2_low e3_low e4_low) ((l_low, s_low), tt)) ((m_low, t_low), tt) in
+    let at : (f : ℕ → ℕ) (name other : ℕ) → name ≡ other → f name ≡ f other = λ f name other is. ap f is in
+    -- a circle is closed at the first, and the second is gone through
+    let first_mixed : (state : ℕ) → bit state c ≡ closing_at p → bit state d ≡ through_at q
+    → class_count (classes_of n (turned_in crossings state c d x y u v)) ≡ class_count (classes_of n (smoothings_of crossings state)) + 2 =
+    λ state c_bit d_bit.
+    count-leaves n (turned_in crossings state c d x y u v) a u b u (turned_low state) (turned_a state) (turned_b state) a_low u_low b_low u_low
+    names.u_a names.u_b names.a_b names.u_b
+    ∙ ap (λ cs. class_count cs + 2)
+    (sym
+    (smoothed-as crossings n state c d ((turned_in crossings state c d x y u v ++ (a, u) ∷ []) ++ (b, u) ∷ []) twice large names.c_below names.d_below
+    (all_low state x y u v u u x_low y_low u_low v_low u_low u_low a b a_low b_low)
+    (λ f outer at_c at_d.
+    let cs = closing-joined f c_slots p (bit state c) names.p_slot c_bit at_c in
+    let ds = through-joined f d_slots q (bit state d) names.q_slot d_bit at_d in
+    let a_u : f a ≡ f u = sym (ap f names.a_second) ∙ ds.0 ∙ ap f names.u_is in
+    let a_b : f a ≡ f b = sym (ap f names.a_first) ∙ cs.0 ∙ ap f names.b_first in
+    let v_b : f v ≡ f b = sym (ap f names.v_is) ∙ ds.1 ∙ ap f names.b_second in
+    packed (λ pair. f pair.0 ≡ f pair.1) (outer_pairs crossings (is_of_two c d) state) (x, y) (u, v) (a, u) (b, u) outer
+    (sym (ap f names.x_is) ∙ cs.1 ∙ ap f names.y_is) (sym a_u ∙ a_b ∙ sym v_b) a_u (sym a_b ∙ a_u))
+    (λ f respects.
+    let un = unpacked (λ pair. f pair.0 ≡ f pair.1) (outer_pairs crossings (is_of_two c d) state) (x, y) (u, v) (a, u) (b, u) respects in (
+      un.outer_holds,
+      joined-closing f c_slots p (bit state c) names.p_slot c_bit
+          (ap f names.a_first ∙ un.three ∙ sym un.four ∙ sym (ap f names.b_first)) (ap f names.x_is ∙ un.one ∙ sym (ap f names.y_is)),
+      joined-through f d_slots q (bit state d) names.q_slot d_bit
+          (ap f names.a_second ∙ un.three ∙ sym (ap f names.u_is))
+          (ap f names.v_is ∙ sym un.two ∙ sym un.four ∙ sym (ap f names.b_second)),
+    )))) in
+    let second_mixed : (state : ℕ) → bit state c ≡ through_at p → bit state d ≡ closing_at q
+    → class_count (classes_of n (turned_in crossings state c d x y u v)) ≡ class_count (classes_of n (smoothings_of crossings state)) + 2 =
+    λ state c_bit d_bit.
+    count-leaves n (turned_in crossings state c d x y u v) a x b x (turned_low state) (turned_a state) (turned_b state) a_low x_low b_low x_low
+    names.x_a names.x_b names.a_b names.x_b
+    ∙ ap (λ cs. class_count cs + 2)
+    (sym
+    (smoothed-as crossings n state c d ((turned_in crossings state c d x y u v ++ (a, x) ∷ []) ++ (b, x) ∷ []) twice large names.c_below names.d_below
+    (all_low state x y u v x x x_low y_low u_low v_low x_low x_low a b a_low b_low)
+    (λ f outer at_c at_d.
+    let cs = through-joined f c_slots p (bit state c) names.p_slot c_bit at_c in
+    let ds = closing-joined f d_slots q (bit state d) names.q_slot d_bit at_d in
+    let b_x : f b ≡ f x = sym (ap f names.b_first) ∙ cs.0 ∙ ap f names.x_is in
+    let y_a : f y ≡ f a = sym (ap f names.y_is) ∙ cs.1 ∙ ap f names.a_first in
+    let b_a : f b ≡ f a = sym (ap f names.b_second) ∙ ds.0 ∙ ap f names.a_second in
+    packed (λ pair. f pair.0 ≡ f pair.1) (outer_pairs crossings (is_of_two c d) state) (x, y) (u, v) (a, x) (b, x) outer
+    (sym b_x ∙ b_a ∙ sym y_a) (sym (ap f names.u_is) ∙ ds.1 ∙ ap f names.v_is) (sym b_a ∙ b_x) b_x)
+    (λ f respects.
+    let un = unpacked (λ pair. f pair.0 ≡ f pair.1) (outer_pairs crossings (is_of_two c d) state) (x, y) (u, v) (a, x) (b, x) respects in (
+      un.outer_holds,
+      joined-through f c_slots p (bit state c) names.p_slot c_bit
+          (ap f names.b_first ∙ un.four ∙ sym (ap f names.x_is))
+          (ap f names.y_is ∙ sym un.one ∙ sym un.three ∙ sym (ap f names.a_first)),
+      joined-closing f d_slots q (bit state d) names.q_slot d_bit
+          (ap f names.b_second ∙ un.four ∙ sym un.three ∙ sym (ap f names.a_second)) (ap f names.u_is ∙ un.two ∙ sym (ap f names.v_is)),
+    )))) in
+    let closed_both : (state : ℕ) → bit state c ≡ closing_at p → bit state d ≡ closing_at q
+    → class_count (classes_of n (turned_in crossings state c d x y u v)) ≡ class_count (classes_of n (smoothings_of crossings state)) + 1 =
+    λ state c_bit d_bit.
+    count-leaf n (turned_in crossings state c d x y u v) a b (turned_low state) (turned_a state) a_low b_low (λ same. names.a_b (sym same))
+    ∙ ap (λ cs. class_count cs + 1)
+    (sym
+    (smoothed-as crossings n state c d (turned_in crossings state c d x y u v ++ (a, b) ∷ []) twice large names.c_below names.d_below
+    (AllByRecursion-append (λ pair. (pair.0 < n) × (pair.1 < n)) (turned_in crossings state c d x y u v) ((a, b) ∷ []) (turned_low state)
+    ((a_low, b_low), tt))
+    (λ f outer at_c at_d.
+    let cs = closing-joined f c_slots p (bit state c) names.p_slot c_bit at_c in
+    let ds = closing-joined f d_slots q (bit state d) names.q_slot d_bit at_d in
+    AllByRecursion-append (λ pair. f pair.0 ≡ f pair.1) (turned_in crossings state c d x y u v) ((a, b) ∷ [])
+    (AllByRecursion-append (λ pair. f pair.0 ≡ f pair.1) (outer_pairs crossings (is_of_two c d) state) ((x, y) ∷ (u, v) ∷ []) outer
+    (sym (ap f names.x_is) ∙ cs.1 ∙ ap f names.y_is, (sym (ap f names.u_is) ∙ ds.1 ∙ ap f names.v_is, tt)))
+    (sym (ap f names.a_first) ∙ cs.0 ∙ ap f names.b_first, tt))
+    (λ f respects.
+    let front = all_first (λ pair. f pair.0 ≡ f pair.1) (turned_in crossings state c d x y u v) ((a, b) ∷ []) respects in
+    let last = (all_second (λ pair. f pair.0 ≡ f pair.1) (turned_in crossings state c d x y u v) ((a, b) ∷ []) respects).0 in
+    let ends = all_second (λ pair. f pair.0 ≡ f pair.1) (outer_pairs crossings (is_of_two c d) state) ((x, y) ∷ (u, v) ∷ []) front in (
+      all_first (λ pair. f pair.0 ≡ f pair.1) (outer_pairs crossings (is_of_two c d) state) ((x, y) ∷ (u, v) ∷ []) front,
+      joined-closing f c_slots p (bit state c) names.p_slot c_bit
+          (ap f names.a_first ∙ last ∙ sym (ap f names.b_first)) (ap f names.x_is ∙ ends.0 ∙ sym (ap f names.y_is)),
+      joined-closing f d_slots q (bit state d) names.q_slot d_bit
+          (ap f names.b_second ∙ sym last ∙ sym (ap f names.a_second)) (ap f names.u_is ∙ ends.1.0 ∙ sym (ap f names.v_is)),
+    )))) in
+    let through_both : (state : ℕ) → bit state c ≡ through_at p → bit state d ≡ through_at q
+    → class_count (classes_of n (turned_in crossings state c d x v y u)) ≡ class_count (classes_of n (smoothings_of crossings state)) + 2 =
+    λ state c_bit d_bit.
+    count-leaves n (turned_in crossings state c d x v y u) a y b x (straight_low state) (straight_a state) (straight_b state) a_low y_low b_low x_low
+    names.y_a names.x_b names.a_b names.y_b
+    ∙ ap (λ cs. class_count cs + 2)
+    (sym
+    (smoothed-as crossings n state c d ((turned_in crossings state c d x v y u ++ (a, y) ∷ []) ++ (b, x) ∷ []) twice large names.c_below names.d_below
+    (all_low state x v y u y x x_low v_low y_low u_low y_low x_low a b a_low b_low)
+    (λ f outer at_c at_d.
+    let cs = through-joined f c_slots p (bit state c) names.p_slot c_bit at_c in
+    let ds = through-joined f d_slots q (bit state d) names.q_slot d_bit at_d in
+    let b_x : f b ≡ f x = sym (ap f names.b_first) ∙ cs.0 ∙ ap f names.x_is in
+    let y_a : f y ≡ f a = sym (ap f names.y_is) ∙ cs.1 ∙ ap f names.a_first in
+    let a_u : f a ≡ f u = sym (ap f names.a_second) ∙ ds.0 ∙ ap f names.u_is in
+    let v_b : f v ≡ f b = sym (ap f names.v_is) ∙ ds.1 ∙ ap f names.b_second in
+    packed (λ pair. f pair.0 ≡ f pair.1) (outer_pairs crossings (is_of_two c d) state) (x, v) (y, u) (a, y) (b, x) outer
+    (sym b_x ∙ sym v_b) (y_a ∙ a_u) (sym y_a) b_x)
+    (λ f respects.
+    let un = unpacked (λ pair. f pair.0 ≡ f pair.1) (outer_pairs crossings (is_of_two c d) state) (x, v) (y, u) (a, y) (b, x) respects in (
+      un.outer_holds,
+      joined-through f c_slots p (bit state c) names.p_slot c_bit
+          (ap f names.b_first ∙ un.four ∙ sym (ap f names.x_is)) (ap f names.y_is ∙ sym un.three ∙ sym (ap f names.a_first)),
+      joined-through f d_slots q (bit state d) names.q_slot d_bit
+          (ap f names.a_second ∙ un.three ∙ un.two ∙ sym (ap f names.u_is))
+          (ap f names.v_is ∙ sym un.one ∙ sym un.four ∙ sym (ap f names.b_second)),
+    )))) in
+    let straight_both : (state : ℕ) → class_count (classes_of n (turned_in crossings state c d x v y u))
+    ≡ class_count (classes_of n (straight_pairs crossings (is_of_two c d) ++ outer_pairs crossings (is_of_two c d) state)) + 2 =
+    λ state.
+    count-leaves n (turned_in crossings state c d x v y u) a x b y (straight_low state) (straight_a state) (straight_b state) a_low x_low b_low y_low
+    names.x_a names.y_b names.a_b names.x_b
+    ∙ ap (λ cs. class_count cs + 2)
+    (sym
+    (straight-as crossings n state c d ((turned_in crossings state c d x v y u ++ (a, x) ∷ []) ++ (b, y) ∷ []) twice large names.c_below names.d_below
+    (all_low state x v y u x y x_low v_low y_low u_low x_low y_low a b a_low b_low)
+    (λ f outer at_c at_d.
+    let cs = straight-pass f c_slots p names.p_slot at_c in
+    let ds = straight-pass f d_slots q names.q_slot at_d in
+    let a_x : f a ≡ f x = sym (ap f names.a_first) ∙ cs.0 ∙ ap f names.x_is in
+    let b_y : f b ≡ f y = sym (ap f names.b_first) ∙ cs.1 ∙ ap f names.y_is in
+    let b_u : f b ≡ f u = sym (ap f names.b_second) ∙ ds.0 ∙ ap f names.u_is in
+    let a_v : f a ≡ f v = sym (ap f names.a_second) ∙ ds.1 ∙ ap f names.v_is in
+    packed (λ pair. f pair.0 ≡ f pair.1) (outer_pairs crossings (is_of_two c d) state) (x, v) (y, u) (a, x) (b, y) outer
+    (sym a_x ∙ a_v) (sym b_y ∙ b_u) a_x b_y)
+    (λ f respects.
+    let un = unpacked (λ pair. f pair.0 ≡ f pair.1) (outer_pairs crossings (is_of_two c d) state) (x, v) (y, u) (a, x) (b, y) respects in (
+      un.outer_holds,
+      pass-straight f c_slots p names.p_slot (ap f names.a_first ∙ un.three ∙ sym (ap f names.x_is))
+          (ap f names.b_first ∙ un.four ∙ sym (ap f names.y_is)),
+      pass-straight f d_slots q names.q_slot (ap f names.b_second ∙ un.four ∙ un.two ∙ sym (ap f names.u_is))
+          (ap f names.a_second ∙ un.three ∙ un.one ∙ sym (ap f names.v_is)),
+    )))) in
+    record {
+      mixed = λ state other same c_bit d_bit c_other d_other.
+          omega (
+            arith,
+            first_mixed state c_bit d_bit,
+            second_mixed other c_other d_other,
+            ap (λ ps. class_count (classes_of n (ps ++ (x, y) ∷ (u, v) ∷ []))) (outer-same crossings c d state other same),
+          );
+      more = λ state other same c_bit d_bit c_other d_other.
+          omega (
+            arith,
+            first_mixed state c_bit d_bit,
+            closed_both other c_other d_other,
+            ap (λ ps. class_count (classes_of n (ps ++ (x, y) ∷ (u, v) ∷ []))) (outer-same crossings c d state other same),
+          );
+      straight = λ state c_bit d_bit. omega (arith, through_both state c_bit d_bit, straight_both state);
+    }

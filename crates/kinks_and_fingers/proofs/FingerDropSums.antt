@@ -1,0 +1,424 @@
+-- Dropping two crossings that meet in a bigon keeps the state sum.
+use Rattle.std.proofs.Common.{◌≡◌, ◌≢◌, ℕ, zero, suc, ◌⊎◌, inl, inr, ◌+◌, ◌-◌, ◌%◌, ◌^◌, ◌<◌, ◌≤◌, ◌∙◌, ℤ, ◌+ℤ◌, List, sym, refl, map, ap, ap₂, arith, Bool, true, false, cond, not, ◌&&◌, ◌||◌, count_by, length, IsTrue, eqb-true}
+use Rattle.std.specs.Prelude.{nat_eq}
+use Rattle.std.specs.List.{filter, range_with_len}
+use Rattle.std.proofs.lemmas.Bool.{both_ways}
+use Rattle.std.proofs.lemmas.List.{length-map}
+use Rattle.std.proofs.lemmas.List.FromFn.{length-map-range_with_len}
+use Rattle.std.proofs.lemmas.List.Sums.{count_by-le-length}
+use Rattle.kh_types.specs.Acceptance.{accepted}
+use Rattle.kh_types.specs.Bits.{bit, ones}
+use Rattle.kh_types.specs.Circles.{circle_count}
+use Rattle.kh_types.specs.Code.{Code, arc_count}
+use Rattle.kh_types.specs.Darts.{partner_at}
+use Rattle.kh_types.specs.Directions.{is_positive, plus_count, minus_count}
+use Rattle.kh_types.specs.StateSum.{int_sum, state_sum, state_term}
+use Rattle.kh_types.specs.StateSum as kh
+use Rattle.kh_types.proofs.AcceptedLemmas.{HasArcsTwice-accepted}
+use Rattle.kh_types.proofs.Heads.{HasNoSingleArcs-accepted}
+use Rattle.kh_types.proofs.Lists.{count_by-map}
+use Rattle.kh_types.proofs.RangeCounts.{count_by-alike}
+use Rattle.gluing.specs.Terms.{term_of}
+use Rattle.kinks_and_fingers.specs.Strands.{enters}
+use Rattle.kinks_and_fingers.specs.Drops.{positive_at, kept_places, kept_signs, kept_crossings, is_of_two, without_finger}
+use Rattle.kinks_and_fingers.specs.Dropping.{HasBigonAt, is_code_head}
+use Rattle.kinks_and_fingers.specs.DropCircles.{closing_at, through_at, strand_circle_count, strand_plus, strand_minus, strand_term, strand_sum}
+use Rattle.kinks_and_fingers.specs.Insertions.{with_bit}
+use Rattle.kinks_and_fingers.specs.Pulls.{dart_in, early, late}
+use Rattle.kinks_and_fingers.proofs.Smoothed.{dart_in-below, dart_in-place, IsPermutation-late}
+use Rattle.kinks_and_fingers.proofs.OldDarts.{heads-partner, dart_in-slot}
+use Rattle.kinks_and_fingers.proofs.KeptCodes.{length-kept}
+use Rattle.kinks_and_fingers.proofs.StrandCircles.{count-parts, circles-dropped}
+use Rattle.kinks_and_fingers.proofs.KinkClosing.{before}
+use Rattle.kinks_and_fingers.proofs.KinkDropSums.{count-later, count-filter, count-one, term-is, sums-alike, one_if}
+use Rattle.kinks_and_fingers.proofs.Insertions.{int_sum-with_bit, HasBit-with_bit}
+use Rattle.kinks_and_fingers.proofs.FingerDrops.{places-two, late-below}
+use Rattle.kinks_and_fingers.proofs.FingerTerms.{term_of-finger, term_of-finger_other}
+use Rattle.kinks_and_fingers.proofs.FingerCircles.{AreBigonNames-bigon, FourStates, FourStates-bigon}
+
+-- slots below 4
+
+pub HasBigonAt-slots : (crossings : List (List ℕ)) (c d p q : ℕ) → HasBigonAt crossings c d p q → HasBigonAt crossings c d (p % 4) (q % 4)
+HasBigonAt-slots crossings c d p q bigon = record {
+  first_below = bigon.first_below;
+  second_below = bigon.second_below;
+  apart = bigon.apart;
+  first_side = ap (λ r. partner_at crossings r) (same c p) ∙ bigon.first_side ∙ next d q;
+  second_side = ap (λ r. partner_at crossings r) (same d q) ∙ bigon.second_side ∙ next c p;
+  odd = odd_of p q bigon.odd;
+}
+  where
+    same : (c p : ℕ) → dart_in c (p % 4) ≡ dart_in c p
+    same c p = omega arith
+
+    next : (c p : ℕ) → dart_in c (p + 1) ≡ dart_in c (p % 4 + 1)
+    next c p = omega arith
+
+    odd_of : (p q : ℕ) → (p + q) % 2 ≡ 1 → (p % 4 + q % 4) % 2 ≡ 1
+    odd_of p q is = omega (arith, is)
+
+-- one of the two crossings is positive, and the other is not
+
+abbrev keeps : Bool → ℕ → Bool
+keeps b p = nat_eq (p % 2) (cond b 1 0)
+
+enters-next : (b : Bool) (p : ℕ) → p < 4 → enters b ((p + 1) % 4) ≡ cond (keeps b p) (enters b (p % 4)) (not (enters b (p % 4)))
+enters-next true zero below = refl
+enters-next true (suc zero) below = refl
+enters-next true (suc (suc zero)) below = refl
+enters-next true (suc (suc (suc zero))) below = refl
+enters-next false zero below = refl
+enters-next false (suc zero) below = refl
+enters-next false (suc (suc zero)) below = refl
+enters-next false (suc (suc (suc zero))) below = refl
+enters-next b (suc (suc (suc (suc p)))) below = absurd (omega (arith, below))
+
+no_fixed : (b : Bool) → b ≡ not b → ⊥
+no_fixed true is = both_ways true is refl
+no_fixed false is = both_ways false refl is
+
+keep_alike : (e f kb ke : Bool) → e ≡ not (cond ke f (not f)) → cond kb e (not e) ≡ not f → kb ≡ ke
+keep_alike e f true true first second = refl
+keep_alike e f false false first second = refl
+keep_alike e f true false first second = absurd (no_fixed (not f) (sym second ∙ first))
+keep_alike e f false true first second = absurd (no_fixed e (first ∙ sym second))
+
+parity : (x : ℕ) → (x % 2 ≡ 0) ⊎ (x % 2 ≡ 1)
+parity x = grind arith
+
+signs-alike : (b e : Bool) (p q : ℕ) → (p + q) % 2 ≡ 1 → keeps b p ≡ keeps e q → e ≡ not b
+signs-alike true false p q odd same = refl
+signs-alike false true p q odd same = refl
+signs-alike true true p q odd same = absurd (differ p q odd same)
+  where
+    differ : (p q : ℕ) → (p + q) % 2 ≡ 1 → nat_eq (p % 2) 1 ≡ nat_eq (q % 2) 1 → ⊥
+    differ p q odd same = elim (parity p) [
+      | inl even ↦
+          let q_odd : q % 2 ≡ 1 = omega (arith, odd, even) in
+          both_ways (nat_eq (p % 2) 1) (ap (λ r. nat_eq r 1) even) (same ∙ ap (λ r. nat_eq r 1) q_odd)
+      | inr p_odd ↦
+          let q_even : q % 2 ≡ 0 = omega (arith, odd, p_odd) in
+          both_ways (nat_eq (p % 2) 1) (same ∙ ap (λ r. nat_eq r 1) q_even) (ap (λ r. nat_eq r 1) p_odd)
+    ]
+signs-alike false false p q odd same = absurd (differ p q odd same)
+  where
+    differ : (p q : ℕ) → (p + q) % 2 ≡ 1 → nat_eq (p % 2) 0 ≡ nat_eq (q % 2) 0 → ⊥
+    differ p q odd same = elim (parity p) [
+      | inl even ↦
+          let q_odd : q % 2 ≡ 1 = omega (arith, odd, even) in
+          both_ways (nat_eq (p % 2) 0) (same ∙ ap (λ r. nat_eq r 0) q_odd) (ap (λ r. nat_eq r 0) even)
+      | inr p_odd ↦
+          let q_even : q % 2 ≡ 0 = omega (arith, odd, p_odd) in
+          both_ways (nat_eq (p % 2) 0) (ap (λ r. nat_eq r 0) p_odd) (same ∙ ap (λ r. nat_eq r 0) q_even)
+    ]
+
+pub bigon-signs : (code : Code) (c d p q : ℕ) → IsTrue (accepted code) → HasBigonAt code.crossings c d p q → p < 4 → q < 4
+    → positive_at code.crossings d ≡ not (positive_at code.crossings c)
+bigon-signs code c d p q is bigon p_slot q_slot =
+    let crossings = code.crossings in
+    let directed = HasNoSingleArcs-accepted code is in
+    let head_in : (z r : ℕ) → is_code_head code.crossings (dart_in z r) ≡ enters (positive_at code.crossings z) (r % 4) =
+    λ z r. ap (λ a. enters (positive_at code.crossings a) (dart_in z r % 4)) (dart_in-place z r)
+    ∙ ap (enters (positive_at code.crossings z)) (dart_in-slot z r) in
+    let b = positive_at code.crossings c in
+    let e = positive_at code.crossings d in
+    let first : enters (positive_at code.crossings d) ((q + 1) % 4) ≡ not (enters (positive_at code.crossings c) (p % 4)) =
+    sym (head_in d (q + 1)) ∙ ap (is_code_head code.crossings) (sym bigon.first_side)
+    ∙ heads-partner code.crossings directed.0 directed.1 (dart_in c p) (dart_in-below (length code.crossings) c p bigon.first_below)
+    ∙ ap not (head_in c p) in
+    let second : enters (positive_at code.crossings c) ((p + 1) % 4) ≡ not (enters (positive_at code.crossings d) (q % 4)) =
+    sym (head_in c (p + 1)) ∙ ap (is_code_head code.crossings) (sym bigon.second_side)
+    ∙ heads-partner code.crossings directed.0 directed.1 (dart_in d q) (dart_in-below (length code.crossings) d q bigon.second_below)
+    ∙ ap not (head_in d q) in
+    signs-alike b e p q bigon.odd
+    (keep_alike (enters b (p % 4)) (enters e (q % 4)) (keeps b p) (keeps e q)
+    (twice_back (enters b (p % 4)) ∙ ap not (sym first) ∙ ap not (enters-next e q q_slot))
+    (sym (enters-next b p p_slot) ∙ second))
+  where
+    twice_back : (b : Bool) → b ≡ not (not b)
+    twice_back true = refl
+    twice_back false = refl
+
+-- the numbers of positive and of negative crossings
+
+plus-kept_two : (code : Code) (c d : ℕ) → c < length code.crossings → d < length code.crossings → c ≢ d
+    → plus_count code.crossings
+    ≡ one_if (positive_at code.crossings c) + one_if (positive_at code.crossings d) + strand_plus (without_finger code c d)
+plus-kept_two code c d c_below d_below apart =
+    let n = length code.crossings in
+    let pos : ℕ → Bool = positive_at code.crossings in
+    let e : 0 + 1 ≡ 1 = omega arith in
+    let all : plus_count code.crossings ≡ count_by (positive_at code.crossings) (range_with_len 0 (length code.crossings)) =
+    ap (λ a. count_by (is_positive code.crossings) (range_with_len a (length code.crossings))) (sym e)
+    ∙ count-later (is_positive code.crossings) 0 (length code.crossings) in
+    let signs : strand_plus (without_finger code c d)
+    ≡ count_by (λ x. positive_at code.crossings x && not (is_of_two c d x)) (range_with_len 0 (length code.crossings)) =
+    count_by-map (λ (b : Bool). b) (positive_at code.crossings) (kept_places code.crossings (is_of_two c d))
+    ∙ count-filter (positive_at code.crossings) (λ x. not (is_of_two c d x)) (range_with_len 0 (length code.crossings)) in
+    let parts = count-parts (positive_at code.crossings) (is_of_two c d) (range_with_len 0 (length code.crossings)) in
+    let inner = count-parts (λ x. positive_at code.crossings x && is_of_two c d x) (nat_eq c) (range_with_len 0 (length code.crossings)) in
+    let first : count_by (λ x. (positive_at code.crossings x && is_of_two c d x) && nat_eq c x) (range_with_len 0 (length code.crossings))
+    ≡ one_if (positive_at code.crossings c) =
+    count_by-alike (λ x. (positive_at code.crossings x && is_of_two c d x) && nat_eq c x) (λ x. positive_at code.crossings x && nat_eq c x)
+    0 (length code.crossings) (λ x from below. at_first (positive_at code.crossings x) (nat_eq c x) (nat_eq d x))
+    ∙ count-one (positive_at code.crossings) c (length code.crossings) c_below in
+    let second : count_by (λ x. (positive_at code.crossings x && is_of_two c d x) && not (nat_eq c x)) (range_with_len 0 (length code.crossings))
+    ≡ one_if (positive_at code.crossings d) =
+    count_by-alike (λ x. (positive_at code.crossings x && is_of_two c d x) && not (nat_eq c x)) (λ x. positive_at code.crossings x && nat_eq d x)
+    0 (length code.crossings)
+    (λ x from below. at_second (positive_at code.crossings x) (nat_eq c x) (nat_eq d x)
+    (λ is_c is_d. apart (eqb-true c x is_c ∙ sym (eqb-true d x is_d))))
+    ∙ count-one (positive_at code.crossings) d (length code.crossings) d_below in
+    omega (arith, all, signs, parts, inner, first, second)
+  where
+    at_first : (a b e : Bool) → ((a && (b || e)) && b) ≡ (a && b)
+    at_first true true e = refl
+    at_first true false true = refl
+    at_first true false false = refl
+    at_first false b e = refl
+
+    at_second : (a b e : Bool) → (b ≡ true → e ≡ true → ⊥) → ((a && (b || e)) && not b) ≡ (a && e)
+    at_second true true true never = absurd (never refl refl)
+    at_second true true false never = refl
+    at_second true false true never = refl
+    at_second true false false never = refl
+    at_second false b e never = refl
+
+-- states with two bits more
+
+abbrev pub with_two : ℕ → ℕ → ℕ → ℕ → ℕ → ℕ → ℕ
+with_two k c d b e state = with_bit (k + 1) c b (with_bit k (late c (k + 1) d) e state)
+
+pub record HasTwoBits (k c d b e state : ℕ) : Type 0 where
+  pub first : bit (with_two k c d b e state) c ≡ b
+  pub second : bit (with_two k c d b e state) d ≡ e
+  pub others : (place : ℕ) → place < k + 1 + 1 → place ≢ c → place ≢ d
+      → bit (with_two k c d b e state) place ≡ bit state (late (late c (k + 1) d) k (late c (k + 1) place))
+  pub kept : (i : ℕ) → i < k → bit (with_two k c d b e state) (early c (k + 1) (early (late c (k + 1) d) k i)) ≡ bit state i
+  pub count : ones (k + 1 + 1) (with_two k c d b e state) ≡ ones k state + e + b
+
+pub HasTwoBits-with_two : (k c d b e state : ℕ) → c ≤ k + 1 → d ≤ k + 1 → c ≢ d → b < 2 → e < 2 → state < 2 ^ k → HasTwoBits k c d b e state
+HasTwoBits-with_two k c d b e state c_within d_within apart b_below e_below below =
+    let z = late c (k + 1) d in
+    let z_below = late-below c (k + 1) d c_within (omega (arith, d_within)) apart in
+    let z_within : late c (k + 1) d ≤ k = omega (arith, z_below) in
+    let inner = HasBit-with_bit k (late c (k + 1) d) e state z_within e_below below in
+    let one : suc k ≡ k + 1 = omega arith in
+    let power : 2 ^ suc k ≡ 2 ^ (k + 1) = ap (λ m. 2 ^ m) one in
+    let outer = HasBit-with_bit (k + 1) c b (with_bit k (late c (k + 1) d) e state) c_within b_below (omega (arith, inner.below, power)) in
+    let early_below : (i : ℕ) → i < k → early (late c (k + 1) d) k i < k + 1 =
+    λ i i_below. (IsPermutation-late (late c (k + 1) d) k z_within).back_below i (omega (arith, i_below)) in
+    let back_d : early c (k + 1) (late c (k + 1) d) ≡ d = (IsPermutation-late c (k + 1) c_within).back_f d (omega (arith, d_within)) in
+    record {
+      first = outer.there;
+      second = ap (bit (with_two k c d b e state)) (sym back_d) ∙ outer.others (late c (k + 1) d) z_below ∙ inner.there;
+      others = λ place place_below not_c not_d.
+          let y = late c (k + 1) place in
+          let y_below = late-below c (k + 1) place c_within place_below (λ same. not_c (sym same)) in
+          let back : early c (k + 1) (late c (k + 1) place) ≡ place = (IsPermutation-late c (k + 1) c_within).back_f place place_below in
+          let y_away : late c (k + 1) d ≢ late c (k + 1) place =
+          λ same. not_d (sym back ∙ ap (early c (k + 1)) (sym same) ∙ back_d) in
+          let i_below = late-below (late c (k + 1) d) k (late c (k + 1) place) z_within y_below y_away in
+          let back_y : early (late c (k + 1) d) k (late (late c (k + 1) d) k (late c (k + 1) place)) ≡ late c (k + 1) place =
+          (IsPermutation-late (late c (k + 1) d) k z_within).back_f (late c (k + 1) place) y_below in
+          ap (bit (with_two k c d b e state)) (sym back) ∙ outer.others (late c (k + 1) place) y_below
+          ∙ ap (bit (with_bit k (late c (k + 1) d) e state)) (sym back_y)
+          ∙ inner.others (late (late c (k + 1) d) k (late c (k + 1) place)) i_below;
+      kept = λ i i_below. outer.others (early (late c (k + 1) d) k i) (early_below i i_below) ∙ inner.others i i_below;
+      count = omega (arith, outer.count, inner.count);
+    }
+
+-- circles
+
+pub record FourCircles (code : Code) (k c d p q : ℕ) : Type 0 where
+  pub mixed : (b e g h state : ℕ) → b < 2 → e < 2 → g < 2 → h < 2 → state < 2 ^ k → b ≡ closing_at p → e ≡ through_at q → g ≡ through_at p
+      → h ≡ closing_at q → circle_count code (with_two k c d g h state) ≡ circle_count code (with_two k c d b e state)
+  pub more : (b e g h state : ℕ) → b < 2 → e < 2 → g < 2 → h < 2 → state < 2 ^ k → b ≡ closing_at p → e ≡ through_at q → g ≡ closing_at p
+      → h ≡ closing_at q → circle_count code (with_two k c d g h state) ≡ circle_count code (with_two k c d b e state) + 1
+  pub straight : (b e state : ℕ) → b < 2 → e < 2 → state < 2 ^ k → b ≡ through_at p → e ≡ through_at q
+      → circle_count code (with_two k c d b e state) ≡ strand_circle_count (arc_count code.crossings + 1) (without_finger code c d) state
+
+FourCircles-bigon : (code : Code) (k c d p q : ℕ) → IsTrue (accepted code) → HasBigonAt code.crossings c d p q → p < 4 → q < 4
+    → length code.crossings ≡ k + 1 + 1 → FourCircles code k c d p q
+FourCircles-bigon code k c d p q is bigon p_slot q_slot size =
+    let twice = HasArcsTwice-accepted code is in
+    let four : FourStates code.crossings (arc_count code.crossings + 1) c d p q =
+    FourStates-bigon code.crossings (arc_count code.crossings + 1) c d p q _ _ _ _ _ _ twice (omega arith)
+    (AreBigonNames-bigon code.crossings c d p q twice bigon p_slot q_slot) in
+    let c_within : c ≤ k + 1 = omega (arith, bigon.first_below, size) in
+    let d_within : d ≤ k + 1 = omega (arith, bigon.second_below, size) in
+    let bits : (b e state : ℕ) → b < 2 → e < 2 → state < 2 ^ k → HasTwoBits k c d b e state =
+    λ b e state b_below e_below below. HasTwoBits-with_two k c d b e state c_within d_within bigon.apart b_below e_below below in
+    let same : (b e g h state : ℕ) → b < 2 → e < 2 → g < 2 → h < 2 → state < 2 ^ k → (place : ℕ) → place < length code.crossings
+    → place ≢ c → place ≢ d → bit (with_two k c d g h state) place ≡ bit (with_two k c d b e state) place =
+    λ b e g h state b_below e_below g_below h_below below place place_below not_c not_d.
+    (bits g h state g_below h_below below).others place (omega (arith, place_below, size)) not_c not_d
+    ∙ sym ((bits b e state b_below e_below below).others place (omega (arith, place_below, size)) not_c not_d) in
+    let gone : ℕ → Bool = is_of_two c d in
+    record {
+      mixed = λ b e g h state b_below e_below g_below h_below below b_is e_is g_is h_is.
+          let one = bits b e state b_below e_below below in
+          let two = bits g h state g_below h_below below in
+          let counts = four.mixed (with_two k c d b e state) (with_two k c d g h state) (same b e g h state b_below e_below g_below h_below below)
+          (one.first ∙ b_is) (one.second ∙ e_is) (two.first ∙ g_is) (two.second ∙ h_is) in
+          omega (arith, counts, before code (with_two k c d b e state) twice, before code (with_two k c d g h state) twice);
+      more = λ b e g h state b_below e_below g_below h_below below b_is e_is g_is h_is.
+          let one = bits b e state b_below e_below below in
+          let two = bits g h state g_below h_below below in
+          let counts = four.more (with_two k c d b e state) (with_two k c d g h state) (same b e g h state b_below e_below g_below h_below below)
+          (one.first ∙ b_is) (one.second ∙ e_is) (two.first ∙ g_is) (two.second ∙ h_is) in
+          omega (arith, counts, before code (with_two k c d b e state) twice, before code (with_two k c d g h state) twice);
+      straight = λ b e state b_below e_below below b_is e_is.
+          let one = bits b e state b_below e_below below in
+          let counts = four.straight (with_two k c d b e state) (one.first ∙ b_is) (one.second ∙ e_is) in
+          let places = ap (λ n. filter (λ x. not (nat_eq c x || nat_eq d x)) (range_with_len 0 n)) size
+          ∙ places-two c d k c_within d_within bigon.apart in
+          let left = circles-dropped code (is_of_two c d) (λ i. early c (k + 1) (early (late c (k + 1) d) k i)) k (with_two k c d b e state) state
+          twice places
+          (λ i i_below.
+          let z_below = late-below c (k + 1) d c_within (omega (arith, d_within)) bigon.apart in
+          let z_within : late c (k + 1) d ≤ k = omega (arith, z_below) in
+          let inner = (IsPermutation-late (late c (k + 1) d) k z_within).back_below i (omega (arith, i_below)) in
+          let outer = (IsPermutation-late c (k + 1) c_within).back_below (early (late c (k + 1) d) k i) (omega (arith, inner)) in
+          omega (arith, outer, size))
+          (λ i i_below. sym (one.kept i i_below)) in
+          omega (arith, counts, left, before code (with_two k c d b e state) twice);
+    }
+
+-- terms
+
+four_terms : (plus minus new_plus new_minus : ℕ) (exponent : ℤ) (r0 c0 r1 c1 r2 c2 r3 c3 s0 d0 s1 d1 s2 d2 s3 d3 : ℕ) → plus ≡ new_plus → minus ≡ new_minus
+    → r0 ≡ s0 → c0 ≡ d0 → r1 ≡ s1 → c1 ≡ d1 → r2 ≡ s2 → c2 ≡ d2 → r3 ≡ s3 → c3 ≡ d3
+    → kh.term_of plus minus exponent r0 c0 +ℤ kh.term_of plus minus exponent r1 c1
+    +ℤ (kh.term_of plus minus exponent r2 c2 +ℤ kh.term_of plus minus exponent r3 c3)
+    ≡ term_of new_plus new_minus exponent s0 d0 +ℤ term_of new_plus new_minus exponent s1 d1
+    +ℤ (term_of new_plus new_minus exponent s2 d2 +ℤ term_of new_plus new_minus exponent s3 d3)
+four_terms plus minus new_plus new_minus exponent r0 c0 r1 c1 r2 c2 r3 c3 s0 d0 s1 d1 s2 d2 s3 d3 plus_is minus_is r0_is c0_is r1_is c1_is r2_is c2_is r3_is c3_is =
+    let one : (r c s d : ℕ) → r ≡ s → c ≡ d → kh.term_of plus minus exponent r c ≡ term_of new_plus new_minus exponent s d =
+    λ r c s d r_is c_is.
+    term_is plus minus new_plus new_minus exponent r c s d plus_is minus_is r_is c_is in
+    ap₂ (λ x y. x +ℤ y) (ap₂ (λ x y. x +ℤ y) (one r0 c0 s0 d0 r0_is c0_is) (one r1 c1 s1 d1 r1_is c1_is))
+    (ap₂ (λ x y. x +ℤ y) (one r2 c2 s2 d2 r2_is c2_is) (one r3 c3 s3 d3 r3_is c3_is))
+  where
+    term_is : (plus minus new_plus new_minus : ℕ) (exponent : ℤ) (r c s d : ℕ) → plus ≡ new_plus → minus ≡ new_minus → r ≡ s → c ≡ d
+        → kh.term_of plus minus exponent r c ≡ term_of new_plus new_minus exponent s d
+    term_is plus minus new_plus new_minus exponent r c s d plus_is minus_is r_is c_is =
+        term-is plus minus exponent r c ∙ ap₂ (λ p m. term_of p m exponent r c) plus_is minus_is
+        ∙ ap₂ (λ t u. term_of new_plus new_minus exponent t u) r_is c_is
+
+one_of_two : (b : Bool) → one_if b + one_if (not b) ≡ 1
+one_of_two true = omega arith
+one_of_two false = omega arith
+
+state_sum-slots : (code : Code) (c d p q : ℕ) → IsTrue (accepted code) → HasBigonAt code.crossings c d p q → p < 4 → q < 4 → (exponent : ℤ)
+    → strand_sum (arc_count code.crossings + 1) (without_finger code c d) exponent ≡ state_sum code exponent
+state_sum-slots code c d p q is bigon p_slot q_slot exponent =
+    let k = length code.crossings - 2 in
+    let size : length code.crossings ≡ length code.crossings - 2 + 1 + 1 = two_below (length code.crossings) c d bigon.first_below bigon.second_below bigon.apart in
+    let size_suc : length code.crossings ≡ suc (length code.crossings - 2 + 1) = omega (arith, size) in
+    let next_suc : length code.crossings - 2 + 1 ≡ suc (length code.crossings - 2) = omega arith in
+    let c_within : c ≤ length code.crossings - 2 + 1 = omega (arith, bigon.first_below, size) in
+    let d_within : d ≤ length code.crossings - 2 + 1 = omega (arith, bigon.second_below, size) in
+    let e = late c (length code.crossings - 2 + 1) d in
+    let e_below = late-below c (length code.crossings - 2 + 1) d c_within (omega (arith, d_within)) bigon.apart in
+    let e_within : late c (length code.crossings - 2 + 1) d ≤ length code.crossings - 2 = omega (arith, e_below) in
+    let kept : ℕ → ℕ = λ i. early c (length code.crossings - 2 + 1) (early (late c (length code.crossings - 2 + 1) d) (length code.crossings - 2) i) in
+    let places = ap (λ n. filter (λ x. not (nat_eq c x || nat_eq d x)) (range_with_len 0 n)) size
+    ∙ places-two c d (length code.crossings - 2) c_within d_within bigon.apart in
+    let left_size : length (kept_crossings code.crossings (is_of_two c d)) ≡ length code.crossings - 2 =
+    length-kept code.crossings (is_of_two c d) kept (length code.crossings - 2) places in
+    let signs_size : length (kept_signs code.crossings (is_of_two c d)) ≡ length code.crossings - 2 =
+    length-map (kept_places code.crossings (is_of_two c d)) (positive_at code.crossings) ∙ ap length places
+    ∙ length-map-range_with_len kept 0 (length code.crossings - 2) in
+    let few : strand_plus (without_finger code c d) ≤ length code.crossings - 2 =
+    omega (arith, count_by-le-length (λ (b : Bool). b) (kept_signs code.crossings (is_of_two c d)), signs_size) in
+    let counted = plus-kept_two code c d bigon.first_below bigon.second_below bigon.apart in
+    let sign = bigon-signs code c d p q is bigon p_slot q_slot in
+    let both : one_if (positive_at code.crossings c) + one_if (positive_at code.crossings d) ≡ 1 =
+    ap (λ b. one_if (positive_at code.crossings c) + one_if b) sign ∙ one_of_two (positive_at code.crossings c) in
+    let plus_is : plus_count code.crossings ≡ strand_plus (without_finger code c d) + 1 = omega (arith, counted, both) in
+    let minus_is : minus_count code.crossings ≡ strand_minus (without_finger code c d) + 1 = omega (arith, plus_is, left_size, few, size) in
+    let four = FourCircles-bigon code (length code.crossings - 2) c d p q is bigon p_slot q_slot size in
+    let g : ℕ → ℤ = λ s. state_term code exponent (with_bit (length code.crossings - 2 + 1) c 0 s)
+    +ℤ state_term code exponent (with_bit (length code.crossings - 2 + 1) c 1 s) in
+    let split : state_sum code exponent
+    ≡ int_sum (map (λ state. g (with_bit (length code.crossings - 2) (late c (length code.crossings - 2 + 1) d) 0 state)
+    +ℤ g (with_bit (length code.crossings - 2) (late c (length code.crossings - 2 + 1) d) 1 state)) (range_with_len 0 (2 ^ (length code.crossings - 2)))) =
+    ap (λ m. int_sum (map (state_term code exponent) (range_with_len 0 (2 ^ m)))) size_suc
+    ∙ int_sum-with_bit (state_term code exponent) (length code.crossings - 2 + 1) c c_within
+    ∙ ap (λ m. int_sum (map g (range_with_len 0 (2 ^ m)))) next_suc
+    ∙ int_sum-with_bit g (length code.crossings - 2) (late c (length code.crossings - 2 + 1) d) e_within in
+    let each : (state : ℕ) → state < 2 ^ (length code.crossings - 2)
+    → g (with_bit (length code.crossings - 2) (late c (length code.crossings - 2 + 1) d) 0 state)
+    +ℤ g (with_bit (length code.crossings - 2) (late c (length code.crossings - 2 + 1) d) 1 state)
+    ≡ strand_term (arc_count code.crossings + 1) (without_finger code c d) exponent state =
+    λ state below.
+    let full : ℕ → ℕ → ℕ = λ b e. with_two (length code.crossings - 2) c d b e state in
+    let zero_low : 0 < 2 = omega arith in
+    let one_low : 1 < 2 = omega arith in
+    let r = ones (length code.crossings - 2) state in
+    let s = strand_circle_count (arc_count code.crossings + 1) (without_finger code c d) state in
+    let count : (b e t : ℕ) → b < 2 → e < 2 → ones (length code.crossings - 2) state + e + b ≡ t
+    → ones (length code.crossings) (with_two (length code.crossings - 2) c d b e state) ≡ t =
+    λ b e t b_below e_below sum.
+    ap (λ m. ones m (with_two (length code.crossings - 2) c d b e state)) size
+    ∙ (HasTwoBits-with_two (length code.crossings - 2) c d b e state c_within d_within bigon.apart b_below e_below below).count ∙ sum in
+    let new_ones : ones (length (kept_crossings code.crossings (is_of_two c d))) state ≡ ones (length code.crossings - 2) state =
+    ap (λ m. ones m state) left_size in
+    let last : kh.term_of (strand_plus (without_finger code c d)) (strand_minus (without_finger code c d)) exponent
+    (ones (length code.crossings - 2) state) (strand_circle_count (arc_count code.crossings + 1) (without_finger code c d) state)
+    ≡ strand_term (arc_count code.crossings + 1) (without_finger code c d) exponent state =
+    ap (λ m. kh.term_of (strand_plus (without_finger code c d)) (strand_minus (without_finger code c d)) exponent m
+    (strand_circle_count (arc_count code.crossings + 1) (without_finger code c d) state)) (sym new_ones) in
+    let done = sym (term-is (strand_plus (without_finger code c d)) (strand_minus (without_finger code c d)) exponent r s) ∙ last in
+    elim (parity p) [
+      | inl even ↦
+          let q_odd : q % 2 ≡ 1 = omega (arith, bigon.odd, even) in
+          let c_closing : closing_at p ≡ 0 = ap (λ m. cond (nat_eq m 0) 0 1) even in
+          let c_through : through_at p ≡ 1 = ap (λ m. cond (nat_eq m 0) 1 0) even in
+          let d_closing : closing_at q ≡ 1 = ap (λ m. cond (nat_eq m 0) 0 1) q_odd in
+          let d_through : through_at q ≡ 0 = ap (λ m. cond (nat_eq m 0) 1 0) q_odd in
+          let n = circle_count code (with_two (length code.crossings - 2) c d 0 0 state) in
+          four_terms (plus_count code.crossings) (minus_count code.crossings) (strand_plus (without_finger code c d) + 1)
+          (strand_minus (without_finger code c d) + 1) exponent _ _ _ _ _ _ _ _ r n (r + 1) s (r + 1) (n + 1) (r + 2) n plus_is minus_is
+          (count 0 0 r zero_low zero_low (omega arith)) refl
+          (count 1 0 (r + 1) one_low zero_low (omega arith)) (four.straight 1 0 state one_low zero_low below (sym c_through) (sym d_through))
+          (count 0 1 (r + 1) zero_low one_low (omega arith))
+          (four.more 0 0 0 1 state zero_low zero_low zero_low one_low below (sym c_closing) (sym d_through) (sym c_closing) (sym d_closing))
+          (count 1 1 (r + 2) one_low one_low (omega arith))
+          (four.mixed 0 0 1 1 state zero_low zero_low one_low one_low below (sym c_closing) (sym d_through) (sym c_through) (sym d_closing))
+          ∙ term_of-finger (strand_plus (without_finger code c d)) (strand_minus (without_finger code c d)) r s n exponent
+          ∙ done
+      | inr odd ↦
+          let q_even : q % 2 ≡ 0 = omega (arith, bigon.odd, odd) in
+          let c_closing : closing_at p ≡ 1 = ap (λ m. cond (nat_eq m 0) 0 1) odd in
+          let c_through : through_at p ≡ 0 = ap (λ m. cond (nat_eq m 0) 1 0) odd in
+          let d_closing : closing_at q ≡ 0 = ap (λ m. cond (nat_eq m 0) 0 1) q_even in
+          let d_through : through_at q ≡ 1 = ap (λ m. cond (nat_eq m 0) 1 0) q_even in
+          let n = circle_count code (with_two (length code.crossings - 2) c d 1 1 state) in
+          four_terms (plus_count code.crossings) (minus_count code.crossings) (strand_plus (without_finger code c d) + 1)
+          (strand_minus (without_finger code c d) + 1) exponent _ _ _ _ _ _ _ _ r n (r + 1) (n + 1) (r + 1) s (r + 2) n plus_is minus_is
+          (count 0 0 r zero_low zero_low (omega arith))
+          (four.mixed 1 1 0 0 state one_low one_low zero_low zero_low below (sym c_closing) (sym d_through) (sym c_through) (sym d_closing))
+          (count 1 0 (r + 1) one_low zero_low (omega arith))
+          (four.more 1 1 1 0 state one_low one_low one_low zero_low below (sym c_closing) (sym d_through) (sym c_closing) (sym d_closing))
+          (count 0 1 (r + 1) zero_low one_low (omega arith)) (four.straight 0 1 state zero_low one_low below (sym c_through) (sym d_through))
+          (count 1 1 (r + 2) one_low one_low (omega arith)) refl
+          ∙ term_of-finger_other (strand_plus (without_finger code c d)) (strand_minus (without_finger code c d)) r s n exponent
+          ∙ done
+    ] in
+    ap (λ m. int_sum (map (strand_term (arc_count code.crossings + 1) (without_finger code c d) exponent) (range_with_len 0 (2 ^ m)))) left_size
+    ∙ sym
+    (split
+    ∙ sums-alike (λ state. g (with_bit (length code.crossings - 2) (late c (length code.crossings - 2 + 1) d) 0 state)
+    +ℤ g (with_bit (length code.crossings - 2) (late c (length code.crossings - 2 + 1) d) 1 state))
+    (strand_term (arc_count code.crossings + 1) (without_finger code c d) exponent) 0 (2 ^ (length code.crossings - 2))
+    (λ state from below. each state (omega (arith, below))))
+  where
+    two_below : (n c d : ℕ) → c < n → d < n → c ≢ d → n ≡ n - 2 + 1 + 1
+    two_below n c d c_below d_below apart = omega (arith, c_below, d_below, apart)
+
+pub state_sum-without_finger : (code : Code) (c d p q : ℕ) → IsTrue (accepted code) → HasBigonAt code.crossings c d p q → (exponent : ℤ)
+    → strand_sum (arc_count code.crossings + 1) (without_finger code c d) exponent ≡ state_sum code exponent
+state_sum-without_finger code c d p q is bigon exponent =
+    state_sum-slots code c d (p % 4) (q % 4) is (HasBigonAt-slots code.crossings c d p q bigon) (omega arith) (omega arith) exponent

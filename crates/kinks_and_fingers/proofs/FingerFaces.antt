@@ -1,0 +1,554 @@
+-- The faces of a code with a finger: those of the old code with two images exchanged, and one more, between the two new crossings.
+use Rattle.std.proofs.Common.{◌≡◌, ◌≢◌, ℕ, zero, suc, ◌⊎◌, inl, inr, ◌+◌, ◌-◌, ◌*◌, ◌/◌, ◌<◌, ◌≤◌, ◌∙◌, List, [], ◌∷◌, map, refl, sym, ap, subst, arith, Bool, true, false, not, ◌&&◌, eq-eqb, eqb-true}
+use Rattle.std.specs.Prelude.{nat_eq, nat_lt, slice_index, if◌then◌else◌}
+use Rattle.std.specs.List.{range_with_len}
+use Rattle.std.proofs.lemmas.Bool.{cases_eq, cases_lt}
+use Rattle.std.proofs.lemmas.Bool.Decides.{nat_tests}
+use Rattle.kh_types.specs.Classes.{class_count, is_least, IsNamed}
+use Rattle.kh_types.specs.Darts.{IsPairing, face_step, turned}
+use Rattle.kh_types.specs.Faces.{open_faces, open_pieces, piece_pair}
+use Rattle.kh_types.proofs.ClassLemmas.{classes-together, classes-finest}
+use Rattle.kh_types.proofs.RangeCounts.{but, count_by-but}
+use Rattle.face_walk.specs.AddedArcs.{open_face_count, open_piece_count}
+use Rattle.kh_types.proofs.RangeImages.{all-map_range, map_range-at}
+use Rattle.kh_types.specs.Permutations.{IsExchange, step_pair, cycles_of}
+use Rattle.kh_types.proofs.Cycles.{step_pairs-below, IsNamed-cycles_of}
+use Rattle.face_walk.proofs.OpenFaces.{AreCycles-open_faces, IsNamed-open_pieces, piece_pairs-below}
+use Rattle.face_walk.proofs.PlainCounts.{count_by-one_to_one}
+use Rattle.face_walk.proofs.Cover.{class_count-counts, pieces-ends}
+
+-- partners before and after a finger was added between the arc with the tail ta and the head ha and that with tb and hb
+pub record HasNewPartners (n : ℕ) (p q : ℕ → ℕ) (positive ordered : Bool) (ta ha tb hb : ℕ) : Type 0 where
+  pub ta_below : ta < 4 * n
+  pub ha_below : ha < 4 * n
+  pub tb_below : tb < 4 * n
+  pub hb_below : hb < 4 * n
+  pub ta_ha : ta ≢ ha
+  pub tb_hb : tb ≢ hb
+  pub ta_tb : ta ≢ tb
+  pub ta_hb : ta ≢ hb
+  pub ha_tb : ha ≢ tb
+  pub ha_hb : ha ≢ hb
+  pub p_ta : p ta ≡ ha
+  pub p_ha : p ha ≡ ta
+  pub p_tb : p tb ≡ hb
+  pub p_hb : p hb ≡ tb
+  pub old : (x : ℕ) → x < 4 * n → x ≢ ta → x ≢ ha → x ≢ tb → x ≢ hb → q x ≡ p x
+  pub q_ta : q ta ≡ 4 * n + (if positive then 3 else 1)
+  pub q_over : q (4 * n + (if positive then 3 else 1)) ≡ ta
+  pub q_middle : q (4 * n + (if positive then 1 else 3)) ≡ 4 * n + (if positive then 5 else 7)
+  pub q_middle_back : q (4 * n + (if positive then 5 else 7)) ≡ 4 * n + (if positive then 1 else 3)
+  pub q_over_last : q (4 * n + (if positive then 7 else 5)) ≡ ha
+  pub q_ha : q ha ≡ 4 * n + (if positive then 7 else 5)
+  pub q_tb : q tb ≡ 4 * n + (if ordered then 0 else 4)
+  pub q_under : q (4 * n + (if ordered then 0 else 4)) ≡ tb
+  pub q_between : q (4 * n + (if ordered then 2 else 6)) ≡ 4 * n + (if ordered then 4 else 0)
+  pub q_between_back : q (4 * n + (if ordered then 4 else 0)) ≡ 4 * n + (if ordered then 2 else 6)
+  pub q_under_last : q (4 * n + (if ordered then 6 else 2)) ≡ hb
+  pub q_hb : q hb ≡ 4 * n + (if ordered then 6 else 2)
+
+-- the darts at the named sides: the tail of an arc is at its left
+abbrev pub over_side : Bool → Bool → ℕ → ℕ → ℕ
+over_side positive ordered ta ha = if positive then (if ordered then ha else ta) else (if ordered then ta else ha)
+
+abbrev pub under_side : Bool → ℕ → ℕ → ℕ
+under_side positive tb hb = if positive then tb else hb
+
+-- old classes in which the images of the two named darts are exchanged
+pub record AreExchanged (n : ℕ) (p : ℕ → ℕ) (c : ℕ → ℕ) (x y : ℕ) : Type 0 where
+  pub at_first : c x ≡ c (turned (p y))
+  pub at_second : c y ≡ c (turned (p x))
+  pub others : (z : ℕ) → z < 4 * n → z ≢ x → z ≢ y → c z ≡ c (turned (p z))
+
+-- the labels of the darts at the new crossings, each that of the old dart from which a face comes, or g, the face between
+abbrev pub labels : Bool → Bool → ℕ → ℕ → ℕ → ℕ → ℕ → List ℕ
+labels positive ordered at bt ah bh g =
+    if positive then
+    (if ordered then bh ∷ g ∷ at ∷ bt ∷ g ∷ bh ∷ ah ∷ at ∷ [] else g ∷ bh ∷ at ∷ ah ∷ bh ∷ g ∷ ah ∷ bt ∷ [])
+    else (if ordered then at ∷ ah ∷ g ∷ bt ∷ ah ∷ bh ∷ bt ∷ g ∷ [] else at ∷ bh ∷ bt ∷ g ∷ ah ∷ at ∷ g ∷ bt ∷ [])
+
+-- a class for each dart
+abbrev pub label : ℕ → (ℕ → ℕ) → List ℕ → ℕ → ℕ
+label n c new y = if nat_lt y (4 * n) then c y else slice_index new (y - 4 * n)
+
+label-old : (n : ℕ) (c : ℕ → ℕ) (new : List ℕ) (y : ℕ) → y < 4 * n → label n c new y ≡ c y
+label-old n c new y below = plain y (4 * n) (c y) (slice_index new (y - 4 * n)) below
+  where
+    plain : (y m u v : ℕ) → y < m → (if nat_lt y m then u else v) ≡ u
+    plain y m u v below = grind (arith, nat_tests)
+
+label-new : (n : ℕ) (c : ℕ → ℕ) (new : List ℕ) (k : ℕ) → label n c new (4 * n + k) ≡ slice_index new k
+label-new n c new k =
+    let e : 4 * n + k - 4 * n ≡ k = omega arith in
+    plain (4 * n + k) (4 * n) (c (4 * n + k)) (slice_index new (4 * n + k - 4 * n)) (omega arith) ∙ ap (λ j. slice_index new j) e
+  where
+    plain : (y m u v : ℕ) → m ≤ y → (if nat_lt y m then u else v) ≡ v
+    plain y m u v past = grind (arith, nat_tests)
+
+turned-new : (n k : ℕ) → turned (4 * n + k) ≡ 4 * n + turned k
+turned-new n k = omega arith
+
+-- a step to a new dart, and one to an old
+to_new : (n : ℕ) (q c : ℕ → ℕ) (new : List ℕ) (y k at : ℕ) → q y ≡ 4 * n + k → at ≡ slice_index new (turned k)
+    → at ≡ label n c new (turned (q y))
+to_new n q c new y k at is same =
+    same ∙ sym (label-new n c new (turned k)) ∙ ap (λ z. label n c new z) (sym (turned-new n k)) ∙ ap (λ z. label n c new (turned z)) (sym is)
+
+to_old : (n : ℕ) (q c : ℕ → ℕ) (new : List ℕ) (y z at : ℕ) → z < 4 * n → q y ≡ z → at ≡ c (turned z)
+    → at ≡ label n c new (turned (q y))
+to_old n q c new y z at below is same =
+    same ∙ sym (label-old n c new (turned z) (omega (arith, below))) ∙ ap (λ w. label n c new (turned w)) (sym is)
+
+below_eight : (P : ℕ → Type 0) → P 0 → P 1 → P 2 → P 3 → P 4 → P 5 → P 6 → P 7 → (i : ℕ) → i < 8 → P i
+below_eight P p0 p1 p2 p3 p4 p5 p6 p7 zero below = p0
+below_eight P p0 p1 p2 p3 p4 p5 p6 p7 (suc zero) below = p1
+below_eight P p0 p1 p2 p3 p4 p5 p6 p7 (suc (suc zero)) below = p2
+below_eight P p0 p1 p2 p3 p4 p5 p6 p7 (suc (suc (suc zero))) below = p3
+below_eight P p0 p1 p2 p3 p4 p5 p6 p7 (suc (suc (suc (suc zero)))) below = p4
+below_eight P p0 p1 p2 p3 p4 p5 p6 p7 (suc (suc (suc (suc (suc zero))))) below = p5
+below_eight P p0 p1 p2 p3 p4 p5 p6 p7 (suc (suc (suc (suc (suc (suc zero)))))) below = p6
+below_eight P p0 p1 p2 p3 p4 p5 p6 p7 (suc (suc (suc (suc (suc (suc (suc zero))))))) below = p7
+below_eight P p0 p1 p2 p3 p4 p5 p6 p7 (suc (suc (suc (suc (suc (suc (suc (suc i)))))))) below = absurd (omega (arith, below))
+
+-- the labels of the eight new darts are kept
+abbrev NewKept : ℕ → (ℕ → ℕ) → (ℕ → ℕ) → List ℕ → ℕ → Type 0
+NewKept n q c new k = slice_index new k ≡ label n c new (turned (q (4 * n + k)))
+
+new-kept : (n : ℕ) (p q c : ℕ → ℕ) (positive ordered : Bool) (ta ha tb hb : ℕ) → HasNewPartners n p q positive ordered ta ha tb hb
+    → AreExchanged n p c (over_side positive ordered ta ha) (under_side positive tb hb) → (k : ℕ) → k < 8
+    → NewKept n q c (labels positive ordered (c ta) (c tb) (c ha) (c hb) (4 * n)) k
+new-kept n p q c true true ta ha tb hb has ex =
+    let new = labels true true (c ta) (c tb) (c ha) (c hb) (4 * n) in
+    let to_ha = ex.others ta has.ta_below has.ta_ha has.ta_tb ∙ ap (λ z. c (turned z)) has.p_ta in
+    let to_tb = ex.others hb has.hb_below (λ s. has.ha_hb (sym s)) (λ s. has.tb_hb (sym s)) ∙ ap (λ z. c (turned z)) has.p_hb in
+    let to_hb = ex.at_first ∙ ap (λ z. c (turned z)) has.p_tb in
+    let to_ta = ex.at_second ∙ ap (λ z. c (turned z)) has.p_ha in
+    below_eight (NewKept n q c new)
+    (to_old n q c new (4 * n + 0) tb (c hb) has.tb_below has.q_under to_tb)
+    (to_new n q c new (4 * n + 1) 5 (4 * n) has.q_middle refl)
+    (to_new n q c new (4 * n + 2) 4 (c ta) has.q_between refl)
+    (to_old n q c new (4 * n + 3) ta (c tb) has.ta_below has.q_over to_ta)
+    (to_new n q c new (4 * n + 4) 2 (4 * n) has.q_between_back refl)
+    (to_new n q c new (4 * n + 5) 1 (c hb) has.q_middle_back refl)
+    (to_old n q c new (4 * n + 6) hb (c ha) has.hb_below has.q_under_last to_hb)
+    (to_old n q c new (4 * n + 7) ha (c ta) has.ha_below has.q_over_last to_ha)
+new-kept n p q c true false ta ha tb hb has ex =
+    let new = labels true false (c ta) (c tb) (c ha) (c hb) (4 * n) in
+    let to_ta = ex.others ha has.ha_below (λ s. has.ta_ha (sym s)) has.ha_tb ∙ ap (λ z. c (turned z)) has.p_ha in
+    let to_tb = ex.others hb has.hb_below (λ s. has.ta_hb (sym s)) (λ s. has.tb_hb (sym s)) ∙ ap (λ z. c (turned z)) has.p_hb in
+    let to_hb = ex.at_first ∙ ap (λ z. c (turned z)) has.p_tb in
+    let to_ha = ex.at_second ∙ ap (λ z. c (turned z)) has.p_ta in
+    below_eight (NewKept n q c new)
+    (to_new n q c new (4 * n + 0) 6 (4 * n) has.q_between_back refl)
+    (to_new n q c new (4 * n + 1) 5 (c hb) has.q_middle refl)
+    (to_old n q c new (4 * n + 2) hb (c ta) has.hb_below has.q_under_last to_hb)
+    (to_old n q c new (4 * n + 3) ta (c ha) has.ta_below has.q_over to_ta)
+    (to_old n q c new (4 * n + 4) tb (c hb) has.tb_below has.q_under to_tb)
+    (to_new n q c new (4 * n + 5) 1 (4 * n) has.q_middle_back refl)
+    (to_new n q c new (4 * n + 6) 0 (c ha) has.q_between refl)
+    (to_old n q c new (4 * n + 7) ha (c tb) has.ha_below has.q_over_last to_ha)
+new-kept n p q c false true ta ha tb hb has ex =
+    let new = labels false true (c ta) (c tb) (c ha) (c hb) (4 * n) in
+    let to_ta = ex.others ha has.ha_below (λ s. has.ta_ha (sym s)) has.ha_hb ∙ ap (λ z. c (turned z)) has.p_ha in
+    let to_hb = ex.others tb has.tb_below (λ s. has.ta_tb (sym s)) has.tb_hb ∙ ap (λ z. c (turned z)) has.p_tb in
+    let to_tb = ex.at_first ∙ ap (λ z. c (turned z)) has.p_hb in
+    let to_ha = ex.at_second ∙ ap (λ z. c (turned z)) has.p_ta in
+    below_eight (NewKept n q c new)
+    (to_old n q c new (4 * n + 0) tb (c ta) has.tb_below has.q_under to_tb)
+    (to_old n q c new (4 * n + 1) ta (c ha) has.ta_below has.q_over to_ta)
+    (to_new n q c new (4 * n + 2) 4 (4 * n) has.q_between refl)
+    (to_new n q c new (4 * n + 3) 7 (c tb) has.q_middle refl)
+    (to_new n q c new (4 * n + 4) 2 (c ha) has.q_between_back refl)
+    (to_old n q c new (4 * n + 5) ha (c hb) has.ha_below has.q_over_last to_ha)
+    (to_old n q c new (4 * n + 6) hb (c tb) has.hb_below has.q_under_last to_hb)
+    (to_new n q c new (4 * n + 7) 3 (4 * n) has.q_middle_back refl)
+new-kept n p q c false false ta ha tb hb has ex =
+    let new = labels false false (c ta) (c tb) (c ha) (c hb) (4 * n) in
+    let to_ha = ex.others ta has.ta_below has.ta_ha has.ta_hb ∙ ap (λ z. c (turned z)) has.p_ta in
+    let to_hb = ex.others tb has.tb_below (λ s. has.ha_tb (sym s)) has.tb_hb ∙ ap (λ z. c (turned z)) has.p_tb in
+    let to_tb = ex.at_first ∙ ap (λ z. c (turned z)) has.p_hb in
+    let to_ta = ex.at_second ∙ ap (λ z. c (turned z)) has.p_ha in
+    below_eight (NewKept n q c new)
+    (to_new n q c new (4 * n + 0) 6 (c ta) has.q_between_back refl)
+    (to_old n q c new (4 * n + 1) ta (c hb) has.ta_below has.q_over to_ta)
+    (to_old n q c new (4 * n + 2) hb (c tb) has.hb_below has.q_under_last to_hb)
+    (to_new n q c new (4 * n + 3) 7 (4 * n) has.q_middle refl)
+    (to_old n q c new (4 * n + 4) tb (c ha) has.tb_below has.q_under to_tb)
+    (to_old n q c new (4 * n + 5) ha (c ta) has.ha_below has.q_over_last to_ha)
+    (to_new n q c new (4 * n + 6) 0 (4 * n) has.q_between refl)
+    (to_new n q c new (4 * n + 7) 3 (c tb) has.q_middle_back refl)
+
+-- and those of the ends of the two arcs
+pub record EndsKept (n : ℕ) (q c : ℕ → ℕ) (new : List ℕ) (ta ha tb hb : ℕ) : Type 0 where
+  pub at_ta : c ta ≡ label n c new (turned (q ta))
+  pub at_ha : c ha ≡ label n c new (turned (q ha))
+  pub at_tb : c tb ≡ label n c new (turned (q tb))
+  pub at_hb : c hb ≡ label n c new (turned (q hb))
+
+ends-kept : (n : ℕ) (p q c : ℕ → ℕ) (positive ordered : Bool) (ta ha tb hb : ℕ) → HasNewPartners n p q positive ordered ta ha tb hb
+    → EndsKept n q c (labels positive ordered (c ta) (c tb) (c ha) (c hb) (4 * n)) ta ha tb hb
+ends-kept n p q c true true ta ha tb hb has =
+    let new = labels true true (c ta) (c tb) (c ha) (c hb) (4 * n) in record {
+      at_ta = to_new n q c new ta 3 (c ta) has.q_ta refl;
+      at_ha = to_new n q c new ha 7 (c ha) has.q_ha refl;
+      at_tb = to_new n q c new tb 0 (c tb) has.q_tb refl;
+      at_hb = to_new n q c new hb 6 (c hb) has.q_hb refl;
+    }
+ends-kept n p q c true false ta ha tb hb has =
+    let new = labels true false (c ta) (c tb) (c ha) (c hb) (4 * n) in record {
+      at_ta = to_new n q c new ta 3 (c ta) has.q_ta refl;
+      at_ha = to_new n q c new ha 7 (c ha) has.q_ha refl;
+      at_tb = to_new n q c new tb 4 (c tb) has.q_tb refl;
+      at_hb = to_new n q c new hb 2 (c hb) has.q_hb refl;
+    }
+ends-kept n p q c false true ta ha tb hb has =
+    let new = labels false true (c ta) (c tb) (c ha) (c hb) (4 * n) in record {
+      at_ta = to_new n q c new ta 1 (c ta) has.q_ta refl;
+      at_ha = to_new n q c new ha 5 (c ha) has.q_ha refl;
+      at_tb = to_new n q c new tb 0 (c tb) has.q_tb refl;
+      at_hb = to_new n q c new hb 6 (c hb) has.q_hb refl;
+    }
+ends-kept n p q c false false ta ha tb hb has =
+    let new = labels false false (c ta) (c tb) (c ha) (c hb) (4 * n) in record {
+      at_ta = to_new n q c new ta 1 (c ta) has.q_ta refl;
+      at_ha = to_new n q c new ha 5 (c ha) has.q_ha refl;
+      at_tb = to_new n q c new tb 4 (c tb) has.q_tb refl;
+      at_hb = to_new n q c new hb 2 (c hb) has.q_hb refl;
+    }
+
+side_not : (positive ordered : Bool) (x ta ha : ℕ) → x ≢ ta → x ≢ ha → x ≢ over_side positive ordered ta ha
+side_not true true x ta ha not_ta not_ha = not_ha
+side_not true false x ta ha not_ta not_ha = not_ta
+side_not false true x ta ha not_ta not_ha = not_ta
+side_not false false x ta ha not_ta not_ha = not_ha
+
+under_not : (positive : Bool) (x tb hb : ℕ) → x ≢ tb → x ≢ hb → x ≢ under_side positive tb hb
+under_not true x tb hb not_tb not_hb = not_tb
+under_not false x tb hb not_tb not_hb = not_hb
+
+-- each face step keeps the label
+label-kept : (n : ℕ) (p q c : ℕ → ℕ) (positive ordered : Bool) (ta ha tb hb y : ℕ) → IsPairing (4 * n) p
+    → HasNewPartners n p q positive ordered ta ha tb hb
+    → AreExchanged n p c (over_side positive ordered ta ha) (under_side positive tb hb) → y < 4 * (n + 2)
+    → (let new = labels positive ordered (c ta) (c tb) (c ha) (c hb) (4 * n) in label n c new y ≡ label n c new (face_step q y))
+label-kept n p q c positive ordered ta ha tb hb y pairing has ex below =
+    let new = labels positive ordered (c ta) (c tb) (c ha) (c hb) (4 * n) in
+    let ends = ends-kept n p q c positive ordered ta ha tb hb has in
+    let special : (z : ℕ) → y ≡ z → z < 4 * n → c z ≡ label n c new (turned (q z)) → label n c new y ≡ label n c new (turned (q y)) =
+    λ z is z_below kept.
+    ap (λ w. label n c new w) is ∙ label-old n c new z z_below ∙ kept ∙ ap (λ w. label n c new (turned (q w))) (sym is) in
+    elim (cases_lt y (4 * n)) [
+      | inr from ↦
+          let k = y - 4 * n in
+          let is : 4 * n + k ≡ y = omega (arith, from) in
+          ap (λ w. label n c new w) (sym is) ∙ label-new n c new k
+          ∙ new-kept n p q c positive ordered ta ha tb hb has ex k (omega (arith, below, is))
+          ∙ ap (λ w. label n c new (turned (q w))) is
+      | inl old ↦ elim (cases_eq y ta) [
+        | inl is ↦ special ta is has.ta_below ends.at_ta
+        | inr not_ta ↦ elim (cases_eq y ha) [
+          | inl is ↦ special ha is has.ha_below ends.at_ha
+          | inr not_ha ↦ elim (cases_eq y tb) [
+            | inl is ↦ special tb is has.tb_below ends.at_tb
+            | inr not_tb ↦ elim (cases_eq y hb) [
+              | inl is ↦ special hb is has.hb_below ends.at_hb
+              | inr not_hb ↦
+                  label-old n c new y old
+                  ∙ ex.others y old (side_not positive ordered y ta ha not_ta not_ha) (under_not positive y tb hb not_tb not_hb)
+                  ∙ sym (label-old n c new (turned (p y)) (omega (arith, pairing.below y old)))
+                  ∙ ap (λ w. label n c new (turned w)) (sym (has.old y old not_ta not_ha not_tb not_hb))
+            ]
+          ]
+        ]
+      ]
+    ]
+
+-- the dart in the face between the two new crossings
+abbrev pub between : Bool → Bool → ℕ
+between positive ordered = if positive then (if ordered then 1 else 0) else (if ordered then 2 else 3)
+
+between-label : (positive ordered : Bool) (at bt ah bh g : ℕ) → slice_index (labels positive ordered at bt ah bh g) (between positive ordered) ≡ g
+between-label true true at bt ah bh g = refl
+between-label true false at bt ah bh g = refl
+between-label false true at bt ah bh g = refl
+between-label false false at bt ah bh g = refl
+
+between-below : (positive ordered : Bool) → between positive ordered < 8
+between-below true true = omega arith
+between-below true false = omega arith
+between-below false true = omega arith
+between-below false false = omega arith
+
+but_passes : (b : Bool) (m k : ℕ) → b ≡ true → (k ≡ m → ⊥) → (b && not (nat_eq k m)) ≡ true
+but_passes b m k passes other = grind (arith, nat_tests)
+
+-- so the faces are as many as the classes, and the one between, or more
+pub faces-many : (n : ℕ) (p q : ℕ → ℕ) (cs : List ℕ) (positive ordered : Bool) (ta ha tb hb : ℕ) → IsPairing (4 * n) p
+    → IsPairing (4 * (n + 2)) q → HasNewPartners n p q positive ordered ta ha tb hb → IsNamed (4 * n) cs
+    → AreExchanged n p (λ x. slice_index cs x) (over_side positive ordered ta ha) (under_side positive tb hb)
+    → class_count cs + 1 ≤ open_face_count (n + 2) q
+faces-many n p q cs positive ordered ta ha tb hb pairing new_pairing has named ex =
+    let c : ℕ → ℕ = λ x. slice_index cs x in
+    let new = labels positive ordered (c ta) (c tb) (c ha) (c hb) (4 * n) in
+    let g : ℕ → ℕ = label n c new in
+    let faces = open_faces (n + 2) q in
+    let cycles = AreCycles-open_faces (n + 2) q new_pairing in
+    let at = 4 * n + between positive ordered in
+    let at_below : at < 4 * (n + 2) = omega (arith, between-below positive ordered) in
+    let wide : (x : ℕ) → x < 4 * n → x < 4 * (n + 2) = λ x below. omega (arith, below) in
+    let one : (x y : ℕ) → x < 4 * (n + 2) → y < 4 * (n + 2) → slice_index faces x ≡ slice_index faces y → g x ≡ g y =
+    cycles.finest g (λ y below. label-kept n p q c positive ordered ta ha tb hb y pairing has ex below) in
+    let at_label : g at ≡ 4 * n = label-new n c new (between positive ordered) ∙ between-label positive ordered (c ta) (c tb) (c ha) (c hb) (4 * n) in
+    let own : (x : ℕ) → x < 4 * n → is_least cs x ≡ true → g x ≡ x =
+    λ x below least. label-old n c new x below ∙ eqb-true (slice_index cs x) x least in
+    let many = count_by-one_to_one (is_least cs) (but (is_least faces) (slice_index faces at)) (λ x. slice_index faces x) (4 * n) (4 * (n + 2))
+    (record {
+      below = λ x below least. omega (arith, cycles.named.least x (wide x below), wide x below);
+      passes = λ x below least.
+          but_passes (is_least faces (slice_index faces x)) (slice_index faces at) (slice_index faces x)
+          (eq-eqb (slice_index faces (slice_index faces x)) (slice_index faces x) (cycles.named.own x (wide x below)))
+          (λ same. omega (arith, one x at (wide x below) at_below same, own x below least, at_label, below));
+      apart = λ x y x_below y_below x_least y_least same.
+          sym (own x x_below x_least) ∙ one x y (wide x x_below) (wide y y_below) same ∙ own y y_below y_least;
+    }) in
+    let fewer = count_by-but (is_least faces) 0 (4 * (n + 2)) (slice_index faces at) (omega arith)
+    (omega (arith, cycles.named.least at at_below, at_below))
+    (eq-eqb (slice_index faces (slice_index faces at)) (slice_index faces at) (cycles.named.own at at_below)) in
+    omega (
+      arith,
+      many,
+      fewer,
+      class_count-counts (4 * n) cs named.size,
+      class_count-counts (4 * (n + 2)) faces cycles.named.size,
+    )
+
+-- the two images exchanged
+abbrev pub exchanged : (ℕ → ℕ) → ℕ → ℕ → ℕ → ℕ
+exchanged f x y z = if nat_eq z x then f y else (if nat_eq z y then f x else f z)
+
+pub exchanged-first : (f : ℕ → ℕ) (x y : ℕ) → exchanged f x y x ≡ f y
+exchanged-first f x y = plain x (f y) (if nat_eq x y then f x else f x)
+  where
+    plain : (x u v : ℕ) → (if nat_eq x x then u else v) ≡ u
+    plain x u v = grind (arith, nat_tests)
+
+pub exchanged-second : (f : ℕ → ℕ) (x y : ℕ) → x ≢ y → exchanged f x y y ≡ f x
+exchanged-second f x y apart = plain x y (f y) (f x) (f y) apart
+  where
+    plain : (x y u v w : ℕ) → x ≢ y → (if nat_eq y x then u else (if nat_eq y y then v else w)) ≡ v
+    plain x y u v w apart = grind (arith, nat_tests)
+
+pub exchanged-other : (f : ℕ → ℕ) (x y z : ℕ) → z ≢ x → z ≢ y → exchanged f x y z ≡ f z
+exchanged-other f x y z not_x not_y = plain x y z (f y) (f x) (f z) not_x not_y
+  where
+    plain : (x y z u v w : ℕ) → z ≢ x → z ≢ y → (if nat_eq z x then u else (if nat_eq z y then v else w)) ≡ w
+    plain x y z u v w not_x not_y = grind (arith, nat_tests)
+
+pub IsExchange-exchanged : (n : ℕ) (f : ℕ → ℕ) (x y : ℕ) → x < n → y < n → x ≢ y → IsExchange n f (exchanged f x y) x y
+IsExchange-exchanged n f x y x_below y_below apart = record {
+  x_below = x_below;
+  y_below = y_below;
+  apart = apart;
+  at_x = exchanged-first f x y;
+  at_y = exchanged-second f x y apart;
+  others = λ z z_below not_x not_y. exchanged-other f x y z not_x not_y;
+}
+
+exchanged-below : (n : ℕ) (f : ℕ → ℕ) (x y z : ℕ) → ((z : ℕ) → z < n → f z < n) → x < n → y < n → x ≢ y → z < n → exchanged f x y z < n
+exchanged-below n f x y z below x_below y_below apart z_below = elim (cases_eq z x) [
+  | inl is_x ↦ subst (λ (w : ℕ). w < n) (sym (ap (λ k. exchanged f x y k) is_x ∙ exchanged-first f x y)) (below y y_below)
+  | inr not_x ↦ elim (cases_eq z y) [
+    | inl is_y ↦ subst (λ (w : ℕ). w < n) (sym (ap (λ k. exchanged f x y k) is_y ∙ exchanged-second f x y apart)) (below x x_below)
+    | inr not_y ↦ subst (λ (w : ℕ). w < n) (sym (exchanged-other f x y z not_x not_y)) (below z z_below)
+  ]
+]
+
+-- so there are as many faces as the exchange leaves cycles, and one more, or more
+pub faces-exchanged : (n : ℕ) (p q : ℕ → ℕ) (positive ordered : Bool) (ta ha tb hb : ℕ) → IsPairing (4 * n) p
+    → IsPairing (4 * (n + 2)) q → HasNewPartners n p q positive ordered ta ha tb hb
+    → over_side positive ordered ta ha < 4 * n → under_side positive tb hb < 4 * n
+    → over_side positive ordered ta ha ≢ under_side positive tb hb
+    → class_count (cycles_of (4 * n) (exchanged (face_step p) (over_side positive ordered ta ha) (under_side positive tb hb))) + 1
+    ≤ open_face_count (n + 2) q
+faces-exchanged n p q positive ordered ta ha tb hb pairing new_pairing has x_below y_below apart =
+    let x = over_side positive ordered ta ha in
+    let y = under_side positive tb hb in
+    let step = exchanged (face_step p) x y in
+    let below : (z : ℕ) → z < 4 * n → step z < 4 * n =
+    λ z z_below. exchanged-below (4 * n) (face_step p) x y z (λ w w_below. omega (arith, pairing.below w w_below)) x_below y_below apart z_below in
+    let cs = cycles_of (4 * n) step in
+    let kept : (z : ℕ) → z < 4 * n → slice_index cs z ≡ slice_index cs (step z) =
+    λ z z_below.
+    map_range-at (λ (pair : ℕ × ℕ). slice_index cs pair.0 ≡ slice_index cs pair.1) (step_pair step) 0 (4 * n) z
+    (classes-together (4 * n) (map (step_pair step) (range_with_len 0 (4 * n))) (step_pairs-below (4 * n) step below)) (omega arith) (omega (arith, z_below)) in
+    faces-many n p q cs positive ordered ta ha tb hb pairing new_pairing has (IsNamed-cycles_of (4 * n) step below) (record {
+      at_first = kept x x_below ∙ ap (λ z. slice_index cs z) (exchanged-first (face_step p) x y);
+      at_second = kept y y_below ∙ ap (λ z. slice_index cs z) (exchanged-second (face_step p) x y apart);
+      others = λ z z_below not_x not_y.
+          kept z z_below ∙ ap (λ w. slice_index cs w) (exchanged-other (face_step p) x y z not_x not_y);
+    })
+
+-- the pieces
+
+-- the piece of an old crossing, with the finger, is one on each old piece
+pub record SamePieces (n : ℕ) (p q : ℕ → ℕ) (ta tb : ℕ) : Type 0 where
+  pub kept : (x y : ℕ) → x < n → y < n → slice_index (open_pieces n p) x ≡ slice_index (open_pieces n p) y
+      → slice_index (open_pieces (n + 2) q) x ≡ slice_index (open_pieces (n + 2) q) y
+  pub arcs : slice_index (open_pieces (n + 2) q) (ta / 4) ≡ slice_index (open_pieces (n + 2) q) (tb / 4)
+  pub first : slice_index (open_pieces (n + 2) q) n ≡ slice_index (open_pieces (n + 2) q) (ta / 4)
+  pub second : slice_index (open_pieces (n + 2) q) (n + 1) ≡ slice_index (open_pieces (n + 2) q) (ta / 4)
+
+pub same-pieces : (n : ℕ) (p q : ℕ → ℕ) (positive ordered : Bool) (ta ha tb hb : ℕ) → IsPairing (4 * n) p
+    → IsPairing (4 * (n + 2)) q → HasNewPartners n p q positive ordered ta ha tb hb → SamePieces n p q ta tb
+same-pieces n p q positive ordered ta ha tb hb pairing new_pairing has =
+    let new = open_pieces (n + 2) q in
+    let at : ℕ → ℕ = λ k. slice_index new k in
+    let along : (x : ℕ) → x < 4 * (n + 2) → at (x / 4) ≡ at (q x / 4) = λ x below. pieces-ends (n + 2) q x new_pairing below in
+    let edge : (x z k : ℕ) → x < 4 * (n + 2) → q x ≡ z → z / 4 ≡ k → at (x / 4) ≡ at k =
+    λ x z k below is crossing. along x below ∙ ap (λ w. at (w / 4)) is ∙ ap at crossing in
+    let place : (k : ℕ) → k < 4 → (4 * n + k) / 4 ≡ n = λ k below. omega (arith, below) in
+    let next_place : (k : ℕ) → 4 ≤ k → k < 8 → (4 * n + k) / 4 ≡ n + 1 = λ k from below. omega (arith, from, below) in
+    let over_from = one_below positive 3 1 4 (omega arith) (omega arith) in
+    let over_to = one_below positive 1 3 4 (omega arith) (omega arith) in
+    let ta_first : at (ta / 4) ≡ at n =
+    edge ta (4 * n + (if positive then 3 else 1)) n (omega (arith, has.ta_below)) has.q_ta (place (if positive then 3 else 1) over_from) in
+    let first_second : at n ≡ at (n + 1) =
+    ap at (sym (place (if positive then 1 else 3) over_to))
+    ∙ edge (4 * n + (if positive then 1 else 3)) (4 * n + (if positive then 5 else 7)) (n + 1) (omega (arith, over_to)) has.q_middle
+    (next_place (if positive then 5 else 7) (one_from positive 5 7 4 (omega arith) (omega arith)) (one_below positive 5 7 8 (omega arith) (omega arith))) in
+    let ha_second : at (ha / 4) ≡ at (n + 1) =
+    edge ha (4 * n + (if positive then 7 else 5)) (n + 1) (omega (arith, has.ha_below)) has.q_ha
+    (next_place (if positive then 7 else 5) (one_from positive 7 5 4 (omega arith) (omega arith)) (one_below positive 7 5 8 (omega arith) (omega arith))) in
+    let either : (k : ℕ) → k < 8 → at ((4 * n + k) / 4) ≡ at n =
+    λ k below. elim (cases_lt k 4) [
+      | inl small ↦ ap at (place k small)
+      | inr large ↦ ap at (next_place k large below) ∙ sym first_second
+    ] in
+    let tb_first : at (tb / 4) ≡ at n =
+    edge tb (4 * n + (if ordered then 0 else 4)) ((4 * n + (if ordered then 0 else 4)) / 4) (omega (arith, has.tb_below)) has.q_tb refl
+    ∙ either (if ordered then 0 else 4) (one_below ordered 0 4 8 (omega arith) (omega arith)) in
+    let hb_first : at (hb / 4) ≡ at n =
+    edge hb (4 * n + (if ordered then 6 else 2)) ((4 * n + (if ordered then 6 else 2)) / 4) (omega (arith, has.hb_below)) has.q_hb refl
+    ∙ either (if ordered then 6 else 2) (one_below ordered 6 2 8 (omega arith) (omega arith)) in
+    let special : (x z w : ℕ) → x ≡ z → p z ≡ w → at (z / 4) ≡ at (w / 4) → at (x / 4) ≡ at (p x / 4) =
+    λ x z w is partner same. ap (λ k. at (k / 4)) is ∙ same ∙ ap (λ k. at (k / 4)) (sym partner) ∙ ap (λ k. at (p k / 4)) (sym is) in
+    let ends : (x : ℕ) → x < 4 * n → at (x / 4) ≡ at (p x / 4) =
+    λ x below. elim (cases_eq x ta) [
+      | inl is ↦ special x ta ha is has.p_ta (ta_first ∙ first_second ∙ sym ha_second)
+      | inr not_ta ↦ elim (cases_eq x ha) [
+        | inl is ↦ special x ha ta is has.p_ha (ha_second ∙ sym first_second ∙ sym ta_first)
+        | inr not_ha ↦ elim (cases_eq x tb) [
+          | inl is ↦ special x tb hb is has.p_tb (tb_first ∙ sym hb_first)
+          | inr not_tb ↦ elim (cases_eq x hb) [
+            | inl is ↦ special x hb tb is has.p_hb (hb_first ∙ sym tb_first)
+            | inr not_hb ↦
+                along x (omega (arith, below)) ∙ ap (λ k. at (k / 4)) (has.old x below not_ta not_ha not_tb not_hb)
+          ]
+        ]
+      ]
+    ] in
+    record {
+      kept = classes-finest at n (map (piece_pair p) (range_with_len 0 (4 * n)))
+          (all-map_range (λ (pair : ℕ × ℕ). at pair.0 ≡ at pair.1) (piece_pair p) 0 (4 * n) (λ x below. ends x (omega (arith, below))))
+          (piece_pairs-below n p pairing);
+      arcs = ta_first ∙ sym tb_first;
+      first = sym ta_first;
+      second = sym first_second ∙ sym ta_first;
+    }
+  where
+    one_below : (b : Bool) (x y m : ℕ) → x < m → y < m → (if b then x else y) < m
+    one_below true x y m first second = first
+    one_below false x y m first second = second
+
+    one_from : (b : Bool) (x y m : ℕ) → m ≤ x → m ≤ y → m ≤ (if b then x else y)
+    one_from true x y m first second = first
+    one_from false x y m first second = second
+
+-- an old piece for each new one
+old-below : (n : ℕ) (p q : ℕ → ℕ) (ta tb y : ℕ) → ta < 4 * n → SamePieces n p q ta tb → IsNamed (n + 2) (open_pieces (n + 2) q) → y < n + 2
+    → slice_index (open_pieces (n + 2) q) y ≡ y → y < n
+old-below n p q ta tb y ta_below same named below own = elim (cases_lt y n) [
+  | inl old ↦ old
+  | inr from ↦
+      let least = named.least (ta / 4) (omega (arith, ta_below)) in
+      elim (cases_eq y n) [
+        | inl is ↦ absurd (omega (arith, ap (λ k. slice_index (open_pieces (n + 2) q) k) is, own, same.first, least, is, ta_below))
+        | inr other ↦
+            let is : y ≡ n + 1 = omega (arith, other, from, below) in
+            absurd (omega (arith, ap (λ k. slice_index (open_pieces (n + 2) q) k) is, own, same.second, least, is, ta_below))
+      ]
+]
+
+pub pieces-few : (n : ℕ) (p q : ℕ → ℕ) (ta tb : ℕ) → IsPairing (4 * n) p → IsPairing (4 * (n + 2)) q → ta < 4 * n
+    → SamePieces n p q ta tb → open_piece_count (n + 2) q ≤ open_piece_count n p
+pieces-few n p q ta tb pairing new_pairing ta_below same =
+    let old = open_pieces n p in
+    let new = open_pieces (n + 2) q in
+    let named = IsNamed-open_pieces n p pairing in
+    let new_named = IsNamed-open_pieces (n + 2) q new_pairing in
+    let own : (y : ℕ) → is_least new y ≡ true → slice_index new y ≡ y = λ y holds. eqb-true (slice_index new y) y holds in
+    let small : (y : ℕ) → y < n + 2 → is_least new y ≡ true → y < n =
+    λ y below holds. old-below n p q ta tb y ta_below same new_named below (own y holds) in
+    let few = count_by-one_to_one (is_least new) (is_least old) (λ y. slice_index old y) (n + 2) n (record {
+      below = λ y below holds. omega (arith, named.least y (small y below holds), small y below holds);
+      passes = λ y below holds. eq-eqb (slice_index old (slice_index old y)) (slice_index old y) (named.own y (small y below holds));
+      apart = λ y z y_below z_below y_holds z_holds alike.
+          sym (own y y_holds) ∙ same.kept y z (small y y_below y_holds) (small z z_below z_holds) alike ∙ own z z_holds;
+    }) in
+    omega (arith, few, class_count-counts n old named.size, class_count-counts (n + 2) new new_named.size)
+
+chosen : (b : Bool) (x y : ℕ) → ((if b then y else x) ≡ x) ⊎ ((if b then y else x) ≡ y)
+chosen true x y = inr refl
+chosen false x y = inl refl
+
+not_chosen : (k x y : ℕ) → x ≢ y → (if nat_eq k x then y else x) ≢ k
+not_chosen k x y apart same = grind (arith, nat_tests)
+
+pub pieces-fewer_apart : (n : ℕ) (p q : ℕ → ℕ) (ta tb : ℕ) → IsPairing (4 * n) p → IsPairing (4 * (n + 2)) q → ta < 4 * n → tb < 4 * n
+    → SamePieces n p q ta tb → slice_index (open_pieces n p) (ta / 4) ≢ slice_index (open_pieces n p) (tb / 4)
+    → open_piece_count (n + 2) q + 1 ≤ open_piece_count n p
+pieces-fewer_apart n p q ta tb pairing new_pairing ta_below tb_below same apart =
+    let old = open_pieces n p in
+    let new = open_pieces (n + 2) q in
+    let named = IsNamed-open_pieces n p pairing in
+    let new_named = IsNamed-open_pieces (n + 2) q new_pairing in
+    let ca : ta / 4 < n = omega (arith, ta_below) in
+    let cb : tb / 4 < n = omega (arith, tb_below) in
+    let pa = slice_index old (ta / 4) in
+    let pb = slice_index old (tb / 4) in
+    let whole = slice_index new (ta / 4) in
+    let own : (y : ℕ) → is_least new y ≡ true → slice_index new y ≡ y = λ y holds. eqb-true (slice_index new y) y holds in
+    let small : (y : ℕ) → y < n + 2 → is_least new y ≡ true → y < n =
+    λ y below holds. old-below n p q ta tb y ta_below same new_named below (own y holds) in
+    let missed = if nat_eq (slice_index old whole) pa then pb else pa in
+    let missed_is : (missed ≡ pa) ⊎ (missed ≡ pb) = chosen (nat_eq (slice_index old whole) pa) pa pb in
+    let missed_not : missed ≢ slice_index old whole = not_chosen (slice_index old whole) pa pb apart in
+    let missed_below : missed < n =
+    elim missed_is [
+      | inl is ↦ omega (arith, is, named.least (ta / 4) ca, ca)
+      | inr is ↦ omega (arith, is, named.least (tb / 4) cb, cb)
+    ] in
+    let missed_own : slice_index old missed ≡ missed =
+    elim missed_is [
+      | inl is ↦ ap (λ k. slice_index old k) is ∙ named.own (ta / 4) ca ∙ sym is
+      | inr is ↦ ap (λ k. slice_index old k) is ∙ named.own (tb / 4) cb ∙ sym is
+    ] in
+    let not_missed : (y : ℕ) → y < n + 2 → is_least new y ≡ true → slice_index old y ≡ missed → ⊥ =
+    λ y below holds is.
+    let y_small = small y below holds in
+    let to_whole : slice_index new y ≡ whole =
+    elim missed_is [
+      | inl is_a ↦ same.kept y (ta / 4) y_small ca (is ∙ is_a)
+      | inr is_b ↦ same.kept y (tb / 4) y_small cb (is ∙ is_b) ∙ sym same.arcs
+    ] in
+    missed_not (sym is ∙ ap (λ k. slice_index old k) (sym (own y holds) ∙ to_whole)) in
+    let few = count_by-one_to_one (is_least new) (but (is_least old) missed) (λ y. slice_index old y) (n + 2) n (record {
+      below = λ y below holds. omega (arith, named.least y (small y below holds), small y below holds);
+      passes = λ y below holds.
+          but_passes (is_least old (slice_index old y)) missed (slice_index old y)
+          (eq-eqb (slice_index old (slice_index old y)) (slice_index old y) (named.own y (small y below holds))) (not_missed y below holds);
+      apart = λ y z y_below z_below y_holds z_holds alike.
+          sym (own y y_holds) ∙ same.kept y z (small y y_below y_holds) (small z z_below z_holds) alike ∙ own z z_holds;
+    }) in
+    let fewer = count_by-but (is_least old) 0 n missed (omega arith) (omega (arith, missed_below)) (eq-eqb (slice_index old missed) missed missed_own) in
+    omega (arith, few, fewer, class_count-counts n old named.size, class_count-counts (n + 2) new new_named.size)

@@ -1,0 +1,121 @@
+-- The slots of a code with a finger.
+use Rattle.std.proofs.Common.{◌≡◌, ℕ, zero, suc, ◌+◌, ◌-◌, ◌<◌, ◌∙◌, List, [], ◌∷◌, length, refl, ap, arith, Bool, true, false}
+use Rattle.std.specs.Prelude.{slice_index_or, if◌then◌else◌}
+use Rattle.std.proofs.lemmas.List.{get_or_append_left, get_or-append-add, get_or-map, length-append, length-map}
+use Rattle.std.proofs.lemmas.List.FromFn.{length-range_with_len, get_or-range_with_len}
+use Rattle.kh_types.specs.declared.dart.Dart.{Dart}
+use Rattle.kh_types.specs.Code.{arc_in, slots_of, crossing_numbers, IsCrossing}
+use Rattle.kh_types.specs.Darts.{arc_of, IsDart}
+use Rattle.kh_types.specs.Directions.{is_head}
+use Rattle.kinks_and_fingers.specs.FingerAdd.{opened, head_number, moved_arc, dart_with, moved_slots, moved_crossings, crossing_with, first_crossing, second_crossing, fingered_crossings}
+
+pub length-moved : (crossings : List (List ℕ)) (a b : ℕ) → length (moved_crossings crossings a b) ≡ length crossings
+length-moved crossings a b =
+    length-map (crossing_numbers crossings) (moved_slots crossings a b) ∙ length-range_with_len 1 (length crossings)
+
+pub length-fingered : (crossings : List (List ℕ)) (a b : ℕ) (positive ordered : Bool)
+    → length (fingered_crossings crossings a b positive ordered) ≡ length crossings + 2
+length-fingered crossings a b positive ordered =
+    length-append (moved_crossings crossings a b)
+    (first_crossing (opened a b a) (opened a b b) positive ordered ∷ second_crossing (opened a b a) (opened a b b) positive ordered ∷ [])
+    ∙ ap (λ n. n + 2) (length-moved crossings a b)
+
+-- the slots of an old crossing
+pub slots_of-old : (crossings : List (List ℕ)) (a b : ℕ) (positive ordered : Bool) (crossing : ℕ) → IsCrossing crossings crossing
+    → slots_of (fingered_crossings crossings a b positive ordered) crossing ≡ moved_slots crossings a b crossing
+slots_of-old crossings a b positive ordered crossing is =
+    let place = crossing - 1 in
+    let below : place < length crossings = omega (arith, is.positive, is.within) in
+    let crossing_is : 1 + place ≡ crossing = omega (arith, is.positive) in
+    get_or_append_left (moved_crossings crossings a b)
+    (first_crossing (opened a b a) (opened a b b) positive ordered ∷ second_crossing (opened a b a) (opened a b b) positive ordered ∷ [])
+    [] place (omega (arith, below, length-moved crossings a b))
+    ∙ get_or-map (moved_slots crossings a b) (crossing_numbers crossings) place 0 [] (omega (arith, below, length-range_with_len 1 (length crossings)))
+    ∙ ap (λ c. moved_slots crossings a b c) (get_or-range_with_len 1 (length crossings) place 0 below ∙ crossing_is)
+
+-- those of the two new ones
+pub slots_of-first : (crossings : List (List ℕ)) (a b : ℕ) (positive ordered : Bool)
+    → slots_of (fingered_crossings crossings a b positive ordered) (length crossings + 1)
+    ≡ first_crossing (opened a b a) (opened a b b) positive ordered
+slots_of-first crossings a b positive ordered =
+    let more = first_crossing (opened a b a) (opened a b b) positive ordered ∷ second_crossing (opened a b a) (opened a b b) positive ordered ∷ [] in
+    let e : length crossings + 1 - 1 ≡ length (moved_crossings crossings a b) + 0 = omega (arith, length-moved crossings a b) in
+    ap (λ k. slice_index_or (fingered_crossings crossings a b positive ordered) k []) e
+    ∙ get_or-append-add (moved_crossings crossings a b) more 0 []
+
+pub slots_of-second : (crossings : List (List ℕ)) (a b : ℕ) (positive ordered : Bool)
+    → slots_of (fingered_crossings crossings a b positive ordered) (length crossings + 2)
+    ≡ second_crossing (opened a b a) (opened a b b) positive ordered
+slots_of-second crossings a b positive ordered =
+    let more = first_crossing (opened a b a) (opened a b b) positive ordered ∷ second_crossing (opened a b a) (opened a b b) positive ordered ∷ [] in
+    let e : length crossings + 2 - 1 ≡ length (moved_crossings crossings a b) + 1 = omega (arith, length-moved crossings a b) in
+    ap (λ k. slice_index_or (fingered_crossings crossings a b positive ordered) k []) e
+    ∙ get_or-append-add (moved_crossings crossings a b) more 1 []
+
+-- the arc at a slot of an old crossing
+pub arc_in-moved : (crossings : List (List ℕ)) (a b crossing slot : ℕ) → slot < 4
+    → arc_in (moved_slots crossings a b crossing) slot ≡ moved_arc crossings a b (dart_with crossing slot)
+arc_in-moved crossings a b crossing zero below = refl
+arc_in-moved crossings a b crossing (suc zero) below = refl
+arc_in-moved crossings a b crossing (suc (suc zero)) below = refl
+arc_in-moved crossings a b crossing (suc (suc (suc zero))) below = refl
+arc_in-moved crossings a b crossing (suc (suc (suc (suc slot)))) below = absurd (omega (arith, below))
+
+pub arc_of-old : (crossings : List (List ℕ)) (a b : ℕ) (positive ordered : Bool) (dart : Dart) → IsDart crossings dart
+    → arc_of (fingered_crossings crossings a b positive ordered) dart ≡ moved_arc crossings a b dart
+arc_of-old crossings a b positive ordered dart is =
+    ap (λ s. arc_in s dart.slot) (slots_of-old crossings a b positive ordered dart.crossing is.crossing)
+    ∙ arc_in-moved crossings a b dart.crossing dart.slot is.slot
+
+pub arc_of-head : (crossings : List (List ℕ)) (a b : ℕ) (positive ordered : Bool) (dart : Dart) → IsDart crossings dart
+    → is_head crossings dart ≡ true
+    → arc_of (fingered_crossings crossings a b positive ordered) dart ≡ head_number a b (arc_of crossings dart)
+arc_of-head crossings a b positive ordered dart is head =
+    arc_of-old crossings a b positive ordered dart is
+    ∙ ap (λ h. if h then head_number a b (arc_of crossings dart) else opened a b (arc_of crossings dart)) head
+
+pub arc_of-tail : (crossings : List (List ℕ)) (a b : ℕ) (positive ordered : Bool) (dart : Dart) → IsDart crossings dart
+    → is_head crossings dart ≡ false
+    → arc_of (fingered_crossings crossings a b positive ordered) dart ≡ opened a b (arc_of crossings dart)
+arc_of-tail crossings a b positive ordered dart is tail =
+    arc_of-old crossings a b positive ordered dart is
+    ∙ ap (λ h. if h then head_number a b (arc_of crossings dart) else opened a b (arc_of crossings dart)) tail
+
+-- what is so of the four numbers of a crossing is so at each slot
+pub crossing_with-all : (P : ℕ → Type 0) (positive : Bool) (u v s t slot : ℕ) → P u → P v → P s → P t → slot < 4
+    → P (arc_in (crossing_with positive u v s t) slot)
+crossing_with-all P true u v s t zero at_u at_v at_s at_t below = at_u
+crossing_with-all P true u v s t (suc zero) at_u at_v at_s at_t below = at_t
+crossing_with-all P true u v s t (suc (suc zero)) at_u at_v at_s at_t below = at_v
+crossing_with-all P true u v s t (suc (suc (suc zero))) at_u at_v at_s at_t below = at_s
+crossing_with-all P true u v s t (suc (suc (suc (suc slot)))) at_u at_v at_s at_t below = absurd (omega (arith, below))
+crossing_with-all P false u v s t zero at_u at_v at_s at_t below = at_u
+crossing_with-all P false u v s t (suc zero) at_u at_v at_s at_t below = at_s
+crossing_with-all P false u v s t (suc (suc zero)) at_u at_v at_s at_t below = at_v
+crossing_with-all P false u v s t (suc (suc (suc zero))) at_u at_v at_s at_t below = at_t
+crossing_with-all P false u v s t (suc (suc (suc (suc slot)))) at_u at_v at_s at_t below = absurd (omega (arith, below))
+
+-- where the passes of a crossing begin and end
+abbrev pub over_from : Bool → ℕ
+over_from positive = if positive then 3 else 1
+
+abbrev pub over_to : Bool → ℕ
+over_to positive = if positive then 1 else 3
+
+pub over_from-below : (positive : Bool) → over_from positive < 4
+over_from-below true = omega arith
+over_from-below false = omega arith
+
+pub over_to-below : (positive : Bool) → over_to positive < 4
+over_to-below true = omega arith
+over_to-below false = omega arith
+
+pub record HasPasses (slots : List ℕ) (positive : Bool) (u v s t : ℕ) : Type 0 where
+  pub under_from : arc_in slots 0 ≡ u
+  pub under_to : arc_in slots 2 ≡ v
+  pub over_from : arc_in slots (over_from positive) ≡ s
+  pub over_to : arc_in slots (over_to positive) ≡ t
+
+pub HasPasses-crossing_with : (positive : Bool) (u v s t : ℕ) → HasPasses (crossing_with positive u v s t) positive u v s t
+HasPasses-crossing_with true u v s t = record { under_from = refl; under_to = refl; over_from = refl; over_to = refl }
+HasPasses-crossing_with false u v s t = record { under_from = refl; under_to = refl; over_from = refl; over_to = refl }

@@ -1,0 +1,254 @@
+-- The smoothing that closes a kink makes one circle more.
+use Rattle.std.proofs.Common.{◌≡◌, ◌≢◌, ℕ, zero, suc, ◌⊎◌, inl, inr, ◌+◌, ◌*◌, ◌/◌, ◌%◌, ◌<◌, ◌≤◌, ◌∙◌, List, [], ◌∷◌, ◌++◌, sym, ap, subst, arith, refl, Bool, false, cond, not, length, map, eq-eqb, eqb-true, IsTrue}
+use Rattle.std.specs.Prelude.{slice_index, nat_eq}
+use Rattle.std.specs.List.{filter, range_with_len}
+use Rattle.std.proofs.lemmas.Bool.{both_ways, cases_eq, cases_Bool, ne_eqb}
+use Rattle.std.proofs.lemmas.Bool.Decides.{nat_tests}
+use Rattle.kh_types.specs.Acceptance.{accepted}
+use Rattle.kh_types.specs.Bits.{bit}
+use Rattle.kh_types.specs.Classes.{classes_of, class_count, Respects, AreBelow}
+use Rattle.kh_types.specs.Code.{Code, arc_in, arc_count}
+use Rattle.kh_types.specs.Components.{passes_of}
+use Rattle.kh_types.specs.Circles.{smoothing_of, smoothings_of, circle_count}
+use Rattle.kh_types.specs.Darts.{HasArcsTwice}
+use Rattle.kh_types.proofs.AcceptedLemmas.{HasArcsTwice-accepted}
+use Rattle.kh_types.proofs.ClassLemmas.{classes-finest}
+use Rattle.kh_types.proofs.ClassCounts.{class_count-wider, class_count-circles}
+use Rattle.kh_types.proofs.JoinedClasses.{classes_of-same, class_count-apart}
+use Rattle.kh_types.proofs.Lists.{AllByRecursion-append}
+use Rattle.kinks_and_fingers.specs.Strands.{slots_at, name_at}
+use Rattle.kinks_and_fingers.specs.Drops.{straight_pairs, kept_places, without_kink}
+use Rattle.kinks_and_fingers.specs.Dropping.{HasKinkAt}
+use Rattle.kinks_and_fingers.specs.Pulls.{dart_in, early}
+use Rattle.kinks_and_fingers.specs.DropCircles.{joined_at, outer_pairs, through_at, closing_at, strand_circle_count}
+use Rattle.kinks_and_fingers.proofs.Smoothed.{dart_in-below, dart_in-place, dart_in-apart}
+use Rattle.kinks_and_fingers.proofs.OldDarts.{partner-named, dart_name-in}
+use Rattle.kinks_and_fingers.proofs.KinkDrops.{kink-partner}
+use Rattle.kinks_and_fingers.proofs.KeptCodes.{name_at-below, all-gone, gone-all, places-but}
+use Rattle.kinks_and_fingers.proofs.KinkCircles.{smoothings-all, smoothings-each, outer-all, outer-each, joined-below, passes-low, smoothing-zero, smoothing-one, to-zero, to-one, all_first, all_second, classes_of-through}
+use Rattle.kinks_and_fingers.proofs.StrandCircles.{circles-dropped}
+
+closing-joins : (f : ℕ → ℕ) (slots : List ℕ) (p b : ℕ) → p < 4 → b ≡ closing_at p → Respects f (smoothing_of b slots)
+    → f (arc_in slots ((p + 2) % 4)) ≡ f (arc_in slots ((p + 3) % 4))
+closing-joins f slots zero b below is respects = (smoothing-zero f slots b is respects).1
+closing-joins f slots (suc zero) b below is respects = sym (smoothing-one f slots b is respects).0
+closing-joins f slots (suc (suc zero)) b below is respects = (smoothing-zero f slots b is respects).0
+closing-joins f slots (suc (suc (suc zero))) b below is respects = (smoothing-one f slots b is respects).1
+closing-joins f slots (suc (suc (suc (suc p)))) b below is respects = absurd (omega (arith, below))
+
+joins-closing : (f : ℕ → ℕ) (slots : List ℕ) (p b : ℕ) → p < 4 → b ≡ closing_at p
+    → arc_in slots p ≡ arc_in slots ((p + 1) % 4) → f (arc_in slots ((p + 2) % 4)) ≡ f (arc_in slots ((p + 3) % 4))
+    → Respects f (smoothing_of b slots)
+joins-closing f slots zero b below is kink joins = to-zero f slots b is (ap f kink) joins
+joins-closing f slots (suc zero) b below is kink joins = to-one f slots b is (sym joins) (ap f kink)
+joins-closing f slots (suc (suc zero)) b below is kink joins = to-zero f slots b is joins (ap f kink)
+joins-closing f slots (suc (suc (suc zero))) b below is kink joins = to-one f slots b is (sym (ap f kink)) joins
+joins-closing f slots (suc (suc (suc (suc p)))) b below is kink joins = absurd (omega (arith, below))
+
+straight-joins : (f : ℕ → ℕ) (slots : List ℕ) (p : ℕ) → p < 4 → arc_in slots p ≡ arc_in slots ((p + 1) % 4) → Respects f (passes_of slots)
+    → (f (arc_in slots p) ≡ f (arc_in slots ((p + 2) % 4))) × (f (arc_in slots p) ≡ f (arc_in slots ((p + 3) % 4)))
+straight-joins f slots zero below kink respects = (respects.0, ap f kink ∙ respects.1.0)
+straight-joins f slots (suc zero) below kink respects = (respects.1.0, ap f kink ∙ sym respects.0)
+straight-joins f slots (suc (suc zero)) below kink respects = (sym respects.0, ap f kink ∙ sym respects.1.0)
+straight-joins f slots (suc (suc (suc zero))) below kink respects = (sym respects.1.0, ap f kink ∙ respects.0)
+straight-joins f slots (suc (suc (suc (suc p)))) below kink respects = absurd (omega (arith, below))
+
+joins-straight : (f : ℕ → ℕ) (slots : List ℕ) (p : ℕ) → p < 4 → arc_in slots p ≡ arc_in slots ((p + 1) % 4)
+    → f (arc_in slots p) ≡ f (arc_in slots ((p + 2) % 4)) → f (arc_in slots p) ≡ f (arc_in slots ((p + 3) % 4)) → Respects f (passes_of slots)
+joins-straight f slots zero below kink two three = (two, (sym (ap f kink) ∙ three, tt))
+joins-straight f slots (suc zero) below kink two three = (sym three ∙ ap f kink, (two, tt))
+joins-straight f slots (suc (suc zero)) below kink two three = (sym two, (sym three ∙ ap f kink, tt))
+joins-straight f slots (suc (suc (suc zero))) below kink two three = (sym (ap f kink) ∙ three, (sym two, tt))
+joins-straight f slots (suc (suc (suc (suc p)))) below kink two three = absurd (omega (arith, below))
+
+-- the arc of a kink stands at its two slots alone
+kink-own : (crossings : List (List ℕ)) (c p place slot : ℕ) → HasArcsTwice crossings → HasKinkAt crossings c p → place < length crossings
+    → slot < 4 → name_at crossings place slot ≡ name_at crossings c p
+    → (4 * place + slot ≡ dart_in c p) ⊎ (4 * place + slot ≡ dart_in c (p + 1))
+kink-own crossings c p place slot twice kink below slot_below same =
+    let z = dart_in place slot in
+    let e : slot % 4 ≡ slot = omega (arith, slot_below) in
+    let f : p % 4 ≡ p = omega (arith, kink.slot) in
+    let is : dart_in place slot ≡ 4 * place + slot = ap (λ r. 4 * place + r) e in
+    elim (cases_eq (dart_in place slot) (dart_in c p)) [
+      | inl own ↦ inl (sym is ∙ own)
+      | inr other ↦
+          inr
+          (sym is
+          ∙ sym
+          (partner-named crossings twice (dart_in c p) (dart_in place slot) (dart_in-below (length crossings) c p kink.below)
+          (dart_in-below (length crossings) place slot below) other
+          (dart_name-in crossings place slot ∙ ap (name_at crossings place) e ∙ same ∙ sym (ap (name_at crossings c) f)
+          ∙ sym (dart_name-in crossings c p)))
+          ∙ kink-partner crossings c p twice kink)
+    ]
+
+abbrev mark : ℕ → ℕ → ℕ
+mark v z = cond (nat_eq z v) 1 0
+
+mark-off : (v z : ℕ) → z ≢ v → mark v z ≡ 0
+mark-off v z apart = ap (λ t. cond t 1 0) (ne_eqb z v apart)
+
+mark-own : (v : ℕ) → mark v v ≡ 1
+mark-own v = ap (λ t. cond t 1 0) (eq-eqb v v refl)
+
+pub class_count-closing : (crossings : List (List ℕ)) (n state c p : ℕ) → HasArcsTwice crossings → HasKinkAt crossings c p
+    → arc_count crossings + 1 ≤ n → bit state c ≡ closing_at p
+    → class_count (classes_of n (smoothings_of crossings state))
+    ≡ class_count (classes_of n (straight_pairs crossings (nat_eq c) ++ outer_pairs crossings (nat_eq c) state)) + 1
+class_count-closing crossings n state c p twice kink large is =
+    let slots = slots_at crossings c in
+    let v = name_at crossings c p in
+    let x = name_at crossings c ((p + 2) % 4) in
+    let y = name_at crossings c ((p + 3) % 4) in
+    let outer = outer_pairs crossings (nat_eq c) state in
+    let straight = straight_pairs crossings (nat_eq c) in
+    let low : (slot : ℕ) → slot < 4 → name_at crossings c slot < n =
+    λ slot below. omega (arith, large, name_at-below crossings c slot twice kink.below below) in
+    let v_low = low p kink.slot in
+    let x_low = low ((p + 2) % 4) (omega arith) in
+    let y_low = low ((p + 3) % 4) (omega arith) in
+    let outer_low : AreBelow n (outer_pairs crossings (nat_eq c) state) =
+    outer-all (λ pair. (pair.0 < n) × (pair.1 < n)) crossings (nat_eq c) state
+    (λ place below stays. joined-below crossings n state place twice large below) in
+    let more_low : AreBelow n (outer_pairs crossings (nat_eq c) state ++ (x, y) ∷ []) =
+    AllByRecursion-append (λ pair. (pair.0 < n) × (pair.1 < n)) outer ((x, y) ∷ []) outer_low ((x_low, y_low), tt) in
+    let last_low : AreBelow n ((outer_pairs crossings (nat_eq c) state ++ (x, y) ∷ []) ++ (v, x) ∷ []) =
+    AllByRecursion-append (λ pair. (pair.0 < n) × (pair.1 < n)) (outer ++ (x, y) ∷ []) ((v, x) ∷ []) more_low ((v_low, x_low), tt) in
+    let straight_low : AreBelow n (straight_pairs crossings (nat_eq c)) =
+    all-gone (λ pair. (pair.0 < n) × (pair.1 < n)) (λ place. passes_of (slots_at crossings place)) (nat_eq c) 0 (length crossings)
+    (λ place from below gone_there. passes-low crossings n place twice large (omega (arith, below))) in
+    let first : classes_of n (smoothings_of crossings state) ≡ classes_of n (outer_pairs crossings (nat_eq c) state ++ (x, y) ∷ []) =
+    classes_of-same n (smoothings_of crossings state) (outer ++ (x, y) ∷ [])
+    (smoothings-all (λ pair. (pair.0 < n) × (pair.1 < n)) crossings state
+    (λ place below. joined-below crossings n state place twice large below)) more_low
+    (λ f respects.
+    AllByRecursion-append (λ pair. f pair.0 ≡ f pair.1) outer ((x, y) ∷ [])
+    (outer-all (λ pair. f pair.0 ≡ f pair.1) crossings (nat_eq c) state
+    (λ place below stays. smoothings-each (λ pair. f pair.0 ≡ f pair.1) crossings state place respects below)) (
+      closing-joins f slots p (bit state c) kink.slot is
+          (smoothings-each (λ pair. f pair.0 ≡ f pair.1) crossings state c respects kink.below),
+      tt,
+    ))
+    (λ f respects.
+    smoothings-all (λ pair. f pair.0 ≡ f pair.1) crossings state
+    (λ place below.
+    elim (cases_eq c place) [
+      | inl same ↦
+          subst (λ (k : ℕ). Respects f (joined_at crossings state k)) same
+          (joins-closing f slots p (bit state c) kink.slot is kink.same
+          (all_second (λ pair. f pair.0 ≡ f pair.1) outer ((x, y) ∷ []) respects).0)
+      | inr apart ↦
+          outer-each (λ pair. f pair.0 ≡ f pair.1) crossings (nat_eq c) state place
+          (all_first (λ pair. f pair.0 ≡ f pair.1) outer ((x, y) ∷ []) respects) below (ne_eqb c place apart)
+    ])) in
+    let second : classes_of n (straight_pairs crossings (nat_eq c) ++ outer_pairs crossings (nat_eq c) state)
+    ≡ classes_of n ((outer_pairs crossings (nat_eq c) state ++ (x, y) ∷ []) ++ (v, x) ∷ []) =
+    classes_of-same n (straight ++ outer) ((outer ++ (x, y) ∷ []) ++ (v, x) ∷ [])
+    (AllByRecursion-append (λ pair. (pair.0 < n) × (pair.1 < n)) straight outer straight_low outer_low) last_low
+    (λ f respects.
+    let here = straight-joins f slots p kink.slot kink.same
+    (gone-all (λ pair. f pair.0 ≡ f pair.1) (λ place. passes_of (slots_at crossings place)) (nat_eq c) 0 (length crossings) c
+    (all_first (λ pair. f pair.0 ≡ f pair.1) straight outer respects) (omega arith) (omega (arith, kink.below)) (eq-eqb c c refl)) in
+    AllByRecursion-append (λ pair. f pair.0 ≡ f pair.1) (outer ++ (x, y) ∷ []) ((v, x) ∷ [])
+    (AllByRecursion-append (λ pair. f pair.0 ≡ f pair.1) outer ((x, y) ∷ []) (all_second (λ pair. f pair.0 ≡ f pair.1) straight outer respects)
+    (sym here.0 ∙ here.1, tt)) (here.0, tt))
+    (λ f respects.
+    let front = all_first (λ pair. f pair.0 ≡ f pair.1) (outer ++ (x, y) ∷ []) ((v, x) ∷ []) respects in
+    let last = (all_second (λ pair. f pair.0 ≡ f pair.1) (outer ++ (x, y) ∷ []) ((v, x) ∷ []) respects).0 in
+    let middle = (all_second (λ pair. f pair.0 ≡ f pair.1) outer ((x, y) ∷ []) front).0 in
+    AllByRecursion-append (λ pair. f pair.0 ≡ f pair.1) straight outer
+    (all-gone (λ pair. f pair.0 ≡ f pair.1) (λ place. passes_of (slots_at crossings place)) (nat_eq c) 0 (length crossings)
+    (λ place from below gone_there.
+    subst (λ (k : ℕ). Respects f (passes_of (slots_at crossings k))) (eqb-true c place gone_there)
+    (joins-straight f slots p kink.slot kink.same last (last ∙ middle))))
+    (all_first (λ pair. f pair.0 ≡ f pair.1) outer ((x, y) ∷ []) front)) in
+    let off : (place slot : ℕ) → place < length crossings → slot < 4 → 4 * place + slot ≢ dart_in c p → 4 * place + slot ≢ dart_in c (p + 1)
+    → mark v (name_at crossings place slot) ≡ 0 =
+    λ place slot below slot_below one two.
+    mark-off v (name_at crossings place slot)
+    (
+    (λ same. elim (kink-own crossings c p place slot twice kink below slot_below same) [ inl own ↦ one own | inr own ↦ two own ])) in
+    let apart4 = dart_in-apart c p in
+    let x_off : mark v x ≡ 0 =
+    off c ((p + 2) % 4) kink.below (omega arith) (λ same. apart4.5 (sym same)) (λ same. apart4.0 (sym same)) in
+    let y_off : mark v y ≡ 0 = off c ((p + 3) % 4) kink.below (omega arith) apart4.1 apart4.2 in
+    let mark_respects : Respects (λ z. mark v z) (outer_pairs crossings (nat_eq c) state ++ (x, y) ∷ []) =
+    AllByRecursion-append (λ pair. mark v pair.0 ≡ mark v pair.1) outer ((x, y) ∷ [])
+    (outer-all (λ pair. mark v pair.0 ≡ mark v pair.1) crossings (nat_eq c) state
+    (λ place below stays.
+    let away : (r slot : ℕ) → slot < 4 → 4 * place + slot ≢ dart_in c r =
+    λ r slot slot_below same. not_gone c place stays (block_of place slot slot_below ∙ ap (λ z. z / 4) same ∙ dart_in-place c r) in
+    let at : (slot : ℕ) → slot < 4 → mark v (name_at crossings place slot) ≡ 0 =
+    λ slot slot_below. off place slot below slot_below (away p slot slot_below) (away (p + 1) slot slot_below) in
+    marked (λ z. mark v z) (bit state place) (slots_at crossings place) at))
+    (x_off ∙ sym y_off, tt) in
+    let v_x : slice_index (classes_of n (outer_pairs crossings (nat_eq c) state ++ (x, y) ∷ [])) v
+    ≢ slice_index (classes_of n (outer_pairs crossings (nat_eq c) state ++ (x, y) ∷ [])) x =
+    λ same.
+    let found = classes-finest (λ z. mark v z) n (outer ++ (x, y) ∷ []) mark_respects more_low v x v_low x_low same in
+    let one_zero : 1 ≡ 0 = sym (mark-own v) ∙ found ∙ x_off in
+    omega (arith, one_zero) in
+    ap class_count first ∙ class_count-apart n (outer ++ (x, y) ∷ []) (v, x) more_low v_low x_low v_x
+    ∙ ap (λ cs. class_count cs + 1) (sym second)
+  where
+    block_of : (place slot : ℕ) → slot < 4 → place ≡ (4 * place + slot) / 4
+    block_of place slot below = omega (arith, below)
+
+    not_gone : (c place : ℕ) → nat_eq c place ≡ false → place ≡ c → ⊥
+    not_gone c place stays same = both_ways (nat_eq c place) stays (eq-eqb c place (sym same))
+
+    marked : (f : ℕ → ℕ) (b : ℕ) (slots : List ℕ) → ((slot : ℕ) → slot < 4 → f (arc_in slots slot) ≡ 0) → Respects f (smoothing_of b slots)
+    marked f b slots at = elim (cases_Bool (nat_eq b 0)) [
+      | inl is ↦
+          subst (λ (t : Bool). Respects f (cond t ((arc_in slots 0, arc_in slots 1) ∷ (arc_in slots 2, arc_in slots 3) ∷ [])
+          ((arc_in slots 0, arc_in slots 3) ∷ (arc_in slots 1, arc_in slots 2) ∷ []))) (sym is)
+          (at 0 (omega arith) ∙ sym (at 1 (omega arith)), (at 2 (omega arith) ∙ sym (at 3 (omega arith)), tt))
+      | inr is ↦
+          subst (λ (t : Bool). Respects f (cond t ((arc_in slots 0, arc_in slots 1) ∷ (arc_in slots 2, arc_in slots 3) ∷ [])
+          ((arc_in slots 0, arc_in slots 3) ∷ (arc_in slots 1, arc_in slots 2) ∷ []))) (sym is)
+          (at 0 (omega arith) ∙ sym (at 3 (omega arith)), (at 1 (omega arith) ∙ sym (at 2 (omega arith)), tt))
+    ]
+
+-- a state that goes through the kink has as many circles as the same state without it, and a state that closes it has one more
+
+pub before : (code : Code) (state : ℕ) → HasArcsTwice code.crossings
+    → circle_count code state + 1 ≡ class_count (classes_of (arc_count code.crossings + 1) (smoothings_of code.crossings state)) + code.loops
+before code state twice =
+    let low : (n : ℕ) → arc_count code.crossings + 1 ≤ n → AreBelow n (smoothings_of code.crossings state) =
+    λ n large. smoothings-all (λ pair. (pair.0 < n) × (pair.1 < n)) code.crossings state
+    (λ place below. joined-below code.crossings n state place twice large below) in
+    let n = arc_count code.crossings + 1 in
+    let e : arc_count code.crossings + code.loops + 1 ≡ arc_count code.crossings + 1 + code.loops = omega arith in
+    sym (class_count-circles code state (low (arc_count code.crossings + code.loops + 1) (omega arith)))
+    ∙ ap (λ m. class_count (classes_of m (smoothings_of code.crossings state))) e
+    ∙ class_count-wider (arc_count code.crossings + 1) code.loops (smoothings_of code.crossings state) (low n (omega arith))
+
+pub kept_are : (code : Code) (c k : ℕ) → length code.crossings ≡ k + 1 → c ≤ k
+    → kept_places code.crossings (nat_eq c) ≡ map (early c k) (range_with_len 0 k)
+kept_are code c k size within = ap (λ n. filter (λ x. not (nat_eq c x)) (range_with_len 0 n)) size ∙ places-but c k within
+
+early-low : (n c k i : ℕ) → n ≡ k + 1 → c ≤ k → i < k → early c k i < n
+early-low n c k i size within below = grind (arith, nat_tests)
+
+pub circles-through : (code : Code) (c p k state new : ℕ) → IsTrue (accepted code) → HasKinkAt code.crossings c p
+    → length code.crossings ≡ k + 1 → ((i : ℕ) → i < k → bit new i ≡ bit state (early c k i)) → bit state c ≡ through_at p
+    → circle_count code state ≡ strand_circle_count (arc_count code.crossings + 1) (without_kink code c) new
+circles-through code c p k state new is kink size agree through =
+    let twice = HasArcsTwice-accepted code is in
+    let within : c ≤ k = omega (arith, kink.below, size) in
+    let left = circles-dropped code (nat_eq c) (early c k) k state new twice (kept_are code c k size within)
+    (λ i below. early-low (length code.crossings) c k i size within below) agree in
+    let same = classes_of-through code.crossings (arc_count code.crossings + 1) state c p twice kink (omega arith) through in
+    omega (arith, left, before code state twice, ap class_count same)
+
+pub circles-closing : (code : Code) (c p k state new : ℕ) → IsTrue (accepted code) → HasKinkAt code.crossings c p
+    → length code.crossings ≡ k + 1 → ((i : ℕ) → i < k → bit new i ≡ bit state (early c k i)) → bit state c ≡ closing_at p
+    → circle_count code state ≡ strand_circle_count (arc_count code.crossings + 1) (without_kink code c) new + 1
+circles-closing code c p k state new is kink size agree closes =
+    let twice = HasArcsTwice-accepted code is in
+    let within : c ≤ k = omega (arith, kink.below, size) in
+    let left = circles-dropped code (nat_eq c) (early c k) k state new twice (kept_are code c k size within)
+    (λ i below. early-low (length code.crossings) c k i size within below) agree in
+    let more = class_count-closing code.crossings (arc_count code.crossings + 1) state c p twice kink (omega arith) closes in
+    omega (arith, left, before code state twice, more)

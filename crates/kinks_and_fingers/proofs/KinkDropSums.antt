@@ -1,0 +1,268 @@
+-- Dropping a crossing with a kink keeps the state sum.
+use Rattle.std.proofs.Common.{◌≡◌, ℕ, zero, suc, inl, inr, ◌+◌, ◌-◌, ◌*◌, ◌%◌, ◌^◌, ◌<◌, ◌≤◌, ◌∙◌, ℤ, pos, negsuc, neg_ℤ, ◌+ℤ◌, ◌-ℤ◌, List, [], ◌∷◌, sym, refl, map, ap, ap₂, arith, Bool, true, false, cond, not, ◌&&◌, count_by, length, IsTrue, eq-eqb, eqb-true}
+use Rattle.std.specs.Prelude.{nat_eq}
+use Rattle.std.specs.List.{filter, range_with_len}
+use Rattle.std.proofs.lemmas.Bool.{cases_Bool, ne_eqb}
+use Rattle.std.proofs.lemmas.Int.{ints}
+use Rattle.std.proofs.lemmas.List.{length-map}
+use Rattle.std.proofs.lemmas.List.FromFn.{length-map-range_with_len}
+use Rattle.std.proofs.lemmas.List.Sums.{sum_by-cons, count_by-le-length}
+use Rattle.kh_types.specs.Acceptance.{accepted}
+use Rattle.kh_types.specs.Bits.{ones}
+use Rattle.kh_types.specs.Code.{Code, arc_count}
+use Rattle.kh_types.specs.Directions.{is_positive, plus_count, minus_count}
+use Rattle.kh_types.specs.StateSum.{int_sum, state_sum, state_term, circle_coefficient, signed_by_parity}
+use Rattle.kh_types.specs.StateSum as kh
+use Rattle.kh_types.proofs.AcceptedLemmas.{HasArcsTwice-accepted}
+use Rattle.kh_types.proofs.Heads.{HasNoSingleArcs-accepted}
+use Rattle.kh_types.proofs.Lists.{count_by-map}
+use Rattle.kh_types.proofs.RangeCounts.{count_by-alike, count_by-one_more}
+use Rattle.gluing.specs.Terms.{term_of, signed_by}
+use Rattle.kinks_and_fingers.specs.Strands.{enters}
+use Rattle.kinks_and_fingers.specs.Drops.{positive_at, kept_places, kept_signs, kept_crossings, without_kink}
+use Rattle.kinks_and_fingers.specs.Dropping.{HasKinkAt, is_code_head}
+use Rattle.kinks_and_fingers.specs.DropCircles.{strand_circle_count, strand_plus, strand_minus, strand_term, strand_sum}
+use Rattle.kinks_and_fingers.specs.Insertions.{with_bit}
+use Rattle.kinks_and_fingers.specs.Pulls.{dart_in, early}
+use Rattle.kinks_and_fingers.proofs.Smoothed.{dart_in-below, dart_in-place}
+use Rattle.kinks_and_fingers.proofs.OldDarts.{heads-partner, dart_in-slot}
+use Rattle.kinks_and_fingers.proofs.KinkDrops.{kink-partner}
+use Rattle.kinks_and_fingers.proofs.KeptCodes.{length-kept}
+use Rattle.kinks_and_fingers.proofs.StrandCircles.{count-parts}
+use Rattle.kinks_and_fingers.proofs.KinkClosing.{kept_are, circles-through, circles-closing}
+use Rattle.gluing.proofs.KinkSums.{term_of-positive_kink, term_of-negative_kink}
+use Rattle.kinks_and_fingers.proofs.Insertions.{int_sum-with_bit, HasBit-with_bit}
+
+-- the sign of a kink
+
+sign-by_slot : (b : Bool) (p : ℕ) → p < 4 → enters b ((p + 1) % 4) ≡ not (enters b (p % 4)) → b ≡ nat_eq (p % 2) 0
+sign-by_slot true zero below same = refl
+sign-by_slot true (suc zero) below same = sym same
+sign-by_slot true (suc (suc zero)) below same = refl
+sign-by_slot true (suc (suc (suc zero))) below same = same
+sign-by_slot false zero below same = sym same
+sign-by_slot false (suc zero) below same = refl
+sign-by_slot false (suc (suc zero)) below same = same
+sign-by_slot false (suc (suc (suc zero))) below same = refl
+sign-by_slot b (suc (suc (suc (suc p)))) below same = absurd (omega (arith, below))
+
+pub kink-sign : (code : Code) (c p : ℕ) → IsTrue (accepted code) → HasKinkAt code.crossings c p
+    → positive_at code.crossings c ≡ nat_eq (p % 2) 0
+kink-sign code c p is kink =
+    let crossings = code.crossings in
+    let directed = HasNoSingleArcs-accepted code is in
+    let head_in : (q : ℕ) → is_code_head code.crossings (dart_in c q) ≡ enters (positive_at code.crossings c) (q % 4) =
+    λ q. ap (λ a. enters (positive_at code.crossings a) (dart_in c q % 4)) (dart_in-place c q)
+    ∙ ap (enters (positive_at code.crossings c)) (dart_in-slot c q) in
+    sign-by_slot (positive_at code.crossings c) p kink.slot
+    (sym (head_in (p + 1))
+    ∙ ap (is_code_head code.crossings) (sym (kink-partner code.crossings c p (HasArcsTwice-accepted code is) kink))
+    ∙ heads-partner code.crossings directed.0 directed.1 (dart_in c p) (dart_in-below (length code.crossings) c p kink.below)
+    ∙ ap not (head_in p))
+
+-- the numbers of positive and negative crossings
+
+abbrev pub one_if : Bool → ℕ
+one_if b = cond b 1 0
+
+abbrev one_unless : Bool → ℕ
+one_unless b = cond b 0 1
+
+pub count_by-cons : (p : ℕ → Bool) (x : ℕ) (xs : List ℕ) → count_by p (x ∷ xs) ≡ cond (p x) 1 0 + count_by p xs
+count_by-cons p x xs = sum_by-cons (λ y. cond (p y) 1 0) x xs
+
+pub count-later : (p : ℕ → Bool) (a n : ℕ) → count_by p (range_with_len (a + 1) n) ≡ count_by (λ x. p (x + 1)) (range_with_len a n)
+count-later p a zero = refl
+count-later p a (suc n) =
+    let rest = count-later p (a + 1) n in
+    omega (arith, rest, count_by-cons p (a + 1) (range_with_len (a + 1 + 1) n), count_by-cons (λ x. p (x + 1)) a (range_with_len (a + 1) n))
+
+pub count-filter : (p q : ℕ → Bool) (xs : List ℕ) → count_by p (filter q xs) ≡ count_by (λ x. p x && q x) xs
+count-filter p q [] = refl
+count-filter p q (x ∷ xs) =
+    let rest = count-filter p q xs in
+    let step = count_by-cons (λ x. p x && q x) x xs in
+    elim (cases_Bool (q x)) [
+      | inl taken ↦
+          ap (λ t. count_by p (cond t (x ∷ filter q xs) (filter q xs))) taken ∙ count_by-cons p x (filter q xs)
+          ∙ ap (λ m. cond (p x) 1 0 + m) rest
+          ∙ ap (λ t. cond t 1 0 + count_by (λ x. p x && q x) xs) (sym (and-true (p x) (q x) taken)) ∙ sym step
+      | inr left ↦
+          ap (λ t. count_by p (cond t (x ∷ filter q xs) (filter q xs))) left ∙ rest
+          ∙ (let z : count_by (λ x. p x && q x) xs ≡ 0 + count_by (λ x. p x && q x) xs = omega arith in z)
+          ∙ ap (λ t. cond t 1 0 + count_by (λ x. p x && q x) xs) (sym (and-false (p x) (q x) left)) ∙ sym step
+    ]
+  where
+    and-true : (a b : Bool) → b ≡ true → (a && b) ≡ a
+    and-true true b is = is
+    and-true false b is = refl
+
+    and-false : (a b : Bool) → b ≡ false → (a && b) ≡ false
+    and-false true b is = is
+    and-false false b is = refl
+
+count-none : (a n : ℕ) → count_by (λ x. false) (range_with_len a n) ≡ 0
+count-none a zero = refl
+count-none a (suc n) =
+    let rest = count-none (a + 1) n in count_by-cons (λ x. false) a (range_with_len (a + 1) n) ∙ omega (arith, rest)
+
+pub count-one : (p : ℕ → Bool) (c n : ℕ) → c < n → count_by (λ x. p x && nat_eq c x) (range_with_len 0 n) ≡ cond (p c) 1 0
+count-one p c n below = elim (cases_Bool (p c)) [
+  | inl yes_is ↦
+      count_by-one_more (λ x. p x && nat_eq c x) (λ x. false) 0 n c (omega arith) (omega (arith, below))
+      (ap₂ (λ a b. a && b) yes_is (eq-eqb c c refl)) refl
+      (λ x other. ap (λ t. p x && t) (ne_eqb c x (λ same. other (sym same))) ∙ and-off (p x))
+      ∙ (let none = count-none 0 n in
+      let one : count_by (λ x. false) (range_with_len 0 n) + 1 ≡ 1 = omega (arith, none) in one)
+      ∙ sym (ap (λ t. cond t 1 0) yes_is)
+  | inr no_is ↦
+      count_by-alike (λ x. p x && nat_eq c x) (λ x. false) 0 n
+      (λ x from x_below. off (p x) (nat_eq c x) (λ same. ap p (sym (eqb-true c x same)) ∙ no_is))
+      ∙ count-none 0 n ∙ sym (ap (λ t. cond t 1 0) no_is)
+]
+  where
+    and-off : (a : Bool) → (a && false) ≡ false
+    and-off true = refl
+    and-off false = refl
+
+    off : (a b : Bool) → (b ≡ true → a ≡ false) → (a && b) ≡ false
+    off a true tells = ap (λ t. t && true) (tells refl)
+    off true false tells = refl
+    off false false tells = refl
+
+plus-kept : (code : Code) (c : ℕ) → c < length code.crossings
+    → plus_count code.crossings ≡ cond (positive_at code.crossings c) 1 0 + strand_plus (without_kink code c)
+plus-kept code c below =
+    let p : ℕ → Bool = positive_at code.crossings in
+    let n = length code.crossings in
+    let e : 0 + 1 ≡ 1 = omega arith in
+    let all : plus_count code.crossings ≡ count_by (positive_at code.crossings) (range_with_len 0 (length code.crossings)) =
+    ap (λ a. count_by (is_positive code.crossings) (range_with_len a (length code.crossings))) (sym e)
+    ∙ count-later (is_positive code.crossings) 0 (length code.crossings) in
+    let signs : strand_plus (without_kink code c)
+    ≡ count_by (λ x. positive_at code.crossings x && not (nat_eq c x)) (range_with_len 0 (length code.crossings)) =
+    count_by-map (λ (b : Bool). b) (positive_at code.crossings) (kept_places code.crossings (nat_eq c))
+    ∙ count-filter (positive_at code.crossings) (λ x. not (nat_eq c x)) (range_with_len 0 (length code.crossings)) in
+    let parts = count-parts (positive_at code.crossings) (nat_eq c) (range_with_len 0 (length code.crossings)) in
+    let own = count-one (positive_at code.crossings) c (length code.crossings) below in
+    omega (arith, all, signs, parts, own)
+
+-- terms
+
+signed_by-difference : (r minus x : ℕ) → kh.signed_by (pos r -ℤ pos minus) x ≡ signed_by (r + minus) x
+signed_by-difference r minus x = by_parity (pos r -ℤ pos minus) r minus x refl
+  where
+    same_parity : (i k x : ℕ) → i % 2 ≡ k % 2 → signed_by_parity i x ≡ signed_by_parity k x
+    same_parity i k x same = ap (λ p. cond (nat_eq p 0) (pos x) (neg_ℤ (pos x))) same
+
+    by_parity : (z : ℤ) (r minus x : ℕ) → z ≡ pos r -ℤ pos minus → kh.signed_by z x ≡ signed_by (r + minus) x
+    by_parity (pos i) r minus x is =
+        let e : i + minus ≡ r = omega (arith, ints, is) in
+        same_parity i (r + minus) x (omega (arith, e))
+    by_parity (negsuc i) r minus x is =
+        let e : i + 1 + r ≡ minus = omega (arith, ints, is) in
+        same_parity (suc i) (r + minus) x (omega (arith, e))
+
+pub term-is : (plus minus : ℕ) (exponent : ℤ) (r circles : ℕ) → kh.term_of plus minus exponent r circles ≡ term_of plus minus exponent r circles
+term-is plus minus exponent r circles =
+    signed_by-difference r minus (circle_coefficient circles ((exponent -ℤ pos (r + plus)) +ℤ pos (2 * minus)))
+
+pub sums-alike : (f g : ℕ → ℤ) (a n : ℕ) → ((state : ℕ) → a ≤ state → state < a + n → f state ≡ g state)
+    → int_sum (map f (range_with_len a n)) ≡ int_sum (map g (range_with_len a n))
+sums-alike f g a zero same = refl
+sums-alike f g a (suc n) same =
+    ap₂ (λ x y. x +ℤ y) (same a (omega arith) (omega arith))
+    (sums-alike f g (a + 1) n (λ state from below. same state (omega (arith, from)) (omega (arith, below))))
+
+pub state_sum-without_kink : (code : Code) (c p : ℕ) → IsTrue (accepted code) → HasKinkAt code.crossings c p → (exponent : ℤ)
+    → strand_sum (arc_count code.crossings + 1) (without_kink code c) exponent ≡ state_sum code exponent
+state_sum-without_kink code c p is kink exponent =
+    let n = length code.crossings in
+    let k = length code.crossings - 1 in
+    let size : length code.crossings ≡ length code.crossings - 1 + 1 = omega (arith, kink.below) in
+    let size_suc : length code.crossings ≡ suc (length code.crossings - 1) = omega (arith, kink.below) in
+    let within : c ≤ length code.crossings - 1 = omega (arith, kink.below) in
+    let left = without_kink code c in
+    let left_size : length (kept_crossings code.crossings (nat_eq c)) ≡ length code.crossings - 1 =
+    length-kept code.crossings (nat_eq c) (early c (length code.crossings - 1)) (length code.crossings - 1)
+    (kept_are code c (length code.crossings - 1) size within) in
+    let plus = strand_plus (without_kink code c) in
+    let minus = strand_minus (without_kink code c) in
+    let signs_size : length (kept_signs code.crossings (nat_eq c)) ≡ length code.crossings - 1 =
+    length-map (kept_places code.crossings (nat_eq c)) (positive_at code.crossings)
+    ∙ ap length (kept_are code c (length code.crossings - 1) size within)
+    ∙ length-map-range_with_len (early c (length code.crossings - 1)) 0 (length code.crossings - 1) in
+    let few : strand_plus (without_kink code c) ≤ length code.crossings - 1 =
+    omega (arith, count_by-le-length (λ (b : Bool). b) (kept_signs code.crossings (nat_eq c)), signs_size) in
+    let counted = plus-kept code c kink.below in
+    let sign = kink-sign code c p is kink in
+    let term : ℕ → ℤ = state_term code exponent in
+    let split : state_sum code exponent
+    ≡ int_sum (map (λ state. state_term code exponent (with_bit (length code.crossings - 1) c 0 state)
+    +ℤ state_term code exponent (with_bit (length code.crossings - 1) c 1 state)) (range_with_len 0 (2 ^ (length code.crossings - 1)))) =
+    ap (λ m. int_sum (map (state_term code exponent) (range_with_len 0 (2 ^ m)))) size_suc
+    ∙ int_sum-with_bit (state_term code exponent) (length code.crossings - 1) c within in
+    let each : (state : ℕ) → state < 2 ^ (length code.crossings - 1)
+    → state_term code exponent (with_bit (length code.crossings - 1) c 0 state)
+    +ℤ state_term code exponent (with_bit (length code.crossings - 1) c 1 state)
+    ≡ strand_term (arc_count code.crossings + 1) (without_kink code c) exponent state =
+    λ state below.
+    let zero_bit = HasBit-with_bit (length code.crossings - 1) c 0 state within (omega arith) below in
+    let one_bit = HasBit-with_bit (length code.crossings - 1) c 1 state within (omega arith) below in
+    let circles = strand_circle_count (arc_count code.crossings + 1) (without_kink code c) state in
+    let r = ones (length code.crossings - 1) state in
+    let zero_ones : ones (length code.crossings) (with_bit (length code.crossings - 1) c 0 state) ≡ ones (length code.crossings - 1) state =
+    ap (λ m. ones m (with_bit (length code.crossings - 1) c 0 state)) size ∙ zero_bit.count ∙ omega arith in
+    let one_ones : ones (length code.crossings) (with_bit (length code.crossings - 1) c 1 state) ≡ ones (length code.crossings - 1) state + 1 =
+    ap (λ m. ones m (with_bit (length code.crossings - 1) c 1 state)) size ∙ one_bit.count in
+    let new_ones : ones (length (kept_crossings code.crossings (nat_eq c))) state ≡ ones (length code.crossings - 1) state =
+    ap (λ m. ones m state) left_size in
+    let last : kh.term_of (strand_plus (without_kink code c)) (strand_minus (without_kink code c)) exponent
+    (ones (length code.crossings - 1) state) (strand_circle_count (arc_count code.crossings + 1) (without_kink code c) state)
+    ≡ strand_term (arc_count code.crossings + 1) (without_kink code c) exponent state =
+    ap (λ m. kh.term_of (strand_plus (without_kink code c)) (strand_minus (without_kink code c)) exponent m
+    (strand_circle_count (arc_count code.crossings + 1) (without_kink code c) state)) (sym new_ones) in
+    elim (cases_Bool (nat_eq (p % 2) 0)) [
+      | inl even ↦
+          let plus_is : plus_count code.crossings ≡ strand_plus (without_kink code c) + 1 =
+          let one : one_if (positive_at code.crossings c) ≡ 1 = ap one_if (sign ∙ even) in omega (arith, counted, one) in
+          let minus_is : minus_count code.crossings ≡ strand_minus (without_kink code c) = omega (arith, plus_is, left_size, few, kink.below) in
+          let zero_circles = circles-closing code c p (length code.crossings - 1) (with_bit (length code.crossings - 1) c 0 state) state is kink size
+          (λ i i_below. sym (zero_bit.others i i_below)) (zero_bit.there ∙ sym (ap one_unless even)) in
+          let one_circles = circles-through code c p (length code.crossings - 1) (with_bit (length code.crossings - 1) c 1 state) state is kink size
+          (λ i i_below. sym (one_bit.others i i_below)) (one_bit.there ∙ sym (ap one_if even)) in
+          four_terms (plus_count code.crossings) (minus_count code.crossings) (strand_plus (without_kink code c) + 1) (strand_minus (without_kink code c))
+          exponent _ _ _ _ r (r + 1) (circles + 1) circles plus_is minus_is zero_ones one_ones zero_circles one_circles
+          ∙ term_of-positive_kink (strand_plus (without_kink code c)) (strand_minus (without_kink code c)) r circles exponent
+          ∙ sym (term-is (strand_plus (without_kink code c)) (strand_minus (without_kink code c)) exponent r circles) ∙ last
+      | inr odd ↦
+          let plus_is : plus_count code.crossings ≡ strand_plus (without_kink code c) =
+          let none : one_if (positive_at code.crossings c) ≡ 0 = ap one_if (sign ∙ odd) in omega (arith, counted, none) in
+          let minus_is : minus_count code.crossings ≡ strand_minus (without_kink code c) + 1 = omega (arith, plus_is, left_size, few, kink.below) in
+          let zero_circles = circles-through code c p (length code.crossings - 1) (with_bit (length code.crossings - 1) c 0 state) state is kink size
+          (λ i i_below. sym (zero_bit.others i i_below)) (zero_bit.there ∙ sym (ap one_if odd)) in
+          let one_circles = circles-closing code c p (length code.crossings - 1) (with_bit (length code.crossings - 1) c 1 state) state is kink size
+          (λ i i_below. sym (one_bit.others i i_below)) (one_bit.there ∙ sym (ap one_unless odd)) in
+          four_terms (plus_count code.crossings) (minus_count code.crossings) (strand_plus (without_kink code c)) (strand_minus (without_kink code c) + 1)
+          exponent _ _ _ _ r (r + 1) circles (circles + 1) plus_is minus_is zero_ones one_ones zero_circles one_circles
+          ∙ term_of-negative_kink (strand_plus (without_kink code c)) (strand_minus (without_kink code c)) r circles exponent
+          ∙ sym (term-is (strand_plus (without_kink code c)) (strand_minus (without_kink code c)) exponent r circles) ∙ last
+    ] in
+    ap (λ m. int_sum (map (strand_term (arc_count code.crossings + 1) (without_kink code c) exponent) (range_with_len 0 (2 ^ m)))) left_size
+    ∙ sym
+    (split
+    ∙ sums-alike (λ state. state_term code exponent (with_bit (length code.crossings - 1) c 0 state)
+    +ℤ state_term code exponent (with_bit (length code.crossings - 1) c 1 state))
+    (strand_term (arc_count code.crossings + 1) (without_kink code c) exponent) 0 (2 ^ (length code.crossings - 1))
+    (λ state from below. each state (omega (arith, below))))
+  where
+    four_terms : (plus minus new_plus new_minus : ℕ) (exponent : ℤ) (r0 c0 r1 c1 s0 s1 d0 d1 : ℕ) → plus ≡ new_plus → minus ≡ new_minus
+        → r0 ≡ s0 → r1 ≡ s1 → c0 ≡ d0 → c1 ≡ d1
+        → kh.term_of plus minus exponent r0 c0 +ℤ kh.term_of plus minus exponent r1 c1
+        ≡ term_of new_plus new_minus exponent s0 d0 +ℤ term_of new_plus new_minus exponent s1 d1
+    four_terms plus minus new_plus new_minus exponent r0 c0 r1 c1 s0 s1 d0 d1 plus_is minus_is r0_is r1_is c0_is c1_is =
+        ap₂ (λ x y. x +ℤ y)
+        (term-is plus minus exponent r0 c0 ∙ ap₂ (λ p m. term_of p m exponent r0 c0) plus_is minus_is
+        ∙ ap₂ (λ r c. term_of new_plus new_minus exponent r c) r0_is c0_is)
+        (term-is plus minus exponent r1 c1 ∙ ap₂ (λ p m. term_of p m exponent r1 c1) plus_is minus_is
+        ∙ ap₂ (λ r c. term_of new_plus new_minus exponent r c) r1_is c1_is)

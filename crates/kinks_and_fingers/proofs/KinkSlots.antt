@@ -1,0 +1,165 @@
+-- The slots of a code with a kink.
+use Rattle.std.proofs.Common.{◌≡◌, ℕ, zero, suc, ◌+◌, ◌-◌, ◌<◌, ◌≢◌, ◌∙◌, List, [], ◌∷◌, length, refl, sym, ap, subst, arith, Bool, true, false}
+use Rattle.std.specs.Prelude.{slice_index_or, nat_eq, ◌&&◌, if◌then◌else◌}
+use Rattle.std.specs.List.{range_with_len}
+use Rattle.std.proofs.lemmas.List.{get_or_append_left, get_or-append-add, get_or-map, length-append, length-map}
+use Rattle.std.proofs.lemmas.List.FromFn.{length-range_with_len, get_or-range_with_len}
+use Rattle.kh_types.specs.declared.dart.Dart.{Dart}
+use Rattle.kh_types.specs.Code.{arc_in, slots_of}
+use Rattle.kh_types.specs.Darts.{arc_of, IsDart}
+use Rattle.kh_types.specs.Directions.{is_head, is_positive}
+use Rattle.kinks_and_fingers.proofs.FingerSlots.{HasPasses}
+use Rattle.kinks_and_fingers.specs.Strands.{enters, slots_at}
+use Rattle.kinks_and_fingers.specs.Drops.{positive_at}
+use Rattle.kinks_and_fingers.specs.KinkAdds.{raised, kinked_name, kinked_slots, kink_crossing, moved_crossings}
+use Rattle.kinks_and_fingers.specs.KinkCodes.{kinked_crossings}
+use Rattle.kinks_and_fingers.proofs.Numbers.{last}
+
+pub length-moved : (crossings : List (List ℕ)) (a : ℕ) → length (moved_crossings a crossings) ≡ length crossings
+length-moved crossings a =
+    length-map (range_with_len 0 (length crossings)) (λ place. kinked_slots a (positive_at crossings place) (slots_at crossings place))
+    ∙ length-range_with_len 0 (length crossings)
+
+pub length-kinked : (crossings : List (List ℕ)) (a : ℕ) (over positive : Bool)
+    → length (kinked_crossings crossings a over positive) ≡ length crossings + 1
+length-kinked crossings a over positive =
+    length-append (moved_crossings a crossings) (kink_crossing over positive a ∷ []) ∙ ap (λ n. n + 1) (length-moved crossings a)
+
+-- the slots of the old crossing at a place
+pub slots_at-moved : (crossings : List (List ℕ)) (a place : ℕ) → place < length crossings
+    → slots_at (moved_crossings a crossings) place ≡ kinked_slots a (positive_at crossings place) (slots_at crossings place)
+slots_at-moved crossings a place below =
+    let e : 0 + place ≡ place = omega arith in
+    get_or-map (λ place. kinked_slots a (positive_at crossings place) (slots_at crossings place)) (range_with_len 0 (length crossings)) place 0 []
+    (omega (arith, below, length-range_with_len 0 (length crossings)))
+    ∙ ap (λ c. kinked_slots a (positive_at crossings c) (slots_at crossings c))
+    (get_or-range_with_len 0 (length crossings) place 0 below ∙ e)
+
+pub slots_at-old : (crossings : List (List ℕ)) (a : ℕ) (over positive : Bool) (place : ℕ) → place < length crossings
+    → slots_at (kinked_crossings crossings a over positive) place ≡ kinked_slots a (positive_at crossings place) (slots_at crossings place)
+slots_at-old crossings a over positive place below =
+    get_or_append_left (moved_crossings a crossings) (kink_crossing over positive a ∷ []) [] place
+    (omega (arith, below, length-moved crossings a))
+    ∙ slots_at-moved crossings a place below
+
+-- those of the new one
+pub slots_of-new : (crossings : List (List ℕ)) (a : ℕ) (over positive : Bool)
+    → slots_of (kinked_crossings crossings a over positive) (length crossings + 1) ≡ kink_crossing over positive a
+slots_of-new crossings a over positive =
+    let e : length crossings + 1 - 1 ≡ length (moved_crossings a crossings) + 0 = omega (arith, length-moved crossings a) in
+    ap (λ k. slice_index_or (kinked_crossings crossings a over positive) k []) e
+    ∙ get_or-append-add (moved_crossings a crossings) (kink_crossing over positive a ∷ []) 0 []
+
+-- the arc at a slot of an old crossing
+pub arc_in-kinked : (a : ℕ) (sign : Bool) (slots : List ℕ) (slot : ℕ) → slot < 4
+    → arc_in (kinked_slots a sign slots) slot ≡ kinked_name a (enters sign slot) (arc_in slots slot)
+arc_in-kinked a sign slots zero below = refl
+arc_in-kinked a sign slots (suc zero) below = refl
+arc_in-kinked a sign slots (suc (suc zero)) below = refl
+arc_in-kinked a sign slots (suc (suc (suc zero))) below = refl
+arc_in-kinked a sign slots (suc (suc (suc (suc slot)))) below = absurd (omega (arith, below))
+
+pub arc_of-old : (crossings : List (List ℕ)) (a : ℕ) (over positive : Bool) (dart : Dart) → IsDart crossings dart
+    → arc_of (kinked_crossings crossings a over positive) dart ≡ kinked_name a (is_head crossings dart) (arc_of crossings dart)
+arc_of-old crossings a over positive dart is =
+    let place = dart.crossing - 1 in
+    let below : place < length crossings = omega (arith, is.crossing.positive, is.crossing.within) in
+    let again : place + 1 ≡ dart.crossing = omega (arith, is.crossing.positive) in
+    ap (λ s. arc_in s dart.slot) (slots_at-old crossings a over positive place below)
+    ∙ arc_in-kinked a (positive_at crossings place) (slots_at crossings place) dart.slot is.slot
+    ∙ ap (λ c. kinked_name a (enters (is_positive crossings c) dart.slot) (arc_of crossings dart)) again
+
+pub arc_of-head : (crossings : List (List ℕ)) (a : ℕ) (over positive : Bool) (dart : Dart) → IsDart crossings dart
+    → is_head crossings dart ≡ true
+    → arc_of (kinked_crossings crossings a over positive) dart ≡ last a (arc_of crossings dart)
+arc_of-head crossings a over positive dart is head =
+    arc_of-old crossings a over positive dart is
+    ∙ ap (λ h. kinked_name a h (arc_of crossings dart)) head ∙ with_true (nat_eq (arc_of crossings dart) a) (a + 2) (raised a (arc_of crossings dart))
+  where
+    with_true : (b : Bool) (x y : ℕ) → (if b && true then x else y) ≡ (if b then x else y)
+    with_true true x y = refl
+    with_true false x y = refl
+
+pub arc_of-tail : (crossings : List (List ℕ)) (a : ℕ) (over positive : Bool) (dart : Dart) → IsDart crossings dart
+    → is_head crossings dart ≡ false
+    → arc_of (kinked_crossings crossings a over positive) dart ≡ raised a (arc_of crossings dart)
+arc_of-tail crossings a over positive dart is tail =
+    arc_of-old crossings a over positive dart is
+    ∙ ap (λ h. kinked_name a h (arc_of crossings dart)) tail ∙ with_false (nat_eq (arc_of crossings dart) a) (a + 2) (raised a (arc_of crossings dart))
+  where
+    with_false : (b : Bool) (x y : ℕ) → (if b && false then x else y) ≡ y
+    with_false true x y = refl
+    with_false false x y = refl
+
+-- where the passes of the new crossing begin and end: the first pass goes from a to a+1, the second from there to a+2
+abbrev pub under_start : Bool → ℕ → ℕ
+under_start over a = if over then a + 1 else a
+
+abbrev pub under_end : Bool → ℕ → ℕ
+under_end over a = if over then a + 2 else a + 1
+
+abbrev pub over_start : Bool → ℕ → ℕ
+over_start over a = if over then a else a + 1
+
+abbrev pub over_end : Bool → ℕ → ℕ
+over_end over a = if over then a + 1 else a + 2
+
+pub HasPasses-kink : (over positive : Bool) (a : ℕ)
+    → HasPasses (kink_crossing over positive a) positive (under_start over a) (under_end over a) (over_start over a) (over_end over a)
+HasPasses-kink true true a = record { under_from = refl; under_to = refl; over_from = refl; over_to = refl }
+HasPasses-kink true false a = record { under_from = refl; under_to = refl; over_from = refl; over_to = refl }
+HasPasses-kink false true a = record { under_from = refl; under_to = refl; over_from = refl; over_to = refl }
+HasPasses-kink false false a = record { under_from = refl; under_to = refl; over_from = refl; over_to = refl }
+
+-- the slots of the new crossing where a, a+2, and twice a+1 stand
+abbrev pub start_slot : Bool → Bool → ℕ
+start_slot true true = 3
+start_slot true false = 1
+start_slot false positive = 0
+
+abbrev pub end_slot : Bool → Bool → ℕ
+end_slot true positive = 2
+end_slot false true = 1
+end_slot false false = 3
+
+abbrev pub inner_slot : Bool → Bool → ℕ
+inner_slot true true = 0
+inner_slot true false = 3
+inner_slot false true = 2
+inner_slot false false = 1
+
+abbrev pub outer_slot : Bool → Bool → ℕ
+outer_slot true true = 1
+outer_slot true false = 0
+outer_slot false true = 3
+outer_slot false false = 2
+
+pub record HasKinkSlots (slots : List ℕ) (a : ℕ) (over positive : Bool) : Type 0 where
+  pub start : arc_in slots (start_slot over positive) ≡ a
+  pub end : arc_in slots (end_slot over positive) ≡ a + 2
+  pub inner : arc_in slots (inner_slot over positive) ≡ a + 1
+  pub outer : arc_in slots (outer_slot over positive) ≡ a + 1
+
+pub HasKinkSlots-kink : (over positive : Bool) (a : ℕ) → HasKinkSlots (kink_crossing over positive a) a over positive
+HasKinkSlots-kink true true a = record { start = refl; end = refl; inner = refl; outer = refl }
+HasKinkSlots-kink true false a = record { start = refl; end = refl; inner = refl; outer = refl }
+HasKinkSlots-kink false true a = record { start = refl; end = refl; inner = refl; outer = refl }
+HasKinkSlots-kink false false a = record { start = refl; end = refl; inner = refl; outer = refl }
+
+pub HasKinkSlots-new : (crossings : List (List ℕ)) (a : ℕ) (over positive : Bool)
+    → HasKinkSlots (slots_of (kinked_crossings crossings a over positive) (length crossings + 1)) a over positive
+HasKinkSlots-new crossings a over positive =
+    subst (λ (slots : List ℕ). HasKinkSlots slots a over positive) (sym (slots_of-new crossings a over positive)) (HasKinkSlots-kink over positive a)
+
+pub record AreFour (over positive : Bool) : Type 0 where
+  pub start : start_slot over positive < 4
+  pub end : end_slot over positive < 4
+  pub inner : inner_slot over positive < 4
+  pub outer : outer_slot over positive < 4
+  pub apart : inner_slot over positive ≢ outer_slot over positive
+
+pub AreFour-kink : (over positive : Bool) → AreFour over positive
+AreFour-kink true true = record { start = omega arith; end = omega arith; inner = omega arith; outer = omega arith; apart = λ same. omega (arith, same) }
+AreFour-kink true false = record { start = omega arith; end = omega arith; inner = omega arith; outer = omega arith; apart = λ same. omega (arith, same) }
+AreFour-kink false true = record { start = omega arith; end = omega arith; inner = omega arith; outer = omega arith; apart = λ same. omega (arith, same) }
+AreFour-kink false false = record { start = omega arith; end = omega arith; inner = omega arith; outer = omega arith; apart = λ same. omega (arith, same) }

@@ -1,0 +1,169 @@
+-- The darts of an accepted code, by their places.
+use Rattle.std.proofs.Common.{◌≡◌, ◌≢◌, ℕ, ◌⊎◌, inl, inr, ◌+◌, ◌-◌, ◌*◌, ◌/◌, ◌%◌, ◌<◌, ◌∙◌, List, sym, ap, arith, Bool, true, false, not, length, IsTrue}
+use Rattle.std.specs.Prelude.{nat_eq}
+use Rattle.kh_types.specs.Bits.{bit}
+use Rattle.kh_types.specs.Code.{Code, arc_count}
+use Rattle.kh_types.specs.Acceptance.{accepted}
+use Rattle.kh_types.specs.Accepted.{IsDirected}
+use Rattle.kh_types.specs.Colours.{colour, IsColoured}
+use Rattle.kh_types.specs.Darts.{dart_at, dart_place, arc_of, first_dart, partner_at, HasArcsTwice}
+use Rattle.kh_types.specs.Directions.{is_head, HasNoSingleArcs}
+use Rattle.kh_types.proofs.AcceptedLemmas.{HasArcsTwice-accepted}
+use Rattle.kh_types.proofs.DartPairs.{dart_place-at, IsDart-at, IsOtherPlace-partner_at, IsPairing-partner_at, partner-at_place, partner_at-only, IsDartOf-first_dart, dart_or_partner}
+use Rattle.kh_types.proofs.Heads.{is_head-partner}
+use Rattle.face_walk.proofs.FewFaces.{IsPlanar-accepted}
+use Rattle.kinks_and_fingers.specs.Strands.{name_at, dart_name, enters}
+use Rattle.kinks_and_fingers.specs.Drops.{positive_at}
+use Rattle.kinks_and_fingers.specs.Pulls.{IsClosedPlanar, dart_in}
+use Rattle.kinks_and_fingers.specs.Dropping.{is_code_head, is_colour}
+
+pub dart_name-arc_of : (crossings : List (List ℕ)) (x : ℕ) → arc_of crossings (dart_at x) ≡ dart_name crossings x
+dart_name-arc_of crossings x =
+    let e : x / 4 + 1 - 1 ≡ x / 4 = omega arith in ap (λ q. name_at crossings q (x % 4)) e
+
+pub IsClosedPlanar-accepted : (code : Code) → IsTrue (accepted code) → IsClosedPlanar (length code.crossings) (partner_at code.crossings)
+IsClosedPlanar-accepted code is =
+    let twice = HasArcsTwice-accepted code is in
+    record {
+      pairing = IsPairing-partner_at code.crossings twice;
+      other = λ x below. (IsOtherPlace-partner_at code.crossings x twice below).differs;
+      planar = IsPlanar-accepted code is;
+    }
+
+pub dart_name-partner : (crossings : List (List ℕ)) → HasArcsTwice crossings → (x : ℕ) → x < 4 * length crossings
+    → dart_name crossings (partner_at crossings x) ≡ dart_name crossings x
+dart_name-partner crossings twice x below =
+    sym (dart_name-arc_of crossings (partner_at crossings x)) ∙ (IsOtherPlace-partner_at crossings x twice below).same_arc
+    ∙ dart_name-arc_of crossings x
+
+-- two darts of one name, which are not one, are partners
+pub partner-named : (crossings : List (List ℕ)) → HasArcsTwice crossings → (x y : ℕ) → x < 4 * length crossings
+    → y < 4 * length crossings → y ≢ x → dart_name crossings y ≡ dart_name crossings x → partner_at crossings x ≡ y
+partner-named crossings twice x y x_below y_below differs same =
+    sym
+    (partner_at-only crossings x y twice x_below
+    (record {
+      below = y_below;
+      differs = differs;
+      same_arc = dart_name-arc_of crossings y ∙ same ∙ sym (dart_name-arc_of crossings x);
+    }))
+
+pub heads-partner : (crossings : List (List ℕ)) → IsDirected crossings → HasNoSingleArcs crossings → (x : ℕ) → x < 4 * length crossings
+    → is_code_head crossings (partner_at crossings x) ≡ not (is_code_head crossings x)
+heads-partner crossings directed moves x below =
+    ap (is_head crossings) (sym (partner-at_place crossings x))
+    ∙ is_head-partner crossings (dart_at x) directed moves (IsDart-at crossings x below)
+
+flip : (a b : ℕ) → a % 2 ≢ b % 2 → nat_eq (a % 2) 1 ≡ not (nat_eq (b % 2) 1)
+flip a b apart = elim (parity a) [
+  | inl even ↦ elim (parity b) [
+    | inl b_even ↦ absurd (apart (even ∙ sym b_even))
+    | inr b_odd ↦ ap (λ r. nat_eq r 1) even ∙ sym (ap (λ r. not (nat_eq r 1)) b_odd)
+  ]
+  | inr odd ↦ elim (parity b) [
+    | inl b_even ↦ ap (λ r. nat_eq r 1) odd ∙ sym (ap (λ r. not (nat_eq r 1)) b_even)
+    | inr b_odd ↦ absurd (apart (odd ∙ sym b_odd))
+  ]
+]
+  where
+    parity : (x : ℕ) → (x % 2 ≡ 0) ⊎ (x % 2 ≡ 1)
+    parity x = grind arith
+
+pub colours-partner : (crossings : List (List ℕ)) (choice : ℕ) → IsColoured crossings choice → HasArcsTwice crossings → (x : ℕ)
+    → x < 4 * length crossings → is_colour choice (partner_at crossings x) ≡ not (is_colour choice x)
+colours-partner crossings choice coloured twice x below =
+    let y = partner_at crossings x in
+    let other = IsOtherPlace-partner_at crossings x twice below in
+    let at : (z : ℕ) → colour choice (dart_at z) ≡ (bit choice (z / 4) + z % 4) % 2 =
+    λ z. let e : z / 4 + 1 - 1 ≡ z / 4 = omega arith in ap (λ q. (bit choice q + z % 4) % 2) e in
+    flip (bit choice (partner_at crossings x / 4) + partner_at crossings x % 4) (bit choice (x / 4) + x % 4)
+    (λ alike.
+    let same = coloured.once (dart_at (partner_at crossings x)) (dart_at x) (IsDart-at crossings (partner_at crossings x) other.below)
+    (IsDart-at crossings x below) other.same_arc (at (partner_at crossings x) ∙ alike ∙ sym (at x)) in
+    other.differs (sym (dart_place-at (partner_at crossings x)) ∙ ap dart_place same ∙ dart_place-at x))
+
+-- what partners share is a function of arcs
+abbrev pub on_arcs : List (List ℕ) → (ℕ → ℕ) → ℕ → ℕ
+on_arcs crossings whole arc = whole (dart_place (first_dart crossings arc))
+
+pub on_arcs-at : (crossings : List (List ℕ)) (whole : ℕ → ℕ) → HasArcsTwice crossings
+    → ((x : ℕ) → x < 4 * length crossings → whole (partner_at crossings x) ≡ whole x) → (x : ℕ) → x < 4 * length crossings
+    → on_arcs crossings whole (dart_name crossings x) ≡ whole x
+on_arcs-at crossings whole twice shared x below =
+    let dart = dart_at x in
+    let is = IsDart-at crossings x below in
+    let arc = arc_of crossings (dart_at x) in
+    let first = IsDartOf-first_dart crossings arc twice (twice.slots dart is) in
+    ap (on_arcs crossings whole) (sym (dart_name-arc_of crossings x))
+    ∙ elim (dart_or_partner crossings dart (first_dart crossings arc) twice is first.within first.on_arc) [
+      | inl same ↦ ap (λ d. whole (dart_place d)) same ∙ ap whole (dart_place-at x)
+      | inr mate ↦
+          ap (λ d. whole (dart_place d)) (mate ∙ partner-at_place crossings x)
+          ∙ ap whole (dart_place-at (partner_at crossings x)) ∙ shared x below
+    ]
+
+pub dart_name-below : (crossings : List (List ℕ)) → HasArcsTwice crossings → (x : ℕ) → x < 4 * length crossings
+    → dart_name crossings x < arc_count crossings + 1
+dart_name-below crossings twice x below =
+    let is = twice.slots (dart_at x) (IsDart-at crossings x below) in
+    omega (arith, sym (dart_name-arc_of crossings x), is.within)
+
+-- round a crossing
+
+pub dart_in-slot : (c q : ℕ) → dart_in c q % 4 ≡ q % 4
+dart_in-slot c q = omega arith
+
+place_in : (c q : ℕ) → dart_in c q / 4 ≡ c
+place_in c q = omega arith
+
+pub dart_name-in : (crossings : List (List ℕ)) (c q : ℕ) → dart_name crossings (dart_in c q) ≡ name_at crossings c (q % 4)
+dart_name-in crossings c q =
+    ap (λ a. name_at crossings a (dart_in c q % 4)) (place_in c q) ∙ ap (name_at crossings c) (dart_in-slot c q)
+
+pub across_cases : (q : ℕ) → (((q % 4 ≡ 0) × ((q + 2) % 4 ≡ 2)) ⊎ ((q % 4 ≡ 1) × ((q + 2) % 4 ≡ 3)))
+    ⊎ (((q % 4 ≡ 2) × ((q + 2) % 4 ≡ 0)) ⊎ ((q % 4 ≡ 3) × ((q + 2) % 4 ≡ 1)))
+across_cases q = elim (quarter q) [
+  | inl low ↦ elim low [ inl a ↦ inl (inl (a, omega (arith, a))) | inr a ↦ inl (inr (a, omega (arith, a))) ]
+  | inr high ↦ elim high [ inl a ↦ inr (inl (a, omega (arith, a))) | inr a ↦ inr (inr (a, omega (arith, a))) ]
+]
+  where
+    quarter : (q : ℕ) → ((q % 4 ≡ 0) ⊎ (q % 4 ≡ 1)) ⊎ ((q % 4 ≡ 2) ⊎ (q % 4 ≡ 3))
+    quarter q = grind arith
+
+enters-across : (b : Bool) (r s : ℕ) → (((r ≡ 0) × (s ≡ 2)) ⊎ ((r ≡ 1) × (s ≡ 3))) ⊎ (((r ≡ 2) × (s ≡ 0)) ⊎ ((r ≡ 3) × (s ≡ 1)))
+    → enters b s ≡ not (enters b r)
+enters-across true r s (inl (inl at)) = ap (enters true) at.1 ∙ sym (ap (λ z. not (enters true z)) at.0)
+enters-across true r s (inl (inr at)) = ap (enters true) at.1 ∙ sym (ap (λ z. not (enters true z)) at.0)
+enters-across true r s (inr (inl at)) = ap (enters true) at.1 ∙ sym (ap (λ z. not (enters true z)) at.0)
+enters-across true r s (inr (inr at)) = ap (enters true) at.1 ∙ sym (ap (λ z. not (enters true z)) at.0)
+enters-across false r s (inl (inl at)) = ap (enters false) at.1 ∙ sym (ap (λ z. not (enters false z)) at.0)
+enters-across false r s (inl (inr at)) = ap (enters false) at.1 ∙ sym (ap (λ z. not (enters false z)) at.0)
+enters-across false r s (inr (inl at)) = ap (enters false) at.1 ∙ sym (ap (λ z. not (enters false z)) at.0)
+enters-across false r s (inr (inr at)) = ap (enters false) at.1 ∙ sym (ap (λ z. not (enters false z)) at.0)
+
+pub heads-across : (crossings : List (List ℕ)) (c q : ℕ)
+    → is_code_head crossings (dart_in c (q + 2)) ≡ not (is_code_head crossings (dart_in c q))
+heads-across crossings c q =
+    head-in crossings c (q + 2) ∙ enters-across (positive_at crossings c) (q % 4) ((q + 2) % 4) (across_cases q)
+    ∙ ap not (sym (head-in crossings c q))
+  where
+    head-in : (crossings : List (List ℕ)) (c q : ℕ) → is_code_head crossings (dart_in c q) ≡ enters (positive_at crossings c) (q % 4)
+    head-in crossings c q =
+        ap (λ a. enters (positive_at crossings a) (dart_in c q % 4)) (place_in c q)
+        ∙ ap (enters (positive_at crossings c)) (dart_in-slot c q)
+
+pub colours-next : (choice c q : ℕ) → is_colour choice (dart_in c q) ≡ not (is_colour choice (dart_in c (q + 1)))
+colours-next choice c q =
+    colour-in choice c q ∙ flip (bit choice c + q % 4) (bit choice c + (q + 1) % 4) (differ (bit choice c) q)
+    ∙ ap not (sym (colour-in choice c (q + 1)))
+  where
+    colour-in : (choice c q : ℕ) → is_colour choice (dart_in c q) ≡ nat_eq ((bit choice c + q % 4) % 2) 1
+    colour-in choice c q =
+        ap (λ a. nat_eq ((bit choice a + dart_in c q % 4) % 2) 1) (place_in c q)
+        ∙ ap (λ r. nat_eq ((bit choice c + r) % 2) 1) (dart_in-slot c q)
+
+    differ : (b q : ℕ) → (b + q % 4) % 2 ≡ (b + (q + 1) % 4) % 2 → ⊥
+    differ b q same = omega (arith, same)
+
+pub dart_in-next : (c q : ℕ) → dart_in c (q + 4) ≡ dart_in c q
+dart_in-next c q = omega arith

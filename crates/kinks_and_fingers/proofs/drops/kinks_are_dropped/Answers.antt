@@ -1,0 +1,10 @@
+use Rattle.std.proofs.Common.{refl, arith}
+use Rattle.kinks_and_fingers.proofs.Sound.{HasKinkAt-found, IsSound-kink}
+use Rattle.kinks_and_fingers.proofs.drops.kinks_are_dropped.Goals as goal
+
+pub returns : goal.returns
+returns c = record {
+  found = HasKinkAt-found;
+  sound = IsSound-kink;
+  worked = record { below = omega arith; slot = omega arith; same = refl };
+}

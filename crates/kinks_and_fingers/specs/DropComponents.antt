@@ -1,0 +1,17 @@
+-- The components of crossings over names.
+use Rattle.std.specs.Prelude.{ℕ, ◌+◌, List, ◌&&◌}
+use Rattle.std.specs.List.{count_by, flat_map, range_with_len}
+use Rattle.kh_types.specs.Classes.{classes_of, is_least}
+use Rattle.kh_types.specs.Components.{passes_of}
+use Rattle.kinks_and_fingers.specs.Strands.{Strands}
+use Rattle.kinks_and_fingers.specs.Drops.{stands_in}
+
+-- how many classes of names below a bound the pairs make, of those that stand at some crossing
+abbrev pub standing_class_count : ℕ → List (List ℕ) → List (ℕ × ℕ) → ℕ
+standing_class_count bound crossings pairs =
+    count_by (λ name. is_least (classes_of bound pairs) name && stands_in crossings name) (range_with_len 0 bound)
+
+-- the components of crossings over names below a bound, and the loops
+abbrev pub strand_component_count : ℕ → Strands → ℕ
+strand_component_count bound strands =
+    standing_class_count bound strands.crossings (flat_map passes_of strands.crossings) + strands.loops

@@ -1,0 +1,16 @@
+pub mod FingerAdd
+pub mod Fingers
+pub mod FingerCodes
+pub mod FingerFaults
+pub mod Strands
+pub mod Insertions
+pub mod DropCircles
+pub mod DropComponents
+pub mod Drops
+pub mod Pulls
+pub mod Dropping
+pub mod KinkAdds
+pub mod WorkedDrops
+pub mod KinkCodes
+pub mod KinkFaults
+pub mod KinkBody

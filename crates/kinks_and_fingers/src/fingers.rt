@@ -1,0 +1,81 @@
+//! What a finger keeps.
+
+ghost use Rattle.std.specs.Prelude.{◌≡◌, ◌≢◌, ◌↔◌, ℕ, ◌+◌, ◌≤◌, ℤ, Bool, IsTrue, not, length, None, Ok};
+ghost use Rattle.kh_types.specs.Code.{Code, IsArc};
+ghost use Rattle.kh_types.specs.Components.{component_count};
+ghost use Rattle.kh_types.specs.Faces.{face_count, planar_face_count};
+ghost use Rattle.kh_types.specs.Acceptance.{accepted};
+ghost use Rattle.kh_types.specs.Accepted.{IsDirected};
+ghost use Rattle.kh_types.specs.Directions.{is_positive, plus_count, minus_count};
+ghost use Rattle.kh_types.specs.Code.{IsCrossing};
+ghost use Rattle.kinks_and_fingers.specs.FingerAdd.{with_finger, differ, AreOfOneFace, AreOfTwoPieces};
+ghost use Rattle.kh_types.specs.StateSum.{state_sum};
+ghost use Rattle.kh_types.specs.declared.limits.TheConstants.{CROSSINGS};
+ghost use Rattle.kinks_and_fingers.specs.FingerFaults.{early_fault, finger_added};
+ghost use Rattle.kinks_and_fingers.specs.FingerCodes.{IsWithFinger};
+
+/// A finger of an arc of an accepted code over another arc, on any sides: the code that results is directed and has as many
+/// components, and it is accepted exactly where it has n + 2k faces.
+pub fn fingers_are_accepted_where_they_are_planar()
+    ensures directed { (code : Code) (a b : ℕ) (a_left b_left : Bool) → IsTrue (accepted code)
+        → IsArc code.crossings a → IsArc code.crossings b → a ≢ b
+        → IsDirected (with_finger code a a_left b b_left).crossings }
+    ensures components { (code : Code) (a b : ℕ) (a_left b_left : Bool) → IsTrue (accepted code)
+        → IsArc code.crossings a → IsArc code.crossings b → a ≢ b
+        → component_count (with_finger code a a_left b b_left).crossings ≡ component_count code.crossings }
+    ensures accepted { (code : Code) (a b : ℕ) (a_left b_left : Bool) → IsTrue (accepted code)
+        → IsArc code.crossings a → IsArc code.crossings b → a ≢ b
+        → (face_count (with_finger code a a_left b b_left).crossings
+        ≡ planar_face_count (with_finger code a a_left b b_left).crossings)
+        ↔ IsTrue (accepted (with_finger code a a_left b b_left)) }
+{}
+
+/// The old crossings keep their signs, and the two new ones have opposite signs; the code with the finger meets what the law on state
+/// sums asks, and has the state sum of the code without it.
+pub fn fingers_keep_signs()
+    ensures old { (code : Code) (a b crossing : ℕ) (a_left b_left : Bool) → IsTrue (accepted code)
+        → IsArc code.crossings a → IsArc code.crossings b → a ≢ b → IsCrossing code.crossings crossing
+        → is_positive (with_finger code a a_left b b_left).crossings crossing ≡ is_positive code.crossings crossing }
+    ensures first { (code : Code) (a b : ℕ) (a_left b_left : Bool) → IsTrue (accepted code)
+        → IsArc code.crossings a → IsArc code.crossings b → a ≢ b
+        → is_positive (with_finger code a a_left b b_left).crossings (length code.crossings + 1) ≡ b_left }
+    ensures second { (code : Code) (a b : ℕ) (a_left b_left : Bool) → IsTrue (accepted code)
+        → IsArc code.crossings a → IsArc code.crossings b → a ≢ b
+        → is_positive (with_finger code a a_left b b_left).crossings (length code.crossings + 2) ≡ not b_left }
+    ensures meets { (code : Code) (a b : ℕ) (a_left b_left : Bool) → IsTrue (accepted code)
+        → IsArc code.crossings a → IsArc code.crossings b → a ≢ b
+        → (arcs : ℕ → ℕ) × (low : ℕ → ℕ)
+        × IsWithFinger b_left (differ a_left b_left) code (with_finger code a a_left b b_left) arcs low }
+    ensures state_sum { (code : Code) (a b : ℕ) (a_left b_left : Bool) → IsTrue (accepted code)
+        → IsArc code.crossings a → IsArc code.crossings b → a ≢ b → (exponent : ℤ)
+        → state_sum (with_finger code a a_left b b_left) exponent ≡ state_sum code exponent }
+{}
+
+/// Where the named sides of the two arcs are in one face, or the two arcs in two pieces, the code with the finger has n + 2k faces.
+pub fn fingers_are_planar()
+    ensures one_face { (code : Code) (a b : ℕ) (a_left b_left : Bool) → IsTrue (accepted code)
+        → IsArc code.crossings a → IsArc code.crossings b → a ≢ b
+        → AreOfOneFace code.crossings a a_left b b_left
+        → face_count (with_finger code a a_left b b_left).crossings
+        ≡ planar_face_count (with_finger code a a_left b b_left).crossings }
+    ensures two_pieces { (code : Code) (a b : ℕ) (a_left b_left : Bool) → IsTrue (accepted code)
+        → IsArc code.crossings a → IsArc code.crossings b → AreOfTwoPieces code.crossings a b
+        → face_count (with_finger code a a_left b b_left).crossings
+        ≡ planar_face_count (with_finger code a a_left b b_left).crossings }
+{}
+
+/// No fault but that of the faces comes exactly where the two are different arcs and there is room. What the move answers is accepted
+/// and has the state sum of the diagram before. Between arcs of two pieces it answers where no early fault comes.
+pub fn fingers_answer_accepted_codes()
+    ensures early { (code : Code) (a b : ℕ) → (early_fault code a b ≡ None)
+        ↔ (IsArc code.crossings a × IsArc code.crossings b × (a ≢ b)
+        × (length code.crossings + 2 ≤ CROSSINGS)) }
+    ensures accepted { (code new : Code) (a b : ℕ) (a_left b_left : Bool) → IsTrue (accepted code)
+        → finger_added code a a_left b b_left ≡ Ok new → IsTrue (accepted new) }
+    ensures state_sum { (code new : Code) (a b : ℕ) (a_left b_left : Bool) → IsTrue (accepted code)
+        → finger_added code a a_left b b_left ≡ Ok new → (exponent : ℤ)
+        → state_sum new exponent ≡ state_sum code exponent }
+    ensures two_pieces { (code : Code) (a b : ℕ) (a_left b_left : Bool) → IsTrue (accepted code)
+        → early_fault code a b ≡ None → AreOfTwoPieces code.crossings a b
+        → finger_added code a a_left b b_left ≡ Ok (with_finger code a a_left b b_left) }
+{}

@@ -1,0 +1,43 @@
+//! Fingers on known diagrams.
+
+ghost use Rattle.std.specs.Prelude.{◌≡◌, Ok, Err, Some, None, [], ◌∷◌, true, false};
+ghost use Rattle.kh_types.specs.declared.fault.CodeFault.TheVariants.{Checkerboard, Genus};
+ghost use Rattle.kh_types.specs.WorkedCodes.{without_loops, slots_with, curl, two_curls, trefoil, over_circle};
+ghost use Rattle.kh_types.specs.Acceptance.{first_fault, accepted, direction_fault, genus_fault};
+ghost use Rattle.kh_types.specs.Directions.{plus_count, minus_count};
+ghost use Rattle.kh_types.specs.StateSum.{state_sum, polynomial_text};
+ghost use Rattle.kinks_and_fingers.specs.declared.finger_fault.FingerFault.TheVariants.{NoArc, Loop, SameArc, Genus as FingerGenus};
+ghost use Rattle.kinks_and_fingers.specs.FingerFaults.{finger_added};
+ghost use Rattle.kinks_and_fingers.specs.FingerAdd.{with_finger, AreOfOneFace, AreOfTwoPieces};
+
+/// A finger of the one half of a curl over the other, on the outer sides; across itself, where the code has too few faces; between
+/// two pieces; of a circle of two arcs over its other half; and on the trefoil.
+pub fn known_fingers()
+    ensures outside { with_finger curl 1 true 2 false
+        ≡ without_loops (slots_with 3 1 4 6 ∷ slots_with 4 1 5 2 ∷ slots_with 5 3 6 2 ∷ []) }
+    ensures outside_accepted { accepted (with_finger curl 1 true 2 false) ≡ true }
+    ensures across { genus_fault (with_finger curl 1 true 2 true).crossings ≡ Some (Genus 3 5) }
+    ensures across_first { first_fault (with_finger curl 1 true 2 true) ≡ Some (Checkerboard 4) }
+    ensures across_directed { direction_fault (with_finger curl 1 true 2 true).crossings ≡ None }
+    ensures between { accepted (with_finger two_curls 1 true 3 true) ≡ true }
+    ensures between_other { accepted (with_finger two_curls 4 false 2 true) ≡ true }
+    ensures circle { direction_fault (with_finger over_circle 4 true 3 true).crossings ≡ None }
+    ensures three { first_fault (with_finger trefoil 1 true 3 true) ≡ None }
+    ensures three_plus { plus_count (with_finger trefoil 1 true 3 true).crossings ≡ 1 }
+    ensures three_minus { minus_count (with_finger trefoil 1 true 3 true).crossings ≡ 4 }
+{}
+
+/// What the move answers on a curl, and its faults in their order. The two sides of the first case are in one face; two curls that
+/// lie apart are two pieces.
+pub fn known_answers()
+    ensures outside { finger_added curl 1 true 2 false
+        ≡ Ok (without_loops (slots_with 3 1 4 6 ∷ slots_with 4 1 5 2 ∷ slots_with 5 3 6 2 ∷ [])) }
+    ensures across { finger_added curl 1 true 2 true ≡ Err (FingerGenus 3 5) }
+    ensures nothing { finger_added curl 0 true 0 true ≡ Err (NoArc 0) }
+    ensures second_nothing { finger_added curl 1 true 3 true ≡ Err (NoArc 3) }
+    ensures a_loop { finger_added (record curl { loops = 1 }) 3 true 3 true ≡ Err (Loop 3) }
+    ensures same { finger_added curl 2 true 2 false ≡ Err (SameArc 2) }
+    ensures one_face { AreOfOneFace curl.crossings 1 true 2 false }
+    ensures two_pieces { AreOfTwoPieces two_curls.crossings 1 3 }
+    ensures kept { polynomial_text (state_sum (with_finger curl 1 true 2 false)) ≡ polynomial_text (state_sum curl) }
+{}

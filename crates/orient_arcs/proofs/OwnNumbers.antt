@@ -1,0 +1,337 @@
+-- A code's own numbers stay, where it is directed and has no single arcs.
+use Rattle.std.proofs.Common.{◌≡◌, ℕ, zero, suc, ◌⊎◌, inl, inr, ◌+◌, ◌-◌, ◌*◌, ◌<◌, ◌≤◌, ◌∙◌, List, [], ◌∷◌, ◌++◌, length, map, get_or, refl, sym, ap, ap₂, subst, arith, Bool, true, false, not, ◌&&◌, ℤ, pos}
+use Rattle.std.specs.Prelude.{nat_eq, if◌then◌else◌, slice_index_or, MatchBool}
+use Rattle.std.specs.List.{position_or_len, range_with_len, AllByRecursion}
+use Rattle.std.proofs.lemmas.Bool.{cases_eq, cases_lt, eq-eqb, and_from}
+use Rattle.std.proofs.lemmas.List.{length-map}
+use Rattle.std.proofs.lemmas.List.FromFn.{length-range_with_len, get_or-range_with_len}
+use Rattle.kh_types.specs.Code.{Code, arc_in, slots_of, IsArc, IsCrossing}
+use Rattle.kh_types.specs.Components.{next}
+use Rattle.kh_types.specs.Directions.{is_positive, HasNoSingleArcs, IsPass}
+use Rattle.kh_types.specs.Accepted.{IsDirected}
+use Rattle.kh_types.proofs.Heads.{IsPass-under, IsPass-over}
+use Rattle.kh_types.proofs.NextArcs.{component, HasPlace-directed}
+use Rattle.kh_types.proofs.Ranges.{range-append}
+use Rattle.code_passes.proofs.LeastArcs.{IsFirstOf-directed}
+use Rattle.code_passes.specs.Passes as gauss
+use Rattle.code_passes.specs.Passes.{Pass}
+use Rattle.code_passes.specs.ComponentLabels as printing
+use Rattle.code_passes.specs.ComponentLabels.{label_at, component_labels}
+use Rattle.code_passes.proofs.ArcLabels.{IsOriented}
+use Rattle.code_passes.proofs.CutArcs.{IsFirst, IsFirst-next, size, component-in, end-within, size-positive}
+use Rattle.code_passes.proofs.TwoArcComponents.{turned-component}
+use Rattle.orient_arcs.specs.Parts.{Parts, ArePaired, parts_of, passes_through, passes_at, slots_in, is_positive_at, under_pass, over_pass}
+use Rattle.orient_arcs.specs.Renumbered.{follows, label_entered, walk, turned_names, is_in, bound_of, order_of, number_in, renamed, renumber}
+use Rattle.orient_arcs.specs.Steps.{order_below, is_new}
+use Rattle.orient_arcs.proofs.Members.{IsIn, is_in-true, is_in-false, neq-eqb, position-get, AreDistinct}
+use Rattle.orient_arcs.proofs.PairedPasses.{heads_of, entering-holds, entering-enters, label-once, length-heads, in-counted, counted-in, All-flat_map_range}
+use Rattle.orient_arcs.proofs.Labels.{turned-cases, turned-labels}
+use Rattle.orient_arcs.proofs.PairedCodes.{ArePaired-directed, positive-is, some-head, ends-arcs, arc-of}
+use Rattle.orient_arcs.proofs.Bridge.{below-bound, distinct-order}
+use Rattle.orient_arcs.proofs.ComponentSteps.{order-same, order-turned}
+
+-- numbers in a range
+in-range : (a n x : ℕ) → a ≤ x → x < a + n → IsIn x (range_with_len a n)
+in-range a zero x from below = absurd (omega (arith, from, below))
+in-range a (suc n) x from below = elim (cases_eq x a) [
+  | inl same ↦ inl same
+  | inr other ↦ inr (in-range (a + 1) n x (omega (arith, from, other)) (omega (arith, below)))
+]
+
+range-in : (a n x : ℕ) → IsIn x (range_with_len a n) → (a ≤ x) × (x < a + n)
+range-in a zero x is = absurd is
+range-in a (suc n) x (inl same) = (omega (arith, same), omega (arith, same))
+range-in a (suc n) x (inr later) = let is = range-in (a + 1) n x later in (omega (arith, is.0), omega (arith, is.1))
+
+module _ (code : Code) (directed : IsDirected code.crossings) (moves : HasNoSingleArcs code.crossings) where
+  abbrev cs : List (List ℕ)
+  cs = code.crossings
+
+  abbrev parts : Parts
+  parts = parts_of code
+
+  abbrev passes : List Pass
+  passes = passes_through parts
+
+  oriented : IsOriented cs
+  oriented = record { directed = directed; moves = moves }
+
+  paired : ArePaired parts
+  paired = ArePaired-directed code directed moves
+
+  -- a pass goes from an arc to the next, and its label is that of the arc
+  IsOwn : Pass → Type 0
+  IsOwn pass = (pass.leaves ≡ next cs pass.enters) × (pass.label ≡ printing.label_of cs pass.enters)
+
+  own-passes : AllByRecursion IsOwn passes
+  unfolding IsOwn
+  own-passes =
+      All-flat_map_range IsOwn (passes_at parts) 0 (length cs)
+      (λ place from below.
+      let within : place < length cs = omega (arith, below) in
+      let is : IsCrossing cs (place + 1) = record { positive = omega arith; within = omega (arith, within) } in
+      let e : place + 1 - 1 ≡ place = omega arith in
+      let under = IsPass-under cs directed moves (place + 1) is in
+      let over = IsPass-over cs directed moves (place + 1) is in
+      subst (λ (k : ℕ). AllByRecursion IsOwn
+      (under_pass (slots_in cs k) place ∷ over_pass (slots_in cs k) (is_positive_at parts.positive place) place ∷ [])) e (
+        (under.follows, sym (ap label_at under.head)),
+        (by (is_positive cs (place + 1)) (is_positive_at parts.positive place) (positive-is code directed moves place within) place over, tt),
+      ))
+    where
+      by : (b c : Bool) → c ≡ b → (place : ℕ)
+          → MatchBool b (IsPass code.crossings (place + 1) 3 1) (IsPass code.crossings (place + 1) 1 3)
+          → (arc_in (slots_of code.crossings (place + 1)) (if c then 1 else 3)
+          ≡ next code.crossings (arc_in (slots_of code.crossings (place + 1)) (if c then 3 else 1)))
+          × (pos (place + 1) ≡ printing.label_of code.crossings (arc_in (slots_of code.crossings (place + 1)) (if c then 3 else 1)))
+      by true true same place pass = (pass.follows, sym (ap label_at pass.head))
+      by false false same place pass = (pass.follows, sym (ap label_at pass.head))
+      by true false same place pass = absurd (cc)
+      by false true same place pass = absurd (cc)
+
+  -- the heads are the arcs
+  arc-head : (x : ℕ) → IsArc cs x → IsIn x (heads_of parts paired)
+  arc-head x is = in-counted (λ (pass : Pass). pass.enters) passes x (some-head code directed moves x is)
+
+  head-arc : (x : ℕ) → IsIn x (heads_of parts paired) → IsArc cs x
+  head-arc x is =
+      arc-of code directed moves (λ (pass : Pass). pass.enters) x (firsts passes (ends-arcs code directed moves))
+      (counted-in (λ (pass : Pass). pass.enters) passes x is)
+    where
+      firsts : (ps : List Pass) → AllByRecursion (λ (pass : Pass). IsArc code.crossings pass.enters × IsArc code.crossings pass.leaves) ps
+          → AllByRecursion (λ (pass : Pass). IsArc code.crossings pass.enters) ps
+      firsts [] all = tt
+      firsts (p ∷ ps) all = (all.0.0, firsts ps all.1)
+
+  follows-next : (x : ℕ) → IsArc cs x → follows passes x ≡ next cs x
+  unfolding IsOwn
+  follows-next x is =
+      (entering-holds parts paired IsOwn x own-passes (arc-head x is)).0
+      ∙ ap (next cs) (entering-enters parts paired x (arc-head x is))
+
+  label-own : (x : ℕ) → IsArc cs x → label_entered passes x ≡ printing.label_of cs x
+  unfolding IsOwn
+  label-own x is =
+      (entering-holds parts paired IsOwn x own-passes (arc-head x is)).1
+      ∙ ap (printing.label_of cs) (entering-enters parts paired x (arc-head x is))
+
+  -- a walk from a first arc goes over the arcs of its component
+  walk-range : (first : ℕ) → IsFirst cs first → (fuel i : ℕ) → i < size cs first → size cs first ≤ fuel + i
+      → walk (follows passes) first fuel (first + i) ≡ range_with_len (first + i) (size cs first - i)
+  walk-range first is zero i below enough = absurd (omega (arith, below, enough))
+  walk-range first is (suc fuel) i below enough =
+      let x = first + i in
+      let end = end-within cs directed first is in
+      let is_arc : IsArc cs x = record { positive = omega (arith, is.is_arc.positive); within = omega (arith, end, below) } in
+      let place = HasPlace-directed cs directed x is_arc in
+      let inside = component-in cs directed first x is (omega arith) (omega (arith, below)) in
+      let alike : size cs (component cs x) ≡ size cs first = ap (size cs) inside in
+      let goes = follows-next x is_arc in
+      elim (cases_lt (i + 1) (size cs first)) [
+        | inl more ↦
+            let to : follows passes x ≡ first + (i + 1) =
+            goes ∙ place.inside (omega (arith, more, inside, alike)) ∙ omega arith in
+            let e : size cs first - i ≡ suc (size cs first - (i + 1)) = omega (arith, more) in
+            let f : first + i + 1 ≡ first + (i + 1) = omega arith in
+            ap (λ y. x ∷ (if nat_eq y first then [] else walk (follows passes) first fuel y)) to
+            ∙ ap (λ b. x ∷ (if b then [] else walk (follows passes) first fuel (first + (i + 1))))
+            (neq-eqb (first + (i + 1)) first (λ same. absurd (omega (arith, same))))
+            ∙ ap (λ ys. x ∷ ys) (walk-range first is fuel (i + 1) more (omega (arith, enough)) ∙ ap (λ k. range_with_len k (size cs first - (i + 1))) (sym f))
+            ∙ ap (λ k. range_with_len x k) (sym e)
+        | inr last ↦
+            let to : follows passes x ≡ first = goes ∙ place.last (omega (arith, last, inside, alike)) ∙ inside in
+            let e : size cs first - i ≡ suc zero = omega (arith, last, below) in
+            ap (λ b. x ∷ (if b then [] else walk (follows passes) first fuel (follows passes x))) (eq-eqb (follows passes x) first to)
+            ∙ ap (λ k. range_with_len x k) (sym e)
+      ]
+
+  -- which is not turned
+  turned-own : (first : ℕ) → IsFirst cs first
+      → turned_names (label_entered passes) (range_with_len first (size cs first)) ≡ range_with_len first (size cs first)
+  turned-own first is =
+      let names = range_with_len first (size cs first) in
+      let label = label_entered passes in
+      let end = end-within cs directed first is in
+      let arcs_in : (x : ℕ) → IsIn x names → IsArc cs x =
+      λ x here. let r = range-in first (size cs first) x here in
+      record { positive = omega (arith, r.0, is.is_arc.positive); within = omega (arith, r.1, end) } in
+      let labels : map label names ≡ component_labels cs first =
+      map-alike label (printing.label_of cs) names (λ x here. label-own x (arcs_in x here)) in
+      let same : map label (turned_names label names) ≡ map label names =
+      sym (turned-labels label names) ∙ ap gauss.turned labels ∙ turned-component cs first oriented is ∙ sym labels in
+      elim (turned-cases label names) [
+        | inl stays ↦ stays
+        | inr two ↦
+            let a = two.0 in
+            let b = two.1 in
+            let heads : label b ≡ label a =
+            ap (λ ls. get_or ls 0 (pos 0)) (sym (ap (map label) two.3) ∙ same ∙ ap (map label) two.2) in
+            let a_in : IsIn a names = subst (λ (xs : List ℕ). IsIn a xs) (sym two.2) (inl refl) in
+            let b_in : IsIn b names = subst (λ (xs : List ℕ). IsIn b xs) (sym two.2) (inr (inl refl)) in
+            let one = label-once parts paired b a (arc-head b (arcs_in b b_in)) (arc-head a (arcs_in a a_in)) heads in
+            two.3 ∙ ap₂ (λ x y. x ∷ y ∷ []) one (sym one) ∙ sym two.2
+      ]
+    where
+      map-alike : (f g : ℕ → ℤ) (xs : List ℕ) → ((x : ℕ) → IsIn x xs → f x ≡ g x) → map f xs ≡ map g xs
+      map-alike f g [] each = refl
+      map-alike f g (x ∷ xs) each = ap₂ (λ y ys. y ∷ ys) (each x (inl refl)) (map-alike f g xs (λ z z_in. each z (inr z_in)))
+
+  -- how far the order has come
+  record IsUpTo (k : ℕ) : Type 0 where
+    pub last : ℕ
+    pub order : order_below passes k ≡ range_with_len 1 last
+    pub within : last ≤ 2 * length cs
+    pub first : last < 2 * length cs → IsFirst cs (last + 1)
+    pub reached : (k ≤ last + 1) ⊎ (last ≡ 2 * length cs)
+
+  up-to-more : (k : ℕ) → IsUpTo k → IsUpTo (k + 1)
+  up-to-more k up = elim (cases_lt k (up.last + 1)) [
+    | inl early ↦
+        let old : is_new passes (order_below passes k) k ≡ false =
+        (elim (cases_eq k 0) [
+          | inl none ↦
+              ap (λ b. b && not (is_in (order_below passes k) k))
+              (is_in-false k (heads_of parts paired) (λ here. absurd (omega (arith, none, (head-arc k here).positive))))
+          | inr some ↦
+              and_not (is_in (heads_of parts paired) k) (is_in (order_below passes k) k)
+              (ap (λ os. is_in os k) up.order
+              ∙ is_in-true k (range_with_len 1 up.last) (in-range 1 up.last k (omega (arith, some)) (omega (arith, early))))
+        ]) in
+        record {
+          last = up.last;
+          order = sym (order-same parts paired k old) ∙ up.order;
+          within = up.within;
+          first = up.first;
+          reached = inl (omega (arith, early));
+        }
+    | inr late ↦ elim (cases_lt up.last (2 * length cs)) [
+      | inr done ↦
+          let full : up.last ≡ 2 * length cs = omega (arith, done, up.within) in
+          let old : is_new passes (order_below passes k) k ≡ false =
+          ap (λ b. b && not (is_in (order_below passes k) k))
+          (is_in-false k (heads_of parts paired) (λ here. absurd (omega (arith, late, done, (head-arc k here).within)))) in
+          record {
+            last = up.last;
+            order = sym (order-same parts paired k old) ∙ up.order;
+            within = up.within;
+            first = up.first;
+            reached = inr full;
+          }
+      | inl more ↦
+          let k_is : k ≡ up.last + 1 = elim up.reached [
+            | inl early ↦ omega (arith, early, late)
+            | inr full ↦ absurd (omega (arith, full, more))
+          ] in
+          let is : IsFirst cs k = subst (λ (x : ℕ). IsFirst cs x) (sym k_is) (up.first more) in
+          let count = size cs k in
+          let some = size-positive cs directed k is in
+          let end = end-within cs directed k is in
+          let new : is_new passes (order_below passes k) k ≡ true =
+          and_from (is_in (heads_of parts paired) k) (not (is_in (order_below passes k) k))
+          (is_in-true k (heads_of parts paired) (arc-head k is.is_arc))
+          (ap (λ os. not (is_in os k)) up.order
+          ∙ ap not (is_in-false k (range_with_len 1 up.last)
+          (λ here. absurd (omega (arith, k_is, (range-in 1 up.last k here).1))))) in
+          let length_passes : length passes ≡ 2 * length cs =
+          sym (length-map passes (λ (pass : Pass). pass.enters)) ∙ length-heads parts paired in
+          let zero_more : k ≡ k + 0 = omega arith in
+          let walked : walk (follows passes) k (length passes) k ≡ range_with_len k count =
+          ap (λ x. walk (follows passes) k (length passes) x) zero_more
+          ∙ walk-range k is (length passes) 0 (omega (arith, some)) (omega (arith, length_passes, end, is.is_arc.positive))
+          ∙ ap₂ (λ x n. range_with_len x n) (sym zero_more) (omega arith) in
+          let begins : k ≡ 1 + up.last = omega (arith, k_is) in
+          record {
+            last = up.last + count;
+            order = sym (order-turned parts paired k new)
+                ∙ ap₂ (λ xs ys. xs ++ ys) up.order
+                (ap (turned_names (label_entered passes)) walked ∙ turned-own k is ∙ ap (λ x. range_with_len x count) begins)
+                ∙ sym (range-append 1 up.last count);
+            within = omega (arith, end, k_is);
+            first = λ left.
+                let e : k + count ≡ up.last + count + 1 = omega (arith, k_is) in
+                subst (λ (x : ℕ). IsFirst cs x) e (IsFirst-next cs directed k is (omega (arith, left, k_is)));
+            reached = inl (omega (arith, k_is, some));
+          }
+    ]
+  ]
+    where
+      and_not : (b c : Bool) → c ≡ true → (b && not c) ≡ false
+      and_not true true holds = refl
+      and_not false true holds = refl
+      and_not true false holds = absurd (cc)
+      and_not false false holds = refl
+
+  up-to : (k : ℕ) → IsUpTo k
+  up-to zero = record {
+    last = 0;
+    order = refl;
+    within = omega arith;
+    first = λ some.
+        let is : IsArc cs 1 = record { positive = omega arith; within = omega (arith, some) } in
+        let least = (HasPlace-directed cs directed 1 is).from in
+        let positive = (IsFirstOf-directed cs directed 1 is).is_arc.positive in
+        record { is_arc = is; own = omega (arith, least, positive) };
+    reached = inl (omega arith);
+  }
+  up-to (suc k) =
+      let e : k + 1 ≡ suc k = omega arith in subst (λ (j : ℕ). IsUpTo j) e (up-to-more k (up-to k))
+
+  pub own-order : order_of passes ≡ range_with_len 1 (2 * length cs)
+  own-order =
+      let up = up-to (bound_of passes) in
+      let all : up.last ≡ 2 * length cs = elim up.reached [
+        | inr full ↦ full
+        | inl reached ↦ elim (cases_lt up.last (2 * length cs)) [
+          | inr done ↦ omega (arith, done, up.within)
+          | inl more ↦
+              let last_arc : IsArc cs (2 * length cs) = record { positive = omega (arith, more); within = omega arith } in
+              let below = below-bound passes (2 * length cs) (arc-head (2 * length cs) last_arc) in
+              absurd (omega (arith, below, reached, more))
+        ]
+      ] in
+      up.order ∙ ap (λ n. range_with_len 1 n) all
+
+  pub own-number : (x : ℕ) → IsArc cs x → number_in (order_of passes) x ≡ x
+  own-number x is =
+      let n = 2 * length cs in
+      let k = x - 1 in
+      let at : get_or (range_with_len 1 n) k 0 ≡ x =
+      get_or-range_with_len 1 n k 0 (omega (arith, is.positive, is.within)) ∙ omega (arith, is.positive) in
+      let distinct : AreDistinct (range_with_len 1 n) =
+      subst (λ (xs : List ℕ). AreDistinct xs) own-order (distinct-order parts paired) in
+      let place = position-get (range_with_len 1 n) k distinct
+      (omega (arith, length-range_with_len 1 n, is.positive, is.within)) in
+      ap (λ os. number_in os x) own-order
+      ∙ ap (λ p. p + 1) (ap (λ z. position_or_len (nat_eq z) (range_with_len 1 n)) (sym at) ∙ place) ∙ omega (arith, is.positive)
+
+  pub own-renumbered : AllByRecursion (λ (slots : List ℕ). length slots ≡ 4) cs → renumber parts ≡ code
+  own-renumbered four =
+      let made : List (List ℕ) → Code = λ xs. record { crossings = xs; loops = code.loops } in
+      ap made
+      (stay (number_in (order_of passes)) cs 0 four
+      (λ k slot below slot_below.
+      let e : k + 1 - 1 ≡ k = omega arith in
+      subst (λ (j : ℕ). number_in (order_of passes) (arc_in (slots_in cs j) slot) ≡ arc_in (slots_in cs j) slot) e
+      (own-number (arc_in (slots_in cs (k + 1 - 1)) slot)
+      (directed.slots (record { crossing = k + 1; slot = slot })
+      (record { crossing = record { positive = omega arith; within = omega (arith, below) }; slot = slot_below })))))
+    where
+      quad : (number : ℕ → ℕ) (slots : List ℕ) → length slots ≡ 4
+          → ((slot : ℕ) → slot < 4 → number (arc_in slots slot) ≡ arc_in slots slot) → renamed number slots ≡ slots
+      quad number [] size each = absurd (omega (arith, size))
+      quad number (i ∷ []) size each = absurd (omega (arith, size))
+      quad number (i ∷ j ∷ []) size each = absurd (omega (arith, size))
+      quad number (i ∷ j ∷ k ∷ []) size each = absurd (omega (arith, size))
+      quad number (i ∷ j ∷ k ∷ l ∷ []) size each =
+          ap₂ (λ x y. x ∷ y ∷ number k ∷ number l ∷ []) (each 0 (omega arith)) (each 1 (omega arith))
+          ∙ ap₂ (λ x y. i ∷ j ∷ x ∷ y ∷ []) (each 2 (omega arith)) (each 3 (omega arith))
+      quad number (i ∷ j ∷ k ∷ l ∷ m ∷ more) size each = absurd (omega (arith, size))
+
+      stay : (number : ℕ → ℕ) (xs : List (List ℕ)) (a : ℕ) → AllByRecursion (λ (slots : List ℕ). length slots ≡ 4) xs
+          → ((k slot : ℕ) → k < length xs → slot < 4
+          → number (arc_in (slice_index_or xs k []) slot) ≡ arc_in (slice_index_or xs k []) slot)
+          → map (renamed number) xs ≡ xs
+      stay number [] a four each = refl
+      stay number (x ∷ xs) a four each =
+          ap₂ (λ y ys. y ∷ ys) (quad number x four.0 (λ slot below. each 0 slot (omega arith) below))
+          (stay number xs a four.1 (λ k slot below slot_below. each (suc k) slot (omega (arith, below)) slot_below))

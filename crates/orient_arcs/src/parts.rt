@@ -1,0 +1,23 @@
+//! Crossings over arc names, with directions.
+
+use arrayvec::ArrayVec;
+use kh_types::{CROSSINGS, Crossing};
+use std::marker::Model;
+
+/// Crossings over arc names, with the direction of each, and a number of loops.
+#[derive(Debug, Drop)]
+pub struct Parts {
+    pub crossings: ArrayVec<Crossing, CROSSINGS>,
+    pub positive: ArrayVec<bool, CROSSINGS>,
+    pub loops: u8,
+}
+
+impl Model for Parts {
+    ghost use Rattle.orient_arcs.specs.Parts.{Parts};
+
+    ghost Value = { Parts };
+
+    ghost use Rattle.orient_arcs.specs.RawParts.{parts_of_raw};
+
+    ghost view = { parts_of_raw };
+}

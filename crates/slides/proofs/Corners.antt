@@ -1,0 +1,222 @@
+-- Darts at the three corners of a triangle, and functions of darts that are given corner by corner.
+use Rattle.std.proofs.Common.{◌≡◌, ◌≢◌, ℕ, zero, suc, inl, inr, ◌+◌, ◌*◌, ◌/◌, ◌%◌, ◌<◌, ◌∙◌, List, sym, refl, ap, subst, arith, true, false, cond, eq-eqb}
+use Rattle.std.specs.Prelude.{nat_eq, slice_index}
+use Rattle.std.proofs.Math.Path.{fun_ext}
+use Rattle.std.proofs.lemmas.Bool.{cases_eq}
+use Rattle.std.proofs.lemmas.Bool.Decides.{nat_tests}
+use Rattle.slides.specs.Slid.{on, steps_from, corner, source}
+
+-- slots on from a dart
+
+pub on-crossing : (place steps : ℕ) → on place steps / 4 ≡ place / 4
+on-crossing place steps = omega arith
+
+pub on-slot : (place steps : ℕ) → on place steps % 4 ≡ (place % 4 + steps) % 4
+on-slot place steps = omega arith
+
+pub on-zero : (place : ℕ) → on place 0 ≡ place
+on-zero place = omega arith
+
+pub on-on : (place a b : ℕ) → on (on place a) b ≡ on place (a + b)
+on-on place a b = omega arith
+
+pub on-round : (place a : ℕ) → on place (a + 4) ≡ on place a
+on-round place a = omega arith
+
+pub on-steps_from : (from place : ℕ) → place / 4 ≡ from / 4 → on from (steps_from from place) ≡ place
+on-steps_from from place same = omega (arith, same)
+
+pub steps_from-below : (from place : ℕ) → steps_from from place < 4
+steps_from-below from place = omega arith
+
+pub steps_from-on : (from steps : ℕ) → steps < 4 → steps_from from (on from steps) ≡ steps
+steps_from-on from steps below = omega (arith, below)
+
+pub on-below : (n place steps : ℕ) → place < 4 * n → on place steps < 4 * n
+on-below n place steps below = omega (arith, below)
+
+pub on-apart : (place a b : ℕ) → a < 4 → b < 4 → a ≢ b → on place a ≢ on place b
+on-apart place a b a_below b_below apart same = apart (omega (arith, a_below, b_below, same))
+
+-- three crossings
+
+pub record AreApart (x y z : ℕ) : Type 0 where
+  pub x_y : x / 4 ≢ y / 4
+  pub x_z : x / 4 ≢ z / 4
+  pub y_z : y / 4 ≢ z / 4
+
+pub AreApart-rotated : (x y z : ℕ) → AreApart x y z → AreApart y z x
+AreApart-rotated x y z apart = record {
+  x_y = apart.y_z;
+  x_z = λ same. apart.x_y (sym same);
+  y_z = λ same. apart.x_z (sym same);
+}
+
+pub AreApart-on : (x y z a b c : ℕ) → AreApart x y z → AreApart (on x a) (on y b) (on z c)
+AreApart-on x y z a b c apart = record {
+  x_y = λ same. apart.x_y (sym (on-crossing x a) ∙ same ∙ on-crossing y b);
+  x_z = λ same. apart.x_z (sym (on-crossing x a) ∙ same ∙ on-crossing z c);
+  y_z = λ same. apart.y_z (sym (on-crossing y b) ∙ same ∙ on-crossing z c);
+}
+
+-- darts at two crossings differ
+pub crossings-apart : (x y a b : ℕ) → x / 4 ≢ y / 4 → on x a ≢ on y b
+crossings-apart x y a b apart same = apart (sym (on-crossing x a) ∙ ap (λ k. k / 4) same ∙ on-crossing y b)
+
+-- cases
+
+pub four : (P : ℕ → Type 0) → P 0 → P 1 → P 2 → P 3 → (j : ℕ) → j < 4 → P j
+four P at_0 at_1 at_2 at_3 zero below = at_0
+four P at_0 at_1 at_2 at_3 (suc zero) below = at_1
+four P at_0 at_1 at_2 at_3 (suc (suc zero)) below = at_2
+four P at_0 at_1 at_2 at_3 (suc (suc (suc zero))) below = at_3
+four P at_0 at_1 at_2 at_3 (suc (suc (suc (suc j)))) below = absurd (omega (arith, below))
+
+-- whether a dart is at none of the three crossings
+pub record IsOutside (x y z place : ℕ) : Type 0 where
+  pub not_x : place / 4 ≢ x / 4
+  pub not_y : place / 4 ≢ y / 4
+  pub not_z : place / 4 ≢ z / 4
+
+pub at_places : (x y z : ℕ) (P : ℕ → Type 0) → ((j : ℕ) → j < 4 → P (on x j)) → ((j : ℕ) → j < 4 → P (on y j))
+    → ((j : ℕ) → j < 4 → P (on z j)) → ((place : ℕ) → IsOutside x y z place → P place) → (place : ℕ) → P place
+at_places x y z P at_x at_y at_z outside place = elim (cases_eq (place / 4) (x / 4)) [
+  | inl is_x ↦ subst P (on-steps_from x place is_x) (at_x (steps_from x place) (steps_from-below x place))
+  | inr not_x ↦ elim (cases_eq (place / 4) (y / 4)) [
+    | inl is_y ↦ subst P (on-steps_from y place is_y) (at_y (steps_from y place) (steps_from-below y place))
+    | inr not_y ↦ elim (cases_eq (place / 4) (z / 4)) [
+      | inl is_z ↦ subst P (on-steps_from z place is_z) (at_z (steps_from z place) (steps_from-below z place))
+      | inr not_z ↦ outside place (record { not_x = not_x; not_y = not_y; not_z = not_z })
+    ]
+  ]
+]
+
+-- functions by corners
+
+-- at each corner a list of darts for the slots on from its dart of the triangle, and elsewhere the dart itself
+abbrev pub by_corner : List ℕ → List ℕ → List ℕ → ℕ → ℕ → ℕ → ℕ → ℕ
+by_corner xs ys zs x y z place =
+    cond (nat_eq (place / 4) (x / 4)) (slice_index xs (steps_from x place))
+    (cond (nat_eq (place / 4) (y / 4)) (slice_index ys (steps_from y place))
+    (cond (nat_eq (place / 4) (z / 4)) (slice_index zs (steps_from z place)) place))
+
+pub eq_yes : (a b : ℕ) → a ≡ b → nat_eq a b ≡ true
+eq_yes a b same = eq-eqb a b same
+
+pub eq_no : (a b : ℕ) → a ≢ b → nat_eq a b ≡ false
+eq_no a b apart = grind (arith, nat_tests)
+
+pub by_corner-x : (xs ys zs : List ℕ) (x y z j : ℕ) → j < 4 → by_corner xs ys zs x y z (on x j) ≡ slice_index xs j
+by_corner-x xs ys zs x y z j below =
+    let place = on x j in
+    ap (λ b. cond b (slice_index xs (steps_from x place))
+    (cond (nat_eq (place / 4) (y / 4)) (slice_index ys (steps_from y place))
+    (cond (nat_eq (place / 4) (z / 4)) (slice_index zs (steps_from z place)) place)))
+    (eq_yes (place / 4) (x / 4) (on-crossing x j))
+    ∙ ap (λ k. slice_index xs k) (steps_from-on x j below)
+
+pub by_corner-y : (xs ys zs : List ℕ) (x y z j : ℕ) → AreApart x y z → j < 4 → by_corner xs ys zs x y z (on y j) ≡ slice_index ys j
+by_corner-y xs ys zs x y z j apart below =
+    let place = on y j in
+    ap (λ b. cond b (slice_index xs (steps_from x place))
+    (cond (nat_eq (place / 4) (y / 4)) (slice_index ys (steps_from y place))
+    (cond (nat_eq (place / 4) (z / 4)) (slice_index zs (steps_from z place)) place)))
+    (eq_no (place / 4) (x / 4) (λ same. apart.x_y (sym same ∙ on-crossing y j)))
+    ∙ ap (λ b. cond b (slice_index ys (steps_from y place))
+    (cond (nat_eq (place / 4) (z / 4)) (slice_index zs (steps_from z place)) place))
+    (eq_yes (place / 4) (y / 4) (on-crossing y j))
+    ∙ ap (λ k. slice_index ys k) (steps_from-on y j below)
+
+pub by_corner-z : (xs ys zs : List ℕ) (x y z j : ℕ) → AreApart x y z → j < 4 → by_corner xs ys zs x y z (on z j) ≡ slice_index zs j
+by_corner-z xs ys zs x y z j apart below =
+    let place = on z j in
+    ap (λ b. cond b (slice_index xs (steps_from x place))
+    (cond (nat_eq (place / 4) (y / 4)) (slice_index ys (steps_from y place))
+    (cond (nat_eq (place / 4) (z / 4)) (slice_index zs (steps_from z place)) place)))
+    (eq_no (place / 4) (x / 4) (λ same. apart.x_z (sym same ∙ on-crossing z j)))
+    ∙ ap (λ b. cond b (slice_index ys (steps_from y place))
+    (cond (nat_eq (place / 4) (z / 4)) (slice_index zs (steps_from z place)) place))
+    (eq_no (place / 4) (y / 4) (λ same. apart.y_z (sym same ∙ on-crossing z j)))
+    ∙ ap (λ b. cond b (slice_index zs (steps_from z place)) place) (eq_yes (place / 4) (z / 4) (on-crossing z j))
+    ∙ ap (λ k. slice_index zs k) (steps_from-on z j below)
+
+pub by_corner-outside : (xs ys zs : List ℕ) (x y z place : ℕ) → IsOutside x y z place → by_corner xs ys zs x y z place ≡ place
+by_corner-outside xs ys zs x y z place outside =
+    ap (λ b. cond b (slice_index xs (steps_from x place))
+    (cond (nat_eq (place / 4) (y / 4)) (slice_index ys (steps_from y place))
+    (cond (nat_eq (place / 4) (z / 4)) (slice_index zs (steps_from z place)) place)))
+    (eq_no (place / 4) (x / 4) outside.not_x)
+    ∙ ap (λ b. cond b (slice_index ys (steps_from y place))
+    (cond (nat_eq (place / 4) (z / 4)) (slice_index zs (steps_from z place)) place))
+    (eq_no (place / 4) (y / 4) outside.not_y)
+    ∙ ap (λ b. cond b (slice_index zs (steps_from z place)) place) (eq_no (place / 4) (z / 4) outside.not_z)
+
+-- the corners may be named from any on
+pub by_corner-rotated : (xs ys zs : List ℕ) (x y z : ℕ) → AreApart x y z → by_corner xs ys zs x y z ≡ by_corner ys zs xs y z x
+by_corner-rotated xs ys zs x y z apart =
+    let turned_apart = AreApart-rotated x y z apart in
+    fun_ext (at_places x y z (λ place. by_corner xs ys zs x y z place ≡ by_corner ys zs xs y z x place)
+    (λ j below. by_corner-x xs ys zs x y z j below ∙ sym (by_corner-z ys zs xs y z x j turned_apart below))
+    (λ j below. by_corner-y xs ys zs x y z j apart below ∙ sym (by_corner-x ys zs xs y z x j below))
+    (λ j below. by_corner-z xs ys zs x y z j apart below ∙ sym (by_corner-y ys zs xs y z x j turned_apart below))
+    (λ place outside. by_corner-outside xs ys zs x y z place outside
+    ∙ sym (by_corner-outside ys zs xs y z x place
+    (record { not_x = outside.not_y; not_y = outside.not_z; not_z = outside.not_x }))))
+
+-- where the arcs come from
+
+pub source-is : (x y z place : ℕ) → source x y z place ≡ by_corner (corner y z) (corner z x) (corner x y) x y z place
+source-is x y z place = refl
+
+pub source-x : (x y z j : ℕ) → j < 4 → source x y z (on x j) ≡ slice_index (corner y z) j
+source-x x y z j below = by_corner-x (corner y z) (corner z x) (corner x y) x y z j below
+
+pub source-y : (x y z j : ℕ) → AreApart x y z → j < 4 → source x y z (on y j) ≡ slice_index (corner z x) j
+source-y x y z j apart below = by_corner-y (corner y z) (corner z x) (corner x y) x y z j apart below
+
+pub source-z : (x y z j : ℕ) → AreApart x y z → j < 4 → source x y z (on z j) ≡ slice_index (corner x y) j
+source-z x y z j apart below = by_corner-z (corner y z) (corner z x) (corner x y) x y z j apart below
+
+pub source-outside : (x y z place : ℕ) → IsOutside x y z place → source x y z place ≡ place
+source-outside x y z place outside = by_corner-outside (corner y z) (corner z x) (corner x y) x y z place outside
+
+pub source-rotated : (x y z : ℕ) → AreApart x y z → source x y z ≡ source y z x
+source-rotated x y z apart = by_corner-rotated (corner y z) (corner z x) (corner x y) x y z apart
+
+-- twice leads back
+source-source_x : (x y z : ℕ) → AreApart x y z → (j : ℕ) → j < 4 → source x y z (source x y z (on x j)) ≡ on x j
+source-source_x x y z apart =
+    four (λ j. source x y z (source x y z (on x j)) ≡ on x j)
+    (ap (source x y z) (source-x x y z 0 (omega arith)) ∙ source-y x y z 3 apart (omega arith) ∙ sym (on-zero x))
+    (ap (source x y z) (source-x x y z 1 (omega arith)) ∙ source-z x y z 2 apart (omega arith))
+    (ap (source x y z) (source-x x y z 2 (omega arith)) ∙ source-y x y z 1 apart (omega arith))
+    (ap (source x y z) (source-x x y z 3 (omega arith) ∙ sym (on-zero z)) ∙ source-z x y z 0 apart (omega arith))
+
+pub source-source : (x y z : ℕ) → AreApart x y z → (place : ℕ) → source x y z (source x y z place) ≡ place
+source-source x y z apart =
+    let once = source-rotated x y z apart in
+    let turned_apart = AreApart-rotated x y z apart in
+    let twice = once ∙ source-rotated y z x turned_apart in
+    at_places x y z (λ place. source x y z (source x y z place) ≡ place)
+    (source-source_x x y z apart)
+    (λ j below. ap (λ f. f (f (on y j))) once ∙ source-source_x y z x turned_apart j below)
+    (λ j below. ap (λ f. f (f (on z j))) twice ∙ source-source_x z x y (AreApart-rotated y z x turned_apart) j below)
+    (λ place outside. ap (source x y z) (source-outside x y z place outside) ∙ source-outside x y z place outside)
+
+source-below_x : (n x y z : ℕ) → y < 4 * n → z < 4 * n → (j : ℕ) → j < 4 → source x y z (on x j) < 4 * n
+source-below_x n x y z y_below z_below j below =
+    subst (λ (k : ℕ). k < 4 * n) (sym (source-x x y z j below))
+    (four (λ i. slice_index (corner y z) i < 4 * n) (on-below n y 3 y_below) (on-below n z 2 z_below) (on-below n y 1 y_below) z_below
+    j below)
+
+pub source-below : (n x y z : ℕ) → AreApart x y z → x < 4 * n → y < 4 * n → z < 4 * n → (place : ℕ) → place < 4 * n
+    → source x y z place < 4 * n
+source-below n x y z apart x_below y_below z_below =
+    let once = source-rotated x y z apart in
+    let turned_apart = AreApart-rotated x y z apart in
+    let twice = once ∙ source-rotated y z x turned_apart in
+    at_places x y z (λ place. place < 4 * n → source x y z place < 4 * n)
+    (λ j below within. source-below_x n x y z y_below z_below j below)
+    (λ j below within. subst (λ (f : ℕ → ℕ). f (on y j) < 4 * n) (sym once) (source-below_x n y z x z_below x_below j below))
+    (λ j below within. subst (λ (f : ℕ → ℕ). f (on z j) < 4 * n) (sym twice) (source-below_x n z x y x_below y_below j below))
+    (λ place outside within. subst (λ (k : ℕ). k < 4 * n) (sym (source-outside x y z place outside)) within)

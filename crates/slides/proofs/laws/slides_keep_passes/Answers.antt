@@ -1,0 +1,33 @@
+use Rattle.kh_types.proofs.AcceptedLemmas.{HasArcsTwice-accepted}
+use Rattle.slides.proofs.Corners.{source-source}
+use Rattle.slides.proofs.Sides.{HasSides-triangle}
+use Rattle.std.proofs.Common.{ℕ, ◌*◌, ◌<◌, sym, subst}
+use Rattle.slides.specs.Slid.{slid}
+use Rattle.slides.proofs.SlidArcs.{length-slid, HasArcsTwice-slid}
+use Rattle.slides.proofs.SlidBoard.{IsCheckerboard-slid, passes-apart}
+use Rattle.slides.proofs.Passes.{KeepsPass-slid, components_of-slid, component_count-slid}
+use Rattle.slides.proofs.laws.slides_keep_passes.Goals as goal
+
+pub returns-clause-passes : goal.returns-clause-passes
+returns-clause-passes c code x y z place accepted is within =
+    KeepsPass-slid code x y z accepted (HasSides-triangle code.crossings x y z (HasArcsTwice-accepted code accepted) is) place within
+
+pub returns-clause-back : goal.returns-clause-back
+returns-clause-back c crossings x y z place is =
+    source-source x y z (record { x_y = is.x_y; x_z = is.x_z; y_z = is.y_z }) place
+
+pub returns-clause-components : goal.returns-clause-components
+returns-clause-components c crossings x y z twice is =
+    components_of-slid crossings x y z twice (HasSides-triangle crossings x y z twice is)
+
+pub returns-clause-count : goal.returns-clause-count
+returns-clause-count c crossings x y z twice is =
+    component_count-slid crossings x y z twice (HasSides-triangle crossings x y z twice is)
+
+pub returns-clause-apart : goal.returns-clause-apart
+returns-clause-apart c code x y z place accepted is within =
+    let crossings = code.crossings in
+    let twice = HasArcsTwice-accepted code accepted in
+    let sides = HasSides-triangle crossings x y z twice is in
+    passes-apart (slid crossings x y z) (HasArcsTwice-slid crossings x y z twice sides) (IsCheckerboard-slid code x y z accepted sides) place
+    (subst (λ (k : ℕ). place < 4 * k) (sym (length-slid crossings x y z)) within)

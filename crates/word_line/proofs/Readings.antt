@@ -1,0 +1,312 @@
+-- Words mean a command exactly where `clap` takes them and the texts that it finds give the command.
+use Rattle.std.proofs.Common.{◌≡◌, ℕ, ◌+◌, nat_le, ◌≤◌, ◌⊎◌, inl, inr, Bool, true, false, List, [], ◌∷◌, ◌++◌, length, Option, Some, None, refl, sym, ap, subst, cond, ◌∙◌, arith}
+use Rattle.std.proofs.lemmas.List.Elements.{All-cons, All-nil}
+use Rattle.std.proofs.lemmas.Bool.{and_parts, leb-true}
+use Rattle.std.specs.Char.{is_ascii_digit}
+use Rattle.std.proofs.lemmas.Option.{cond_some, none-some, option_and_then_some, same_Some}
+use Rattle.std.specs.Prelude.{codes, is_some, slice_get}
+use Rattle.std.specs.List.{All, list_all}
+use Rattle.std.specs.Option.{option_and_then, option_map}
+use Rattle.clap.specs.Walk as steps
+use Rattle.clap.specs.Walk.{Row, Text, walk, first_of, idle, nothing_held, rows_of}
+use Rattle.clap.specs.Simple.{App, entered, matches_of, names_of}
+use Rattle.clap.specs.Faults.{built_fault, entered_fault, fault_of, level_fault}
+use Rattle.clap.specs.Kinds.{Kinds}
+use Rattle.clap.specs.declared.parser.matches.Found.{Found}
+use Rattle.clap.proofs.WalkLemmas.{first_value-rows}
+use Rattle.word_line.specs.declared.command.Command.{Command}
+use Rattle.word_line.specs.declared.command.Task.{Task}
+use Rattle.word_line.specs.declared.command.Task.TheVariants.{Homology, Convert, Check, Jones, Schedule}
+use Rattle.word_line.specs.declared.command.Form.{Form}
+use Rattle.word_line.specs.declared.command.Form.TheVariants.{Pd, Gauss}
+use Rattle.word_line.specs.Commands.{IsCommand}
+use Rattle.word_line.specs.declared.limits.TheConstants.{WORKERS_DIGITS}
+use Rattle.word_line.specs.Line.{command_found, kh_line}
+use Rattle.word_line.specs.Pieces.{HasNoDash, IsLine, Key, Piece, key_name, positionals}
+use Rattle.word_line.specs.Pieces as key
+use Rattle.word_line.specs.Reading.{command_given, command_with, field_in, field_of, form_in, form_of, task_of, workers_in, workers_of}
+use Rattle.word_line.specs.Values.{AreWorkers, IsFieldSize, IsGiven, NamesField, NamesForm, NamesWorkers, WritesNumber, form_name, task_name, values_in}
+use Rattle.word_line.proofs.Lines.{Distinct, first_of-values, has-some, line_of, line_taken, taken_line, tasks_of-line, uses_behind, uses_of, values_of, values_of-line}
+use Rattle.word_line.proofs.Machine.{found_is_taken, passed, fault_from, walk_of, ready, rows_taken, taken, walk_at, with_task}
+use Rattle.word_line.proofs.Meanings.{IsGiven-once, IsGiven-read, NamesField-read, NamesForm-read, NamesWorkers-read, name_of-task, read-IsGiven, read-NamesField, read-NamesForm, read-NamesWorkers, task_of-name}
+use Rattle.word_line.proofs.Rows.{Use, has, rows_at}
+use Rattle.word_line.proofs.Rules.{built_is, shape}
+
+-- ---- no legal text begins with `-`
+
+task_no_dash : (task : Task) → HasNoDash (task_name task)
+task_no_dash Homology = λ is. absurd (omega (arith, is))
+task_no_dash Jones = λ is. absurd (omega (arith, is))
+task_no_dash Check = λ is. absurd (omega (arith, is))
+task_no_dash Convert = λ is. absurd (omega (arith, is))
+task_no_dash Schedule = λ is. absurd (omega (arith, is))
+
+digits_no_dash : (limit : ℕ) (value : Text) (number : ℕ) → WritesNumber limit value number → HasNoDash value
+digits_no_dash limit [] number written = tt
+digits_no_dash limit (digit ∷ value) number written = λ is.
+    let parts = and_parts (is_ascii_digit digit) (list_all is_ascii_digit value) written.digits in
+    let range = and_parts (nat_le 48 digit) (nat_le digit 57) parts.0 in
+    let low = leb-true 48 digit range.0 in
+    absurd (omega (arith, low, is))
+
+field_no_dash : (value : Text) (size : ℕ) → NamesField value size → HasNoDash value
+field_no_dash value size names =
+    let plain : HasNoDash ((48 + size) ∷ []) = λ is. absurd (omega (arith, is)) in
+    subst HasNoDash (sym names.1) plain
+
+workers_no_dash : (value : Text) (count : ℕ) → NamesWorkers value count → HasNoDash value
+workers_no_dash value count names = digits_no_dash WORKERS_DIGITS value count names.0
+
+form_name-no_dash : (form : Form) → HasNoDash (form_name form)
+form_name-no_dash Pd = λ is. absurd (omega (arith, is))
+form_name-no_dash Gauss = λ is. absurd (omega (arith, is))
+
+form_no_dash : (value : Text) (form : Form) → NamesForm value form → HasNoDash value
+form_no_dash value form names = subst HasNoDash (sym names) (form_name-no_dash form)
+
+given_no_dash : {X : Type 0} (names : Text → X → Type 0) (default : X) → ((value : Text) (x : X) → names value x → HasNoDash value)
+    → (values : List Text) (x : X) → IsGiven names default values x → All HasNoDash values
+given_no_dash names default plain [] x given = All-nil HasNoDash
+given_no_dash names default plain (value ∷ []) x given = All-cons HasNoDash value [] (plain value x given) (All-nil HasNoDash)
+given_no_dash names default plain (first ∷ second ∷ more) x given = absurd given
+
+-- ---- the texts of uses
+
+-- the command of the texts that were given
+abbrev command_of : List Use → Option Command
+command_of uses = command_given (slice_get (values_of None uses) 0) (slice_get (values_of (Some key.field) uses) 0)
+    (slice_get (values_of (Some key.workers) uses) 0) (slice_get (values_of (Some key.to) uses) 0)
+
+-- the same of rows
+abbrev pub command_in : List Row → Option Command
+command_in rows = command_given (first_of (codes "task") rows) (first_of (codes "field") rows)
+    (first_of (codes "workers") rows) (first_of (codes "to") rows)
+
+command_in-uses : (uses : List Use) → command_in (rows_at uses) ≡ command_of uses
+command_in-uses uses = rw (first_of-values None uses, first_of-values (Some key.field) uses, first_of-values (Some key.workers) uses, first_of-values (Some key.to) uses) refl
+
+pub command_found-rows : (found : Found) → command_found found ≡ command_in (rows_of found)
+command_found-rows found = rw (first_value-rows found (codes "task"), first_value-rows found (codes "field"), first_value-rows found (codes "workers"), first_value-rows found (codes "to")) refl
+
+option_map_some : {A B P : Type 0} (f : A → B) (o : Option A) (y : B) → option_map f o ≡ Some y
+    → ((x : A) → o ≡ Some x → f x ≡ y → P) → P
+option_map_some f None y same this = absurd (none-some y same)
+option_map_some f (Some x) y same this = this x refl (same_Some (f x) y same)
+
+-- what texts have where they give a command
+record Gives (name field workers to : Option Text) (command : Command) : Type 0 where
+  text : Text
+  is : name ≡ Some text
+  task : task_of text ≡ Some command.task
+  of_field : field_in field ≡ Some command.field
+  of_workers : workers_in workers ≡ Some command.workers
+  of_to : form_in to ≡ Some command.to
+
+gives_command : (name field workers to : Option Text) (command : Command) → Gives name field workers to command
+    → command_given name field workers to ≡ Some command
+gives_command name field workers to command gives =
+    rw (gives.is, gives.task, gives.of_field, gives.of_workers, gives.of_to) refl
+
+command_gives : (name field workers to : Option Text) (command : Command) → command_given name field workers to ≡ Some command
+    → Gives name field workers to command
+command_gives name field workers to command same =
+    option_and_then_some (λ (t : Task). option_and_then (λ (f : ℕ). option_and_then (λ (w : ℕ). option_map (λ (o : Form).
+    command_with t f w o) (form_in to)) (workers_in workers)) (field_in field)) (option_and_then task_of name) command same (λ t is_t same.
+    option_and_then_some (λ (f : ℕ). option_and_then (λ (w : ℕ). option_map (λ (o : Form).
+    command_with t f w o) (form_in to)) (workers_in workers)) (field_in field) command same (λ f is_f same.
+    option_and_then_some (λ (w : ℕ). option_map (λ (o : Form). command_with t f w o) (form_in to)) (workers_in workers) command same (λ w is_w same.
+    option_map_some (command_with t f w) (form_in to) command same (λ o is_o same.
+    option_and_then_some task_of name t is_t (λ text is_text is_task.
+    subst (Gives name field workers to) same (record {
+      text = text;
+      is = is_text;
+      task = is_task;
+      of_field = is_f;
+      of_workers = is_w;
+      of_to = is_o;
+    }))))))
+
+-- ---- words and commands
+
+one_text : (texts : List Text) (text : Text) → length texts ≤ 1 → slice_get texts 0 ≡ Some text → texts ≡ text ∷ []
+one_text [] text few same = absurd (none-some text same)
+one_text (first ∷ []) text few same = ap (λ t. t ∷ []) (same_Some first text same)
+one_text (first ∷ second ∷ more) text few same = absurd (omega arith)
+
+command_is : (words : List Text) (uses : List Use) (command : Command) → taken ready [] words ≡ Some uses → command_of uses ≡ Some command → IsCommand words command
+command_is words uses command took same =
+    let line = taken_line words uses took in
+    let gives = command_gives (slice_get (values_of None uses) 0) (slice_get (values_of (Some key.field) uses) 0) (slice_get (values_of (Some key.workers) uses) 0)
+    (slice_get (values_of (Some key.to) uses) 0) command same in
+    let tasks : values_of None uses ≡ positionals line.pieces ++ line.behind = ap (values_of None) line.is ∙ tasks_of-line line.pieces line.behind in
+    let one : values_of None uses ≡ gives.text ∷ [] = one_text (values_of None uses) gives.text (line.distinct None) gives.is in
+    let named : gives.text ≡ task_name command.task = name_of-task gives.text command.task gives.task in
+    let only : positionals line.pieces ++ line.behind ≡ task_name command.task ∷ [] = sym tasks ∙ one ∙ ap (λ t. t ∷ []) named in
+    let values : (k : Key) → values_of (Some k) uses ≡ values_in k line.pieces = λ k. ap (values_of (Some k)) line.is ∙ values_of-line k line.pieces line.behind in
+    record {
+      pieces = line.pieces;
+      behind = line.behind;
+      line = line_of words uses line (task_name command.task) (task_no_dash command.task) only;
+      task = only;
+      field = subst (λ v. IsGiven NamesField 2 v command.field) (values key.field)
+          (IsGiven-read NamesField field_of 2 NamesField-read (values_of (Some key.field) uses) command.field (line.distinct (Some key.field)) gives.of_field);
+      workers = subst (λ v. IsGiven NamesWorkers 1 v command.workers) (values key.workers)
+          (IsGiven-read NamesWorkers workers_of 1 NamesWorkers-read (values_of (Some key.workers) uses) command.workers (line.distinct (Some key.workers)) gives.of_workers);
+      to = subst (λ v. IsGiven NamesForm Pd v command.to) (values key.to)
+          (IsGiven-read NamesForm form_of Pd NamesForm-read (values_of (Some key.to) uses) command.to (line.distinct (Some key.to)) gives.of_to);
+    }
+
+values_no_dash : (words : List Text) (command : Command) (is : IsCommand words command) (k : Key) → All HasNoDash (values_in k is.pieces)
+values_no_dash words command is key.field = given_no_dash NamesField 2 field_no_dash (values_in key.field is.pieces) command.field is.field
+values_no_dash words command is key.workers = given_no_dash NamesWorkers 1 workers_no_dash (values_in key.workers is.pieces) command.workers is.workers
+values_no_dash words command is key.to = given_no_dash NamesForm Pd form_no_dash (values_in key.to is.pieces) command.to is.to
+
+values_once : (words : List Text) (command : Command) (is : IsCommand words command) (k : Key) → length (values_in k is.pieces) ≤ 1
+values_once words command is key.field = IsGiven-once NamesField 2 (values_in key.field is.pieces) command.field is.field
+values_once words command is key.workers = IsGiven-once NamesWorkers 1 (values_in key.workers is.pieces) command.workers is.workers
+values_once words command is key.to = IsGiven-once NamesForm Pd (values_in key.to is.pieces) command.to is.to
+
+abbrev line_uses : (words : List Text) (command : Command) → IsCommand words command → List Use
+line_uses words command is = uses_of is.pieces ++ uses_behind is.behind
+
+line_distinct : (words : List Text) (command : Command) (is : IsCommand words command) → Distinct (line_uses words command is)
+line_distinct words command is None =
+    let one : length (values_of None (line_uses words command is)) ≡ 1 = ap length (tasks_of-line is.pieces is.behind ∙ is.task) in omega (arith, one)
+line_distinct words command is (Some k) =
+    let same : length (values_of (Some k) (line_uses words command is)) ≡ length (values_in k is.pieces) = ap length (values_of-line k is.pieces is.behind) in
+    let once = values_once words command is k in omega (arith, same, once)
+
+command_taken : (words : List Text) (command : Command) (is : IsCommand words command) → taken ready [] words ≡ Some (line_uses words command is)
+command_taken words command is = line_taken words is.pieces is.behind is.line (values_no_dash words command is) (line_distinct words command is)
+
+command_of-line : (words : List Text) (command : Command) (is : IsCommand words command) → command_of (line_uses words command is) ≡ Some command
+command_of-line words command is =
+    let uses = line_uses words command is in
+    let values : (k : Key) → values_in k is.pieces ≡ values_of (Some k) uses = λ k. sym (values_of-line k is.pieces is.behind) in
+    let tasks : values_of None uses ≡ task_name command.task ∷ [] = tasks_of-line is.pieces is.behind ∙ is.task in
+    gives_command (slice_get (values_of None uses) 0) (slice_get (values_of (Some key.field) uses) 0) (slice_get (values_of (Some key.workers) uses) 0)
+    (slice_get (values_of (Some key.to) uses) 0) command (record {
+      text = task_name command.task;
+      is = ap (λ t. slice_get t 0) tasks;
+      task = task_of-name command.task;
+      of_field = subst (λ v. field_in (slice_get v 0) ≡ Some command.field) (values key.field)
+          (read-IsGiven NamesField field_of 2 read-NamesField (values_in key.field is.pieces) command.field is.field);
+      of_workers = subst (λ v. workers_in (slice_get v 0) ≡ Some command.workers) (values key.workers)
+          (read-IsGiven NamesWorkers workers_of 1 read-NamesWorkers (values_in key.workers is.pieces) command.workers is.workers);
+      of_to = subst (λ v. form_in (slice_get v 0) ≡ Some command.to) (values key.to)
+          (read-IsGiven NamesForm form_of Pd read-NamesForm (values_in key.to is.pieces) command.to is.to);
+    })
+
+-- words mean one command at most
+pub IsCommand-one : (words : List Text) (first second : Command) → IsCommand words first → IsCommand words second → first ≡ second
+IsCommand-one words first second is_first is_second =
+    let same : line_uses words first is_first ≡ line_uses words second is_second =
+    same_Some _ _ (sym (command_taken words first is_first) ∙ command_taken words second is_second) in
+    same_Some first second (sym (command_of-line words first is_first) ∙ ap command_of same ∙ command_of-line words second is_second)
+
+-- ---- `clap`
+
+abbrev line_built : App
+line_built = record { top = shape; subs = [] }
+
+start_fault : (words : List Text) (stop : Option (Text × List Text))
+    → level_fault shape [] nothing_held words (is_some (entered line_built stop)) (entered_fault line_built stop)
+    ≡ fault_from (walk_at idle false 1 nothing_held) words
+start_fault words None = refl
+start_fault words (Some p) = refl
+
+pub fault_is : (words : List Text) → fault_of kh_line words ≡ fault_from (walk_at idle false 1 nothing_held) words
+fault_is words =
+    ap (λ (a : App). built_fault a nothing_held words) built_is
+    ∙ start_fault words (walk shape.rules [] nothing_held words).stopped
+
+pub matches_is : (words : List Text) → matches_of kh_line words ≡ steps.finished shape.rules (walk_of (walk_at idle false 1 nothing_held) words).held
+matches_is words = ap (λ (a : App). steps.rows_after a.top.rules (names_of a) words) built_is
+
+passed_none : (kinds : Kinds) (rows : List Row) → kinds ≡ [] → passed kinds rows ≡ Some rows
+passed_none kinds rows none = rw none refl
+
+none_passed : (kinds : Kinds) (rows made : List Row) → passed kinds rows ≡ Some made → kinds ≡ []
+none_passed [] rows made same = refl
+none_passed (k ∷ kinds) rows made same = absurd (none-some made same)
+
+-- words that `clap` takes, with what it finds
+pub taken_rows : (words : List Text) (rows : List Row) → fault_of kh_line words ≡ [] → rows ≡ matches_of kh_line words → rows_taken ready [] words ≡ Some rows
+taken_rows words rows none are =
+    sym (found_is_taken words)
+    ∙ passed_none (fault_from (walk_at idle false 1 nothing_held) words) _ (sym (fault_is words) ∙ none)
+    ∙ ap Some (sym (matches_is words) ∙ sym are)
+
+-- where `clap` takes words, its rows give the command that they mean, if there is one
+pub rows_command : (words : List Text) (rows : List Row) (command : Command) → rows_taken ready [] words ≡ Some rows → command_in rows ≡ Some command
+    → IsCommand words command
+rows_command words rows command took same =
+    option_and_then_some with_task (taken ready [] words) rows took (λ uses is_uses is_rows.
+    let rows_are : rows_at uses ≡ rows = with_task-rows uses rows is_rows in
+    command_is words uses command is_uses (sym (command_in-uses uses) ∙ ap command_in rows_are ∙ same))
+  where
+    with_task-rows : (uses : List Use) (rows : List Row) → with_task uses ≡ Some rows → rows_at uses ≡ rows
+    with_task-rows uses rows same = (cond_some (has None uses) (rows_at uses) rows same).1
+
+-- words that mean a command are taken, and the rows give it
+pub command_rows : (words : List Text) (command : Command) → IsCommand words command
+    → (rows : List Row) × (rows_taken ready [] words ≡ Some rows) × (command_in rows ≡ Some command)
+command_rows words command is =
+    let uses = line_uses words command is in
+    let given : has None uses ≡ true = has-some None uses (task_name command.task) (tasks_of-line is.pieces is.behind ∙ is.task) in (
+      rows_at uses,
+      ap (option_and_then with_task) (command_taken words command is) ∙ ap (λ (b : Bool). cond b (Some (rows_at uses)) None) given,
+      command_in-uses uses ∙ command_of-line words command is,
+    )
+
+-- words that mean a command have no fault for `clap`
+pub command_faultless : (words : List Text) (command : Command) → IsCommand words command → fault_of kh_line words ≡ []
+command_faultless words command is =
+    let found = command_rows words command is in
+    fault_is words ∙ none_passed _ _ found.0 (found_is_taken words ∙ found.1)
+
+-- ---- the clauses of the reading
+
+pub found_command : (words : List Text) (found : Found) (command : Command) → fault_of kh_line words ≡ [] → rows_of found ≡ matches_of kh_line words
+    → command_found found ≡ Some command → IsCommand words command
+found_command words found command none are same =
+    rows_command words (rows_of found) command (taken_rows words (rows_of found) none are) (sym (command_found-rows found) ∙ same)
+
+pub found_none : (words : List Text) (found : Found) → fault_of kh_line words ≡ [] → rows_of found ≡ matches_of kh_line words
+    → command_found found ≡ None → (command : Command) → IsCommand words command → ⊥
+found_none words found none are same command is =
+    let rows = command_rows words command is in
+    let rows_are : rows_of found ≡ rows.0 = same_Some (rows_of found) rows.0 (sym (taken_rows words (rows_of found) none are) ∙ rows.1) in
+    none-some command (sym same ∙ command_found-rows found ∙ ap command_in rows_are ∙ rows.2)
+
+-- the sizes of a command
+of_given : {X : Type 0} (names : Text → X → Type 0) (default : X) (P : X → Type 0) → ((value : Text) (x : X) → names value x → P x) → P default
+    → (values : List Text) (x : X) → IsGiven names default values x → P x
+of_given names default P of start [] x given = subst P (sym given) start
+of_given names default P of start (value ∷ []) x given = of value x given
+of_given names default P of start (first ∷ second ∷ more) x given = absurd given
+
+pub IsCommand-sizes : (words : List Text) (command : Command) → IsCommand words command → IsFieldSize command.field × AreWorkers command.workers
+IsCommand-sizes words command is = (
+  of_given NamesField 2 IsFieldSize (λ value size names. names.0) (inl refl) (values_in key.field is.pieces) command.field is.field,
+  of_given NamesWorkers 1 AreWorkers (λ value count names. names.1) (omega arith, omega arith) (values_in key.workers is.pieces) command.workers is.workers,
+)
+
+-- ---- words that are written out
+
+pub means_none : (words : List Text) → option_and_then command_in (rows_taken ready [] words) ≡ None → (command : Command) → IsCommand words command → ⊥
+means_none words none command is =
+    let rows = command_rows words command is in
+    none-some command (sym none ∙ ap (option_and_then command_in) rows.1 ∙ rows.2)
+
+pub means_this : (words : List Text) (command : Command) → option_and_then command_in (rows_taken ready [] words) ≡ Some command → IsCommand words command
+means_this words command same = option_and_then_some command_in (rows_taken ready [] words) command same (λ rows is_rows is. rows_command words rows command is_rows is)
+
+-- words mean a command, or they mean none
+pub IsCommand-decided : (words : List Text) → ((command : Command) × IsCommand words command) ⊎ ((command : Command) → IsCommand words command → ⊥)
+IsCommand-decided words = go (option_and_then command_in (rows_taken ready [] words)) refl
+  where
+    go : (found : Option Command) → option_and_then command_in (rows_taken ready [] words) ≡ found
+        → ((command : Command) × IsCommand words command) ⊎ ((command : Command) → IsCommand words command → ⊥)
+    go None none = inr (means_none words none)
+    go (Some command) some = inl (command, means_this words command some)

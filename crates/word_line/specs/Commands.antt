@@ -1,0 +1,23 @@
+-- The command that words mean (this project's rule).
+use Rattle.std.specs.Prelude.{◌≡◌, ℕ, List, [], ◌∷◌, ◌++◌}
+use Rattle.word_line.specs.declared.command.Command.{Command}
+use Rattle.word_line.specs.declared.command.Form.TheVariants.{Pd}
+use Rattle.word_line.specs.Pieces.{Piece, IsLine, positionals}
+use Rattle.word_line.specs.Pieces as key
+use Rattle.word_line.specs.Values.{IsGiven, NamesField, NamesForm, NamesWorkers, task_name, values_in}
+
+-- words mean a command: they are a line whose one positional is the name of its task, and which gives each option at most once, a
+-- value that says what the command has; without an option the field has 2 elements, there is 1 worker, and the form is that of planar
+-- diagram texts
+pub record IsCommand (words : List (List ℕ)) (command : Command) : Type 0 where
+  pub pieces : List Piece
+  pub behind : List (List ℕ)
+  pub line : IsLine words pieces behind
+  pub task : positionals pieces ++ behind ≡ task_name command.task ∷ []
+  pub field : IsGiven NamesField 2 (values_in key.field pieces) command.field
+  pub workers : IsGiven NamesWorkers 1 (values_in key.workers pieces) command.workers
+  pub to : IsGiven NamesForm Pd (values_in key.to pieces) command.to
+
+-- words mean no command
+abbrev pub IsUsage : List (List ℕ) → Type 0
+IsUsage words = (command : Command) → IsCommand words command → ⊥

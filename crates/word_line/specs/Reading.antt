@@ -1,0 +1,81 @@
+-- The reading of the texts that a line gives, as the way of the code.
+use Rattle.std.specs.Prelude.{ℕ, nat_lt, nat_le, ◌&&◌, if◌then◌else◌, Bool, List, length, codes, Option, None, Some}
+use Rattle.std.specs.Char.{is_ascii_digit}
+use Rattle.std.specs.List.{list_all}
+use Rattle.std.specs.Option.{option_map, option_and_then}
+use Rattle.std.specs.Borrow.{Bor}
+use Rattle.std.specs.Str.{bytes_eq}
+use Rattle.std.specs.Str.Parse.{digits_value}
+use Rattle.word_line.specs.declared.command.Task.{Task}
+use Rattle.word_line.specs.declared.command.Task.TheVariants.{Homology, Convert, Check, Jones, Schedule}
+use Rattle.word_line.specs.declared.command.Form.{Form}
+use Rattle.word_line.specs.declared.command.Form.TheVariants.{Pd, Gauss}
+use Rattle.word_line.specs.declared.command.Command.{Command}
+use Rattle.word_line.specs.declared.limits.TheConstants.{WORKERS, WORKERS_DIGITS}
+
+-- a word is digits, of which there is one at least, and no more than a limit
+abbrev pub is_number : ℕ → List ℕ → Bool
+is_number limit word = nat_lt 0 (length word) && nat_le (length word) limit && list_all is_ascii_digit word
+
+-- the number that a word writes
+abbrev pub number_of : ℕ → List ℕ → Option ℕ
+number_of limit word = if is_number limit word then Some (digits_value 10 word) else None
+
+-- the task of a name
+abbrev pub task_of : List ℕ → Option Task
+task_of name =
+    if bytes_eq name (codes "homology") then Some Homology
+    else if bytes_eq name (codes "jones") then Some Jones
+    else if bytes_eq name (codes "check") then Some Check
+    else if bytes_eq name (codes "convert") then Some Convert
+    else if bytes_eq name (codes "schedule") then Some Schedule
+    else None
+
+-- the field of a value
+abbrev pub field_of : List ℕ → Option ℕ
+field_of value =
+    if bytes_eq value (codes "2") then Some 2 else if bytes_eq value (codes "3") then Some 3
+    else if bytes_eq value (codes "5") then Some 5 else if bytes_eq value (codes "7") then Some 7 else None
+
+-- the number of workers of a value
+abbrev pub workers_of : List ℕ → Option ℕ
+workers_of value =
+    option_and_then (λ count. if nat_le 1 count && nat_le count WORKERS then Some count else None) (number_of WORKERS_DIGITS value)
+
+-- the form of a value
+abbrev pub form_of : List ℕ → Option Form
+form_of value =
+    if bytes_eq value (codes "pd") then Some Pd else if bytes_eq value (codes "gauss") then Some Gauss else None
+
+-- what a value says, or the default where there is none
+abbrev pub given_by : {X : Type 0} → (List ℕ → Option X) → X → Option (List ℕ) → Option X
+given_by reading default None = Some default
+given_by reading default (Some value) = reading value
+
+-- the text behind a reference
+abbrev pub text_in : Option (Bor (List ℕ)) → Option (List ℕ)
+text_in = option_map (λ s. s.now)
+
+-- the field of a value; of two elements where there is none
+abbrev pub field_in : Option (List ℕ) → Option ℕ
+field_in = given_by field_of 2
+
+-- the number of workers of a value; one where there is none
+abbrev pub workers_in : Option (List ℕ) → Option ℕ
+workers_in = given_by workers_of 1
+
+-- the form of a value; that of planar diagram texts where there is none
+abbrev pub form_in : Option (List ℕ) → Option Form
+form_in = given_by form_of Pd
+
+-- the command of a task and options
+abbrev pub command_with : Task → ℕ → ℕ → Form → Command
+command_with task field workers to =
+    record { task = task; field = field; workers = workers; to = to }
+
+-- the command of the texts that a line gives: its positional, and the values of `--field`, `--workers` and `--to`
+abbrev pub command_given : Option (List ℕ) → Option (List ℕ) → Option (List ℕ) → Option (List ℕ) → Option Command
+command_given name field workers to =
+    option_and_then (λ t. option_and_then (λ f. option_and_then (λ w. option_map (λ o.
+    command_with t f w o) (form_in to)) (workers_in workers)) (field_in field))
+    (option_and_then task_of name)

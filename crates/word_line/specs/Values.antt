@@ -1,0 +1,72 @@
+-- What the words of a command mean (this project's rule).
+use Rattle.std.specs.Prelude.{◌≡◌, ◌⊎◌, ℕ, ◌+◌, ◌<◌, ◌≤◌, Bool, true, false, IsTrue, if◌then◌else◌, List, [], ◌∷◌, length, codes}
+use Rattle.std.specs.Char.{is_ascii_digit}
+use Rattle.std.specs.List.{list_all}
+use Rattle.std.specs.Str.Parse.{digits_value}
+use Rattle.word_line.specs.declared.command.Task.{Task}
+use Rattle.word_line.specs.declared.command.Task.TheVariants.{Homology, Convert, Check, Jones, Schedule}
+use Rattle.word_line.specs.declared.command.Form.{Form}
+use Rattle.word_line.specs.declared.command.Form.TheVariants.{Pd, Gauss}
+use Rattle.word_line.specs.Pieces.{Key, Piece, positional, apart, joined}
+use Rattle.word_line.specs.Pieces as key
+use Rattle.word_line.specs.declared.limits.TheConstants.{WORKERS, WORKERS_DIGITS}
+
+-- the word of a task
+abbrev pub task_name : Task → List ℕ
+task_name Homology = codes "homology"
+task_name Jones = codes "jones"
+task_name Check = codes "check"
+task_name Convert = codes "convert"
+task_name Schedule = codes "schedule"
+
+-- the word of a form
+abbrev pub form_name : Form → List ℕ
+form_name Pd = codes "pd"
+form_name Gauss = codes "gauss"
+
+-- two keys are one
+abbrev pub same_key : Key → Key → Bool
+same_key key.field key.field = true
+same_key key.workers key.workers = true
+same_key key.to key.to = true
+same_key _ _ = false
+
+-- the values that parts of a line give an option, in order
+abbrev pub values_in : Key → List Piece → List (List ℕ)
+values_in k [] = []
+values_in k (positional word ∷ pieces) = values_in k pieces
+values_in k (apart other value ∷ pieces) = if same_key k other then value ∷ values_in k pieces else values_in k pieces
+values_in k (joined other value ∷ pieces) = if same_key k other then value ∷ values_in k pieces else values_in k pieces
+
+-- a word writes a number: it is one ASCII digit or more, and no more than a limit, leading zeros counted; the number is theirs
+pub record WritesNumber (limit : ℕ) (word : List ℕ) (number : ℕ) : Type 0 where
+  pub some : 0 < length word
+  pub few : length word ≤ limit
+  pub digits : IsTrue (list_all is_ascii_digit word)
+  pub valued : number ≡ digits_value 10 word
+
+-- the numbers of elements of the fields
+abbrev pub IsFieldSize : ℕ → Type 0
+IsFieldSize size = (size ≡ 2) ⊎ (size ≡ 3) ⊎ (size ≡ 5) ⊎ (size ≡ 7)
+
+-- a number of workers
+abbrev pub AreWorkers : ℕ → Type 0
+AreWorkers count = (1 ≤ count) × (count ≤ WORKERS)
+
+-- a value names a field by its number of elements, which is one digit
+abbrev pub NamesField : List ℕ → ℕ → Type 0
+NamesField value size = IsFieldSize size × (value ≡ (48 + size) ∷ [])
+
+-- a value says how many workers there are: one or two digits
+abbrev pub NamesWorkers : List ℕ → ℕ → Type 0
+NamesWorkers value count = WritesNumber WORKERS_DIGITS value count × AreWorkers count
+
+-- a value names a form
+abbrev pub NamesForm : List ℕ → Form → Type 0
+NamesForm value form = value ≡ form_name form
+
+-- the values that an option is given, of which there is at most one, say what it is; where there is none it is the default
+abbrev pub IsGiven : {X : Type 0} → (List ℕ → X → Type 0) → X → List (List ℕ) → X → Type 0
+IsGiven names default [] given = given ≡ default
+IsGiven names default (value ∷ []) given = names value given
+IsGiven names default (first ∷ second ∷ more) given = ⊥

@@ -1,0 +1,49 @@
+//! What holds of words and commands, as laws.
+
+ghost use Rattle.std.specs.Prelude.{◌≡◌, ◌⊎◌, ℕ, List, [], ◌∷◌, codes};
+ghost use Rattle.word_line.specs.Commands.{IsCommand, IsUsage};
+ghost use Rattle.word_line.specs.Reading.{command_with};
+ghost use Rattle.word_line.specs.declared.command.Command.{Command};
+ghost use Rattle.word_line.specs.declared.command.Form.TheVariants.{Pd, Gauss};
+ghost use Rattle.word_line.specs.declared.command.Task.TheVariants.{Homology, Convert, Jones};
+
+/// Words mean one command at most.
+pub fn words_mean_one_command()
+    ensures one { (words : List (List ℕ)) (first second : Command)
+        → IsCommand words first → IsCommand words second → first ≡ second }
+{}
+
+/// Words mean a command, or they mean none.
+pub fn words_are_decided()
+    ensures decided { (words : List (List ℕ))
+        → ((command : Command) × IsCommand words command) ⊎ IsUsage words }
+{}
+
+/// Words that mean a command, worked out.
+pub fn worked_commands()
+    ensures alone { IsCommand (codes "homology" ∷ []) (command_with Homology 2 1 Pd) }
+    ensures joined { IsCommand (codes "--field=3" ∷ codes "homology" ∷ [])
+        (command_with Homology 3 1 Pd) }
+    ensures behind { IsCommand (codes "--" ∷ codes "homology" ∷ []) (command_with Homology 2 1 Pd) }
+    ensures ended { IsCommand (codes "jones" ∷ codes "--" ∷ []) (command_with Jones 2 1 Pd) }
+    ensures all { IsCommand (codes "--to" ∷ codes "gauss" ∷ codes "convert" ∷ codes "--workers=07"
+        ∷ codes "--field" ∷ codes "7" ∷ []) (command_with Convert 7 7 Gauss) }
+    ensures most { IsCommand (codes "homology" ∷ codes "--workers" ∷ codes "64" ∷ [])
+        (command_with Homology 2 64 Pd) }
+{}
+
+/// Words that mean no command, worked out.
+pub fn worked_usage()
+    ensures nothing { IsUsage [] }
+    ensures none { IsUsage (codes "homology" ∷ codes "--workers" ∷ codes "0" ∷ []) }
+    ensures many { IsUsage (codes "homology" ∷ codes "--workers" ∷ codes "65" ∷ []) }
+    ensures long { IsUsage (codes "homology" ∷ codes "--workers" ∷ codes "001" ∷ []) }
+    ensures twice { IsUsage (codes "homology" ∷ codes "--field" ∷ codes "2"
+        ∷ codes "--field" ∷ codes "2" ∷ []) }
+    ensures help { IsUsage (codes "homology" ∷ codes "--help" ∷ []) }
+    ensures short { IsUsage (codes "homology" ∷ codes "-h" ∷ []) }
+    ensures shortened { IsUsage (codes "homology" ∷ codes "--work" ∷ codes "2" ∷ []) }
+    ensures dashes { IsUsage (codes "--field" ∷ codes "--" ∷ codes "homology" ∷ []) }
+    ensures dash { IsUsage (codes "-" ∷ []) }
+    ensures second { IsUsage (codes "homology" ∷ codes "--" ∷ codes "--field" ∷ []) }
+{}

@@ -1,0 +1,118 @@
+//! What the values of options mean.
+
+ghost use Rattle.std.specs.Prelude.{◌≡◌};
+ghost use Rattle.word_line.specs.Reading.{command_given, field_in, field_of, form_in, form_of, task_of, text_in, workers_in, workers_of};
+
+use crate::command::{Command, Form, Task};
+use crate::digits::number_of;
+use crate::limits::{WORKERS, WORKERS_DIGITS};
+
+/// The texts that a line gives: its one positional, and the values of its options.
+#[derive(Clone, Copy)]
+pub struct Given<'a> {
+    /// The positional.
+    pub task: Option<&'a str>,
+    /// The value of `--field`.
+    pub field: Option<&'a str>,
+    /// The value of `--workers`.
+    pub workers: Option<&'a str>,
+    /// The value of `--to`.
+    pub to: Option<&'a str>,
+}
+
+/// The command of the texts that a line gives.
+pub fn command_given(given: &Given<'_>) -> Option<Command>
+    ensures { result ≡ command_given (text_in given.now.task) (text_in given.now.field)
+        (text_in given.now.workers) (text_in given.now.to) }
+{
+    let task = task_of(given.task?)?;
+    let field = field_in(given.field)?;
+    let workers = workers_in(given.workers)?;
+    let to = form_in(given.to)?;
+    Some(Command {
+        task,
+        field,
+        workers,
+        to,
+    })
+}
+
+// The task of a name.
+fn task_of(name: &str) -> Option<Task>
+    ensures { result ≡ task_of name.now }
+{
+    match name {
+        "homology" => Some(Task::Homology),
+        "jones" => Some(Task::Jones),
+        "check" => Some(Task::Check),
+        "convert" => Some(Task::Convert),
+        "schedule" => Some(Task::Schedule),
+        _ => None,
+    }
+}
+
+// The field of a value; of two elements where there is none.
+fn field_in(value: Option<&str>) -> Option<u8>
+    ensures { result ≡ field_in (text_in value.entry) }
+{
+    match value {
+        Some(value) => field_of(value),
+        None => Some(2),
+    }
+}
+
+// The number of elements that a value writes.
+fn field_of(value: &str) -> Option<u8>
+    ensures { result ≡ field_of value.now }
+{
+    match value {
+        "2" => Some(2),
+        "3" => Some(3),
+        "5" => Some(5),
+        "7" => Some(7),
+        _ => None,
+    }
+}
+
+// The number of workers of a value; one where there is none.
+fn workers_in(value: Option<&str>) -> Option<u32>
+    ensures { result ≡ workers_in (text_in value.entry) }
+{
+    match value {
+        Some(value) => workers_of(value),
+        None => Some(1),
+    }
+}
+
+// The number of workers that a value writes.
+fn workers_of(value: &str) -> Option<u32>
+    ensures { result ≡ workers_of value.now }
+{
+    let count = number_of(value.as_bytes(), WORKERS_DIGITS)?;
+    if 1 <= count && count <= WORKERS {
+        Some(count)
+    } else {
+        None
+    }
+}
+
+// The form of a value; that of planar diagram texts where there is none.
+fn form_in(value: Option<&str>) -> Option<Form>
+    ensures { result ≡ form_in (text_in value.entry) }
+{
+    match value {
+        Some(value) => form_of(value),
+        None => Some(Form::Pd),
+    }
+}
+
+// The form that a value names.
+fn form_of(value: &str) -> Option<Form>
+    ensures { result ≡ form_of value.now }
+{
+    match value {
+        "pd" => Some(Form::Pd),
+        "gauss" => Some(Form::Gauss),
+        _ => None,
+    }
+}

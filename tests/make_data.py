@@ -1,0 +1,164 @@
+#!/usr/bin/env python3
+"""Makes `large_tables.txt` and `polynomials.txt` anew, which `tests/program` compares with what the program writes.
+
+    tests/make_data.py OTHER
+
+It also compares `tables.txt`, whose links have 5 to 10 crossings, with OTHER, and stops where they differ.
+
+OTHER is a program that shares no code with `kh`: it reads a planar diagram text, is given `--field` and a field, and writes the table's
+rows and the Jones line. The stored tables are those of a C++ program that cancels the cube block by block over sorted columns and rows,
+and stops where the table's Euler characteristic is not the state sum. It lists slots counterclockwise and takes v+ for degree 1, as here.
+The polynomials are worked out by this script, which takes one crossing after another into a sum over the ways that the open ends are
+joined (Kauffman's bracket by tangles), and goes through no states; for the links with a table it is compared with OTHER's. No value is
+taken from `kh`.
+"""
+import os
+import re
+import subprocess
+import sys
+from collections import Counter
+
+HERE = os.path.dirname(os.path.abspath(__file__))
+sys.path.insert(0, os.path.join(os.path.dirname(HERE), "bench"))
+from braids import planar_diagram
+
+HEAD = """\
+# {what} Each link is a closed braid: its strands, and its letters k
+# where the strand at k crosses over the next. `tests/make_data.py` made this file, and says by what program.
+#
+# A name with its braid; the text; {lines}
+"""
+
+# Number of strands and letters.
+TABLES = [
+    (4, [1, 3, -2, 1, 3, -2, 1, -2, 3, -2, 1, -2, 3, 1, -2, 3, -2]),
+    (6, [1, 2, 3, 4, 5, 1, 2, 3, 4, 5, 1, 2, 3, 4, 5, 1, 2]),
+]
+POLYNOMIALS = [
+    *TABLES,
+    (3, [1, -2] * 8 + [1]),
+    (2, [1] * 17),
+    (18, list(range(1, 18))),
+    (3, [1, -2] * 9),
+    (4, [1, 2, 3] * 6),
+    (4, [1, -2, 3, 2, -1, 2] * 3),
+    (2, [-1] * 18),
+    (3, [1, 2] * 9 + [1]),
+    (5, [1, -2, 3, -4] * 4 + [1, -2, 3]),
+    (20, [(-1) ** k * k for k in range(1, 20)]),
+    (3, [1, -2] * 10),
+    (5, [1, 2, 3, 4] * 5),
+    (6, [-1, -2, -3, -4, -5] * 4),
+    (4, [1, 1, -2, -2, 3, 3, -2, 1, 2, -3] * 2),
+    (2, [1] * 20),
+    (21, list(range(1, 21))),
+]
+
+
+def written_by(other, words, text):
+    return subprocess.run([other, *words], input=text, check=True, capture_output=True, text=True).stdout.splitlines()
+
+
+def named(strands, letters):
+    return f"{len(letters)} crossings, {' '.join(map(str, letters))}: {strands} strands"
+
+
+def lines_of(other, text):
+    """The lines of a link's tables over the four fields, and its Jones line."""
+    lines, jones = [], set()
+    for field in "2357":
+        rows = [line.split() for line in written_by(other, ["--field", field], text)]
+        lines.append(f"{field}: " + " ".join(f"{row[1]},{row[3]},{row[5]}" for row in rows if row[0] == "j"))
+        jones.add(" ".join(rows[-1]))
+    assert jones == {jones_line(text)}, (jones, jones_line(text))
+    return [*lines, *jones]
+
+
+def table_of(other, strands, letters):
+    """The block of a link whose tables are stored."""
+    text = planar_diagram(strands, letters)
+    return "\n".join([named(strands, letters), text, *lines_of(other, text)])
+
+
+def compare_tables(other):
+    """Stops where a block of `tables.txt` is not what the other program and this script find."""
+    with open(os.path.join(HERE, "tables.txt"), encoding="utf-8") as file:
+        for block in file.read().split("\n\n")[1:]:
+            name, text, *lines = block.strip().splitlines()
+            if lines != lines_of(other, text):
+                sys.exit(f"{name} is not what the other program finds")
+
+
+def joined(ends, one, other):
+    """The joined open ends with a path more, between the arcs of two slots, and whether this closes a circle."""
+    ends = dict(ends)
+    if one == other or ends.get(one) == other:
+        ends.pop(one, None), ends.pop(other, None)
+        return ends, True
+    for arc in (one, other):
+        if arc in ends:
+            far = ends.pop(arc)
+            one, other = (far if arc == one else one), (far if arc == other else other)
+    ends[one], ends[other] = other, one
+    return ends, False
+
+
+def shifted(polynomial, sign, exponent):
+    return Counter({at + exponent: sign * count for at, count in polynomial.items()})
+
+
+def positive_crossings(crossings):
+    """How many crossings are positive: their over pass goes from slot 3 to slot 1. Each component has three arcs or more."""
+    component = {}
+    for i, j, k, l in crossings:
+        component.setdefault(i, {i}), component.setdefault(k, {k}), component.setdefault(j, {j}), component.setdefault(l, {l})
+        for one, other in ((i, k), (j, l)):
+            both = component[one] | component[other]
+            component.update({arc: both for arc in both})
+    return sum(j == (l + 1 if l + 1 in component[l] else min(component[l])) for _, j, _, l in crossings)
+
+
+def jones_line(text):
+    """The sum over the states of (-1)^(r - n-) q^(r + n+ - 2n-) (q + q^-1)^circles, crossing by crossing."""
+    crossings = [tuple(map(int, it.split(","))) for it in re.findall(r"X\[([^]]*)\]", text)]
+    sums = {(): Counter({0: 1})}
+    for i, j, k, l in crossings:
+        after = {}
+        for ends, polynomial in sums.items():
+            for pairs, sign, exponent in ((((i, j), (k, l)), 1, 0), (((i, l), (j, k)), -1, 1)):
+                open_ends, term = dict(ends), shifted(polynomial, sign, exponent)
+                for pair in pairs:
+                    open_ends, closes = joined(open_ends, *pair)
+                    if closes:
+                        up, down = shifted(term, 1, 1), shifted(term, 1, -1)
+                        up.update(down)
+                        term = up
+                after.setdefault(tuple(sorted(open_ends.items())), Counter()).update(term)
+        sums = after
+    plus = positive_crossings(crossings)
+    minus = len(crossings) - plus
+    whole = shifted(sums[()], (-1) ** minus, plus - 2 * minus)
+    return "jones " + " ".join(f"{whole[at]}*q^{at}" for at in sorted(whole) if whole[at])
+
+
+def polynomial_of(strands, letters):
+    """The block of a link whose Jones line is stored."""
+    text = planar_diagram(strands, letters)
+    return "\n".join([named(strands, letters), text, jones_line(text)])
+
+
+def write(name, what, lines, blocks):
+    with open(os.path.join(HERE, name), "w", encoding="utf-8") as file:
+        file.write("\n\n".join([HEAD.format(what=what, lines=lines).rstrip("\n"), *blocks]) + "\n")
+
+
+def main(other):
+    compare_tables(other)
+    tables = [table_of(other, *braid) for braid in TABLES]
+    write("large_tables.txt", "Homology tables of links of 17 crossings.", "for each field the rows j,i,dim; the Jones line.", tables)
+    polynomials = [polynomial_of(*braid) for braid in POLYNOMIALS]
+    write("polynomials.txt", "Jones polynomials of links of 17 to 20 crossings.", "the Jones line.", polynomials)
+
+
+if __name__ == "__main__":
+    sys.exit(main(sys.argv[1]) if len(sys.argv) == 2 else __doc__)

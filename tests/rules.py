@@ -1,0 +1,183 @@
+#!/usr/bin/env python3
+"""Rules on the list of crates and on the pages, which `tests/program` tries behind its rows.
+
+    tests/rules.py           prints what breaks a rule
+    tests/rules.py --write   writes the list of names at the end of docs/DEFINITIONS.md anew
+
+No chain of crates that stand on one another is longer than seven. Each crate has its line in docs/ARCHITECTURE.md. Every name of a
+definition that a clause of a public function cites is found in docs/DEFINITIONS.md, by hand or in the list at its end, which has each
+name with the first sentence of the comment at its definition.
+"""
+import os
+import re
+import sys
+import textwrap
+
+TOP = os.path.dirname(os.path.dirname(os.path.abspath(__file__)))
+LONGEST = 7
+COLUMNS = 135
+PAGE = os.path.join(TOP, "docs", "DEFINITIONS.md")
+HEADING = "## All names in public contracts"
+
+IMPORT = re.compile(r"ghost use Rattle\.(\w+)\.(specs(?:\.\w+)*)\.\{([^}]*)\}")
+CLAUSE = re.compile(r"\b(?:requires|ensures)\b[^{};]*\{")
+FUNCTION = re.compile(r"^ *((?:pub(?:\([a-z]+\))? )?)(?:const )?fn (\w+)", re.M)
+WORD = re.compile(r"[\w'-]+")
+
+
+def read(*path):
+    with open(os.path.join(TOP, *path), encoding="utf-8") as file:
+        return file.read()
+
+
+def stands_on():
+    """Each crate of crates.txt, with those of them that it stands on."""
+    lines = (line.split("#")[0] for line in read("crates.txt").splitlines())
+    named = [line.partition(":") for line in lines if ":" in line]
+    below = {head.split()[0]: rest.split() for head, _, rest in named}
+    return {name: [it for it in rest if it in below] for name, rest in below.items()}
+
+
+def longest_chain(below):
+    """A longest list of crates each of which stands on the one before."""
+    known = {}
+
+    def chain(name):
+        if name not in known:
+            known[name] = max((chain(it) for it in below[name]), key=len, default=[]) + [name]
+        return known[name]
+
+    return max(map(chain, below), key=len)
+
+
+def files(crate, folder, ending):
+    """The files of a crate's folder with this ending, without its tests."""
+    for where, folders, names in os.walk(os.path.join(TOP, "crates", crate, folder)):
+        folders[:] = sorted(it for it in folders if it != "tests")
+        for name in sorted(names):
+            if name.endswith(ending) and name != "tests.rt":
+                yield os.path.join(where, name)
+
+
+def braces_from(text, start):
+    """The text between the brace at this place and the one that closes it."""
+    depth = 0
+    for place in range(start, len(text)):
+        depth += {"{": 1, "}": -1}.get(text[place], 0)
+        if not depth:
+            return text[start + 1 : place]
+    return text[start + 1 :]
+
+
+def cited(text, crates):
+    """The names of definitions of these crates that the clauses of public functions in a source cite, each with its crate and module."""
+    imported = {}
+    for crate, module, names in IMPORT.findall(text):
+        if crate in crates:
+            imported.update({name.strip(): (crate, module) for name in names.split(",") if WORD.fullmatch(name.strip())})
+    heads = [(it.start(), it.group(1) == "pub " or "pub trait" in text) for it in FUNCTION.finditer(text)]
+    found = {}
+    for clause in CLAUSE.finditer(text):
+        public = [public for start, public in heads if start < clause.start()]
+        if public and public[-1]:
+            words = WORD.findall(braces_from(text, clause.end() - 1))
+            found.update({word: imported[word] for word in words if word in imported})
+    return found
+
+
+def cited_names(crates):
+    """All those names, each with its crate and module."""
+    found = {}
+    for crate in crates:
+        for path in files(crate, "src", ".rt"):
+            with open(path, encoding="utf-8") as file:
+                found.update({(name, *where): None for name, where in cited(file.read(), crates).items()})
+    return sorted(found)
+
+
+def first_sentence(lines):
+    """The first sentence of the lines of a comment, without their marks."""
+    comment = " ".join(re.sub(r"^\s*(--|///)\s*", "", line) for line in lines).strip()
+    first = re.split(r"(?<=[a-z0-9)`])[.;](?: |$)|: ", comment)[0].rstrip(".")
+    return first if re.match(r"[b-z]\b", first) else first[:1].upper() + first[1:]
+
+
+def sentence_of(name, crate):
+    """The first sentence of the comment at the definition of a name, or at the type or constant of that name; else where it stands."""
+    where = "see its crate"
+    definition = re.compile(
+        r"((?:^ *--[^\n]*\n)*)^ *(?:(?:abbrev|unfoldable|opaque) )?(?:pub )?(?:(?:abbrev|unfoldable|opaque|record|data|class) )*(?:pub )?"
+        + re.escape(name) + r"(?=[ :\n])", re.M
+    )
+    for path in files(crate, "specs", ".antt"):
+        with open(path, encoding="utf-8") as file:
+            for it in definition.finditer(file.read()):
+                if it.group(1):
+                    return first_sentence(it.group(1).splitlines())
+                where = f"see `{os.path.relpath(path, TOP)}`"
+    item = re.compile(
+        r"((?:^ *///[^\n]*\n)+)(?:^ *#\[[^\n]*\n)*^ *(?:pub )?(?:(?:struct|enum|trait|const) )?" + re.escape(name) + r"\b", re.M
+    )
+    for path in files(crate, "src", ".rt"):
+        with open(path, encoding="utf-8") as file:
+            for it in item.finditer(file.read()):
+                return first_sentence(it.group(1).splitlines())
+    return where
+
+
+def is_read_aloud(name, page):
+    return re.search(r"`[^`\n]*(?<![\w-])" + re.escape(name) + r"(?![\w-])[^`\n]*`", page) is not None
+
+
+def page_by_hand():
+    return read("docs", "DEFINITIONS.md").split("\n" + HEADING)[0]
+
+
+def written_list():
+    """The section that lists names which the rest of the page does not have."""
+    page, crates = page_by_hand(), stands_on()
+    lines = [
+        HEADING,
+        "",
+        "What clauses of public functions cite, and the sections above do not read aloud: the first sentence of each definition's comment.",
+        "`tests/rules.py --write` writes this list.",
+        "",
+    ]
+    for crate in crates:
+        names = sorted({name for name, where, _ in cited_names(crates) if where == crate and not is_read_aloud(name, page)})
+        if names:
+            lines += [f"`{crate}`:", ""]
+            for name in names:
+                line = f"- `{name}`: {sentence_of(name, crate)}."
+                lines += textwrap.wrap(line, COLUMNS, subsequent_indent="  ", break_long_words=False, break_on_hyphens=False)
+            lines += [""]
+    return "\n".join(lines)
+
+
+def faults():
+    """The name of each rule, and what breaks it, if anything does."""
+    crates = stands_on()
+    chain = longest_chain(crates)
+    yield "no long chain of crates", f"{len(chain)} crates: {', '.join(chain)}" if len(chain) > LONGEST else None
+    folders = sorted(os.listdir(os.path.join(TOP, "crates")))
+    there = {it for it in folders if os.path.isdir(os.path.join(TOP, "crates", it, "src"))}
+    yield "crates.txt has the crates", ", ".join(sorted(there ^ set(crates))) or None
+    table = set(re.findall(r"^\| `(\w+)` \|", read("docs", "ARCHITECTURE.md"), re.M))
+    yield "ARCHITECTURE.md has the crates", ", ".join(sorted(table ^ set(crates))) or None
+    page = read("docs", "DEFINITIONS.md")
+    missing = [f"{name} of {crate}" for name, crate, _ in cited_names(crates) if not is_read_aloud(name, page)]
+    yield "each name in a public contract is in DEFINITIONS.md", ", ".join(missing) or None
+
+
+def main():
+    if sys.argv[1:] == ["--write"]:
+        text = page_by_hand().rstrip("\n") + "\n\n" + written_list()
+        with open(PAGE, "w", encoding="utf-8") as file:
+            file.write(text.rstrip("\n") + "\n")
+    broken = [f"{name}: {fault}" for name, fault in faults() if fault]
+    print("\n".join(broken) or "no rule is broken")
+    return 1 if broken else 0
+
+
+if __name__ == "__main__":
+    sys.exit(main())
