@@ -1,7 +1,7 @@
 -- The events of a schedule that is read are of workers that there are.
 use Rattle.std.proofs.Common.{◌≡◌, ℕ, ◌≤◌, List, All, slice_index_or, sym, subst}
 use Rattle.std.proofs.lemmas.List.Elements.{All-map}
-use Rattle.shared_block.specs.declared.limits.TheConstants.{WORKERS}
+use Rattle.kh_types.specs.declared.limits.TheConstants.{WORKERS}
 use Rattle.undo_stack.specs.Schedule.{HasWorker}
 use Rattle.undo_stack.specs.declared.schedule.ScheduleLine.{ScheduleLine}
 use Rattle.undo_stack.specs.declared.schedule.ScheduleLine.TheVariants as lines
