@@ -1,9 +1,9 @@
 """What gdb runs for `bench/cube.py`: it measures how long a program is in the functions that build the blocks of a cube.
 
-The environment has its name and words, `PROGRAM` and `WORDS`, the files that it reads and that the result is written to, `GIVEN` and `MEASURED`. It stops
-at each call of such a function from outside of them and where the call returns, some ten stops for a block, and adds up the processor
-time in between, the system's work for them included. The time of the stops does not count. Written are the nanoseconds, and how many
-calls there were of each function.
+The environment has its name and words, `PROGRAM` and `WORDS`, the files that it reads and that the result is written to, `GIVEN` and
+`MEASURED`. It stops at each call of such a function from outside of them and where the call returns, some ten stops for a block, and
+adds up the processor time in between, the system's work for them included. The time of the stops does not count. Written are the
+nanoseconds, and how many calls there were of each function.
 """
 import json
 import os

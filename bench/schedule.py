@@ -3,10 +3,10 @@
 
     bench/schedule.py [RUNS] OTHER
 
-A script of 1,000 turns, each `look 1 J` and `commit 1`, is run on a diagram of 10 crossings at its largest block, and beside it an empty script; the
-difference of the least user times is that of the turns. OTHER takes `--braid "STRANDS LETTERS.." --nohint`, takes all turns of all blocks of the same diagram,
-each search from the first column as in a script, and says how long one took in its word after `us/turn`. It prints both and the ratio. Build the
-program first, by `./build`. The gate does not run it.
+A script of 1,000 turns, each `look 1 J` and `commit 1`, is run on a diagram of 10 crossings at its largest block, and beside it an
+empty script; the difference of the least user times is that of the turns. OTHER takes `--braid "STRANDS LETTERS.." --nohint`, takes
+all turns of all blocks of the same diagram, each search from the first column as in a script, and says how long one took in its word
+after `us/turn`. It prints both and the ratio. Build the program first, by `./build`. The gate does not run it.
 """
 import argparse
 import os

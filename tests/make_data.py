@@ -3,6 +3,8 @@
 
     tests/make_data.py OTHER
 
+It also compares `tables.txt`, whose links have 5 to 10 crossings, with OTHER, and stops where they differ.
+
 OTHER is a program that shares no code with `kh`: it reads a planar diagram text, is given `--field` and a field, and writes the table's
 rows and the Jones line. The stored tables are those of a C++ program that cancels the cube block by block over sorted columns and rows,
 and stops where the table's Euler characteristic is not the state sum. It lists slots counterclockwise and takes v+ for degree 1, as here.
@@ -61,16 +63,30 @@ def named(strands, letters):
     return f"{len(letters)} crossings, {' '.join(map(str, letters))}: {strands} strands"
 
 
-def table_of(other, strands, letters):
-    """The block of a link whose tables are stored."""
-    text, lines, jones = planar_diagram(strands, letters), [], set()
+def lines_of(other, text):
+    """The lines of a link's tables over the four fields, and its Jones line."""
+    lines, jones = [], set()
     for field in "2357":
         rows = [line.split() for line in written_by(other, ["--field", field], text)]
         lines.append(f"{field}: " + " ".join(f"{row[1]},{row[3]},{row[5]}" for row in rows if row[0] == "j"))
         jones.add(" ".join(rows[-1]))
     assert jones == {jones_line(text)}, (jones, jones_line(text))
-    (line,) = jones
-    return "\n".join([named(strands, letters), text, *lines, line])
+    return [*lines, *jones]
+
+
+def table_of(other, strands, letters):
+    """The block of a link whose tables are stored."""
+    text = planar_diagram(strands, letters)
+    return "\n".join([named(strands, letters), text, *lines_of(other, text)])
+
+
+def compare_tables(other):
+    """Stops where a block of `tables.txt` is not what the other program and this script find."""
+    with open(os.path.join(HERE, "tables.txt"), encoding="utf-8") as file:
+        for block in file.read().split("\n\n")[1:]:
+            name, text, *lines = block.strip().splitlines()
+            if lines != lines_of(other, text):
+                sys.exit(f"{name} is not what the other program finds")
 
 
 def joined(ends, one, other):
@@ -137,6 +153,7 @@ def write(name, what, lines, blocks):
 
 
 def main(other):
+    compare_tables(other)
     tables = [table_of(other, *braid) for braid in TABLES]
     write("large_tables.txt", "Homology tables of links of 17 crossings.", "for each field the rows j,i,dim; the Jones line.", tables)
     polynomials = [polynomial_of(*braid) for braid in POLYNOMIALS]

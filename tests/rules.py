@@ -11,9 +11,11 @@ name with the first sentence of the comment at its definition.
 import os
 import re
 import sys
+import textwrap
 
 TOP = os.path.dirname(os.path.dirname(os.path.abspath(__file__)))
 LONGEST = 7
+COLUMNS = 135
 PAGE = os.path.join(TOP, "docs", "DEFINITIONS.md")
 HEADING = "## All names in public contracts"
 
@@ -101,7 +103,8 @@ def first_sentence(lines):
 
 
 def sentence_of(name, crate):
-    """The first sentence of the comment at the definition of a name, or at the type or constant of that name."""
+    """The first sentence of the comment at the definition of a name, or at the type or constant of that name; else where it stands."""
+    where = "see its crate"
     definition = re.compile(
         r"((?:^ *--[^\n]*\n)*)^ *(?:(?:abbrev|unfoldable|opaque) )?(?:pub )?(?:(?:abbrev|unfoldable|opaque|record|data|class) )*(?:pub )?"
         + re.escape(name) + r"(?=[ :\n])", re.M
@@ -111,6 +114,7 @@ def sentence_of(name, crate):
             for it in definition.finditer(file.read()):
                 if it.group(1):
                     return first_sentence(it.group(1).splitlines())
+                where = f"see `{os.path.relpath(path, TOP)}`"
     item = re.compile(
         r"((?:^ *///[^\n]*\n)+)(?:^ *#\[[^\n]*\n)*^ *(?:pub )?(?:(?:struct|enum|trait|const) )?" + re.escape(name) + r"\b", re.M
     )
@@ -118,7 +122,7 @@ def sentence_of(name, crate):
         with open(path, encoding="utf-8") as file:
             for it in item.finditer(file.read()):
                 return first_sentence(it.group(1).splitlines())
-    return ""
+    return where
 
 
 def is_read_aloud(name, page):
@@ -143,7 +147,9 @@ def written_list():
         names = sorted({name for name, where, _ in cited_names(crates) if where == crate and not is_read_aloud(name, page)})
         if names:
             lines += [f"`{crate}`:", ""]
-            lines += [f"- `{name}`: {sentence_of(name, crate) or 'see its crate'}." for name in names]
+            for name in names:
+                line = f"- `{name}`: {sentence_of(name, crate)}."
+                lines += textwrap.wrap(line, COLUMNS, subsequent_indent="  ", break_long_words=False, break_on_hyphens=False)
             lines += [""]
     return "\n".join(lines)
 

@@ -9,7 +9,7 @@ pub mod EntryValues
 pub mod ReadingLemmas
 pub mod UpdateLemmas
 pub mod RestLemmas
-pub mod MergeLemmas
+pub mod PairLemmas
 pub mod AgreeLemmas
 pub mod ForeignLemmas
 pub mod CopiedLemmas

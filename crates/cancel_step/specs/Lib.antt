@@ -4,6 +4,6 @@ pub mod Copies
 pub mod Foreign
 pub mod Histories
 pub mod Lines
-pub mod Merging
+pub mod LinePairs
 pub mod Spans
 pub mod Updates

@@ -8,7 +8,7 @@ ghost use Rattle.cancel_step.specs.Copies.{columns_across, rows_across};
 ghost use Rattle.cancel_step.specs.Foreign.{IsForeign, IsLeast, ShowsAt};
 
 use crate::comparing::foreign_column;
-use crate::merging::merge;
+use crate::line_pairs::subtract_into;
 use crate::patched::Update;
 use crate::reading::{column_at, row_at, value_at};
 use crate::{Foreign, Patch, Pivot};
@@ -150,7 +150,7 @@ fn columns_after<F: PrimeField>(
     'entries: for entry in row {
         let place = entry.place;
         let factor = quotient(F::of(entry.value), value);
-        merge(
+        subtract_into(
             scratch,
             column_at(complex, pivot.degree, place),
             factor,
@@ -182,7 +182,7 @@ fn rows_after<F: PrimeField>(
     'entries: for entry in column {
         let place = entry.place;
         let factor = quotient(F::of(entry.value), value);
-        merge(scratch, row_at(complex, pivot.degree, place), factor, row)?;
+        subtract_into(scratch, row_at(complex, pivot.degree, place), factor, row)?;
         let entries = SmallVec::from_slice(alloc, scratch)?;
         lines.push(Line { place, entries })?;
     }

@@ -7,7 +7,7 @@ mod copied_lines;
 mod copying;
 mod finishing;
 pub mod laws;
-mod merging;
+mod line_pairs;
 mod passing;
 mod patched;
 mod pivot;

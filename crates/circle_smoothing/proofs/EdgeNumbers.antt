@@ -20,6 +20,7 @@ use Rattle.circle_smoothing.specs.declared.change.Edge.TheVariants.{Merge, Split
 use Rattle.kh_types.proofs.CircleCycles.{IsNamed-circles}
 use Rattle.kh_types.proofs.EdgeNames.{IsArc-slot, IsJoin, IsJoin-edge, circle_at, stays_least}
 use Rattle.kh_types.proofs.CircleNumbers.{IsName-arc, IsCircle, IsCircle-max, IsCircle-min, IsCircle-of, lesser, number_of-counted, number_of-order}
+use Rattle.kh_types.proofs.EdgeBits.{lower_or_higher}
 
 -- the circle of the arc at a slot
 pub IsCircle-slot : (code : Code) (state crossing slot : ℕ) → IsTrue (accepted code) → IsCrossing code.crossings crossing → slot < 4
@@ -129,9 +130,6 @@ renumbered-low a b n below = grind (arith, nat_tests)
 
 renumbered-high : (a b n m : ℕ) → b < n → n ≡ m + 1 → renumbered a b n ≡ m
 renumbered-high a b n m above next = grind (arith, nat_tests)
-
-lower_or_higher : (x y : ℕ) → x ≢ y → (x < y) ⊎ (y < x)
-lower_or_higher x y differ = grind arith
 
 number-other : (code : Code) (before after crossing c : ℕ) → IsTrue (accepted code) → IsCrossing code.crossings crossing
     → IsJoin code before after crossing → IsCircle code before c → c ≢ gone_of code before crossing

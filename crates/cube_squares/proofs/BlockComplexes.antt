@@ -12,7 +12,7 @@ use Rattle.kh_types.specs.Differential.{differential}
 use Rattle.kh_types.specs.Generators.{Generator, generators_at}
 use Rattle.kh_types.specs.History.{block, homological_degrees}
 use Rattle.kh_types.proofs.MatrixTests.{entry-past_rows}
-use Rattle.cube_squares.proofs.Sums.{sum_by-alike}
+use Rattle.kh_types.proofs.ListSums.{sum_by-alike}
 use Rattle.cube_squares.proofs.Matrices.{differentials-square, entry-below, entry-column_past, length-differential, length-row}
 use Rattle.cube_squares.proofs.BlockDegrees.{cube_degree, degree-block, degree-numbered}
 

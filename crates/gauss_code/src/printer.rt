@@ -5,9 +5,6 @@ ghost use Rattle.std.specs.Fmt.{signed_decimal};
 ghost use Rattle.gauss_code.specs.Printing.{body_of_groups, body_text, gauss_text, group_text, listing_of, numbers_text};
 ghost use Rattle.gauss_code.specs.Reading.{IsReading};
 
-#[cfg(test)]
-mod tests;
-
 use crate::diagram_labels::{component_labels, signs_of};
 use kh_types::{Crossing, Diagram, LOOPS, NoMemory};
 use std::alloc::Global;

@@ -11,7 +11,7 @@ use Rattle.code_passes.specs.Labels.{number_at, is_bad_label, bad_label, names_n
 use Rattle.code_passes.specs.Passes as gauss
 use Rattle.code_passes.specs.Passes.{Pass, is_over, pass_at, passes_from, all_passes}
 use Rattle.code_passes.specs.Passes.{all_labels}
-use Rattle.code_passes.proofs.LabelCounts.{int_eq-other}
+use Rattle.kh_types.proofs.Integers.{int_eq-other}
 use Rattle.orient_arcs.specs.Renumbered.{all_of, turned_names, number_in}
 use Rattle.orient_arcs.proofs.Members.{IsIn, IsIn-same, IsIn-left, IsIn-right, IsIn-parts, AreDistinct, AreDistinct-append, IsIn-get, apart-before, position-get}
 use Rattle.orient_arcs.proofs.Walks.{AreLed}

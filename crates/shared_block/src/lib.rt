@@ -15,8 +15,6 @@ mod rows;
 mod shared_block;
 mod table;
 pub mod table_laws;
-#[cfg(test)]
-mod tests;
 
 pub use all_blocks::{blocks_of, finish_all};
 pub use block_look::BlockLook;

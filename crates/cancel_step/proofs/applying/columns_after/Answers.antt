@@ -67,8 +67,8 @@ quotient-factor-requires g c none =
     ∙ ap (λ (es : List Entry). value_at es pivot.row) (sym is_column)
     ∙ ap (value_at c.column_at-column.result.now) (sym is_place) ∙ sym c.value_at.ensures ∙ sym c.of-value.ensures ∙ none)
 
-pub merge-requires-clause-line : goal.merge-requires-clause-line
-merge-requires-clause-line g c =
+pub subtract_into-requires-clause-line : goal.subtract_into-requires-clause-line
+subtract_into-requires-clause-line g c =
     let p = g.F.PrimeField.P in
     let complex = c.args.complex.now.complex in
     let i = to_z w16 (of_z w16 c.pivot.inside.degree) in
@@ -79,8 +79,8 @@ merge-requires-clause-line g c =
     (column-entries p complex i place c.complex_laws.ensures.complex) in
     (place_count complex (i +ℤ pos 1), are)
 
-pub merge-requires-clause-other : goal.merge-requires-clause-other
-merge-requires-clause-other g c =
+pub subtract_into-requires-clause-other : goal.subtract_into-requires-clause-other
+subtract_into-requires-clause-other g c =
     let p = g.F.PrimeField.P in
     let complex = c.args.complex.now.complex in
     let pivot = c.args.pivot in
@@ -119,7 +119,7 @@ entries-preserved g c =
     c.entries.lines.items c.push.new.self.items is_row c.entries-test.true is_line is_column
     (c.value_at.ensures ∙ ap (value_at c.column_at-column.result.now) is_place)
     (c.quotient-factor.ensures.value ∙ ap₂ (λ x y. product_mod p x (inverse_mod p y)) c.of.ensures c.of-value.ensures)
-    (λ size are are_own. c.in_ok-entries.ensures.ok ∙ c.deref.ensures.value ∙ c.in_ok-merge.ensures size are are_own)
+    (λ size are are_own. c.in_ok-entries.ensures.ok ∙ c.deref.ensures.value ∙ c.in_ok-subtract_into.ensures size are are_own)
     c.entries.invariant c.in_ok-push.ensures.items
 
 pub returns : goal.returns
