@@ -3,8 +3,8 @@ use Rattle.std.specs.Prelude.{ℕ, ◌+◌, List, [], ◌∷◌, ◌++◌, lengt
 use Rattle.std.specs.List.{find, range_with_len}
 use Rattle.std.specs.Ordering.{int_eq}
 use Rattle.kh_types.specs.Code.{Code}
-use Rattle.gauss_code.specs.Listings.{Body, groups_of, crossing_count, loop_count}
-use Rattle.gauss_code.specs.Labels.{number_at}
+use Rattle.gauss_code.specs.Listings.{Body, groups_of, crossing_count, loop_group_count}
+use Rattle.gauss_code.specs.Labels.{listed_number}
 
 -- a pass of a component at a crossing: its label is the number of the crossing where it passes over, and minus the number where
 -- it passes under; it enters on an arc, and leaves on an arc
@@ -19,16 +19,16 @@ is_over label = int_lt (pos 0) label
 
 -- a component that is over at both of its two crossings begins with the lesser label, as its arcs do in an accepted code; every
 -- other component begins as it is listed
-abbrev pub turned : List ℤ → List ℤ
-turned (first ∷ second ∷ []) =
+abbrev pub turned_labels : List ℤ → List ℤ
+turned_labels (first ∷ second ∷ []) =
     if (is_over first && is_over second) && int_lt second first then second ∷ first ∷ [] else first ∷ second ∷ []
-turned labels = labels
+turned_labels labels = labels
 
 -- the pass at a place of a component whose first arc is given: it enters on the arc of its place, and leaves on the next, the last
 -- on the first arc
 abbrev pub pass_at : ℕ → List ℤ → ℕ → Pass
 pass_at first labels at = record {
-  label = number_at labels at;
+  label = listed_number labels at;
   enters = first + at;
   leaves = if nat_eq (at + 1) (length labels) then first else first + at + 1;
 }
@@ -40,7 +40,7 @@ passes_from first labels = map (pass_at first labels) (range_with_len 0 (length 
 -- the passes of components, whose arcs follow those of the component before
 abbrev pub all_passes : ℕ → List (List ℤ) → List Pass
 all_passes first [] = []
-all_passes first (labels ∷ more) = passes_from first (turned labels) ++ all_passes (first + length labels) more
+all_passes first (labels ∷ more) = passes_from first (turned_labels labels) ++ all_passes (first + length labels) more
 
 -- no pass
 abbrev pub no_pass : Pass
@@ -60,11 +60,11 @@ slots_between under over sign =
 -- the slots of a crossing, given by its place
 abbrev pub slots_at : List Pass → List ℤ → ℕ → List ℕ
 slots_at passes signs at =
-    slots_between (pass_of passes (neg_ℤ (pos (at + 1)))) (pass_of passes (pos (at + 1))) (number_at signs at)
+    slots_between (pass_of passes (neg_ℤ (pos (at + 1)))) (pass_of passes (pos (at + 1))) (listed_number signs at)
 
 -- the code of a body and signs: its crossings by their numbers, and its loops
-abbrev pub code_of : Body → List ℤ → Code
-code_of body signs = record {
+abbrev pub listed_code : Body → List ℤ → Code
+listed_code body signs = record {
   crossings = map (slots_at (all_passes 1 (groups_of body)) signs) (range_with_len 0 (crossing_count body));
-  loops = loop_count body;
+  loops = loop_group_count body;
 }
