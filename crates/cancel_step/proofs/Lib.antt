@@ -17,4 +17,5 @@ pub mod ChangedLemmas
 pub mod SameLemmas
 pub mod FinishLemmas
 pub mod AcrossLemmas
+pub mod SideLemmas
 pub mod SpanLemmas

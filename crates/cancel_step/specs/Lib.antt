@@ -1,6 +1,7 @@
 pub mod RankSums
 pub mod OverFour
 pub mod Copies
+pub mod Sides
 pub mod Foreign
 pub mod Histories
 pub mod Lines

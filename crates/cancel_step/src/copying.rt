@@ -2,12 +2,13 @@
 
 ghost use Rattle.std.specs.Prelude.{◌≡◌, [], ◌++◌, map, IfOk, OnOk};
 ghost use Rattle.kh_types.specs.Complex.{IsPivot};
-ghost use Rattle.sparse_block.specs.Complexes.{column_of, row_of};
 ghost use Rattle.cancel_step.specs.Copies.{copied, line_across};
+ghost use Rattle.cancel_step.specs.Sides.{line_on};
 
 use crate::Pivot;
 use crate::copied_lines::{CopiedLines, SomeLines};
-use crate::reading::{column_at, row_at};
+use crate::reading::{entries_beside, own_entries};
+use crate::side::Side;
 use kh_types::NoMemory;
 use prime_field::PrimeField;
 use sparse_block::{Complex, Entry, complex_laws};
@@ -69,12 +70,12 @@ pub fn copy<F: PrimeField>(
     ensures { IfOk result (λ look. look ≡ copied complex.now.complex pivot) }
 {
     complex_laws(complex);
-    let row = row_at(complex, pivot.degree, pivot.row);
-    let column = column_at(complex, pivot.degree, pivot.column);
-    let mut lines = room_for(alloc, complex, pivot.degree, row, column)?;
-    copy_columns(&mut lines, complex, pivot.degree, row)?;
+    let row = own_entries(complex, Side::Rows, pivot);
+    let column = own_entries(complex, Side::Columns, pivot);
+    let mut lines = room_for(alloc, complex, pivot, row, column)?;
+    copy_lines(&mut lines, complex, Side::Columns, pivot, row)?;
     let count = lines.len();
-    copy_rows(&mut lines, complex, pivot.degree, column)?;
+    copy_lines(&mut lines, complex, Side::Rows, pivot, column)?;
     Ok(Look {
         pivot,
         lines,
@@ -83,36 +84,20 @@ pub fn copy<F: PrimeField>(
     })
 }
 
-/// Copies the columns at the places of a row's entries.
-fn copy_columns<F: PrimeField>(
+/// Copies the lines of a side at the places of the entries of a line across.
+fn copy_lines<F: PrimeField>(
     lines: &mut CopiedLines,
     complex: &Complex<F>,
-    degree: i16,
-    row: &[Entry],
+    side: Side,
+    pivot: Pivot,
+    across: &[Entry],
 ) -> Result<(), NoMemory>
-    ensures { OnOk result (lines.new
-        ≡ lines.old ++ map (line_across (column_of complex.now.complex degree)) row.now) }
+    ensures { OnOk result (lines.new ≡ lines.old
+        ++ map (line_across (line_on side complex.now.complex pivot.degree)) across.now) }
 {
-    'entries: for entry in row {
+    'entries: for entry in across {
         let place = entry.place;
-        lines.push(place, column_at(complex, degree, place))?;
-    }
-    Ok(())
-}
-
-/// Copies the rows at the places of a column's entries.
-fn copy_rows<F: PrimeField>(
-    lines: &mut CopiedLines,
-    complex: &Complex<F>,
-    degree: i16,
-    column: &[Entry],
-) -> Result<(), NoMemory>
-    ensures { OnOk result (lines.new
-        ≡ lines.old ++ map (line_across (row_of complex.now.complex degree)) column.now) }
-{
-    'entries: for entry in column {
-        let place = entry.place;
-        lines.push(place, row_at(complex, degree, place))?;
+        lines.push(place, entries_beside(complex, side, pivot, place))?;
     }
     Ok(())
 }
@@ -122,19 +107,30 @@ fn copy_rows<F: PrimeField>(
 fn room_for<F: PrimeField>(
     alloc: Global,
     complex: &Complex<F>,
-    degree: i16,
+    pivot: Pivot,
     row: &[Entry],
     column: &[Entry],
 ) -> Result<CopiedLines, NoMemory>
     ensures { IfOk result (λ made. made ≡ []) }
 {
     let lines = row.len().saturating_add(column.len());
-    let mut entries = 0usize;
-    'columns: for entry in row {
-        entries = entries.saturating_add(column_at(complex, degree, entry.place).len());
+    let columns = entries_across(complex, Side::Columns, pivot, row);
+    let rows = entries_across(complex, Side::Rows, pivot, column);
+    CopiedLines::with_room(alloc, lines, columns.saturating_add(rows))
+}
+
+/// How many entries the lines of a side have at the places of the entries of a line across. No
+/// clause rests on it.
+fn entries_across<F: PrimeField>(
+    complex: &Complex<F>,
+    side: Side,
+    pivot: Pivot,
+    across: &[Entry],
+) -> usize {
+    let mut count = 0usize;
+    'entries: for entry in across {
+        let line = entries_beside(complex, side, pivot, entry.place);
+        count = count.saturating_add(line.len());
     }
-    'rows: for entry in column {
-        entries = entries.saturating_add(row_at(complex, degree, entry.place).len());
-    }
-    CopiedLines::with_room(alloc, lines, entries)
+    count
 }

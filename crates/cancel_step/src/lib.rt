@@ -13,6 +13,7 @@ mod patched;
 mod pivot;
 mod reading;
 mod search;
+mod side;
 mod updating;
 
 pub use applying::{apply, apply_fitting, cancel_in_place};

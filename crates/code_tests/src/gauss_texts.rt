@@ -241,10 +241,12 @@ fn values_that_differ_are_not_equal(rt: HostRuntime) {
         found: 1,
         wanted: 2,
     };
-    assert!(rt; one != GaussStop::SignCount {
+    assert!(rt;
+        one != GaussStop::SignCount {
             found: 2,
             wanted: 1
-        });
+        }
+    );
 }
 
 const BORROMEAN_RINGS: [[u8; 4]; 6] = [
@@ -300,4 +302,3 @@ fn prints_known_diagrams(rt: HostRuntime) -> Result<(), Fail> {
     }
     Ok(())
 }
-

@@ -12,7 +12,7 @@ ghost use Rattle.prime_field.specs.Residues.{IsField};
 ghost use Rattle.cube_signs.specs.Blocks.{block_degrees};
 ghost use Rattle.shared_block.specs.BlockHistories.{BlockCopy, BlockHistory, Fits, HasLegalHistory};
 ghost use Rattle.shared_block.specs.BlockHistories.{complex_of};
-ghost use Rattle.shared_block.specs.declared.limits.TheConstants.{WORKERS};
+ghost use Rattle.kh_types.specs.declared.limits.TheConstants.{WORKERS};
 ghost use Rattle.shared_block.specs.AllBlocks.{AreBlocksOf};
 ghost use Rattle.commit_core.specs.Alone.{looks_and_commits, state_with};
 ghost use Rattle.commit_core.specs.Answering.{answers, turns};

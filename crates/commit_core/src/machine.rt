@@ -3,7 +3,7 @@
 ghost use Rattle.std.specs.Prelude.{◌≡◌, ◌⊎◌, ◌≤◌, length, None, IfErr, IfOk, IfSome};
 ghost use Rattle.circle_smoothing.specs.GeneratorCounts.{generator_count};
 ghost use Rattle.circle_smoothing.specs.declared.limits.TheConstants.{GENERATORS};
-ghost use Rattle.shared_block.specs.declared.limits.TheConstants.{WORKERS};
+ghost use Rattle.kh_types.specs.declared.limits.TheConstants.{WORKERS};
 ghost use Rattle.commit_core.specs.Rows.{Commits, Forgets, ComesTo, LooksAt};
 ghost use Rattle.commit_core.specs.States.{IsHeldOf, held_by, opening_state, with_held, event_worker};
 
@@ -27,7 +27,7 @@ pub struct Core<F: PrimeField> {
 
 impl<F: PrimeField> Model for Core<F> {
     ghost use Rattle.std.specs.Prelude.{◌≤◌, length};
-    ghost use Rattle.shared_block.specs.declared.limits.TheConstants.{WORKERS};
+    ghost use Rattle.kh_types.specs.declared.limits.TheConstants.{WORKERS};
     ghost use Rattle.commit_core.specs.States.{IsSound, CoreState, state_of};
 
     ghost Value = { CoreState };

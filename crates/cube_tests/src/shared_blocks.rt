@@ -1,17 +1,13 @@
-//! What no clause says: that the calls succeed where there is memory. And worked blocks.
+//! Blocks with histories: that the calls succeed where there is memory, and worked blocks.
 
-use crate::{CommitAnswer, SharedBlock};
-use arrayvec::ArrayVec;
 use cube_signs::{block_degrees, check_size};
-use kh_types::{Crossing, Diagram, NoMemory, RawCode};
+use kh_types::NoMemory;
+use known_links::{HOPF, TREFOIL, diagram_of};
 use prime_field::{F2, F3, F5, F7, PrimeField};
+use shared_block::{CommitAnswer, SharedBlock, blocks_of};
 use std::alloc::Global;
 use std::process::Abort;
 use std::test::Fail;
-
-const HOPF_LINK: &[[u8; 4]] = &[[4, 1, 3, 2], [2, 3, 1, 4]];
-
-const TREFOIL: &[[u8; 4]] = &[[1, 4, 2, 5], [3, 6, 4, 1], [5, 2, 6, 3]];
 
 /// The blocks of a link over a field, ascending: the quantum degree, how many turns the block takes,
 /// and the sum of its homology dimensions.
@@ -25,12 +21,12 @@ struct Worked {
 /// "L2a1" and "3_1"). Over two elements the trefoil has one turn fewer at -7.
 const WORKED: &[Worked] = &[
     Worked {
-        crossings: HOPF_LINK,
+        crossings: HOPF,
         field: 2,
         blocks: &[(-6, 0, 1), (-4, 2, 1), (-2, 2, 1), (0, 0, 1)],
     },
     Worked {
-        crossings: HOPF_LINK,
+        crossings: HOPF,
         field: 7,
         blocks: &[(-6, 0, 1), (-4, 2, 1), (-2, 2, 1), (0, 0, 1)],
     },
@@ -70,24 +66,22 @@ fn check_blocks<F: PrimeField>(
     alloc: Global,
     worked: &Worked,
 ) -> Result<(), Fail> {
-    let diagram = diagram_of(worked.crossings)?;
+    let diagram = diagram_of(worked.crossings, 0)?;
     check_size(&diagram)?;
     let degrees = block_degrees(alloc, &diagram)?;
-    assert_eq!(rt; degrees.len(), worked.blocks.len());
+    assert!(rt; degrees.len() == worked.blocks.len());
     for k in 0..degrees.len() {
         let mut turned = SharedBlock::<F>::build(alloc, &diagram, degrees[k])?;
         let mut finished = SharedBlock::<F>::build(alloc, &diagram, degrees[k])?;
         let turns = take_turns(rt, alloc, &mut turned)?;
         finished.finish(alloc)?;
         for block in [&turned, &finished] {
-            assert_eq!(rt;
-                (block.degree(), block.version(), total(rt, block)),
-                worked.blocks[k],
-                "over {}",
-                worked.field
-            );
+            let (degree, turns, dimensions) = worked.blocks[k];
+            assert!(rt; block.degree() == degree);
+            assert!(rt; block.version() == turns);
+            assert!(rt; total(rt, block) == dimensions);
         }
-        assert_eq!(rt; turns, turned.version());
+        assert!(rt; turns == turned.version());
     }
     Ok(())
 }
@@ -106,7 +100,7 @@ fn take_turns<F: PrimeField>(
         hint = look.hint();
         let answer = block.commit(look.patch(alloc)?);
         let version = turns + 1;
-        assert_eq!(rt; answer, CommitAnswer::Committed { version });
+        assert!(rt; answer == CommitAnswer::Committed { version });
     }
     Ok(100)
 }
@@ -131,32 +125,23 @@ fn patches_of_other_blocks_and_versions_are_dropped(rt: HostRuntime) -> Result<(
     };
     let column = 0;
     let foreign = other.commit(first.patch(alloc)?);
-    assert_eq!(rt; foreign, CommitAnswer::Foreign { degree: -1, column });
-    assert_eq!(rt; other.version(), 0);
+    assert!(rt; foreign == CommitAnswer::Foreign { degree: -1, column });
+    assert!(rt; other.version() == 0);
     let patch = second.patch(alloc)?;
     take_turns(&rt, alloc, &mut block)?;
     let stale = block.commit(patch);
-    assert_eq!(rt; stale, CommitAnswer::Stale { looked: 0, now: 2 });
+    assert!(rt; stale == CommitAnswer::Stale { looked: 0, now: 2 });
     assert_eq!(rt; (block.version(), block.alive()), (2, 1));
     Ok(())
 }
 
 /// The block of the Hopf link that stands at this place among its blocks.
-fn block_of_hopf_link(alloc: Global, k: usize) -> Result<SharedBlock<F2>, Fail> {
-    let diagram = diagram_of(HOPF_LINK)?;
+fn block_of_hopf_link(alloc: Global, place: usize) -> Result<SharedBlock<F2>, Fail> {
+    let diagram = diagram_of(HOPF, 0)?;
     check_size(&diagram)?;
-    let degrees = block_degrees(alloc, &diagram)?;
-    if k < degrees.len() {
-        return Ok(SharedBlock::build(alloc, &diagram, degrees[k])?);
+    let mut blocks = blocks_of(alloc, &diagram)?;
+    if place < blocks.len() {
+        return Ok(blocks.remove(place));
     }
     Err(Fail::from(NoMemory))
-}
-
-fn diagram_of(arcs: &[[u8; 4]]) -> Result<Diagram, Fail> {
-    let mut crossings = ArrayVec::new();
-    for slots in arcs {
-        let _ = crossings.try_push(Crossing(*slots));
-    }
-    let loops = 0;
-    Ok(Diagram::try_new(&RawCode { crossings, loops })?)
 }

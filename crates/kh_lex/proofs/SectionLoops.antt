@@ -47,4 +47,3 @@ pub words_of-end : (line : List ℕ) (place : ℕ) (words : List (List ℕ)) →
     → words ≡ words_of line
 words_of-end line place words end so_far =
     sym (append-nil words) ∙ ap (λ rest. words ++ words_of rest) (sym (drop_of_length-le line end)) ∙ so_far.whole
-

@@ -14,7 +14,8 @@ mod symbol;
 mod token;
 
 pub use laws::{
-    each_text_is_cut_in_one_way, number_limits, numbers_are_written_in_one_way, tokens_cut_the_text, worked_tokens,
+    each_text_is_cut_in_one_way, number_limits, numbers_are_written_in_one_way,
+    tokens_cut_the_text, worked_tokens,
 };
 pub use lexer::tokens;
 pub use limits::{NUMBER_DIGITS, NUMBER_LIMIT};

@@ -1,6 +1,6 @@
 -- The lines of a schedule: `look W J`, `commit W` and `forget W` (this project's rule).
 use Rattle.std.specs.Prelude.{◌≡◌, ℕ, ◌≤◌, List, [], ◌∷◌, codes, ℤ, Result}
-use Rattle.undo_stack.specs.declared.limits.TheConstants.{WORKERS}
+use Rattle.kh_types.specs.declared.limits.TheConstants.{WORKERS}
 use Rattle.undo_stack.specs.declared.schedule.ScheduleLine.{ScheduleLine}
 use Rattle.undo_stack.specs.declared.schedule.ScheduleLine.TheVariants.{Look, Commit, Forget}
 use Rattle.undo_stack.specs.declared.stop.ScriptStop.{ScriptStop}

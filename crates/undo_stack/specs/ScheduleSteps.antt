@@ -1,7 +1,7 @@
 -- The reading of a schedule, as the way of the code.
 use Rattle.std.specs.Prelude.{ℕ, nat_le, ◌&&◌, if◌then◌else◌, List, [], ◌∷◌, codes, Option, None, Some, Result, ℤ, bytes_eq}
 use Rattle.std.specs.Option.{option_map, option_and_then}
-use Rattle.undo_stack.specs.declared.limits.TheConstants.{WORKERS}
+use Rattle.kh_types.specs.declared.limits.TheConstants.{WORKERS}
 use Rattle.undo_stack.specs.declared.schedule.ScheduleLine.{ScheduleLine}
 use Rattle.undo_stack.specs.declared.schedule.ScheduleLine.TheVariants.{Look, Commit, Forget}
 use Rattle.undo_stack.specs.declared.stop.ScriptStop.{ScriptStop}

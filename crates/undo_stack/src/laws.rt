@@ -6,14 +6,13 @@ ghost use Rattle.undo_stack.specs.declared.stop.ScriptStop.{ScriptStop};
 ghost use Rattle.undo_stack.specs.Schedule.{IsSchedule};
 ghost use Rattle.undo_stack.specs.ScheduleSteps.{schedule_of};
 
-use crate::limits::{SCRIPT_LINES, WORKERS};
+use crate::limits::SCRIPT_LINES;
 use crate::schedule::ScheduleLine;
 use crate::stop::ScriptStop;
 
-/// The values of the limits, which the definitions name and do not write out.
+/// The value of the limit, which the definitions name and do not write out.
 pub fn limits_of_scripts()
     ensures lines { SCRIPT_LINES ≡ 4096 }
-    ensures workers { WORKERS ≡ 64 }
 {}
 
 /// Each text has a reading, which `schedule_of` computes, and no text has two.

@@ -9,10 +9,8 @@ mod schedule;
 mod script;
 mod stop;
 
-pub use laws::{
-    each_text_has_one_reading, limits_of_scripts, worked_scripts,
-};
-pub use limits::{SCRIPT_LINES, WORKERS};
+pub use laws::{each_text_has_one_reading, limits_of_scripts, worked_scripts};
+pub use limits::SCRIPT_LINES;
 pub use schedule::{ScheduleLine, read_schedule};
 pub use script::Script;
 pub use stop::ScriptStop;

@@ -5,12 +5,12 @@ ghost use Rattle.undo_stack.specs.Schedule.{HasWorker, IsSchedule};
 ghost use Rattle.undo_stack.specs.ScheduleSteps.{line_of_three, line_of_two, named_block, named_worker, schedule_line_of};
 
 use crate::command::Command;
-use crate::limits::{SCRIPT_LINES, WORKERS};
+use crate::limits::SCRIPT_LINES;
 use crate::reader::read_script;
 use crate::script::Script;
 use crate::stop::ScriptStop;
 use kh_lex::{number_of, signed_number_of};
-use kh_types::INPUT_BYTES;
+use kh_types::{INPUT_BYTES, WORKERS};
 use std::alloc::Global;
 
 /// What a line of a schedule lets a worker do. Workers are counted from 1; a block is named by

@@ -2,20 +2,47 @@
 ghost use Rattle.std.specs.Prelude.{◌≡◌, ◌<◌, ◌≤◌, ◌^◌, length, vec_len, vec_capacity, IfOk, []};
 ghost use native.Mathlib.Omega.{arith};
 
-use crate::held::Held;
 use kh_types::NoMemory;
 use std::alloc::Global;
 use std::hint::spin_loop;
-
-/// How often a look pauses: several times as often as a seat tries before it sleeps.
-const SPINS: u32 = 20_000;
+use std::sync::atomic::{AtomicU64, Ordering};
+use version_lock::Held;
 
 /// Numbers, and for how many of them there is room.
 #[derive(Drop)]
 pub struct Numbers {
     pub items: Vec<u32>,
     pub room: usize,
+    /// How a look at them goes.
+    pub looks: Looks,
     ghost fits: { (vec_len items ≤ room) × (room ≤ vec_capacity items) × (room < 2 ^ 63) },
+}
+
+/// How often a look pauses, and whether every second one fails.
+#[derive(Drop)]
+pub struct Looks {
+    pub pauses: u32,
+    pub fail: bool,
+    pub count: AtomicU64,
+}
+
+impl Looks {
+    /// Looks that pause so often.
+    pub fn new(pauses: u32, fail: bool) -> Looks {
+        Looks {
+            pauses,
+            fail,
+            count: AtomicU64::new(0),
+        }
+    }
+
+    /// Takes its time, and tells whether this look fails.
+    fn go(&self) -> bool {
+        'while_others_wait: for _ in 0..self.pauses {
+            spin_loop();
+        }
+        self.fail && self.count.fetch_add(1, Ordering::SeqCst) % 2 == 1
+    }
 }
 
 /// A number for a list that has so many.
@@ -27,13 +54,14 @@ pub struct Addition {
 
 impl Numbers {
     /// No numbers, and room for this many.
-    pub fn new(alloc: Global, room: usize) -> Result<Numbers, NoMemory>
+    pub fn new(alloc: Global, room: usize, looks: Looks) -> Result<Numbers, NoMemory>
         requires { room < 2 ^ 63 }
         ensures { IfOk result (λ numbers. (numbers.items.items ≡ []) × (numbers.room ≡ room)) }
     {
         Ok(Numbers {
             items: Vec::with_capacity(alloc, room)?,
             room,
+            looks,
         })
     }
 }
@@ -64,10 +92,9 @@ impl Held for Numbers {
         self.items.len() as u64
     }
 
-    /// It takes its time, so that other seats sleep meanwhile.
     fn look_at(&self, _alloc: Global, _hint: u32) -> Result<Option<usize>, NoMemory> {
-        'while_others_wait: for _ in 0..SPINS {
-            spin_loop();
+        if self.looks.go() {
+            return Err(NoMemory);
         }
         if self.room <= self.items.len() {
             return Ok(None);

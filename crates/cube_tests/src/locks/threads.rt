@@ -3,13 +3,14 @@ ghost use Rattle.std.specs.Prelude.{◌≡◌, ◌+◌, ◌≤◌, ◌<◌, ◌^
 ghost use Rattle.version_lock.specs.Places.{one_if};
 ghost use Rattle.version_lock.specs.Calls.{IsSeatOf};
 
-use super::numbers::{Addition, Numbers};
-use crate::{CommitSeen, Versioned, WorkSeat};
+use super::numbers::{Addition, Looks, Numbers};
 use kh_types::NoMemory;
 use std::alloc::Global;
+use std::process::Abort;
 use std::sync::Wait;
 use std::test::Fail;
 use std::thread::{Threads, join};
+use version_lock::{CommitSeen, Versioned, WorkSeat};
 
 /// One look, and one commit where there is room: whether it was taken.
 fn add_once<R: Wait>(
@@ -78,11 +79,12 @@ fn added_by_two<R: Threads + Wait + Sync>(
     rt: &R,
     alloc: Global,
     room: usize,
+    looks: Looks,
 ) -> Result<(Numbers, u64, u64), NoMemory>
     requires { room < 2 ^ 63 }
     ensures version { IfOk result (λ r. length r.0.items.items ≡ r.1 + r.2) }
 {
-    let (lock, seat) = Versioned::new(alloc, Numbers::new(alloc, room)?, 2)?;
+    let (lock, seat) = Versioned::new(alloc, Numbers::new(alloc, room, looks)?, 2)?;
     let (one, two) = lock.split(seat);
     let (a, b) = join(
         rt,
@@ -102,17 +104,51 @@ fn added_by_two<R: Threads + Wait + Sync>(
     Ok((closed(lock, one, two), ones, twos))
 }
 
+/// Two threads add to a list: each number stands in it once, and there are at least so many.
+fn check_additions<R: Threads + Wait + Sync + Abort>(
+    rt: &R,
+    alloc: Global,
+    room: usize,
+    looks: Looks,
+    least: u64,
+) -> Result<(), Fail>
+    requires { room < 2 ^ 63 }
+{
+    let (numbers, ones, twos) = added_by_two(rt, alloc, room, looks)?;
+    assert!(rt; count_of(&numbers, 1) == ones);
+    assert!(rt; count_of(&numbers, 2) == twos);
+    assert!(rt; least <= ones.saturating_add(twos));
+    assert!(rt; numbers.items.len() <= room);
+    Ok(())
+}
+
+fn count_of(numbers: &Numbers, wanted: u32) -> u64 {
+    numbers.items.iter().filter(|x| **x == wanted).count() as u64
+}
+
+/// Looks pause several times as often as a seat tries before it sleeps.
 #[test]
 fn each_commit_of_two_threads_stands_in_the_list_once(rt: HostRuntime) -> Result<(), Fail> {
     for (room, least) in [(0usize, 0u64), (1, 1), (150, 100), (1000, 100)] {
-        let (numbers, ones, twos) = added_by_two(&rt, rt.alloc(), room)?;
-        let found = |wanted: u32| numbers.items.iter().filter(|x| **x == wanted).count() as u64;
-        assert_eq!(rt; found(1), ones, "ones at {room}");
-        assert_eq!(rt; found(2), twos, "twos at {room}");
-        assert!(rt;
-            least <= ones + twos && numbers.items.len() <= room,
-            "at {room}"
-        );
+        check_additions(&rt, rt.alloc(), room, Looks::new(20_000, false), least)?;
+    }
+    Ok(())
+}
+
+/// The turn is given up and waited for at many different times.
+#[test]
+fn many_short_turns_come_back(rt: HostRuntime) -> Result<(), Fail> {
+    for round in 0..200u32 {
+        check_additions(&rt, rt.alloc(), 1000, Looks::new(round * 10, false), 100)?;
+    }
+    Ok(())
+}
+
+/// Of two hundred looks a hundred fail, and of the others at most every second one is stale.
+#[test]
+fn looks_that_fail_give_the_turn_back(rt: HostRuntime) -> Result<(), Fail> {
+    for pauses in [0u32, 1000, 20_000] {
+        check_additions(&rt, rt.alloc(), 1000, Looks::new(pauses, true), 50)?;
     }
     Ok(())
 }
@@ -120,11 +156,11 @@ fn each_commit_of_two_threads_stands_in_the_list_once(rt: HostRuntime) -> Result
 #[test]
 fn the_later_of_two_commits_is_stale(rt: HostRuntime) -> Result<(), Fail> {
     let alloc = rt.alloc();
-    let (lock, seat) = Versioned::new(alloc, Numbers::new(alloc, 9)?, 2)?;
+    let (lock, seat) = Versioned::new(alloc, Numbers::new(alloc, 9, Looks::new(0, false))?, 2)?;
     let (mut one, mut two) = lock.split(seat);
     let first = lock.look_with(&rt, alloc, &mut one, 0)?;
     let second = lock.look_with(&rt, alloc, &mut two, 0)?;
-    assert_eq!(rt; first, second);
+    assert!(rt; first == second);
     let (Some(count), Some(same)) = (first, second) else {
         panic!(rt; "there is room");
     };

@@ -1,17 +1,15 @@
 //! Blocks whose locks have one seat.
 
-use super::diagrams::{FIGURE_EIGHT, diagram_of};
-use crate::gate::Free;
-use crate::one_seat::cancel_by_one_seat;
-use crate::turns::work;
+use super::diagrams::FIGURE_EIGHT_TURNS;
+use super::gates::InTurn;
 use cube_signs::check_size;
+use known_links::{FIGURE_EIGHT, diagram_of};
 use prime_field::F2;
 use shared_block::blocks_of;
+use std::sync::atomic::{AtomicU64, Ordering};
 use std::test::Fail;
 use version_lock::Versioned;
-
-/// Of 66 generators, pairs are cancelled until there are as many as dimensions, 10 over two elements.
-const TURNS: u64 = 28;
+use worker_pool::{Free, cancel_by_one_seat, work};
 
 #[test]
 fn work_at_each_block_of_the_figure_eight_takes_28_turns(rt: HostRuntime) -> Result<(), Fail> {
@@ -22,15 +20,22 @@ fn work_at_each_block_of_the_figure_eight_takes_28_turns(rt: HostRuntime) -> Res
     for block in blocks_of::<F2>(alloc, &diagram)? {
         let (lock, seat) = Versioned::new(alloc, block, 1)?;
         let mut seat = seat;
-        let turns = work(&rt, alloc, &lock, &mut seat, 1, &Free)?;
-        let again = work(&rt, alloc, &lock, &mut seat, 1, &Free)?;
-        assert_eq!(rt; again, 0);
+        let gate = InTurn {
+            worker: 7,
+            turns: AtomicU64::new(0),
+            strange: AtomicU64::new(0),
+        };
+        let turns = work(&rt, alloc, &lock, &mut seat, 7, &gate)?;
+        let again = work(&rt, alloc, &lock, &mut seat, 7, &gate)?;
+        assert!(rt; again == 0);
         let block = lock.close(seat);
         assert!(rt; block.is_zero());
-        assert_eq!(rt; block.version(), turns);
+        assert!(rt; block.version() == turns);
+        assert!(rt; gate.turns.load(Ordering::SeqCst) == turns);
+        assert!(rt; gate.strange.load(Ordering::SeqCst) == 0);
         total = total.saturating_add(turns);
     }
-    assert_eq!(rt; total, TURNS);
+    assert!(rt; total == FIGURE_EIGHT_TURNS);
     Ok(())
 }
 
@@ -47,6 +52,6 @@ fn one_seat_cancels_a_block(rt: HostRuntime) -> Result<(), Fail> {
             total = total.saturating_add(turns);
         }
     }
-    assert_eq!(rt; total, TURNS);
+    assert!(rt; total == FIGURE_EIGHT_TURNS);
     Ok(())
 }

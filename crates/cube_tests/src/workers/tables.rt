@@ -1,11 +1,9 @@
 //! The same tables for all numbers of workers.
 
-use super::diagrams::{DIAGRAMS, diagram_of};
+use super::diagrams::{DIAGRAMS, FIGURE_EIGHT_TURNS};
 use super::gates::{Count, Slow};
-use crate::cancelling::{cancel_all, cancel_alone};
-use crate::gate::{Free, Gate};
-use crate::outcome::{Cancelled, PoolStop};
 use kh_types::Diagram;
+use known_links::{FIGURE_EIGHT, diagram_of};
 use prime_field::{F2, F3, PrimeField};
 use shared_block::SharedBlock;
 use std::alloc::Global;
@@ -14,8 +12,9 @@ use std::sync::Wait;
 use std::sync::atomic::{AtomicU64, Ordering};
 use std::test::Fail;
 use std::thread::Threads;
+use worker_pool::{Cancelled, Free, Gate, PoolStop, cancel_all, cancel_alone};
 
-const WORKERS: &[u32] = &[1, 2, 3, 8, 64];
+const NUMBERS: &[u32] = &[1, 2, 3, 8, 64];
 
 #[test]
 fn any_number_of_workers_makes_the_same_table(rt: HostRuntime) -> Result<(), Fail> {
@@ -51,10 +50,35 @@ fn each_turn_calls_the_gate(rt: HostRuntime) -> Result<(), Fail> {
         };
         let made = cancel_all::<_, F2, _>(&rt, rt.alloc(), &diagram, 3, &gate)?;
         let turns = gate.turns.load(Ordering::SeqCst);
-        assert!(rt; turns >= total_turns(&made.blocks), "{crossings:?}");
-        assert_eq!(rt; gate.strange.load(Ordering::SeqCst), 0);
+        assert!(rt; turns >= total_turns(&made.blocks));
+        assert!(rt; gate.strange.load(Ordering::SeqCst) == 0);
     }
     Ok(())
+}
+
+/// The caller finds nothing left to do.
+#[test]
+fn workers_commit_all_pivots(rt: HostRuntime) -> Result<(), Fail> {
+    let diagram = diagram_of(FIGURE_EIGHT, 0)?;
+    for _ in 0..20u32 {
+        for workers in 2..5u32 {
+            let made = cancel_all::<_, F2, _>(&rt, rt.alloc(), &diagram, workers, &Free)?;
+            assert!(rt; sum(&made.committed) == FIGURE_EIGHT_TURNS);
+            assert!(rt; total_turns(&made.blocks) == FIGURE_EIGHT_TURNS);
+        }
+    }
+    let alone = cancel_alone::<F2>(rt.alloc(), &diagram)?;
+    assert!(rt; sum(&alone.committed) == 0);
+    assert!(rt; total_turns(&alone.blocks) == FIGURE_EIGHT_TURNS);
+    Ok(())
+}
+
+fn sum(numbers: &[u64]) -> u64 {
+    let mut total = 0u64;
+    for number in numbers {
+        total = total.saturating_add(*number);
+    }
+    total
 }
 
 #[test]
@@ -68,9 +92,9 @@ fn diagrams_with_too_many_generators_are_refused(rt: HostRuntime) -> Result<(), 
         generators: 2_821_109_907_456,
     };
     let alone = cancel_alone::<F2>(rt.alloc(), &diagram);
-    assert_eq!(rt; stop_of(&alone), Some(limit));
+    assert!(rt; stop_of(&alone) == Some(limit));
     let all = cancel_all::<_, F2, _>(&rt, rt.alloc(), &diagram, 64, &Free);
-    assert_eq!(rt; stop_of(&all), Some(limit));
+    assert!(rt; stop_of(&all) == Some(limit));
     Ok(())
 }
 
@@ -89,14 +113,14 @@ fn check_tables<R: Threads + Wait + Sync + Abort, F: PrimeField + Send + Sync, G
     gate: &G,
 ) -> Result<(), Fail> {
     let alone = cancel_alone::<F>(alloc, diagram)?;
-    for workers in WORKERS {
+    for workers in NUMBERS {
         if 1 <= *workers && *workers <= 64 {
             let made = cancel_all::<R, F, G>(rt, alloc, diagram, *workers, gate)?;
-            assert_eq!(rt; made.table.field(), F::P);
-            assert_eq!(rt; made.table.rows(), alone.table.rows(), "{workers} workers");
+            assert!(rt; made.table.field() == F::P);
+            assert!(rt; made.table.rows() == alone.table.rows());
             assert!(rt; made.blocks.iter().all(|block| block.is_zero()));
-            assert_eq!(rt; total_turns(&made.blocks), total_turns(&alone.blocks));
-            assert_eq!(rt; made.blocks.len(), alone.blocks.len());
+            assert!(rt; total_turns(&made.blocks) == total_turns(&alone.blocks));
+            assert!(rt; made.blocks.len() == alone.blocks.len());
         }
     }
     Ok(())

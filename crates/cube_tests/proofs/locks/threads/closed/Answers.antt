@@ -1,6 +1,6 @@
 use Rattle.std.proofs.Common.{arith, ap, length, ◌≡◌, ◌+◌, ◌-◌}
 use Rattle.version_lock.proofs.Places.{length-all_places}
-use Rattle.version_lock.proofs.tests.threads.closed.Goals as goal
+use Rattle.cube_tests.proofs.locks.threads.closed.Goals as goal
 
 pub returns : goal.returns
 returns c =
