@@ -4,6 +4,10 @@
 #[cfg(test)]
 mod acceptance;
 #[cfg(test)]
+mod components;
+#[cfg(test)]
+mod faces;
+#[cfg(test)]
 mod gauss_texts;
 #[cfg(test)]
 mod json_texts;

@@ -9,12 +9,9 @@ use Rattle.std.proofs.lemmas.List.FromFn.{length-map-range_with_len, get_or-map-
 use Rattle.std.proofs.lemmas.List.Sums.{sum_by-cons, sum_by-append}
 use Rattle.gauss_code.specs.Labels.{listed_number}
 use Rattle.gauss_code.specs.Passes.{Pass, turned_labels, pass_at, passes_from, all_passes}
-use Rattle.gauss_code.proofs.Sums.{value_if, only_at, sum-only, sum_by-range_alike, sum_by-none}
+use Rattle.gauss_code.proofs.Sums.{value_if, only_at, sum-only, sum_by-none}
+use Rattle.kh_types.proofs.ListSums.{sum_by-range_alike, sum_by-map}
 use Rattle.gauss_code.proofs.ComponentPasses.{all_labels, length-turned_labels, sum_by-turned_labels, length-labels_more}
-
-pub sum_by-map : {X Y : Type 0} (f : Y → ℕ) (g : X → Y) (xs : List X) → sum_by f (map g xs) ≡ sum_by (λ x. f (g x)) xs
-sum_by-map f g [] = refl
-sum_by-map f g (x ∷ xs) = omega (arith, sum_by-map f g xs, sum_by-cons f (g x) (map g xs), sum_by-cons (λ y. f (g y)) x xs)
 
 -- a list is the list of its numbers
 map-listed_number : (numbers : List ℤ) → map (listed_number numbers) (range_with_len 0 (length numbers)) ≡ numbers

@@ -9,7 +9,8 @@ use Rattle.kh_types.specs.Darts.{arc_of, times, IsDart}
 use Rattle.kh_types.specs.Accepted.{IsDirected, IsInterval}
 use Rattle.gauss_code.specs.Labels.{bad_label}
 use Rattle.gauss_code.specs.Passes.{Pass, all_passes}
-use Rattle.gauss_code.proofs.Sums.{value_if, sum_by-range_alike, sum_by-plus}
+use Rattle.gauss_code.proofs.Sums.{value_if}
+use Rattle.kh_types.proofs.ListSums.{sum_by-range_alike, sum_by-plus}
 use Rattle.gauss_code.proofs.LabelCounts.{under_at, under_at-is}
 use Rattle.gauss_code.proofs.ComponentPasses.{all_labels, label_from, IsPassOf, IsPassOf-all}
 use Rattle.gauss_code.proofs.ArcCounts.{enters_on, leaves_on, sum-enters, sum-leaves}

@@ -10,7 +10,9 @@ use Rattle.std.proofs.lemmas.List.{take_all}
 use Rattle.std.proofs.lemmas.List.Elements.{All-from_get_or, recursion_from_All}
 use Rattle.std.proofs.lemmas.List.Sums.{sum_by_more}
 use Rattle.gauss_code.specs.Labels.{listed_number, is_bad_label, bad_label}
-use Rattle.gauss_code.proofs.Sums.{value_if, only_at, sum-only, sum_by-alike, sum_by-range_alike, sum_by-plus, sum_by-ones, sum_by-exchanged, sum-at_most_two, each-two, count_by-none}
+use Rattle.gauss_code.proofs.Sums.{value_if, only_at, sum-only, sum_by-alike, sum_by-ones, sum-at_most_two, each-two, count_by-none}
+use Rattle.kh_types.proofs.ListSums.{sum_by-range_alike, sum_by-plus, sum_by-turned}
+use Rattle.kh_types.proofs.Integers.{int_eq-other, int_eq-same}
 
 -- a label names one of some crossings
 abbrev pub Names : ℕ → ℤ → Type 0
@@ -26,12 +28,6 @@ under_at place = neg_ℤ (pos (place + 1))
 -- a value for each label that names the crossing at a place
 abbrev pub at_crossing : ℕ → ℤ → ℕ → ℕ
 at_crossing value label place = value_if value (int_eq label (under_at place)) + value_if value (int_eq label (over_at place))
-
-pub int_eq-same : (x y : ℤ) → x ≡ y → int_eq x y ≡ true
-int_eq-same x y same = (Decides-int_eq x y).1 same
-
-pub int_eq-other : (x y : ℤ) → x ≢ y → int_eq x y ≡ false
-int_eq-other x y other = false_from_ne_true (int_eq x y) (λ same. other ((Decides-int_eq x y).0 same))
 
 pub over_at-is : (place : ℕ) → over_at place ≡ pos (suc place)
 over_at-is place = let e : place + 1 ≡ suc place = omega arith in ap pos e
@@ -69,7 +65,7 @@ pub sum-by_crossings : {X : Type 0} (entering_label : X → ℤ) (f : X → ℕ)
     → AllByRecursion (λ x. Names crossings (entering_label x)) xs
     → sum_by (λ place. sum_by (λ x. at_crossing (f x) (entering_label x) place) xs) (range_with_len 0 crossings) ≡ sum_by f xs
 sum-by_crossings {X} entering_label f crossings xs names =
-    sum_by-exchanged (λ place x. at_crossing (f x) (entering_label x) place) (range_with_len 0 crossings) xs
+    sum_by-turned (λ place x. at_crossing (f x) (entering_label x) place) (range_with_len 0 crossings) xs
     ∙ sum_by-alike (λ x. sum_by (λ place. at_crossing (f x) (entering_label x) place) (range_with_len 0 crossings)) f xs (each xs names)
   where
     each : (ys : List X) → AllByRecursion (λ x. Names crossings (entering_label x)) ys

@@ -4,8 +4,6 @@
 pub mod laws;
 mod numbered;
 mod of_diagram;
-#[cfg(test)]
-mod tests;
 
 pub use numbered::Components;
 pub use of_diagram::{components, next};

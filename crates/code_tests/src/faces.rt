@@ -1,8 +1,7 @@
-//! What known diagrams come to.
+//! The faces and pieces of known diagrams.
 
-use crate::{faces, left_of, piece_of, pieces, right_of};
-use arrayvec::ArrayVec;
-use kh_types::{Crossing, Diagram, RawCode};
+use face_walk::{faces, left_of, piece_of, pieces, right_of};
+use known_links::{FIGURE_EIGHT, HOPF, TREFOIL, diagram_of};
 use std::test::Fail;
 
 /// The slots of each crossing; the lengths of the faces, in order; the faces at the left and at the right of each arc; the pieces
@@ -40,7 +39,7 @@ const ROWS: &[Row] = &[
         pieces: &[0, 1],
     },
     Row {
-        crossings: &[[4, 1, 3, 2], [2, 3, 1, 4]],
+        crossings: HOPF,
         lengths: &[2, 2, 2, 2],
         sides: &[(0, 1), (3, 2), (2, 1), (3, 0)],
         pieces: &[0, 0],
@@ -52,13 +51,13 @@ const ROWS: &[Row] = &[
         pieces: &[0, 0],
     },
     Row {
-        crossings: &[[1, 4, 2, 5], [3, 6, 4, 1], [5, 2, 6, 3]],
+        crossings: TREFOIL,
         lengths: &[2, 3, 2, 3, 2],
         sides: &[(3, 0), (2, 1), (3, 4), (0, 1), (3, 2), (4, 1)],
         pieces: &[0, 0, 0],
     },
     Row {
-        crossings: &[[4, 2, 5, 1], [8, 6, 1, 5], [6, 3, 7, 4], [2, 7, 3, 8]],
+        crossings: FIGURE_EIGHT,
         lengths: &[3, 3, 2, 3, 3, 2],
         sides: &[
             (2, 3),
@@ -108,12 +107,4 @@ fn known_diagrams_have_these_faces_and_pieces(rt: HostRuntime) -> Result<(), Fai
         }
     }
     Ok(())
-}
-
-fn diagram_of(arcs: &[[u8; 4]], loops: u8) -> Result<Diagram, Fail> {
-    let mut crossings = ArrayVec::new();
-    for slots in arcs {
-        let _ = crossings.try_push(Crossing(*slots));
-    }
-    Ok(Diagram::try_new(&RawCode { crossings, loops })?)
 }

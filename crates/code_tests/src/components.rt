@@ -1,8 +1,7 @@
-//! What no clause says: that the calls succeed, and what known diagrams come to.
+//! The components of known diagrams.
 
-use crate::{components, next};
-use arrayvec::ArrayVec;
-use kh_types::{Crossing, Diagram, RawCode};
+use known_links::{HOPF, TREFOIL, diagram_of};
+use orient_arcs::{components, next};
 use std::process::Abort;
 use std::test::Fail;
 
@@ -42,13 +41,9 @@ fn known_diagrams_have_their_components(rt: HostRuntime) -> Result<(), Fail> {
             &[(1, 2), (3, 2)],
             &[(0, 2), (0, 1), (1, 4), (1, 3)],
         ),
+        (HOPF, &[(1, 2), (3, 2)], &[(0, 2), (0, 1), (1, 4), (1, 3)]),
         (
-            &[[4, 1, 3, 2], [2, 3, 1, 4]],
-            &[(1, 2), (3, 2)],
-            &[(0, 2), (0, 1), (1, 4), (1, 3)],
-        ),
-        (
-            &[[1, 4, 2, 5], [3, 6, 4, 1], [5, 2, 6, 3]],
+            TREFOIL,
             &[(1, 6)],
             &[(0, 2), (0, 3), (0, 4), (0, 5), (0, 6), (0, 1)],
         ),
@@ -70,7 +65,7 @@ fn has_components(
     wanted: &[(u8, u8)],
     arcs: &[(u8, u8)],
 ) -> Result<(), Fail> {
-    let diagram = Diagram::try_new(&code(crossings))?;
+    let diagram = diagram_of(crossings, 2)?;
     let found = components(&diagram);
     assert_eq!(rt; found.count() as usize, wanted.len(), "{crossings:?}");
     for component in 0..found.count() {
@@ -86,15 +81,4 @@ fn has_components(
         );
     }
     Ok(())
-}
-
-fn code(arcs: &[[u8; 4]]) -> RawCode {
-    let mut crossings = ArrayVec::new();
-    for slots in arcs {
-        let _ = crossings.try_push(Crossing(*slots));
-    }
-    RawCode {
-        crossings,
-        loops: 2,
-    }
 }
