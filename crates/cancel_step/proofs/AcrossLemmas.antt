@@ -16,7 +16,7 @@ use Rattle.sparse_block.proofs.AscendingLemmas.{entries-ascend, entries-from_asc
 use Rattle.sparse_block.proofs.EntryLemmas.{value_at-below, value_at-entries_of}
 use Rattle.sparse_block.proofs.ReadingLemmas.{column-entries, number-column_of, row-entries}
 use Rattle.cancel_step.specs.Copies.{line_across}
-use Rattle.cancel_step.specs.Lines.{AreLines, entries_at, line_cleared, line_less}
+use Rattle.cancel_step.specs.Lines.{AreLines, entries_with, line_cleared, line_less}
 use Rattle.cancel_step.proofs.EntryValues.{entry-of_line}
 use Rattle.cancel_step.proofs.UpdateLemmas.{column-less, row-less}
 
@@ -114,9 +114,9 @@ module _ (p : ℕ) (complex : Complex) (pivot : Pivot) (field : IsField p) (is :
 entries-none : (p size : ℕ) → AreEntries p size []
 entries-none p size = entries-from_ascend p 0 size [] tt
 
-pub entries_at-are : (p size place : ℕ) (lines : List PlacedLine) → AreLines p size lines → AreEntries p size (entries_at lines place)
-entries_at-are p size place [] are = entries-none p size
-entries_at-are p size place (line ∷ lines) are =
+pub entries_with-are : (p size place : ℕ) (lines : List PlacedLine) → AreLines p size lines → AreEntries p size (entries_with lines place)
+entries_with-are p size place [] are = entries-none p size
+entries_with-are p size place (line ∷ lines) are =
     let found : Bool → List Entry =
     λ test. option_map_or (λ (line : PlacedLine). line.entries)
     (cond test (Some line) (find (λ (line : PlacedLine). nat_eq line.place place) lines)) [] in
@@ -125,7 +125,7 @@ entries_at-are p size place (line ∷ lines) are =
       | inl here ↦ subst (λ (test : Bool). AreEntries p size (found test)) (sym here.0) (All-head Are line lines are)
       | inr other ↦
           subst (λ (test : Bool). AreEntries p size (found test)) (sym other.0)
-          (entries_at-are p size place lines (All-tail Are line lines are))
+          (entries_with-are p size place lines (All-tail Are line lines are))
     ]
 
 -- one line cleared more

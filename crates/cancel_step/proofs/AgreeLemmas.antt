@@ -4,7 +4,7 @@ use Rattle.std.proofs.lemmas.Bool.Decides.{eqb_tells, leb_tells}
 use Rattle.sparse_block.specs.declared.entry.Entry.{Entry}
 use Rattle.sparse_block.specs.Entries.{AreEntries, value_at}
 use Rattle.cancel_step.specs.Foreign.{IsLeast}
-use Rattle.cancel_step.specs.Merging.{first_of, rest_after, value_first}
+use Rattle.cancel_step.specs.LinePairs.{first_place_of, rest_after, value_first}
 use Rattle.cancel_step.proofs.RestLemmas.{HasMore, RestOf, bound-first, rest-after, rest-left, rest-right, rest-whole, value-between, value-first}
 
 -- two lists that agree as far as both are read
@@ -36,11 +36,11 @@ pub record AgreeUpTo (left right rest_left rest_right : List Entry) (p q place :
   pub same : (k : ℕ) → k < place → value_at left k ≡ value_at right k
 
 agree-first : (place : ℕ) (left right rest_left rest_right : List Entry) (agree : Agree left right rest_left rest_right)
-    → HasMore rest_left rest_right → place ≡ first_of rest_left rest_right
+    → HasMore rest_left rest_right → place ≡ first_place_of rest_left rest_right
     → AgreeUpTo left right rest_left rest_right agree.p agree.q place
 agree-first place left right rest_left rest_right agree more is_first =
     let bound = agree.bound in
-    let later : bound ≤ first_of rest_left rest_right =
+    let later : bound ≤ first_place_of rest_left rest_right =
     bound-first agree.p agree.q bound agree.in_left.end agree.in_right.end rest_left rest_right more agree.in_left.ascend
     agree.in_right.ascend in
     let at_left : RestOf agree.p place left rest_left =
@@ -62,7 +62,7 @@ agree-first place left right rest_left rest_right agree more is_first =
     }
 
 pub agree_more : (place : ℕ) (left right rest_left rest_right : List Entry) → Agree left right rest_left rest_right
-    → HasMore rest_left rest_right → place ≡ first_of rest_left rest_right
+    → HasMore rest_left rest_right → place ≡ first_place_of rest_left rest_right
     → value_first rest_left place ≡ value_first rest_right place
     → Agree left right (rest_after rest_left place) (rest_after rest_right place)
 agree_more place left right rest_left rest_right agree more is_first alike =
@@ -84,7 +84,7 @@ agree_more place left right rest_left rest_right agree more is_first alike =
     }
 
 pub agree_ends : (place : ℕ) (left right rest_left rest_right : List Entry) → Agree left right rest_left rest_right
-    → HasMore rest_left rest_right → place ≡ first_of rest_left rest_right
+    → HasMore rest_left rest_right → place ≡ first_place_of rest_left rest_right
     → value_first rest_left place ≢ value_first rest_right place
     → IsLeast (λ place. value_at left place ≢ value_at right place) place
 agree_ends place left right rest_left rest_right agree more is_first differ =
@@ -109,7 +109,7 @@ agree_all left right rest_left rest_right agree none none_right place =
     ]
 
 pub agree_step : (place here there : ℕ) (left right rest_left rest_right next_left next_right : List Entry)
-    → Agree left right rest_left rest_right → HasMore rest_left rest_right → place ≡ first_of rest_left rest_right
+    → Agree left right rest_left rest_right → HasMore rest_left rest_right → place ≡ first_place_of rest_left rest_right
     → here ≡ value_first rest_left place → there ≡ value_first rest_right place → here ≡ there
     → next_left ≡ rest_after rest_left place → next_right ≡ rest_after rest_right place → Agree left right next_left next_right
 agree_step place here there left right rest_left rest_right next_left next_right agree more is_first is_here is_there alike is_left

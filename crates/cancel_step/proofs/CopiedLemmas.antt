@@ -16,7 +16,7 @@ use Rattle.sparse_block.specs.Complexes.{column_of, place_count, row_of}
 use Rattle.sparse_block.proofs.EntryLemmas.{value_at-entries_of}
 use Rattle.sparse_block.proofs.ReadingLemmas.{column-entries, number-column_of, row-entries}
 use Rattle.cancel_step.specs.Copies.{columns_across, line_across, rows_across}
-use Rattle.cancel_step.specs.Lines.{AreLines, entries_at, factor_at, line_cleared}
+use Rattle.cancel_step.specs.Lines.{AreLines, entries_with, factor_at, line_cleared}
 use Rattle.cancel_step.proofs.EntryValues.{HasEntry, entry-at_number}
 use Rattle.cancel_step.proofs.UpdateLemmas.{column-less, row-less}
 
@@ -41,17 +41,17 @@ line-across_at line es k d e within = get_or-map (line_across line) es k d e wit
 entries_in : Option PlacedLine → List Entry
 entries_in found = option_map_or (λ (line : PlacedLine). line.entries) found []
 
-pub entries_at-across : (line : ℕ → List ℕ) (es : List Entry) (place : ℕ) (d : Entry) → HasEntry es place d
-    → entries_at (map (line_across line) es) place ≡ entries_of (line place)
-entries_at-across line [] place d has = absurd (omega (arith, has.within))
-entries_at-across line (e ∷ es) place d has =
+pub entries_with-across : (line : ℕ → List ℕ) (es : List Entry) (place : ℕ) (d : Entry) → HasEntry es place d
+    → entries_with (map (line_across line) es) place ≡ entries_of (line place)
+entries_with-across line [] place d has = absurd (omega (arith, has.within))
+entries_with-across line (e ∷ es) place d has =
     let rest : List PlacedLine = map (line_across line) es in
     let found : Bool → List Entry =
     λ test. option_map_or (λ (line : PlacedLine). line.entries)
     (cond test (Some (line_across line e)) (find (λ (line : PlacedLine). nat_eq line.place place) rest)) [] in
     elim (eqb_tells e.place place) [
       | inl here ↦ ap found here.0 ∙ ap (λ (n : ℕ). entries_of (line n)) here.1
-      | inr other ↦ ap found other.0 ∙ entries_at-across line es place d (later e es has other.1)
+      | inr other ↦ ap found other.0 ∙ entries_with-across line es place d (later e es has other.1)
     ]
   where
     later : (e : Entry) (es : List Entry) → HasEntry (e ∷ es) place d → e.place ≢ place → HasEntry es place d
@@ -92,26 +92,26 @@ module _ (p : ℕ) (complex : Complex) (pivot : Pivot) (is : IsComplex p complex
         entry-at_number (column_of complex pivot.degree pivot.column) pivot.row blank
         (λ none. is_pivot (sym (number-column_of complex pivot.degree pivot.row pivot.column) ∙ none))
 
-    pub pivot-column : entries_at (columns_across complex pivot complex) pivot.column
+    pub pivot-column : entries_with (columns_across complex pivot complex) pivot.column
         ≡ entries_of (column_of complex pivot.degree pivot.column)
     pivot-column =
-        entries_at-across (column_of complex pivot.degree) (entries_of (row_of complex pivot.degree pivot.row)) pivot.column blank in-row
+        entries_with-across (column_of complex pivot.degree) (entries_of (row_of complex pivot.degree pivot.row)) pivot.column blank in-row
 
-    pub pivot-row : entries_at (rows_across complex pivot complex) pivot.row ≡ entries_of (row_of complex pivot.degree pivot.row)
+    pub pivot-row : entries_with (rows_across complex pivot complex) pivot.row ≡ entries_of (row_of complex pivot.degree pivot.row)
     pivot-row =
-        entries_at-across (row_of complex pivot.degree) (entries_of (column_of complex pivot.degree pivot.column)) pivot.row blank in-column
+        entries_with-across (row_of complex pivot.degree) (entries_of (column_of complex pivot.degree pivot.column)) pivot.row blank in-column
 
     pub value-column : (place row : ℕ) → value_at (entries_of (column_of complex pivot.degree place)) row
         ≡ entry_of complex pivot.degree row place
     value-column place row =
         value_at-entries_of (column_of complex pivot.degree place) row ∙ number-column_of complex pivot.degree row place
 
-    pub pivot-in_column : value_at (entries_at (columns_across complex pivot complex) pivot.column) pivot.row ≢ 0
+    pub pivot-in_column : value_at (entries_with (columns_across complex pivot complex) pivot.column) pivot.row ≢ 0
     pivot-in_column none =
         is_pivot
         (sym (value-column pivot.column pivot.row) ∙ ap (λ (es : List Entry). value_at es pivot.row) (sym pivot-column) ∙ none)
 
-    pub pivot-in_row : value_at (entries_at (rows_across complex pivot complex) pivot.row) pivot.column ≢ 0
+    pub pivot-in_row : value_at (entries_with (rows_across complex pivot complex) pivot.row) pivot.column ≢ 0
     pivot-in_row none =
         is_pivot
         (sym (value_at-entries_of (row_of complex pivot.degree pivot.row) pivot.column)
@@ -121,7 +121,7 @@ module _ (p : ℕ) (complex : Complex) (pivot : Pivot) (is : IsComplex p complex
 
     module _ (field : IsField p) where
       pub columns-cleared : (size : ℕ) → AreLines p size (columns_across complex pivot complex)
-          → map (line_cleared p size (entries_at (columns_across complex pivot complex) pivot.column) pivot.row)
+          → map (line_cleared p size (entries_with (columns_across complex pivot complex) pivot.column) pivot.row)
           (columns_across complex pivot complex)
           ≡ columns_across complex pivot (cancel p complex pivot)
       columns-cleared size are =
@@ -129,7 +129,7 @@ module _ (p : ℕ) (complex : Complex) (pivot : Pivot) (is : IsComplex p complex
           let before : ℕ → List ℕ = column_of complex i in
           let after : ℕ → List ℕ = column_of (cancel p complex pivot) i in
           let es : List Entry = entries_of (row_of complex i pivot.row) in
-          let own : List Entry = entries_at (columns_across complex pivot complex) pivot.column in
+          let own : List Entry = entries_with (columns_across complex pivot complex) pivot.column in
           let are_at : (k : ℕ) (d : Entry) → k < length es → AreEntries p size (entries_of (before (get_or es k d).place)) =
           λ k d within.
           subst (λ (line : PlacedLine). AreEntries p size line.entries) (line-across_at before es k d (line_across before blank) within)
@@ -149,7 +149,7 @@ module _ (p : ℕ) (complex : Complex) (pivot : Pivot) (is : IsComplex p complex
           (ap (λ (es : List Entry). value_at es pivot.row) pivot-column ∙ value-column pivot.column pivot.row))))
 
       pub rows-cleared : (size : ℕ) → AreLines p size (rows_across complex pivot complex)
-          → map (line_cleared p size (entries_at (rows_across complex pivot complex) pivot.row) pivot.column)
+          → map (line_cleared p size (entries_with (rows_across complex pivot complex) pivot.row) pivot.column)
           (rows_across complex pivot complex)
           ≡ rows_across complex pivot (cancel p complex pivot)
       rows-cleared size are =
@@ -157,7 +157,7 @@ module _ (p : ℕ) (complex : Complex) (pivot : Pivot) (is : IsComplex p complex
           let before : ℕ → List ℕ = row_of complex i in
           let after : ℕ → List ℕ = row_of (cancel p complex pivot) i in
           let es : List Entry = entries_of (column_of complex i pivot.column) in
-          let own : List Entry = entries_at (rows_across complex pivot complex) pivot.row in
+          let own : List Entry = entries_with (rows_across complex pivot complex) pivot.row in
           let are_at : (k : ℕ) (d : Entry) → k < length es → AreEntries p size (entries_of (before (get_or es k d).place)) =
           λ k d within.
           subst (λ (line : PlacedLine). AreEntries p size line.entries) (line-across_at before es k d (line_across before blank) within)

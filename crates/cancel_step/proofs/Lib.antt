@@ -9,7 +9,7 @@ pub mod EntryValues
 pub mod ReadingLemmas
 pub mod UpdateLemmas
 pub mod RestLemmas
-pub mod MergeLemmas
+pub mod PairLemmas
 pub mod AgreeLemmas
 pub mod ForeignLemmas
 pub mod CopiedLemmas
@@ -17,4 +17,5 @@ pub mod ChangedLemmas
 pub mod SameLemmas
 pub mod FinishLemmas
 pub mod AcrossLemmas
+pub mod SideLemmas
 pub mod SpanLemmas

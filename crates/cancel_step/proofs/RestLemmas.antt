@@ -7,7 +7,7 @@ use Rattle.sparse_block.specs.declared.entry.Entry.{Entry}
 use Rattle.sparse_block.specs.Entries.{AreEntries, value_at}
 use Rattle.sparse_block.proofs.AscendingLemmas.{Ascend, entries-ascend}
 use Rattle.sparse_block.proofs.EntryLemmas.{value_at-here, value_at-later, value_at-before}
-use Rattle.cancel_step.specs.Merging.{first_of, rest_after, value_first}
+use Rattle.cancel_step.specs.LinePairs.{first_place_of, rest_after, value_first}
 
 -- the first place of both
 
@@ -24,13 +24,13 @@ pub min-either : (m n : ℕ) → (m ≡ min m n) ⊎ (n ≡ min m n)
 min-either m n =
     elim (leb_tells m n) [ inl less ↦ inl (grind (arith, nat_tests)) | inr more ↦ inr (grind (arith, nat_tests)) ]
 
-ascend-first_left : (p a b : ℕ) (xs ys : List Entry) → Ascend p a b xs → Ascend p (first_of xs ys) b xs
+ascend-first_left : (p a b : ℕ) (xs ys : List Entry) → Ascend p a b xs → Ascend p (first_place_of xs ys) b xs
 ascend-first_left p a b [] ys ascend = tt
 ascend-first_left p a b (x ∷ xs) [] ascend = (omega arith, ascend.1, ascend.2, ascend.3, ascend.4)
 ascend-first_left p a b (x ∷ xs) (y ∷ ys) ascend =
     (min-left x.place y.place, ascend.1, ascend.2, ascend.3, ascend.4)
 
-ascend-first_right : (p a b : ℕ) (xs ys : List Entry) → Ascend p a b ys → Ascend p (first_of xs ys) b ys
+ascend-first_right : (p a b : ℕ) (xs ys : List Entry) → Ascend p a b ys → Ascend p (first_place_of xs ys) b ys
 ascend-first_right p a b xs [] ascend = tt
 ascend-first_right p a b [] (y ∷ ys) ascend = (omega arith, ascend.1, ascend.2, ascend.3, ascend.4)
 ascend-first_right p a b (x ∷ xs) (y ∷ ys) ascend =
@@ -40,7 +40,7 @@ ascend-first_right p a b (x ∷ xs) (y ∷ ys) ascend =
 abbrev pub HasMore : List Entry → List Entry → Type 0
 HasMore xs ys = (0 < length xs) ⊎ (0 < length ys)
 
-pub bound-first : (p q a b c : ℕ) (xs ys : List Entry) → HasMore xs ys → Ascend p a b xs → Ascend q a c ys → a ≤ first_of xs ys
+pub bound-first : (p q a b c : ℕ) (xs ys : List Entry) → HasMore xs ys → Ascend p a b xs → Ascend q a c ys → a ≤ first_place_of xs ys
 bound-first p q a b c [] [] (inl more) left right = absurd (omega arith)
 bound-first p q a b c [] [] (inr more) left right = absurd (omega arith)
 bound-first p q a b c [] (y ∷ ys) more left right = right.0
@@ -111,7 +111,7 @@ shorter-rest_after place x xs same =
     ]
 
 pub shorter-rests : (xs ys : List Entry) → HasMore xs ys
-    → length (rest_after xs (first_of xs ys)) + length (rest_after ys (first_of xs ys)) < length xs + length ys
+    → length (rest_after xs (first_place_of xs ys)) + length (rest_after ys (first_place_of xs ys)) < length xs + length ys
 shorter-rests [] [] (inl more) = absurd (omega arith)
 shorter-rests [] [] (inr more) = absurd (omega arith)
 shorter-rests [] (y ∷ ys) more = omega (arith, shorter-rest_after y.place y ys refl)
@@ -143,7 +143,7 @@ rest-after p bound es rest of =
           value_at-rest_after bound place rest (omega (arith, from)) ∙ of.values place (omega (arith, from));
     }
 
-pub rest-left : (p bound : ℕ) (es xs ys : List Entry) → bound ≤ first_of xs ys → RestOf p bound es xs → RestOf p (first_of xs ys) es xs
+pub rest-left : (p bound : ℕ) (es xs ys : List Entry) → bound ≤ first_place_of xs ys → RestOf p bound es xs → RestOf p (first_place_of xs ys) es xs
 rest-left p bound es xs ys later of =
     record {
       end = of.end;
@@ -151,8 +151,8 @@ rest-left p bound es xs ys later of =
       values = λ place from. of.values place (omega (arith, later, from));
     }
 
-pub rest-right : (p bound : ℕ) (es xs ys : List Entry) → bound ≤ first_of xs ys → RestOf p bound es ys
-    → RestOf p (first_of xs ys) es ys
+pub rest-right : (p bound : ℕ) (es xs ys : List Entry) → bound ≤ first_place_of xs ys → RestOf p bound es ys
+    → RestOf p (first_place_of xs ys) es ys
 rest-right p bound es xs ys later of =
     record {
       end = of.end;
@@ -176,7 +176,7 @@ more-from_indices xs ys i j (inl left) = inl (omega (arith, left, length-drop i 
 more-from_indices xs ys i j (inr right) = inr (omega (arith, right, length-drop j ys))
 
 pub shorter_steps : (xs ys : List Entry) (i j i_next j_next place : ℕ) → HasMore (drop i xs) (drop j ys)
-    → place ≡ first_of (drop i xs) (drop j ys) → drop i_next xs ≡ rest_after (drop i xs) place
+    → place ≡ first_place_of (drop i xs) (drop j ys) → drop i_next xs ≡ rest_after (drop i xs) place
     → drop j_next ys ≡ rest_after (drop j ys) place → i_next ≤ length xs → j_next ≤ length ys
     → (length xs - i_next) + (length ys - j_next) < (length xs - i) + (length ys - j)
 shorter_steps xs ys i j i_next j_next place more is_first rest rest_right within within_right =

@@ -10,7 +10,7 @@ use Rattle.sparse_block.specs.Changes.{PlacedLine}
 use Rattle.sparse_block.specs.Complexes.{column_of, place_count, row_of}
 use Rattle.sparse_block.proofs.EntryLemmas.{value_at-entries_of}
 use Rattle.cancel_step.specs.Copies.{Copied, WasCopied, columns_across, line_across, rows_across}
-use Rattle.cancel_step.specs.Lines.{AreLines, entries_at, line_cleared}
+use Rattle.cancel_step.specs.Lines.{AreLines, entries_with, line_cleared}
 use Rattle.cancel_step.specs.Updates.{IsAlone}
 use Rattle.cancel_step.specs.Foreign.{IsOtherColumn, IsOtherRowAt, ShowsAt}
 use Rattle.cancel_step.proofs.EntryValues.{entries-agree, numbers-agree}
@@ -138,7 +138,7 @@ module _ (p : ℕ) (complex : Complex) (parts : Copied) (is : IsComplex p comple
       let lines = columns-lines p was.complex parts.pivot was.is_complex in
       sym (columns-cleared p was.complex parts.pivot was.is_complex was.is_pivot field size lines)
       ∙ ap
-      (λ (lines : List PlacedLine). map (line_cleared p size (entries_at lines parts.pivot.column) parts.pivot.row) lines)
+      (λ (lines : List PlacedLine). map (line_cleared p size (entries_with lines parts.pivot.column) parts.pivot.row) lines)
       columns-across_same
       ∙ columns-cleared p complex parts.pivot is pivot-same field size (subst (AreLines p size) columns-across_same lines)
 
@@ -149,7 +149,7 @@ module _ (p : ℕ) (complex : Complex) (parts : Copied) (is : IsComplex p comple
       let lines = rows-lines p was.complex parts.pivot was.is_complex in
       sym (rows-cleared p was.complex parts.pivot was.is_complex was.is_pivot field size lines)
       ∙ ap
-      (λ (lines : List PlacedLine). map (line_cleared p size (entries_at lines parts.pivot.row) parts.pivot.column) lines)
+      (λ (lines : List PlacedLine). map (line_cleared p size (entries_with lines parts.pivot.row) parts.pivot.column) lines)
       rows-across_same
       ∙ rows-cleared p complex parts.pivot is pivot-same field size (subst (AreLines p size) rows-across_same lines)
 

@@ -1,5 +1,5 @@
 -- The columns and rows that a cancellation changes, as they are copied out of a complex (this project's rule).
-use Rattle.std.specs.Prelude.{◌≡◌, ℕ, List, map}
+use Rattle.std.specs.Prelude.{◌≡◌, ℕ, List, drop, map, take}
 use Rattle.kh_types.specs.Complex.{Complex, IsComplex, IsPivot, Pivot, cancel}
 use Rattle.sparse_block.specs.declared.entry.Entry.{Entry}
 use Rattle.sparse_block.specs.Changes.{PlacedLine}
@@ -29,6 +29,10 @@ pub record Copied : Type 0 where
 -- these parts
 abbrev pub parts_of : Pivot → List PlacedLine → List PlacedLine → Copied
 parts_of pivot columns rows = record { pivot = pivot; columns = columns; rows = rows }
+
+-- the parts whose columns are the first of some lines, so many, and whose rows are the others
+abbrev pub split_parts : Pivot → ℕ → List PlacedLine → Copied
+split_parts pivot count lines = parts_of pivot (take count lines) (drop count lines)
 
 -- the columns that have an entry in the pivot's row, and the rows that have one in its column
 abbrev pub copied : Complex → Pivot → Copied

@@ -1,9 +1,10 @@
 pub mod RankSums
 pub mod OverFour
 pub mod Copies
+pub mod Sides
 pub mod Foreign
 pub mod Histories
 pub mod Lines
-pub mod Merging
+pub mod LinePairs
 pub mod Spans
 pub mod Updates

@@ -27,8 +27,8 @@ line_cleared p size pivot_line across line =
     }
 
 -- the entries of the first of some lines that has a place, none where no line has it
-abbrev pub entries_at : List PlacedLine → ℕ → List Entry
-entries_at lines place = option_map_or (λ line. line.entries) (find (λ line. nat_eq line.place place) lines) []
+abbrev pub entries_with : List PlacedLine → ℕ → List Entry
+entries_with lines place = option_map_or (λ line. line.entries) (find (λ line. nat_eq line.place place) lines) []
 
 -- the entries of each line ascend, at places below the size
 abbrev pub AreLines : ℕ → ℕ → List PlacedLine → Type 0

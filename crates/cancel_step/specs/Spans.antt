@@ -9,8 +9,8 @@ abbrev pub line_in : List Entry → Span → PlacedLine
 line_in entries span = placed span.place (slice_range entries span.start span.end)
 
 -- the lines of these spans
-abbrev pub lines_in : List Span → List Entry → List PlacedLine
-lines_in spans entries = map (line_in entries) spans
+abbrev pub spanned_lines : List Span → List Entry → List PlacedLine
+spanned_lines spans entries = map (line_in entries) spans
 
 -- each of the spans stands within the list of entries
 abbrev pub AreSpans : List Span → List Entry → Type 0

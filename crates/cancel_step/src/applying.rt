@@ -6,11 +6,13 @@ ghost use Rattle.sparse_block.specs.Complexes.{column_of, row_of};
 ghost use Rattle.sparse_block.specs.Entries.{entries_of};
 ghost use Rattle.cancel_step.specs.Copies.{columns_across, rows_across};
 ghost use Rattle.cancel_step.specs.Foreign.{IsForeign, IsLeast, ShowsAt};
+ghost use Rattle.cancel_step.specs.Sides.{lines_across};
 
 use crate::comparing::foreign_column;
-use crate::merging::merge;
+use crate::line_pairs::subtract_into;
 use crate::patched::Update;
-use crate::reading::{column_at, row_at, value_at};
+use crate::reading::{column_at, entries_beside, own_entries, row_at, value_at};
+use crate::side::{Side, other_side, place_on};
 use crate::{Foreign, Patch, Pivot};
 use kh_types::NoMemory;
 use prime_field::laws::element_laws;
@@ -88,8 +90,8 @@ pub(crate) fn cancel_with<F: PrimeField>(
         complex.drop_pair(pivot.degree, pivot.column, pivot.row);
         return Ok(());
     }
-    let columns = columns_after(scratch, complex, pivot)?;
-    let rows = rows_after(scratch, complex, pivot)?;
+    let columns = lines_after(scratch, complex, Side::Columns, pivot)?;
+    let rows = lines_after(scratch, complex, Side::Rows, pivot)?;
     exchange(complex, pivot, columns, rows);
     Ok(())
 }
@@ -130,59 +132,30 @@ fn is_alone<F: PrimeField>(complex: &Complex<F>, pivot: Pivot) -> bool
         || row_at(complex, pivot.degree, pivot.row).len() == 1
 }
 
-/// The columns that have an entry in the pivot's row, as they are after its cancellation.
-fn columns_after<F: PrimeField>(
+/// The lines of a side that have an entry in the pivot's line across, as they are after its
+/// cancellation.
+fn lines_after<F: PrimeField>(
     scratch: &mut Vec<Entry>,
     complex: &Complex<F>,
+    side: Side,
     pivot: Pivot,
 ) -> Result<Vec<Line>, NoMemory>
     requires { IsPivot complex.now.complex pivot }
-    ensures { IfOk result (λ lines. lines.items ≡ columns_across complex.now.complex pivot
+    ensures { IfOk result (λ lines. lines.items ≡ lines_across side complex.now.complex pivot
         (cancel F.P complex.now.complex pivot)) }
 {
     element_laws::<F>();
     complex_laws(complex);
     let alloc = *scratch.allocator();
-    let row = row_at(complex, pivot.degree, pivot.row);
-    let column = column_at(complex, pivot.degree, pivot.column);
-    let value = F::of(value_at(column, pivot.row));
-    let mut lines = Vec::with_capacity(alloc, row.len())?;
-    'entries: for entry in row {
+    let own = own_entries(complex, side, pivot);
+    let across = own_entries(complex, other_side(side), pivot);
+    let value = F::of(value_at(own, place_on(other_side(side), pivot)));
+    let mut lines = Vec::with_capacity(alloc, across.len())?;
+    'entries: for entry in across {
         let place = entry.place;
         let factor = quotient(F::of(entry.value), value);
-        merge(
-            scratch,
-            column_at(complex, pivot.degree, place),
-            factor,
-            column,
-        )?;
-        let entries = SmallVec::from_slice(alloc, scratch)?;
-        lines.push(Line { place, entries })?;
-    }
-    Ok(lines)
-}
-
-/// The rows that have an entry in the pivot's column, as they are after its cancellation.
-fn rows_after<F: PrimeField>(
-    scratch: &mut Vec<Entry>,
-    complex: &Complex<F>,
-    pivot: Pivot,
-) -> Result<Vec<Line>, NoMemory>
-    requires { IsPivot complex.now.complex pivot }
-    ensures { IfOk result (λ lines. lines.items ≡ rows_across complex.now.complex pivot
-        (cancel F.P complex.now.complex pivot)) }
-{
-    element_laws::<F>();
-    complex_laws(complex);
-    let alloc = *scratch.allocator();
-    let row = row_at(complex, pivot.degree, pivot.row);
-    let column = column_at(complex, pivot.degree, pivot.column);
-    let value = F::of(value_at(row, pivot.column));
-    let mut lines = Vec::with_capacity(alloc, column.len())?;
-    'entries: for entry in column {
-        let place = entry.place;
-        let factor = quotient(F::of(entry.value), value);
-        merge(scratch, row_at(complex, pivot.degree, place), factor, row)?;
+        let line = entries_beside(complex, side, pivot, place);
+        subtract_into(scratch, line, factor, own)?;
         let entries = SmallVec::from_slice(alloc, scratch)?;
         lines.push(Line { place, entries })?;
     }

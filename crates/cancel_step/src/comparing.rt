@@ -8,8 +8,8 @@ ghost use Rattle.cancel_step.specs.Foreign.{ShowsBetween, ShowsIn, lesser_of};
 ghost use Rattle.cancel_step.specs.Lines.{AreLines};
 
 use crate::Look;
-use crate::copied_lines::CopiedLines;
-use crate::merging::first_difference;
+use crate::copied_lines::SomeLines;
+use crate::line_pairs::first_difference;
 use crate::reading::{column_at, row_at};
 use prime_field::PrimeField;
 use sparse_block::{Complex, Entry, complex_laws};
@@ -19,15 +19,15 @@ pub(crate) fn foreign_column<F: PrimeField>(complex: &Complex<F>, look: &Look<F>
     ensures { FindsLeast (ShowsAt look.now complex.now.complex) result }
 {
     let pivot = look.pivot;
-    other_line(complex, pivot.degree, &look.columns, &look.rows)
+    other_line(complex, pivot.degree, &look.columns(), &look.rows())
 }
 
 /// The least column at which a difference between columns and rows and those of a complex shows.
 fn other_line<F: PrimeField>(
     complex: &Complex<F>,
     degree: i16,
-    columns: &CopiedLines,
-    rows: &CopiedLines,
+    columns: &SomeLines<'_>,
+    rows: &SomeLines<'_>,
 ) -> Option<u32>
     requires { (p : ℕ) × (size : ℕ) × AreLines p size rows.now }
     ensures { FindsLeast (ShowsBetween complex.now.complex degree columns.now rows.now) result }
@@ -39,7 +39,11 @@ fn other_line<F: PrimeField>(
 }
 
 /// The least of the columns that are not those of the complex.
-fn in_columns<F: PrimeField>(complex: &Complex<F>, degree: i16, lines: &CopiedLines) -> Option<u32>
+fn in_columns<F: PrimeField>(
+    complex: &Complex<F>,
+    degree: i16,
+    lines: &SomeLines<'_>,
+) -> Option<u32>
     ensures { FindsLeast (ShowsIn (IsOtherColumn complex.now.complex degree) lines.now) result }
 {
     let mut least = None;
@@ -67,7 +71,7 @@ fn in_column<F: PrimeField>(
 }
 
 /// The least column at which one of the rows has another value than that of the complex.
-fn in_rows<F: PrimeField>(complex: &Complex<F>, degree: i16, lines: &CopiedLines) -> Option<u32>
+fn in_rows<F: PrimeField>(complex: &Complex<F>, degree: i16, lines: &SomeLines<'_>) -> Option<u32>
     requires { (p : ℕ) × (size : ℕ) × AreLines p size lines.now }
     ensures { FindsLeast (ShowsIn (IsOtherRowAt complex.now.complex degree) lines.now) result }
 {

@@ -1,6 +1,7 @@
 //! Copies of columns or rows.
 
-ghost use Rattle.std.specs.Prelude.{◌≡◌, ◌<◌, [], ◌∷◌, ◌++◌, length, slice_index_or, IfOk, OnOk};
+ghost use Rattle.std.specs.Prelude.{◌≡◌, ◌<◌, [], ◌∷◌, ◌++◌, drop, length, slice_index_or, take};
+ghost use Rattle.std.specs.Prelude.{IfOk, OnOk};
 ghost use Rattle.sparse_block.specs.Changes.{placed};
 
 use kh_types::NoMemory;
@@ -19,7 +20,7 @@ pub(crate) struct Span {
     pub(crate) end: usize,
 }
 
-/// Columns, or rows, of a differential, whose entries stand in one list, so that a copy of many
+/// Columns and rows of a differential, whose entries stand in one list, so that a copy of many
 /// lines takes memory but twice. Contracts see the list of the lines.
 #[derive(Drop)]
 pub(crate) struct CopiedLines {
@@ -30,11 +31,11 @@ pub(crate) struct CopiedLines {
 impl Model for CopiedLines {
     ghost use Rattle.std.specs.Prelude.{List};
     ghost use Rattle.sparse_block.specs.Changes.{PlacedLine};
-    ghost use Rattle.cancel_step.specs.Spans.{AreSpans, lines_in};
+    ghost use Rattle.cancel_step.specs.Spans.{AreSpans, spanned_lines};
 
     ghost Value = { List PlacedLine };
 
-    ghost view = { λ lines. lines_in lines.spans.items lines.entries.items };
+    ghost view = { λ lines. spanned_lines lines.spans.items lines.entries.items };
 
     ghost invariant = { λ lines. AreSpans lines.spans.items lines.entries.items };
 }
@@ -72,13 +73,65 @@ impl CopiedLines {
         self.spans.len()
     }
 
+    /// The first lines, so many, or all where there are fewer.
+    pub(crate) fn first(&self, count: usize) -> SomeLines<'_>
+        ensures { result ≡ take count self.now }
+    {
+        let end = count.min(self.spans.len());
+        SomeLines {
+            spans: &self.spans[..end],
+            entries: &self.entries,
+        }
+    }
+
+    /// The lines behind these.
+    pub(crate) fn behind(&self, count: usize) -> SomeLines<'_>
+        ensures { result ≡ drop count self.now }
+    {
+        let start = count.min(self.spans.len());
+        SomeLines {
+            spans: &self.spans[start..],
+            entries: &self.entries,
+        }
+    }
+}
+
+/// Some of the lines that were copied. Contracts see their list.
+#[derive(Drop)]
+pub(crate) struct SomeLines<'a> {
+    spans: &'a [Span],
+    entries: &'a [Entry],
+}
+
+impl<'a> Model for SomeLines<'a> {
+    ghost use Rattle.std.specs.Prelude.{List};
+    ghost use Rattle.sparse_block.specs.Changes.{PlacedLine};
+    ghost use Rattle.cancel_step.specs.Spans.{AreSpans, spanned_lines};
+
+    ghost Value = { List PlacedLine };
+
+    ghost view = { λ lines. spanned_lines lines.spans.now lines.entries.now };
+
+    ghost invariant = { λ lines. AreSpans lines.spans.now lines.entries.now };
+}
+
+impl<'a> SomeLines<'a> {
+    /// How many lines there are.
+    pub(crate) fn len(&self) -> usize
+        ensures { result ≡ length self.now }
+    {
+        self.spans.len()
+    }
+
     /// The place and the entries of a line, by its index.
     pub(crate) fn at(&self, index: usize) -> (u32, &[Entry])
         requires { index < length self.now }
         ensures { placed result.0 result.1.now
             ≡ slice_index_or self.now index (placed result.0 result.1.now) }
     {
-        let span = self.spans[index];
-        (span.place, &self.entries[span.start..span.end])
+        match self.spans.get(index) {
+            Some(span) => (span.place, &self.entries[span.start..span.end]),
+            None => (0, &[]),
+        }
     }
 }

@@ -1,13 +1,14 @@
 //! Copies of what a cancellation reads and changes.
 
-ghost use Rattle.std.specs.Prelude.{◌≡◌, map, IfOk};
+ghost use Rattle.std.specs.Prelude.{◌≡◌, [], ◌++◌, map, IfOk, OnOk};
 ghost use Rattle.kh_types.specs.Complex.{IsPivot};
-ghost use Rattle.sparse_block.specs.Complexes.{column_of, row_of};
 ghost use Rattle.cancel_step.specs.Copies.{copied, line_across};
+ghost use Rattle.cancel_step.specs.Sides.{line_on};
 
 use crate::Pivot;
-use crate::copied_lines::CopiedLines;
-use crate::reading::{column_at, row_at};
+use crate::copied_lines::{CopiedLines, SomeLines};
+use crate::reading::{entries_beside, own_entries};
+use crate::side::Side;
 use kh_types::NoMemory;
 use prime_field::PrimeField;
 use sparse_block::{Complex, Entry, complex_laws};
@@ -19,19 +20,21 @@ use std::marker::{Model, PhantomData};
 #[derive(Drop)]
 pub struct Look<F: PrimeField> {
     pub(crate) pivot: Pivot,
-    pub(crate) columns: CopiedLines,
-    pub(crate) rows: CopiedLines,
+    /// The columns, and behind them the rows.
+    lines: CopiedLines,
+    /// How many of the lines are columns.
+    count: usize,
     pub(crate) field: PhantomData<F>,
 }
 
 impl<F: PrimeField> Model for Look<F> {
-    ghost use Rattle.cancel_step.specs.Copies.{Copied, WasCopied, parts_of};
+    ghost use Rattle.cancel_step.specs.Copies.{Copied, WasCopied, split_parts};
 
     ghost Value = { Copied };
 
-    ghost view = { λ look. parts_of look.pivot look.columns look.rows };
+    ghost view = { λ look. split_parts look.pivot look.count look.lines };
 
-    ghost invariant = { λ look. WasCopied F.P (parts_of look.pivot look.columns look.rows) };
+    ghost invariant = { λ look. WasCopied F.P (split_parts look.pivot look.count look.lines) };
 }
 
 impl<F: PrimeField> Look<F> {
@@ -40,6 +43,20 @@ impl<F: PrimeField> Look<F> {
         ensures { result ≡ self.now.pivot }
     {
         self.pivot
+    }
+
+    /// The columns that were copied.
+    pub(crate) fn columns(&self) -> SomeLines<'_>
+        ensures { result ≡ self.now.columns }
+    {
+        self.lines.first(self.count)
+    }
+
+    /// The rows that were copied.
+    pub(crate) fn rows(&self) -> SomeLines<'_>
+        ensures { result ≡ self.now.rows }
+    {
+        self.lines.behind(self.count)
     }
 }
 
@@ -53,70 +70,67 @@ pub fn copy<F: PrimeField>(
     ensures { IfOk result (λ look. look ≡ copied complex.now.complex pivot) }
 {
     complex_laws(complex);
-    let row = row_at(complex, pivot.degree, pivot.row);
-    let columns = copied_columns(alloc, complex, pivot.degree, row)?;
-    let column = column_at(complex, pivot.degree, pivot.column);
-    let rows = copied_rows(alloc, complex, pivot.degree, column)?;
+    let row = own_entries(complex, Side::Rows, pivot);
+    let column = own_entries(complex, Side::Columns, pivot);
+    let mut lines = room_for(alloc, complex, pivot, row, column)?;
+    copy_lines(&mut lines, complex, Side::Columns, pivot, row)?;
+    let count = lines.len();
+    copy_lines(&mut lines, complex, Side::Rows, pivot, column)?;
     Ok(Look {
         pivot,
-        columns,
-        rows,
+        lines,
+        count,
         field: PhantomData,
     })
 }
 
-/// The columns at the places of a row's entries.
-fn copied_columns<F: PrimeField>(
-    alloc: Global,
+/// Copies the lines of a side at the places of the entries of a line across.
+fn copy_lines<F: PrimeField>(
+    lines: &mut CopiedLines,
     complex: &Complex<F>,
-    degree: i16,
-    row: &[Entry],
-) -> Result<CopiedLines, NoMemory>
-    ensures { IfOk result (λ lines. lines
-        ≡ map (line_across (column_of complex.now.complex degree)) row.now) }
+    side: Side,
+    pivot: Pivot,
+    across: &[Entry],
+) -> Result<(), NoMemory>
+    ensures { OnOk result (lines.new ≡ lines.old
+        ++ map (line_across (line_on side complex.now.complex pivot.degree)) across.now) }
 {
-    let count = entries_of_columns(complex, degree, row);
-    let mut lines = CopiedLines::with_room(alloc, row.len(), count)?;
-    'entries: for entry in row {
+    'entries: for entry in across {
         let place = entry.place;
-        lines.push(place, column_at(complex, degree, place))?;
+        lines.push(place, entries_beside(complex, side, pivot, place))?;
     }
-    Ok(lines)
+    Ok(())
 }
 
-/// The rows at the places of a column's entries.
-fn copied_rows<F: PrimeField>(
+/// No lines, with room for the columns at the places of a row's entries, and for the rows at those
+/// of a column's.
+fn room_for<F: PrimeField>(
     alloc: Global,
     complex: &Complex<F>,
-    degree: i16,
+    pivot: Pivot,
+    row: &[Entry],
     column: &[Entry],
 ) -> Result<CopiedLines, NoMemory>
-    ensures { IfOk result (λ lines. lines
-        ≡ map (line_across (row_of complex.now.complex degree)) column.now) }
+    ensures { IfOk result (λ made. made ≡ []) }
 {
-    let count = entries_of_rows(complex, degree, column);
-    let mut lines = CopiedLines::with_room(alloc, column.len(), count)?;
-    'entries: for entry in column {
-        let place = entry.place;
-        lines.push(place, row_at(complex, degree, place))?;
-    }
-    Ok(lines)
+    let lines = row.len().saturating_add(column.len());
+    let columns = entries_across(complex, Side::Columns, pivot, row);
+    let rows = entries_across(complex, Side::Rows, pivot, column);
+    CopiedLines::with_room(alloc, lines, columns.saturating_add(rows))
 }
 
-/// How many entries the columns have at the places of a row's entries. No clause rests on it.
-fn entries_of_columns<F: PrimeField>(complex: &Complex<F>, degree: i16, row: &[Entry]) -> usize {
+/// How many entries the lines of a side have at the places of the entries of a line across. No
+/// clause rests on it.
+fn entries_across<F: PrimeField>(
+    complex: &Complex<F>,
+    side: Side,
+    pivot: Pivot,
+    across: &[Entry],
+) -> usize {
     let mut count = 0usize;
-    'entries: for entry in row {
-        count = count.saturating_add(column_at(complex, degree, entry.place).len());
-    }
-    count
-}
-
-/// How many entries the rows have at the places of a column's entries. No clause rests on it.
-fn entries_of_rows<F: PrimeField>(complex: &Complex<F>, degree: i16, column: &[Entry]) -> usize {
-    let mut count = 0usize;
-    'entries: for entry in column {
-        count = count.saturating_add(row_at(complex, degree, entry.place).len());
+    'entries: for entry in across {
+        let line = entries_beside(complex, side, pivot, entry.place);
+        count = count.saturating_add(line.len());
     }
     count
 }

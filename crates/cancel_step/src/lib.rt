@@ -7,12 +7,13 @@ mod copied_lines;
 mod copying;
 mod finishing;
 pub mod laws;
-mod merging;
+mod line_pairs;
 mod passing;
 mod patched;
 mod pivot;
 mod reading;
 mod search;
+mod side;
 mod updating;
 
 pub use applying::{apply, apply_fitting, cancel_in_place};

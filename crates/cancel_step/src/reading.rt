@@ -5,7 +5,10 @@ ghost use Rattle.std.specs.Prelude.{slice_index, IfSome, []};
 ghost use Rattle.kh_types.specs.Complex.{entry_of};
 ghost use Rattle.sparse_block.specs.Complexes.{column_of, row_of};
 ghost use Rattle.sparse_block.specs.Entries.{entries_of, value_at};
+ghost use Rattle.cancel_step.specs.Sides.{line_on, place_on};
 
+use crate::Pivot;
+use crate::side::{Side, place_on};
 use prime_field::PrimeField;
 use sparse_block::{Complex, Entry, complex_laws};
 
@@ -32,6 +35,29 @@ pub(crate) fn row_at<F: PrimeField>(complex: &Complex<F>, i: i16, place: u32) ->
         return &[];
     }
     complex.row(i, place)
+}
+
+/// The entries of the line of a side in which a pivot stands.
+pub(crate) fn own_entries<F: PrimeField>(complex: &Complex<F>, side: Side, pivot: Pivot) -> &[Entry]
+    ensures { result.now ≡ entries_of
+        (line_on side complex.now.complex pivot.degree (place_on side pivot)) }
+{
+    entries_beside(complex, side, pivot, place_on(side, pivot))
+}
+
+/// The entries of a line of a side, in a pivot's differential.
+pub(crate) fn entries_beside<F: PrimeField>(
+    complex: &Complex<F>,
+    side: Side,
+    pivot: Pivot,
+    place: u32,
+) -> &[Entry]
+    ensures { result.now ≡ entries_of (line_on side complex.now.complex pivot.degree place) }
+{
+    match side {
+        Side::Columns => column_at(complex, pivot.degree, place),
+        Side::Rows => row_at(complex, pivot.degree, place),
+    }
 }
 
 /// The row of the last entry of a column; none where the column has no entry.

@@ -3,11 +3,11 @@
 ghost use Rattle.std.specs.Prelude.{◌≡◌, ◌≢◌, ℕ, map, true, IfOk};
 ghost use Rattle.sparse_block.specs.Entries.{value_at};
 ghost use Rattle.cancel_step.specs.Copies.{WasPatched};
-ghost use Rattle.cancel_step.specs.Lines.{AreLines, entries_at, line_cleared};
+ghost use Rattle.cancel_step.specs.Lines.{AreLines, entries_with, line_cleared};
 ghost use Rattle.cancel_step.specs.Updates.{IsAlone};
 
-use crate::copied_lines::CopiedLines;
-use crate::merging::merge;
+use crate::copied_lines::SomeLines;
+use crate::line_pairs::subtract_into;
 use crate::patched::Update;
 use crate::reading::value_at;
 use crate::{Look, Patch};
@@ -40,7 +40,7 @@ pub fn patch<F: PrimeField>(alloc: Global, look: Look<F>) -> Result<Patch<F>, No
 fn is_alone<F: PrimeField>(look: &Look<F>) -> bool
     ensures { result ≡ true → IsAlone look.now }
 {
-    look.columns.len() == 1 || look.rows.len() == 1
+    look.columns().len() == 1 || look.rows().len() == 1
 }
 
 /// The columns and rows that were copied, as they are after the cancellation.
@@ -51,23 +51,23 @@ fn updated<F: PrimeField>(alloc: Global, look: &Look<F>) -> Result<Update, NoMem
     element_laws::<F>();
     let pivot = look.pivot;
     let mut scratch = Vec::with_capacity(alloc, USUAL_ENTRIES)?;
-    let columns = lines_cleared::<F>(&mut scratch, &look.columns, pivot.column, pivot.row)?;
-    let rows = lines_cleared::<F>(&mut scratch, &look.rows, pivot.row, pivot.column)?;
+    let columns = lines_cleared::<F>(&mut scratch, &look.columns(), pivot.column, pivot.row)?;
+    let rows = lines_cleared::<F>(&mut scratch, &look.rows(), pivot.row, pivot.column)?;
     Ok(Update { columns, rows })
 }
 
 /// Takes from each line the multiple of the pivot's line that clears the place across.
 fn lines_cleared<F: PrimeField>(
     scratch: &mut Vec<Entry>,
-    lines: &CopiedLines,
+    lines: &SomeLines<'_>,
     own: u32,
     across: u32,
 ) -> Result<Vec<Line>, NoMemory>
     requires entries { (size : ℕ) × AreLines F.P size lines.now }
-    requires pivot { value_at (entries_at lines.now own) across ≢ 0 }
+    requires pivot { value_at (entries_with lines.now own) across ≢ 0 }
     ensures { IfOk result (λ made. (size : ℕ)
         → AreLines F.P size lines.now → made.items
-        ≡ map (line_cleared F.P size (entries_at lines.now own) across) lines.now) }
+        ≡ map (line_cleared F.P size (entries_with lines.now own) across) lines.now) }
 {
     element_laws::<F>();
     let alloc = *scratch.allocator();
@@ -77,7 +77,7 @@ fn lines_cleared<F: PrimeField>(
     'lines: for k in 0..lines.len() {
         let (place, line) = lines.at(k);
         let factor = quotient(F::of(value_at(line, across)), pivot);
-        merge(scratch, line, factor, pivot_line)?;
+        subtract_into(scratch, line, factor, pivot_line)?;
         let entries = SmallVec::from_slice(alloc, scratch)?;
         made.push(Line { place, entries })?;
     }
@@ -85,8 +85,8 @@ fn lines_cleared<F: PrimeField>(
 }
 
 /// The entries of the line with a place; none where no line has it.
-fn line_at(lines: &CopiedLines, place: u32) -> &[Entry]
-    ensures { result.now ≡ entries_at lines.now place }
+fn line_at<'a>(lines: &'a SomeLines<'_>, place: u32) -> &'a [Entry]
+    ensures { result.now ≡ entries_with lines.now place }
 {
     'lines: for k in 0..lines.len() {
         let (found, entries) = lines.at(k);

@@ -1,6 +1,6 @@
 -- The numbers of circles along an edge: the two that become one keep the lesser number, and the numbers above the greater go down by
 -- one.
-use Rattle.std.proofs.Common.{◌≡◌, ◌≢◌, ℕ, ◌⊎◌, inl, inr, ◌+◌, ◌-◌, ◌<◌, ◌≤◌, ◌∙◌, [], ◌∷◌, refl, sym, ap, subst, length, map, arith, Bool, true, false, ◌&&◌, not, IsTrue}
+use Rattle.std.proofs.Common.{◌≡◌, ◌≢◌, ℕ, inl, inr, ◌+◌, ◌-◌, ◌<◌, ◌≤◌, ◌∙◌, [], ◌∷◌, refl, sym, ap, subst, length, map, arith, Bool, true, false, ◌&&◌, not, IsTrue}
 use Rattle.std.specs.Prelude.{nat_eq, min, max, slice_index}
 use Rattle.std.specs.List.{filter, range_with_len}
 use Rattle.std.proofs.lemmas.Bool.{cases_eq, eq-eqb}
@@ -8,11 +8,11 @@ use Rattle.std.proofs.lemmas.Bool.Decides.{nat_tests}
 use Rattle.kh_types.specs.Acceptance.{accepted}
 use Rattle.kh_types.specs.Bits.{bit}
 use Rattle.kh_types.specs.Classes.{is_least, merged}
-use Rattle.kh_types.specs.Code.{Code, IsArc, IsCrossing, arc_count, place_of}
+use Rattle.kh_types.specs.Code.{Code, IsCrossing, arc_count, place_of}
 use Rattle.kh_types.specs.Circles.{circles_of}
 use Rattle.kh_types.proofs.ClassLemmas.{slice_index-joined}
 use Rattle.kh_types.proofs.Lists.{HasMore-filter_range, filter-range_agree, length-HasMore}
-use Rattle.kh_types.specs.CircleNumbers.{IsName, number_of}
+use Rattle.kh_types.specs.CircleNumbers.{number_of}
 use Rattle.circle_smoothing.specs.Edges.{AreRenumbered, HaveMerged, IsEdge, Renumbers, renumbered}
 use Rattle.kh_types.specs.Edges.{arc_at_slot, state_behind}
 use Rattle.circle_smoothing.specs.declared.change.Edge.{Edge}
@@ -20,6 +20,7 @@ use Rattle.circle_smoothing.specs.declared.change.Edge.TheVariants.{Merge, Split
 use Rattle.kh_types.proofs.CircleCycles.{IsNamed-circles}
 use Rattle.kh_types.proofs.EdgeNames.{IsArc-slot, IsJoin, IsJoin-edge, circle_at, stays_least}
 use Rattle.kh_types.proofs.CircleNumbers.{IsName-arc, IsCircle, IsCircle-max, IsCircle-min, IsCircle-of, lesser, number_of-counted, number_of-order}
+use Rattle.kh_types.proofs.EdgeBits.{lower_or_higher}
 
 -- the circle of the arc at a slot
 pub IsCircle-slot : (code : Code) (state crossing slot : ℕ) → IsTrue (accepted code) → IsCrossing code.crossings crossing → slot < 4
@@ -129,9 +130,6 @@ renumbered-low a b n below = grind (arith, nat_tests)
 
 renumbered-high : (a b n m : ℕ) → b < n → n ≡ m + 1 → renumbered a b n ≡ m
 renumbered-high a b n m above next = grind (arith, nat_tests)
-
-lower_or_higher : (x y : ℕ) → x ≢ y → (x < y) ⊎ (y < x)
-lower_or_higher x y differ = grind arith
 
 number-other : (code : Code) (before after crossing c : ℕ) → IsTrue (accepted code) → IsCrossing code.crossings crossing
     → IsJoin code before after crossing → IsCircle code before c → c ≢ gone_of code before crossing

@@ -8,13 +8,13 @@ use Rattle.std.proofs.lemmas.List.Sums.{count_by-le-length, length-filter}
 use Rattle.std.proofs.lemmas.List.FromFn.{get_or-range_with_len, length-map-range_with_len, length-range_with_len}
 use Rattle.kh_types.specs.Classes.{is_least}
 use Rattle.kh_types.proofs.Ranges.{filter-range_more, map_from_one}
-use Rattle.circle_smoothing.specs.CircleLists.{AreCircles, number_at, numbers_to}
+use Rattle.circle_smoothing.specs.CircleLists.{AreCircles, circle_number_at, numbers_to}
 use Rattle.kh_types.specs.CircleNumbers.{names_to}
 use Rattle.kh_types.proofs.CircleNumbers.{position-counted}
 
 -- the least name of a circle has the next number
 pub number-least : (circles : List ℕ) (place : ℕ) → AreCircles circles → place + 1 < length circles
-    → is_least circles (place + 1) ≡ true → number_at circles (place + 1) ≡ length (names_to circles place)
+    → is_least circles (place + 1) ≡ true → circle_number_at circles (place + 1) ≡ length (names_to circles place)
 number-least circles place are within least =
     let own : slice_index circles (place + 1) ≡ place + 1 = eqb-true (slice_index circles (place + 1)) (place + 1) least in
     let back : place + 1 - 1 ≡ place = omega arith in
@@ -33,16 +33,16 @@ circle-lesser circles place are within other =
 
 -- and has the number of that
 slice_index-numbers : (circles : List ℕ) (place name : ℕ) → 1 ≤ name → name ≤ place
-    → slice_index (numbers_to circles place) name ≡ number_at circles name
+    → slice_index (numbers_to circles place) name ≡ circle_number_at circles name
 slice_index-numbers circles place zero positive within = absurd (omega (arith, positive))
 slice_index-numbers circles place (suc k) positive within =
     let next : 1 + k ≡ suc k = omega arith in
-    get_or-map (number_at circles) (range_with_len 1 place) k 0 0 (omega (arith, length-range_with_len 1 place, within))
-    ∙ ap (number_at circles) (get_or-range_with_len 1 place k 0 (omega (arith, within)) ∙ next)
+    get_or-map (circle_number_at circles) (range_with_len 1 place) k 0 0 (omega (arith, length-range_with_len 1 place, within))
+    ∙ ap (circle_number_at circles) (get_or-range_with_len 1 place k 0 (omega (arith, within)) ∙ next)
 
 pub number-other : (circles : List ℕ) (place : ℕ) → AreCircles circles → place + 1 < length circles
     → is_least circles (place + 1) ≡ false
-    → number_at circles (place + 1) ≡ slice_index (numbers_to circles place) (slice_index circles (place + 1))
+    → circle_number_at circles (place + 1) ≡ slice_index (numbers_to circles place) (slice_index circles (place + 1))
 number-other circles place are within other =
     let name = place + 1 in
     let circle = slice_index circles name in
@@ -72,12 +72,12 @@ count-within circles place =
     )
 
 pub numbers-more : (circles : List ℕ) (place : ℕ)
-    → numbers_to circles (place + 1) ≡ numbers_to circles place ++ number_at circles (place + 1) ∷ []
-numbers-more circles place = ap (λ xs. 0 ∷ xs) (map_from_one (number_at circles) place)
+    → numbers_to circles (place + 1) ≡ numbers_to circles place ++ circle_number_at circles (place + 1) ∷ []
+numbers-more circles place = ap (λ xs. 0 ∷ xs) (map_from_one (circle_number_at circles) place)
 
 pub length-numbers_to : (circles : List ℕ) (place : ℕ) → length (numbers_to circles place) ≡ place + 1
 length-numbers_to circles place =
-    let size = length-map-range_with_len (number_at circles) 1 place in omega (arith, size)
+    let size = length-map-range_with_len (circle_number_at circles) 1 place in omega (arith, size)
 
 pub ruleset next_number = (number-least, circle-lesser, number-other, count-within, length-numbers_to)
 

@@ -11,9 +11,9 @@ pub record AreCircles (circles : List ℕ) : Type 0 where
   pub positive : (name : ℕ) → 1 ≤ name → name < length circles → 1 ≤ slice_index circles name
 
 -- the number of the circle of a name: its place among the names of circles
-abbrev pub number_at : List ℕ → ℕ → ℕ
-number_at circles name = position_or_len (nat_eq (slice_index circles name)) (names_to circles (length circles - 1))
+abbrev pub circle_number_at : List ℕ → ℕ → ℕ
+circle_number_at circles name = position_or_len (nat_eq (slice_index circles name)) (names_to circles (length circles - 1))
 
 -- the numbers of the circles of the names up to one, after an entry for the number 0
 abbrev pub numbers_to : List ℕ → ℕ → List ℕ
-numbers_to circles last = 0 ∷ map (number_at circles) (range_with_len 1 last)
+numbers_to circles last = 0 ∷ map (circle_number_at circles) (range_with_len 1 last)

@@ -2,7 +2,7 @@
 
 ghost use Rattle.std.specs.Prelude.{◌≡◌, ◌+◌, ◌-◌, ◌<◌, ◌≤◌, length};
 ghost use Rattle.kh_types.specs.declared.classes.TheConstants.{CLASS_MEMBERS};
-ghost use Rattle.circle_smoothing.specs.CircleLists.{AreCircles, number_at, numbers_to};
+ghost use Rattle.circle_smoothing.specs.CircleLists.{AreCircles, circle_number_at, numbers_to};
 ghost use Rattle.kh_types.specs.CircleNumbers.{names_to};
 
 use arrayvec::ArrayVec;
@@ -35,7 +35,7 @@ fn next_number(circles: &[u8], numbers: &[u8], count: u8, place: usize) -> u8
     requires within { place + 1 < length circles.now }
     requires numbers { numbers.now ≡ numbers_to circles.now place }
     requires count { count ≡ length (names_to circles.now place) }
-    ensures { result ≡ number_at circles.now (place + 1) }
+    ensures { result ≡ circle_number_at circles.now (place + 1) }
 {
     if is_least(circles, place as u8 + 1) {
         count

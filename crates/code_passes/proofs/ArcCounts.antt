@@ -7,37 +7,34 @@ use Rattle.std.proofs.lemmas.Bool.Decides.{nat_tests}
 use Rattle.std.proofs.lemmas.List.{ext_get_or}
 use Rattle.std.proofs.lemmas.List.FromFn.{length-map-range_with_len, get_or-map-range_with_len}
 use Rattle.std.proofs.lemmas.List.Sums.{sum_by-cons, sum_by-append}
-use Rattle.code_passes.specs.Labels.{number_at}
-use Rattle.code_passes.specs.Passes.{Pass, turned, pass_at, passes_from, all_passes, all_labels}
-use Rattle.code_passes.proofs.Sums.{value_if, only_at, sum-only, sum_by-range_alike, sum_by-none}
-use Rattle.code_passes.proofs.ComponentPasses.{length-turned, sum_by-turned, length-labels_more}
-
-pub sum_by-map : {X Y : Type 0} (f : Y → ℕ) (g : X → Y) (xs : List X) → sum_by f (map g xs) ≡ sum_by (λ x. f (g x)) xs
-sum_by-map f g [] = refl
-sum_by-map f g (x ∷ xs) = omega (arith, sum_by-map f g xs, sum_by-cons f (g x) (map g xs), sum_by-cons (λ y. f (g y)) x xs)
+use Rattle.code_passes.specs.Labels.{listed_number}
+use Rattle.code_passes.specs.Passes.{Pass, turned_labels, pass_at, passes_from, all_passes, all_labels}
+use Rattle.code_passes.proofs.Sums.{value_if, only_at, sum-only, sum_by-none}
+use Rattle.kh_types.proofs.ListSums.{sum_by-range_alike, sum_by-map}
+use Rattle.code_passes.proofs.ComponentPasses.{length-turned_labels, sum_by-turned_labels, length-labels_more}
 
 -- a list is the list of its numbers
-map-number_at : (numbers : List ℤ) → map (number_at numbers) (range_with_len 0 (length numbers)) ≡ numbers
-map-number_at numbers =
-    let size = length-map-range_with_len (number_at numbers) 0 (length numbers) in
-    ext_get_or (pos 0) (map (number_at numbers) (range_with_len 0 (length numbers))) numbers size
+map-listed_number : (numbers : List ℤ) → map (listed_number numbers) (range_with_len 0 (length numbers)) ≡ numbers
+map-listed_number numbers =
+    let size = length-map-range_with_len (listed_number numbers) 0 (length numbers) in
+    ext_get_or (pos 0) (map (listed_number numbers) (range_with_len 0 (length numbers))) numbers size
     (λ at below.
-    get_or-map-range_with_len (number_at numbers) 0 (length numbers) at at (pos 0) (omega (arith, below, size)) (omega arith))
+    get_or-map-range_with_len (listed_number numbers) 0 (length numbers) at at (pos 0) (omega (arith, below, size)) (omega arith))
 
 -- a sum over the labels of the passes
 pub sum_by-labels : (f : ℤ → ℕ) (first : ℕ) (groups : List (List ℤ))
     → sum_by (λ pass. f pass.label) (all_passes first groups) ≡ sum_by f (all_labels groups)
 sum_by-labels f first [] = refl
 sum_by-labels f first (labels ∷ more) =
-    let here : sum_by (λ pass. f pass.label) (passes_from first (turned labels)) ≡ sum_by f labels =
-    sum_by-map (λ pass. f pass.label) (pass_at first (turned labels)) (range_with_len 0 (length (turned labels)))
-    ∙ sym (sum_by-map f (number_at (turned labels)) (range_with_len 0 (length (turned labels))))
-    ∙ ap (λ numbers. sum_by f numbers) (map-number_at (turned labels)) ∙ sum_by-turned f labels in
+    let here : sum_by (λ pass. f pass.label) (passes_from first (turned_labels labels)) ≡ sum_by f labels =
+    sum_by-map (λ pass. f pass.label) (pass_at first (turned_labels labels)) (range_with_len 0 (length (turned_labels labels)))
+    ∙ sym (sum_by-map f (listed_number (turned_labels labels)) (range_with_len 0 (length (turned_labels labels))))
+    ∙ ap (λ numbers. sum_by f numbers) (map-listed_number (turned_labels labels)) ∙ sum_by-turned_labels f labels in
     omega (
       arith,
       here,
       sum_by-labels f (first + length labels) more,
-      sum_by-append (λ pass. f pass.label) (passes_from first (turned labels)) (all_passes (first + length labels) more),
+      sum_by-append (λ pass. f pass.label) (passes_from first (turned_labels labels)) (all_passes (first + length labels) more),
       sum_by-append f labels (all_labels more),
     )
 
@@ -123,30 +120,30 @@ module _ (f : ℕ → Pass → ℕ)
   sum-before first arc (labels ∷ more) before =
       omega (
         arith,
-        outside first arc (turned labels) (inl before),
+        outside first arc (turned_labels labels) (inl before),
         sum-before (first + length labels) arc more (omega (arith, before)),
-        sum_by-append (f arc) (passes_from first (turned labels)) (all_passes (first + length labels) more),
+        sum_by-append (f arc) (passes_from first (turned_labels labels)) (all_passes (first + length labels) more),
       )
 
   sum-of_all : (first arc : ℕ) (groups : List (List ℤ)) → first ≤ arc → arc < first + length (all_labels groups)
       → sum_by (f arc) (all_passes first groups) ≡ 1
   sum-of_all first arc [] from below = absurd (omega (arith, from, below))
   sum-of_all first arc (labels ∷ more) from below =
-      let cut = sum_by-append (f arc) (passes_from first (turned labels)) (all_passes (first + length labels) more) in
-      let size = length-turned labels in
+      let cut = sum_by-append (f arc) (passes_from first (turned_labels labels)) (all_passes (first + length labels) more) in
+      let size = length-turned_labels labels in
       elim (cases_lt arc (first + length labels)) [
         | inl within ↦
             omega (
               arith,
               cut,
-              here first arc (turned labels) from (omega (arith, within, size)),
+              here first arc (turned_labels labels) from (omega (arith, within, size)),
               sum-before (first + length labels) arc more within,
             )
         | inr past ↦
             omega (
               arith,
               cut,
-              outside first arc (turned labels) (inr (omega (arith, past, size))),
+              outside first arc (turned_labels labels) (inr (omega (arith, past, size))),
               sum-of_all (first + length labels) arc more past (omega (arith, below, length-labels_more labels more)),
             )
       ]

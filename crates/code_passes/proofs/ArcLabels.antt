@@ -9,7 +9,7 @@ use Rattle.kh_types.specs.Directions.{is_positive, is_head, head_of, HasEnds, Ha
 use Rattle.kh_types.specs.Accepted.{IsDirected}
 use Rattle.kh_types.proofs.DirectedPasses.{same_dart, head-cases}
 use Rattle.kh_types.proofs.Heads.{HasEnds-directed, IsPass-under}
-use Rattle.code_passes.specs.ComponentLabels.{label_at, label_of}
+use Rattle.code_passes.specs.ComponentLabels.{label_at, entering_label}
 
 -- a directed code, no component of which has a single arc
 pub record IsOriented (crossings : List (List ℕ)) : Type 0 where
@@ -38,16 +38,16 @@ size-signed true (suc size) = refl
 size-signed false size = refl
 
 -- the size of a label is the number of a crossing
-pub label_of-size : (crossings : List (List ℕ)) (arc : ℕ) → nat_abs (label_of crossings arc) ≡ (head_of crossings arc).crossing
-label_of-size crossings arc = size-signed (nat_eq (head_of crossings arc).slot 0) (head_of crossings arc).crossing
+pub entering_label-size : (crossings : List (List ℕ)) (arc : ℕ) → nat_abs (entering_label crossings arc) ≡ (head_of crossings arc).crossing
+entering_label-size crossings arc = size-signed (nat_eq (head_of crossings arc).slot 0) (head_of crossings arc).crossing
 
-pub label_of-names : (crossings : List (List ℕ)) → IsOriented crossings → (arc : ℕ) → IsArc crossings arc
-    → IsCrossing crossings (nat_abs (label_of crossings arc))
-label_of-names crossings oriented arc is =
+pub entering_label-names : (crossings : List (List ℕ)) → IsOriented crossings → (arc : ℕ) → IsArc crossings arc
+    → IsCrossing crossings (nat_abs (entering_label crossings arc))
+entering_label-names crossings oriented arc is =
     let crossing = (HasEnds-arc crossings oriented arc is).head.within.crossing in
     record {
-      positive = omega (arith, label_of-size crossings arc, crossing.positive);
-      within = omega (arith, label_of-size crossings arc, crossing.within);
+      positive = omega (arith, entering_label-size crossings arc, crossing.positive);
+      within = omega (arith, entering_label-size crossings arc, crossing.within);
     }
 
 -- two heads at one crossing that are both at slot 0, or both not, are one
@@ -61,20 +61,20 @@ same_head : (crossings : List (List ℕ)) (dart other : Dart) → dart.crossing 
     → is_head crossings other ≡ true → nat_eq dart.slot 0 ≡ nat_eq other.slot 0 → dart ≡ other
 same_head crossings dart other same head other_head under =
     let other_cases = head-cases crossings other other_head in
-    let turned : is_positive crossings other.crossing ≡ is_positive crossings dart.crossing = ap (is_positive crossings) (sym same) in
+    let turned_labels : is_positive crossings other.crossing ≡ is_positive crossings dart.crossing = ap (is_positive crossings) (sym same) in
     same_dart dart other same
     (same_slot (is_positive crossings dart.crossing) dart.slot other.slot (head-cases crossings dart head) (elim other_cases [
       | inl zero_slot ↦ inl zero_slot
       | inr over ↦ elim over [
-        | inl positive ↦ inr (inl (sym turned ∙ positive.0, positive.1))
-        | inr negative ↦ inr (inr (sym turned ∙ negative.0, negative.1))
+        | inl positive ↦ inr (inl (sym turned_labels ∙ positive.0, positive.1))
+        | inr negative ↦ inr (inr (sym turned_labels ∙ negative.0, negative.1))
       ]
     ]) under)
 
 -- no two arcs have one label
-pub label_of-once : (crossings : List (List ℕ)) → IsOriented crossings → (arc other : ℕ) → IsArc crossings arc → IsArc crossings other
-    → label_of crossings arc ≡ label_of crossings other → arc ≡ other
-label_of-once crossings oriented arc other is other_is same =
+pub entering_label-once : (crossings : List (List ℕ)) → IsOriented crossings → (arc other : ℕ) → IsArc crossings arc → IsArc crossings other
+    → entering_label crossings arc ≡ entering_label crossings other → arc ≡ other
+entering_label-once crossings oriented arc other is other_is same =
     let ends = HasEnds-arc crossings oriented arc is in
     let other_ends = HasEnds-arc crossings oriented other other_is in
     let dart = head_of crossings arc in
@@ -85,7 +85,7 @@ label_of-once crossings oriented arc other is other_is same =
     sym ends.head.on_arc ∙ ap (arc_of crossings) one ∙ other_ends.head.on_arc
 
 -- the arc of an under pass has minus the number of the crossing as its label
-pub label_of-under : (crossings : List (List ℕ)) → IsOriented crossings → (crossing : ℕ) → IsCrossing crossings crossing
-    → label_of crossings (arc_in (slots_of crossings crossing) 0) ≡ neg_ℤ (pos crossing)
-label_of-under crossings oriented crossing is =
+pub entering_label-under : (crossings : List (List ℕ)) → IsOriented crossings → (crossing : ℕ) → IsCrossing crossings crossing
+    → entering_label crossings (arc_in (slots_of crossings crossing) 0) ≡ neg_ℤ (pos crossing)
+entering_label-under crossings oriented crossing is =
     ap label_at (IsPass-under crossings oriented.directed oriented.moves crossing is).head

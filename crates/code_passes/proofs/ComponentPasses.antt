@@ -8,35 +8,35 @@ use Rattle.std.proofs.lemmas.Bool.Decides.{nat_tests}
 use Rattle.std.proofs.lemmas.List.{length-append}
 use Rattle.std.proofs.lemmas.List.Elements.{All-from_recursion, All-get_or}
 use Rattle.kh_types.proofs.Lists.{AllByRecursion-append, AllByRecursion-first, AllByRecursion-second}
-use Rattle.code_passes.specs.Labels.{number_at}
-use Rattle.code_passes.specs.Passes.{Pass, is_over, turned, pass_at, passes_from, all_passes, all_labels}
+use Rattle.code_passes.specs.Labels.{listed_number}
+use Rattle.code_passes.specs.Passes.{Pass, is_over, turned_labels, pass_at, passes_from, all_passes, all_labels}
 
 -- a turned component has the same labels
 
-turned-two : (P : List ℤ → Type 0) (first second : ℤ) → P (first ∷ second ∷ []) → P (second ∷ first ∷ []) → P (turned (first ∷ second ∷ []))
-turned-two P first second stays turns =
+turned_labels-two : (P : List ℤ → Type 0) (first second : ℤ) → P (first ∷ second ∷ []) → P (second ∷ first ∷ []) → P (turned_labels (first ∷ second ∷ []))
+turned_labels-two P first second stays turns =
     elim ((is_over first && is_over second) && int_lt second first)
     as (λ b. P (if b then second ∷ first ∷ [] else first ∷ second ∷ [])) [ true ↦ turns | false ↦ stays ]
 
-pub length-turned : (labels : List ℤ) → length (turned labels) ≡ length labels
-length-turned [] = refl
-length-turned (first ∷ []) = refl
-length-turned (first ∷ second ∷ []) = turned-two (λ labels. length labels ≡ 2) first second refl refl
-length-turned (first ∷ second ∷ third ∷ labels) = refl
+pub length-turned_labels : (labels : List ℤ) → length (turned_labels labels) ≡ length labels
+length-turned_labels [] = refl
+length-turned_labels (first ∷ []) = refl
+length-turned_labels (first ∷ second ∷ []) = turned_labels-two (λ labels. length labels ≡ 2) first second refl refl
+length-turned_labels (first ∷ second ∷ third ∷ labels) = refl
 
-pub sum_by-turned : (f : ℤ → ℕ) (labels : List ℤ) → sum_by f (turned labels) ≡ sum_by f labels
-sum_by-turned f [] = refl
-sum_by-turned f (first ∷ []) = refl
-sum_by-turned f (first ∷ second ∷ []) =
-    turned-two (λ labels. sum_by f labels ≡ sum_by f (first ∷ second ∷ [])) first second refl (omega arith)
-sum_by-turned f (first ∷ second ∷ third ∷ labels) = refl
+pub sum_by-turned_labels : (f : ℤ → ℕ) (labels : List ℤ) → sum_by f (turned_labels labels) ≡ sum_by f labels
+sum_by-turned_labels f [] = refl
+sum_by-turned_labels f (first ∷ []) = refl
+sum_by-turned_labels f (first ∷ second ∷ []) =
+    turned_labels-two (λ labels. sum_by f labels ≡ sum_by f (first ∷ second ∷ [])) first second refl (omega arith)
+sum_by-turned_labels f (first ∷ second ∷ third ∷ labels) = refl
 
-pub All-turned : (P : ℤ → Type 0) (labels : List ℤ) → AllByRecursion P labels → AllByRecursion P (turned labels)
-All-turned P [] all = all
-All-turned P (first ∷ []) all = all
-All-turned P (first ∷ second ∷ []) all =
-    turned-two (AllByRecursion P) first second all (all.1.0, (all.0, tt))
-All-turned P (first ∷ second ∷ third ∷ labels) all = all
+pub All-turned_labels : (P : ℤ → Type 0) (labels : List ℤ) → AllByRecursion P labels → AllByRecursion P (turned_labels labels)
+All-turned_labels P [] all = all
+All-turned_labels P (first ∷ []) all = all
+All-turned_labels P (first ∷ second ∷ []) all =
+    turned_labels-two (AllByRecursion P) first second all (all.1.0, (all.0, tt))
+All-turned_labels P (first ∷ second ∷ third ∷ labels) all = all
 
 -- the first arc of the component of an arc, where the components have the arcs from a first one on; 0 behind the last of them
 abbrev pub start_from : ℕ → List (List ℤ) → ℕ → ℕ
@@ -48,7 +48,7 @@ start_from first (labels ∷ more) arc =
 abbrev pub label_from : ℕ → List (List ℤ) → ℕ → ℤ
 label_from first [] arc = pos 0
 label_from first (labels ∷ more) arc =
-    if nat_lt arc (first + length labels) then number_at (turned labels) (arc - first) else label_from (first + length labels) more arc
+    if nat_lt arc (first + length labels) then listed_number (turned_labels labels) (arc - first) else label_from (first + length labels) more arc
 
 pub then_if : {X : Type 0} (arc end : ℕ) (x y : X) → arc < end → (if nat_lt arc end then x else y) ≡ x
 then_if arc end x y below = grind (arith, nat_tests)
@@ -174,18 +174,18 @@ not_first first next_start past positive after (inl none) same = omega (arith, n
 not_first first next_start past positive after (inr later) same = omega (arith, later, same, after)
 
 pass-here : (first : ℕ) (labels : List ℤ) (more : List (List ℤ)) (at : ℕ) → 1 ≤ first → at < length labels
-    → IsPassOf first (labels ∷ more) (pass_at first (turned labels) at)
+    → IsPassOf first (labels ∷ more) (pass_at first (turned_labels labels) at)
 pass-here first labels more at positive below =
-    let pass = pass_at first (turned labels) at in
-    let size = length-turned labels in
+    let pass = pass_at first (turned_labels labels) at in
+    let size = length-turned_labels labels in
     let total = length-labels_more labels more in
     let back : first + at - first ≡ at = omega arith in
-    let label = then_if (first + at) (first + length labels) (number_at (turned labels) (first + at - first))
+    let label = then_if (first + at) (first + length labels) (listed_number (turned_labels labels) (first + at - first))
     (label_from (first + length labels) more (first + at)) (omega (arith, below)) in
     let is = start-here first labels more (first + at) (omega arith) (omega (arith, below)) in
-    elim (cases_eq (at + 1) (length (turned labels))) [
+    elim (cases_eq (at + 1) (length (turned_labels labels))) [
       | inl last ↦
-          let leaves : pass.leaves ≡ first = leaves-last first at (length (turned labels)) last in
+          let leaves : pass.leaves ≡ first = leaves-last first at (length (turned_labels labels)) last in
           let past : first + length labels ≤ first + at + 1 = omega (arith, last, size) in
           let next_is = start-later first labels more (first + at + 1) past in
           let later = start-from_first (first + length labels) more (first + at + 1) past in
@@ -196,7 +196,7 @@ pass-here first labels more at positive below =
             below = omega (arith, below, total);
             leaves_from = omega (arith, leaves);
             leaves_below = omega (arith, leaves, below, total);
-            label = ap (λ k. number_at (turned labels) k) (sym back) ∙ sym label;
+            label = ap (λ k. listed_number (turned_labels labels) k) (sym back) ∙ sym label;
             start = ap (λ arc. start_from first (labels ∷ more) arc) leaves
                 ∙ start-here first labels more first (omega arith) (omega (arith, below)) ∙ sym is;
             next = leaves ∙ sym is
@@ -204,7 +204,7 @@ pass-here first labels more at positive below =
                 (start_from first (labels ∷ more) (first + at + 1)) (λ same. differs (sym next_is ∙ same ∙ is)));
           }
       | inr inside ↦
-          let leaves : pass.leaves ≡ first + at + 1 = leaves-inside first at (length (turned labels)) inside in
+          let leaves : pass.leaves ≡ first + at + 1 = leaves-inside first at (length (turned_labels labels)) inside in
           let within : first + at + 1 < first + length labels = omega (arith, inside, size, below) in
           let next_is = start-here first labels more (first + at + 1) (omega arith) within in
           record {
@@ -212,7 +212,7 @@ pass-here first labels more at positive below =
             below = omega (arith, below, total);
             leaves_from = omega (arith, leaves);
             leaves_below = omega (arith, leaves, within, total);
-            label = ap (λ k. number_at (turned labels) k) (sym back) ∙ sym label;
+            label = ap (λ k. listed_number (turned_labels labels) k) (sym back) ∙ sym label;
             start = ap (λ arc. start_from first (labels ∷ more) arc) leaves ∙ next_is ∙ sym is;
             next = leaves
                 ∙ sym (after_arc-inside (first + at) (start_from first (labels ∷ more) (first + at))
@@ -235,7 +235,7 @@ pass-later first labels more pass is =
       leaves_from = omega (arith, is.leaves_from);
       leaves_below = omega (arith, is.leaves_below, total);
       label = is.label
-          ∙ sym (else_if pass.enters behind (number_at (turned labels) (pass.enters - first)) (label_from behind more pass.enters) is.from);
+          ∙ sym (else_if pass.enters behind (listed_number (turned_labels labels) (pass.enters - first)) (label_from behind more pass.enters) is.from);
       start = leaves ∙ is.start ∙ sym enters;
       next = is.next ∙ ap (λ start. after_arc pass.enters start (start_from behind more (pass.enters + 1))) (sym enters)
           ∙ ap (λ start. after_arc pass.enters (start_from first (labels ∷ more) pass.enters) start) (sym next);
@@ -256,9 +256,9 @@ All-weaker P Q (x ∷ xs) onward all = (onward x all.0, All-weaker P Q xs onward
 pub IsPassOf-all : (first : ℕ) (groups : List (List ℤ)) → 1 ≤ first → AllByRecursion (IsPassOf first groups) (all_passes first groups)
 IsPassOf-all first [] positive = tt
 IsPassOf-all first (labels ∷ more) positive =
-    AllByRecursion-append (IsPassOf first (labels ∷ more)) (passes_from first (turned labels)) (all_passes (first + length labels) more)
-    (All-map_range (IsPassOf first (labels ∷ more)) (pass_at first (turned labels)) 0 (length (turned labels))
-    (λ at from below. pass-here first labels more at positive (omega (arith, below, length-turned labels))))
+    AllByRecursion-append (IsPassOf first (labels ∷ more)) (passes_from first (turned_labels labels)) (all_passes (first + length labels) more)
+    (All-map_range (IsPassOf first (labels ∷ more)) (pass_at first (turned_labels labels)) 0 (length (turned_labels labels))
+    (λ at from below. pass-here first labels more at positive (omega (arith, below, length-turned_labels labels))))
     (All-weaker (IsPassOf (first + length labels) more) (IsPassOf first (labels ∷ more)) (all_passes (first + length labels) more)
     (pass-later first labels more)
     (IsPassOf-all (first + length labels) more (omega (arith, positive))))
@@ -269,9 +269,9 @@ pub All-labels : (P : ℤ → Type 0) (first : ℕ) (groups : List (List ℤ)) �
     → AllByRecursion (λ pass. P pass.label) (all_passes first groups)
 All-labels P first [] all = tt
 All-labels P first (labels ∷ more) all =
-    AllByRecursion-append (λ pass. P pass.label) (passes_from first (turned labels)) (all_passes (first + length labels) more)
-    (All-map_range (λ pass. P pass.label) (pass_at first (turned labels)) 0 (length (turned labels))
+    AllByRecursion-append (λ pass. P pass.label) (passes_from first (turned_labels labels)) (all_passes (first + length labels) more)
+    (All-map_range (λ pass. P pass.label) (pass_at first (turned_labels labels)) 0 (length (turned_labels labels))
     (λ at from below.
-    All-get_or P (turned labels) at (pos 0) (omega (arith, below))
-    (All-from_recursion P (turned labels) (All-turned P labels (AllByRecursion-first P labels (all_labels more) all)))))
+    All-get_or P (turned_labels labels) at (pos 0) (omega (arith, below))
+    (All-from_recursion P (turned_labels labels) (All-turned_labels P labels (AllByRecursion-first P labels (all_labels more) all)))))
     (All-labels P (first + length labels) more (AllByRecursion-second P labels (all_labels more) all))

@@ -8,11 +8,13 @@ use Rattle.std.proofs.lemmas.Bool.Decides.{Decides-int_eq}
 use Rattle.std.proofs.lemmas.List.Elements.{All-from_get_or, All-from_recursion, All-get_or, recursion_from_All}
 use Rattle.code_passes.specs.Labels.{bad_label}
 use Rattle.code_passes.specs.Passes.{Pass, all_passes, no_pass, pass_of, all_labels, crossings_in}
-use Rattle.code_passes.proofs.Sums.{value_if, sum_by-range_alike, sum_by-plus}
-use Rattle.code_passes.proofs.LabelCounts.{Names, over_at, under_at, over_at-is, under_at-is, at_crossing, int_eq-same, sum-by_crossings, stands, labels-name, stands-under, stands-over}
+use Rattle.code_passes.proofs.Sums.{value_if}
+use Rattle.kh_types.proofs.ListSums.{sum_by-range_alike, sum_by-plus}
+use Rattle.code_passes.proofs.LabelCounts.{Names, over_at, under_at, over_at-is, under_at-is, at_crossing, sum-by_crossings, stands, labels-name, stands-under, stands-over}
 use Rattle.code_passes.proofs.ComponentPasses.{All-labels}
 use Rattle.code_passes.proofs.ArcCounts.{sum_by-labels, sum-enters}
 use Rattle.code_passes.proofs.Found.{found, found-passes, found-holds, sum-found, found-only}
+use Rattle.kh_types.proofs.Integers.{int_eq-same}
 
 -- whether a pass has a label
 abbrev has_label : ℤ → Pass → Bool

@@ -6,7 +6,8 @@ use Rattle.std.proofs.lemmas.List.Sums.{sum_by-cons}
 use Rattle.kh_types.specs.Code.{arc_in}
 use Rattle.kh_types.specs.Darts.{dart_at, arc_of, times}
 use Rattle.kh_types.proofs.Lists.{count_by-map}
-use Rattle.code_passes.proofs.Sums.{value_if, sum_by-range_alike}
+use Rattle.code_passes.proofs.Sums.{value_if}
+use Rattle.kh_types.proofs.ListSums.{sum_by-range_alike}
 
 -- a sum over four times as many numbers, by fours
 abbrev four : (ℕ → ℕ) → ℕ → ℕ

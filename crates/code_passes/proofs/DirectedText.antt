@@ -9,7 +9,8 @@ use Rattle.kh_types.specs.Darts.{arc_of, times, IsDart}
 use Rattle.kh_types.specs.Accepted.{IsDirected, IsInterval}
 use Rattle.code_passes.specs.Labels.{bad_label}
 use Rattle.code_passes.specs.Passes.{Pass, all_passes, all_labels, crossings_in, crossings_of}
-use Rattle.code_passes.proofs.Sums.{value_if, sum_by-range_alike, sum_by-plus}
+use Rattle.code_passes.proofs.Sums.{value_if}
+use Rattle.kh_types.proofs.ListSums.{sum_by-range_alike, sum_by-plus}
 use Rattle.code_passes.proofs.LabelCounts.{under_at, under_at-is}
 use Rattle.code_passes.proofs.ComponentPasses.{label_from, IsPassOf, IsPassOf-all}
 use Rattle.code_passes.proofs.ArcCounts.{enters_on, leaves_on, sum-enters, sum-leaves}

@@ -9,8 +9,10 @@ use Rattle.std.proofs.Math.Path.{fun_ext}
 use Rattle.std.proofs.lemmas.List.{take_all}
 use Rattle.std.proofs.lemmas.List.Elements.{All-from_get_or, recursion_from_All}
 use Rattle.std.proofs.lemmas.List.Sums.{sum_by_more}
-use Rattle.code_passes.specs.Labels.{number_at, is_bad_label, bad_label}
-use Rattle.code_passes.proofs.Sums.{value_if, only_at, sum-only, sum_by-alike, sum_by-range_alike, sum_by-plus, sum_by-ones, sum_by-exchanged, sum-at_most_two, each-two, count_by-none}
+use Rattle.code_passes.specs.Labels.{listed_number, is_bad_label, bad_label}
+use Rattle.code_passes.proofs.Sums.{value_if, only_at, sum-only, sum_by-alike, sum_by-ones, sum-at_most_two, each-two, count_by-none}
+use Rattle.kh_types.proofs.ListSums.{sum_by-range_alike, sum_by-plus, sum_by-turned_labels}
+use Rattle.kh_types.proofs.Integers.{int_eq-other, int_eq-same}
 
 -- a label names one of some crossings
 abbrev pub Names : ℕ → ℤ → Type 0
@@ -26,12 +28,6 @@ under_at place = neg_ℤ (pos (place + 1))
 -- a value for each label that names the crossing at a place
 abbrev pub at_crossing : ℕ → ℤ → ℕ → ℕ
 at_crossing value label place = value_if value (int_eq label (under_at place)) + value_if value (int_eq label (over_at place))
-
-pub int_eq-same : (x y : ℤ) → x ≡ y → int_eq x y ≡ true
-int_eq-same x y same = (Decides-int_eq x y).1 same
-
-pub int_eq-other : (x y : ℤ) → x ≢ y → int_eq x y ≡ false
-int_eq-other x y other = false_from_ne_true (int_eq x y) (λ same. other ((Decides-int_eq x y).0 same))
 
 pub over_at-is : (place : ℕ) → over_at place ≡ pos (suc place)
 over_at-is place = let e : place + 1 ≡ suc place = omega arith in ap pos e
@@ -65,17 +61,17 @@ at_crossing-one value crossings (negsuc size) names =
     ∙ sum-only size value 0 crossings (omega arith) (omega (arith, names.1))
 
 -- the labels of some things, which name crossings: a sum over crossings of what has the label of either pass is the sum over all
-pub sum-by_crossings : {X : Type 0} (label_of : X → ℤ) (f : X → ℕ) (crossings : ℕ) (xs : List X)
-    → AllByRecursion (λ x. Names crossings (label_of x)) xs
-    → sum_by (λ place. sum_by (λ x. at_crossing (f x) (label_of x) place) xs) (range_with_len 0 crossings) ≡ sum_by f xs
-sum-by_crossings {X} label_of f crossings xs names =
-    sum_by-exchanged (λ place x. at_crossing (f x) (label_of x) place) (range_with_len 0 crossings) xs
-    ∙ sum_by-alike (λ x. sum_by (λ place. at_crossing (f x) (label_of x) place) (range_with_len 0 crossings)) f xs (each xs names)
+pub sum-by_crossings : {X : Type 0} (entering_label : X → ℤ) (f : X → ℕ) (crossings : ℕ) (xs : List X)
+    → AllByRecursion (λ x. Names crossings (entering_label x)) xs
+    → sum_by (λ place. sum_by (λ x. at_crossing (f x) (entering_label x) place) xs) (range_with_len 0 crossings) ≡ sum_by f xs
+sum-by_crossings {X} entering_label f crossings xs names =
+    sum_by-turned_labels (λ place x. at_crossing (f x) (entering_label x) place) (range_with_len 0 crossings) xs
+    ∙ sum_by-alike (λ x. sum_by (λ place. at_crossing (f x) (entering_label x) place) (range_with_len 0 crossings)) f xs (each xs names)
   where
-    each : (ys : List X) → AllByRecursion (λ x. Names crossings (label_of x)) ys
-        → AllByRecursion (λ x. sum_by (λ place. at_crossing (f x) (label_of x) place) (range_with_len 0 crossings) ≡ f x) ys
+    each : (ys : List X) → AllByRecursion (λ x. Names crossings (entering_label x)) ys
+        → AllByRecursion (λ x. sum_by (λ place. at_crossing (f x) (entering_label x) place) (range_with_len 0 crossings) ≡ f x) ys
     each [] all = tt
-    each (y ∷ ys) all = (at_crossing-one (f y) crossings (label_of y) all.0, each ys all.1)
+    each (y ∷ ys) all = (at_crossing-one (f y) crossings (entering_label y) all.0, each ys all.1)
 
 -- how often a label stands among others
 abbrev pub stands : ℤ → List ℤ → ℕ
@@ -101,10 +97,10 @@ find-none_at p a (suc n) k none from below = elim (cases_Bool (p a)) [
 
 -- a label that is not bad names a crossing, and is none of the earlier labels
 good_at : (labels : List ℤ) (at : ℕ) → bad_label labels ≡ None → at < length labels
-    → Names (length labels / 2) (number_at labels at) × (list_any (int_eq (number_at labels at)) (take at labels) ≡ false)
+    → Names (length labels / 2) (listed_number labels at) × (list_any (int_eq (listed_number labels at)) (take at labels) ≡ false)
 good_at labels at none below =
     let fails = find-none_at (is_bad_label labels) 0 (length labels) at none (omega arith) (omega (arith, below)) in
-    good (length labels / 2) (nat_abs (number_at labels at)) (list_any (int_eq (number_at labels at)) (take at labels)) fails
+    good (length labels / 2) (nat_abs (listed_number labels at)) (list_any (int_eq (listed_number labels at)) (take at labels)) fails
   where
     good : (crossings size : ℕ) (earlier : Bool) → ((nat_eq size 0 || nat_lt crossings size) || earlier) ≡ false
         → ((1 ≤ size) × (size ≤ crossings)) × (earlier ≡ false)
@@ -112,22 +108,22 @@ good_at labels at none below =
 
 -- so a label stands at most once
 
-int_eq-turned : (x y : ℤ) → int_eq x y ≡ int_eq y x
-int_eq-turned x y = elim (cases_Bool (int_eq x y)) [
+int_eq-turned_labels : (x y : ℤ) → int_eq x y ≡ int_eq y x
+int_eq-turned_labels x y = elim (cases_Bool (int_eq x y)) [
   | inl same ↦ same ∙ sym (int_eq-same y x (sym ((Decides-int_eq x y).0 same)))
   | inr other ↦ other
       ∙ sym (int_eq-other y x (λ same. true≢false (sym (int_eq-same x y (sym same)) ∙ other)))
 ]
 
-pub stands-turned : (label : ℤ) (labels : List ℤ) → count_by (int_eq label) labels ≡ stands label labels
-stands-turned label labels = ap (λ p. count_by p labels) (fun_ext (int_eq-turned label))
+pub stands-turned_labels : (label : ℤ) (labels : List ℤ) → count_by (int_eq label) labels ≡ stands label labels
+stands-turned_labels label labels = ap (λ p. count_by p labels) (fun_ext (int_eq-turned_labels label))
 
 stands-first : (label : ℤ) (labels : List ℤ) → bad_label labels ≡ None → (k : ℕ) → k ≤ length labels
     → stands label (take k labels) ≤ 1
 stands-first label labels none zero within = omega arith
 stands-first label labels none (suc k) within =
     let before = stands-first label labels none k (omega (arith, within)) in
-    let last = number_at labels k in
+    let last = listed_number labels k in
     let e : suc k ≡ k + 1 = omega arith in
     let more : stands label (take (suc k) labels) ≡ stands label (take k labels) + value_if 1 (int_eq last label) =
     ap (λ n. stands label (take n labels)) e
@@ -136,7 +132,7 @@ stands-first label labels none (suc k) within =
       | inl same ↦
           let is : last ≡ label = (Decides-int_eq last label).0 same in
           let none_before : stands last (take k labels) ≡ 0 =
-          sym (stands-turned last (take k labels))
+          sym (stands-turned_labels last (take k labels))
           ∙ count_by-none (int_eq last) (take k labels) (good_at labels k none (omega (arith, within))).1 in
           let one : value_if 1 (int_eq last label) ≡ 1 = ap (value_if 1) same in
           omega (arith, more, one, ap (λ x. stands x (take k labels)) (sym is) ∙ none_before)
@@ -214,8 +210,8 @@ pub stands-once : (labels : List ℤ) (label : ℤ) → bad_label labels ≡ Non
     → count_by (int_eq label) labels ≡ 1
 stands-once labels (pos zero) none names = absurd (omega (arith, names.0))
 stands-once labels (pos (suc size)) none names =
-    stands-turned (pos (suc size)) labels ∙ ap (λ label. stands label labels) (sym (over_at-is size))
+    stands-turned_labels (pos (suc size)) labels ∙ ap (λ label. stands label labels) (sym (over_at-is size))
     ∙ stands-over labels none size (omega (arith, names.1))
 stands-once labels (negsuc size) none names =
-    stands-turned (negsuc size) labels ∙ ap (λ label. stands label labels) (sym (under_at-is size))
+    stands-turned_labels (negsuc size) labels ∙ ap (λ label. stands label labels) (sym (under_at-is size))
     ∙ stands-under labels none size (omega (arith, names.1))

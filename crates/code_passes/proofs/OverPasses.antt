@@ -10,7 +10,7 @@ use Rattle.kh_types.specs.Accepted.{IsDirected}
 use Rattle.kh_types.proofs.NextArcs.{component, size_at, HasPlace-directed, component-next, next-twice}
 use Rattle.kh_types.proofs.PassPairs.{IsArc-at}
 use Rattle.kh_types.proofs.DirectedPasses.{is_positive-under}
-use Rattle.code_passes.specs.Labels.{number_at, bad_label}
+use Rattle.code_passes.specs.Labels.{listed_number, bad_label}
 use Rattle.code_passes.specs.Passes.{Pass, all_labels, crossings_in, crossings_of}
 use Rattle.code_passes.proofs.SignRules.{Goes, Goes-between, large-rule, by_next, by_under, other_arc, not_back, find-first, under-over}
 use Rattle.code_passes.proofs.LabelCounts.{over_at}
@@ -55,14 +55,14 @@ module _ (text : GoodText) where
 
   -- the slots of the over pass of a crossing
   pub goes-at : (crossing : ℕ) → IsCrossing crossings crossing
-      → Goes (int_eq (number_at signs (crossing - 1)) (pos 1)) (arc_in (slots_of crossings crossing) 1)
+      → Goes (int_eq (listed_number signs (crossing - 1)) (pos 1)) (arc_in (slots_of crossings crossing) 1)
       (arc_in (slots_of crossings crossing) 3) (over_pass groups (crossing - 1)).enters (over_pass groups (crossing - 1)).leaves
   goes-at crossing is =
       let place = crossing - 1 in
       let over = over_pass groups place in
-      subst (λ (slots : List ℕ). Goes (int_eq (number_at signs place) (pos 1)) (arc_in slots 1) (arc_in slots 3) over.enters over.leaves)
+      subst (λ (slots : List ℕ). Goes (int_eq (listed_number signs place) (pos 1)) (arc_in slots 1) (arc_in slots 3) over.enters over.leaves)
       (sym (slots-at groups signs place (place-below groups signs none crossing is)))
-      (Goes-between (under_pass groups place) over (number_at signs place))
+      (Goes-between (under_pass groups place) over (listed_number signs place))
 
   -- slot 1 of it is in the component of its arcs
   pub component-slot : (listed : Bool) (one three from to : ℕ) → Goes_on from to → Goes listed one three from to

@@ -11,12 +11,6 @@ use Rattle.kh_types.proofs.RangeCounts.{list_any-one}
 pub test_fails : (x y : ℕ) → (x ≡ y → ⊥) → nat_eq x y ≡ false
 test_fails x y differ = grind (arith, nat_tests)
 
-pub same_int : (x y : ℤ) → x ≡ y → int_eq x y ≡ true
-same_int x y same = grind (arith, Decides-int_eq)
-
-pub other_int : (x y : ℤ) → (x ≡ y → ⊥) → int_eq x y ≡ false
-other_int x y differ = grind (arith, Decides-int_eq)
-
 -- one of two facts, by a test
 pub matched_true : (b : Bool) (P Q : Type 0) → MatchBool b P Q → b ≡ true → P
 matched_true true P Q is holds = is

@@ -1,4 +1,4 @@
--- Sums over lists: of two functions together, in another order, and of a function that is 0 but at one number of a range.
+-- Sums over lists, and of a function that is 0 but at one number of a range.
 use Rattle.std.proofs.Common.{◌≡◌, ◌≢◌, ℕ, zero, suc, inl, inr, ◌+◌, ◌*◌, ◌<◌, ◌≤◌, ◌∙◌, List, [], ◌∷◌, length, refl, sym, ap, arith, Bool, true, false, cond}
 use Rattle.std.specs.Prelude.{nat_eq, ◌||◌}
 use Rattle.std.specs.List.{sum_by, count_by, list_any, range_with_len, AllByRecursion}
@@ -11,26 +11,6 @@ sum_by-alike f g [] alike = refl
 sum_by-alike f g (x ∷ xs) alike =
     omega (arith, alike.0, sum_by-cons f x xs, sum_by-cons g x xs, sum_by-alike f g xs alike.1)
 
--- the same on the numbers of a range
-pub sum_by-range_alike : (f g : ℕ → ℕ) (a n : ℕ) → ((k : ℕ) → a ≤ k → k < a + n → f k ≡ g k)
-    → sum_by f (range_with_len a n) ≡ sum_by g (range_with_len a n)
-sum_by-range_alike f g a zero alike = refl
-sum_by-range_alike f g a (suc n) alike =
-    let rest = sum_by-range_alike f g (a + 1) n (λ k from below. alike k (omega (arith, from)) (omega (arith, below))) in
-    omega (
-      arith,
-      alike a (omega arith) (omega arith),
-      rest,
-      sum_by-cons f a (range_with_len (a + 1) n),
-      sum_by-cons g a (range_with_len (a + 1) n),
-    )
-
--- two functions together
-pub sum_by-plus : {X : Type 0} (f g : X → ℕ) (xs : List X) → sum_by (λ x. f x + g x) xs ≡ sum_by f xs + sum_by g xs
-sum_by-plus f g [] = omega arith
-sum_by-plus f g (x ∷ xs) =
-    omega (arith, sum_by-plus f g xs, sum_by-cons (λ y. f y + g y) x xs, sum_by-cons f x xs, sum_by-cons g x xs)
-
 pub sum_by-none : {X : Type 0} (xs : List X) → sum_by (λ x. 0) xs ≡ 0
 sum_by-none [] = refl
 sum_by-none (x ∷ xs) = omega (arith, sum_by-cons (λ y. 0) x xs, sum_by-none xs)
@@ -38,25 +18,6 @@ sum_by-none (x ∷ xs) = omega (arith, sum_by-cons (λ y. 0) x xs, sum_by-none x
 pub sum_by-ones : {X : Type 0} (xs : List X) → sum_by (λ x. 1) xs ≡ length xs
 sum_by-ones [] = refl
 sum_by-ones (x ∷ xs) = omega (arith, sum_by-cons (λ y. 1) x xs, sum_by-ones xs)
-
--- a sum of sums, in either order
-pub sum_by-exchanged : {X Y : Type 0} (f : X → Y → ℕ) (xs : List X) (ys : List Y)
-    → sum_by (λ x. sum_by (f x) ys) xs ≡ sum_by (λ y. sum_by (λ x. f x y) xs) ys
-sum_by-exchanged f [] ys = sym (sum_by-none ys)
-sum_by-exchanged f (x ∷ xs) ys =
-    sum_by-cons (λ z. sum_by (f z) ys) x xs ∙ ap (λ n. sum_by (f x) ys + n) (sum_by-exchanged f xs ys)
-    ∙ sym (sum_by-plus (f x) (λ y. sum_by (λ z. f z y) xs) ys) ∙ sym (joined ys)
-  where
-    joined : (zs : List _) → sum_by (λ y. sum_by (λ z. f z y) (x ∷ xs)) zs ≡ sum_by (λ y. f x y + sum_by (λ z. f z y) xs) zs
-    joined [] = refl
-    joined (y ∷ zs) =
-        omega (
-          arith,
-          joined zs,
-          sum_by-cons (λ z. f z y) x xs,
-          sum_by-cons (λ w. sum_by (λ z. f z w) (x ∷ xs)) y zs,
-          sum_by-cons (λ w. f x w + sum_by (λ z. f z w) xs) y zs,
-        )
 
 -- a value where a test holds, and else 0
 abbrev pub value_if : ℕ → Bool → ℕ

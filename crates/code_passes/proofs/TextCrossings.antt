@@ -7,7 +7,7 @@ use Rattle.std.proofs.lemmas.List.FromFn.{length-map-range_with_len, get_or-map-
 use Rattle.kh_types.specs.Code.{arc_in, arc_count, slots_of, IsCrossing}
 use Rattle.kh_types.specs.Components.{passes_of}
 use Rattle.kh_types.proofs.PassPairs.{passes-all}
-use Rattle.code_passes.specs.Labels.{number_at, bad_label}
+use Rattle.code_passes.specs.Labels.{listed_number, bad_label}
 use Rattle.code_passes.specs.Passes.{Pass, all_passes, slots_between, slots_at, all_labels, crossings_in, crossings_of}
 use Rattle.code_passes.proofs.LabelCounts.{length-labels}
 use Rattle.code_passes.proofs.CrossingPasses.{under_pass, over_pass, under-holds, over-holds, all-passes_hold}
@@ -46,7 +46,7 @@ pub HasSlots-at : (groups : List (List ℤ)) (signs : List ℤ) (place : ℕ) �
     → HasSlots (under_pass groups place) (over_pass groups place) (slice_index_or (crossings_of groups signs) place [])
 HasSlots-at groups signs place below =
     subst (HasSlots (under_pass groups place) (over_pass groups place)) (sym (slots-at groups signs place below))
-    (HasSlots-between (under_pass groups place) (over_pass groups place) (number_at signs place))
+    (HasSlots-between (under_pass groups place) (over_pass groups place) (listed_number signs place))
 
 pub HasSlots-of : (groups : List (List ℤ)) (signs : List ℤ) (crossing : ℕ) → IsCrossing (crossings_of groups signs) crossing
     → HasSlots (under_pass groups (crossing - 1)) (over_pass groups (crossing - 1)) (slots_of (crossings_of groups signs) crossing)

@@ -12,7 +12,7 @@ use Rattle.kh_types.specs.Components.{components_of, arcs_in, next}
 use Rattle.kh_types.specs.Directions.{first_under, first_over, passes_under, passes_over, is_positive}
 use Rattle.kh_types.proofs.NextArcs.{component, size_at, HasPlace-directed, component-next}
 use Rattle.kh_types.proofs.DirectedPasses.{is_positive-order}
-use Rattle.code_passes.specs.Labels.{number_at}
+use Rattle.code_passes.specs.Labels.{listed_number}
 use Rattle.code_passes.specs.Passes.{Pass, is_over, all_labels, crossings_in, crossings_of}
 use Rattle.code_passes.proofs.SignRules.{by_order, find-first, over-same}
 use Rattle.code_passes.proofs.LabelCounts.{over_at, find-none_at}
@@ -111,7 +111,7 @@ module _ (text : GoodText) where
       let below = place-below groups signs none first is in
       let over = over_pass groups (first - 1) in
       let over_on = over-goes_on text (first - 1) below in
-      let inside = sym (component-slot text (int_eq (number_at signs (first - 1)) (pos 1)) (arc_in slots 1) (arc_in slots 3) over.enters
+      let inside = sym (component-slot text (int_eq (listed_number signs (first - 1)) (pos 1)) (arc_in slots 1) (arc_in slots 3) over.enters
       over.leaves over_on (goes-at text first is)) ∙ same in
       let over_label = sym (label-enters_over text (first - 1) below) in
       elim (in_two text from to over.enters on moves small over_on.from_is inside) [
@@ -126,10 +126,10 @@ module _ (text : GoodText) where
       → (over_pass groups other).enters ≡ (over_pass groups (crossing - 1)).leaves
       → first_under crossings (components_of crossings) (component crossings (arc_in (slots_of crossings crossing) 1)) ≡ None
       → first_over crossings (components_of crossings) (component crossings (arc_in (slots_of crossings crossing) 1)) ≡ Some first
-      → is_positive crossings crossing ≡ int_eq (number_at signs (crossing - 1)) (pos 1)
+      → is_positive crossings crossing ≡ int_eq (listed_number signs (crossing - 1)) (pos 1)
   positive-over crossing other first is below moves small enters nowhere found =
       let components = components_of crossings in
-      let listed = int_eq (number_at signs (crossing - 1)) (pos 1) in
+      let listed = int_eq (listed_number signs (crossing - 1)) (pos 1) in
       let slots = slots_of crossings crossing in
       let one = arc_in slots 1 in
       let place_within = place-below groups signs none crossing is in
@@ -151,7 +151,7 @@ module _ (text : GoodText) where
       let other_slots = slots_of crossings (other + 1) in
       let other_pass = over_pass groups (other + 1 - 1) in
       let other_same : component crossings (arc_in other_slots 1) ≡ component crossings one =
-      component-slot text (int_eq (number_at signs (other + 1 - 1)) (pos 1)) (arc_in other_slots 1) (arc_in other_slots 3) other_pass.enters
+      component-slot text (int_eq (listed_number signs (other + 1 - 1)) (pos 1)) (arc_in other_slots 1) (arc_in other_slots 3) other_pass.enters
       other_pass.leaves (over-goes_on text (other + 1 - 1) (place-below groups signs none (other + 1) other_is))
       (goes-at text (other + 1) other_is)
       ∙ ap (λ place. component crossings (over_pass groups place).enters) back
@@ -198,7 +198,7 @@ module _ (text : GoodText) where
       let one = arc_in slots 1 in
       let over = over_pass groups (crossing - 1) in
       let on = over-goes_on text (crossing - 1) (place-below groups signs none crossing is) in
-      let same = component-slot text (int_eq (number_at signs (crossing - 1)) (pos 1)) one (arc_in slots 3) over.enters over.leaves on
+      let same = component-slot text (int_eq (listed_number signs (crossing - 1)) (pos 1)) one (arc_in slots 3) over.enters over.leaves on
       (goes-at text crossing is) in
       let under_is = number-of place below in
       let zero_slot = arc_in (slots_of crossings (place + 1)) 0 in
@@ -216,18 +216,18 @@ module _ (text : GoodText) where
   positive-small : (crossing : ℕ) → IsCrossing crossings crossing
       → next crossings (over_pass groups (crossing - 1)).enters ≢ (over_pass groups (crossing - 1)).enters
       → size_at crossings (over_pass groups (crossing - 1)).enters ≤ 2
-      → is_positive crossings crossing ≡ int_eq (number_at signs (crossing - 1)) (pos 1)
+      → is_positive crossings crossing ≡ int_eq (listed_number signs (crossing - 1)) (pos 1)
   unfolding Meets
   positive-small crossing is moves small =
       by (first_under crossings (components_of crossings) (component crossings (arc_in (slots_of crossings crossing) 1))) refl
     where
       by : (found : Option ℕ)
           → first_under crossings (components_of crossings) (component crossings (arc_in (slots_of crossings crossing) 1)) ≡ found
-          → is_positive crossings crossing ≡ int_eq (number_at signs (crossing - 1)) (pos 1)
+          → is_positive crossings crossing ≡ int_eq (listed_number signs (crossing - 1)) (pos 1)
       by (Some under) found =
           let over = over_pass groups (crossing - 1) in
           let within = place-below groups signs none crossing is in
-          positive-under text crossing under over.enters over.leaves (crossing - 1) (int_eq (number_at signs (crossing - 1)) (pos 1))
+          positive-under text crossing under over.enters over.leaves (crossing - 1) (int_eq (listed_number signs (crossing - 1)) (pos 1))
           (over-goes_on text (crossing - 1) within) moves (goes-at text crossing is) small (label-enters_over text (crossing - 1) within) found
       by None nowhere =
           let over = over_pass groups (crossing - 1) in
@@ -247,12 +247,12 @@ module _ (text : GoodText) where
   -- each crossing is positive exactly where the text lists it as positive
   pub is_positive-listed : (crossing : ℕ) → IsCrossing crossings crossing
       → next crossings (over_pass groups (crossing - 1)).enters ≢ (over_pass groups (crossing - 1)).enters
-      → is_positive crossings crossing ≡ int_eq (number_at signs (crossing - 1)) (pos 1)
+      → is_positive crossings crossing ≡ int_eq (listed_number signs (crossing - 1)) (pos 1)
   is_positive-listed crossing is moves =
       let over = over_pass groups (crossing - 1) in
       elim (cases_lt 2 (size_at crossings over.enters)) [
         | inl large ↦
-            positive-large text crossing over.enters over.leaves (int_eq (number_at signs (crossing - 1)) (pos 1))
+            positive-large text crossing over.enters over.leaves (int_eq (listed_number signs (crossing - 1)) (pos 1))
             (over-goes_on text (crossing - 1) (place-below groups signs none crossing is)) (goes-at text crossing is) large
         | inr small ↦ positive-small crossing is moves small
       ]
@@ -260,7 +260,7 @@ module _ (text : GoodText) where
 -- where no arc is a component alone, no pass enters and leaves on one arc, and all signs are those that are listed
 pub is_positive-moves : (groups : List (List ℤ)) (signs : List ℤ) → bad_label (all_labels groups) ≡ None
     → HasNoSingleArcs (crossings_of groups signs) → (crossing : ℕ) → IsCrossing (crossings_of groups signs) crossing
-    → is_positive (crossings_of groups signs) crossing ≡ int_eq (number_at signs (crossing - 1)) (pos 1)
+    → is_positive (crossings_of groups signs) crossing ≡ int_eq (listed_number signs (crossing - 1)) (pos 1)
 is_positive-moves groups signs none moves crossing is =
     let text : GoodText = record { groups = groups; signs = signs; none = none } in
     is_positive-listed text crossing is

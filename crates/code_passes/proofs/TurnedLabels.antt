@@ -3,8 +3,8 @@ use Rattle.std.proofs.Common.{◌≡◌, ◌≢◌, ℕ, inl, inr, ◌⊎◌, �
 use Rattle.std.specs.Prelude.{int_lt, ◌&&◌, if◌then◌else◌}
 use Rattle.std.proofs.lemmas.Bool.{cases_lt}
 use Rattle.std.proofs.lemmas.Bool.Decides.{nat_tests}
-use Rattle.code_passes.specs.Labels.{number_at}
-use Rattle.code_passes.specs.Passes.{is_over, turned, all_labels}
+use Rattle.code_passes.specs.Labels.{listed_number}
+use Rattle.code_passes.specs.Passes.{is_over, turned_labels, all_labels}
 use Rattle.code_passes.proofs.ComponentPasses.{length-labels_more, start_from, label_from, start-here, start-later, start-from_first, then_if, else_if}
 
 not_both : (x y : ℤ) → int_lt y x ≡ true → int_lt x y ≡ false
@@ -18,25 +18,25 @@ abbrev chosen : ℤ → ℤ → Bool → Bool → Bool → List ℤ
 chosen first second a b c = if (a && b) && c then second ∷ first ∷ [] else first ∷ second ∷ []
 
 -- the labels of two over passes rise
-turned-rises : (first second : ℤ) → is_over (number_at (turned (first ∷ second ∷ [])) 0) ≡ true
-    → is_over (number_at (turned (first ∷ second ∷ [])) 1) ≡ true
-    → int_lt (number_at (turned (first ∷ second ∷ [])) 1) (number_at (turned (first ∷ second ∷ [])) 0) ≡ false
-turned-rises first second = by (is_over first) (is_over second) (int_lt second first) refl refl refl
+turned_labels-rises : (first second : ℤ) → is_over (listed_number (turned_labels (first ∷ second ∷ [])) 0) ≡ true
+    → is_over (listed_number (turned_labels (first ∷ second ∷ [])) 1) ≡ true
+    → int_lt (listed_number (turned_labels (first ∷ second ∷ [])) 1) (listed_number (turned_labels (first ∷ second ∷ [])) 0) ≡ false
+turned_labels-rises first second = by (is_over first) (is_over second) (int_lt second first) refl refl refl
   where
     by : (a b c : Bool) → is_over first ≡ a → is_over second ≡ b → int_lt second first ≡ c
-        → is_over (number_at (chosen first second a b c) 0) ≡ true → is_over (number_at (chosen first second a b c) 1) ≡ true
-        → int_lt (number_at (chosen first second a b c) 1) (number_at (chosen first second a b c) 0) ≡ false
+        → is_over (listed_number (chosen first second a b c) 0) ≡ true → is_over (listed_number (chosen first second a b c) 1) ≡ true
+        → int_lt (listed_number (chosen first second a b c) 1) (listed_number (chosen first second a b c) 0) ≡ false
     by true true true is_a is_b less over second_over = not_both first second less
     by true true false is_a is_b less over second_over = less
     by true false c is_a is_b less over second_over = absurd (true≢false (sym second_over ∙ is_b))
     by false b c is_a is_b less over second_over = absurd (true≢false (sym over ∙ is_a))
 
-turned-rises_of_two : (labels : List ℤ) → length labels ≡ 2 → is_over (number_at (turned labels) 0) ≡ true
-    → is_over (number_at (turned labels) 1) ≡ true → int_lt (number_at (turned labels) 1) (number_at (turned labels) 0) ≡ false
-turned-rises_of_two [] two = absurd (omega (arith, two))
-turned-rises_of_two (first ∷ []) two = absurd (omega (arith, two))
-turned-rises_of_two (first ∷ second ∷ []) two = turned-rises first second
-turned-rises_of_two (first ∷ second ∷ third ∷ labels) two = absurd (omega (arith, two))
+turned_labels-rises_of_two : (labels : List ℤ) → length labels ≡ 2 → is_over (listed_number (turned_labels labels) 0) ≡ true
+    → is_over (listed_number (turned_labels labels) 1) ≡ true → int_lt (listed_number (turned_labels labels) 1) (listed_number (turned_labels labels) 0) ≡ false
+turned_labels-rises_of_two [] two = absurd (omega (arith, two))
+turned_labels-rises_of_two (first ∷ []) two = absurd (omega (arith, two))
+turned_labels-rises_of_two (first ∷ second ∷ []) two = turned_labels-rises first second
+turned_labels-rises_of_two (first ∷ second ∷ third ∷ labels) two = absurd (omega (arith, two))
 
 -- so do those of a component of two arcs that is over at both its crossings
 pub two_over-rise : (first : ℕ) (groups : List (List ℤ)) (arc : ℕ) → 1 ≤ first → first ≤ arc
@@ -61,23 +61,23 @@ two_over-rise first (labels ∷ more) arc positive from below own second third o
             | inl within ↦ absurd (third (start-here first labels more (arc + 2) (omega (arith, from)) within ∙ sym is))
             | inr past ↦ omega (arith, is, past)
           ] in
-          let at : (k : ℕ) → k < length labels → label_from first (labels ∷ more) (first + k) ≡ number_at (turned labels) k =
+          let at : (k : ℕ) → k < length labels → label_from first (labels ∷ more) (first + k) ≡ listed_number (turned_labels labels) k =
           λ k k_below.
           let back : first + k - first ≡ k = omega arith in
-          then_if (first + k) end (number_at (turned labels) (first + k - first)) (label_from end more (first + k))
+          then_if (first + k) end (listed_number (turned_labels labels) (first + k - first)) (label_from end more (first + k))
           (omega (arith, k_below))
-          ∙ ap (number_at (turned labels)) back in
+          ∙ ap (listed_number (turned_labels labels)) back in
           let e : arc ≡ first + 0 = omega (arith, is) in
           let e_second : arc + 1 ≡ first + 1 = omega (arith, is) in
           let label = ap (label_from first (labels ∷ more)) e ∙ at 0 (omega (arith, second_here)) in
           let second_label = ap (label_from first (labels ∷ more)) e_second ∙ at 1 (omega (arith, second_here)) in
           ap (λ label. int_lt label (label_from first (labels ∷ more) arc)) second_label
-          ∙ ap (λ label. int_lt (number_at (turned labels) 1) label) label
-          ∙ turned-rises_of_two labels (omega (arith, second_here, third_past)) (ap is_over (sym label) ∙ over)
+          ∙ ap (λ label. int_lt (listed_number (turned_labels labels) 1) label) label
+          ∙ turned_labels-rises_of_two labels (omega (arith, second_here, third_past)) (ap is_over (sym label) ∙ over)
           (ap is_over (sym second_label) ∙ second_over)
       | inr past ↦
           let later : (k : ℕ) → end ≤ k → label_from first (labels ∷ more) k ≡ label_from end more k =
-          λ k behind. else_if k end (number_at (turned labels) (k - first)) (label_from end more k) behind in
+          λ k behind. else_if k end (listed_number (turned_labels labels) (k - first)) (label_from end more k) behind in
           let starts : (k : ℕ) → end ≤ k → start_from first (labels ∷ more) k ≡ start_from end more k =
           λ k behind. start-later first labels more k behind in
           let label = later arc past in

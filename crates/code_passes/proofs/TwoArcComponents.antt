@@ -15,8 +15,8 @@ use Rattle.kh_types.proofs.PassPairs.{IsArc-at, dart_with}
 use Rattle.kh_types.proofs.NextArcs.{component, component-next, HasPlace-directed}
 use Rattle.kh_types.proofs.DirectedPasses.{head-cases, is_positive-order, over-negative, over-positive}
 use Rattle.kh_types.proofs.Heads.{IsPass-under, IsPass-over}
-use Rattle.code_passes.specs.Passes.{is_over, turned}
-use Rattle.code_passes.specs.ComponentLabels.{component_labels, label_of}
+use Rattle.code_passes.specs.Passes.{is_over, turned_labels}
+use Rattle.code_passes.specs.ComponentLabels.{component_labels, entering_label}
 use Rattle.code_passes.proofs.ArcLabels.{HasEnds-arc, IsOriented}
 use Rattle.code_passes.proofs.CutArcs.{IsFirst, component-in, end-within, size}
 use Rattle.code_passes.proofs.Searches.{find-first, matched_false, matched_true, test_fails}
@@ -183,8 +183,8 @@ over_label false crossing over = (refl, refl)
 
 -- the labels of a component of two arcs that are both over ascend
 ascending : (crossings : List (List ℕ)) (first : ℕ) → IsOriented crossings → IsFirst crossings first → size crossings first ≡ 2
-    → ((is_over (label_of crossings first) && is_over (label_of crossings (first + 1)))
-    && int_lt (label_of crossings (first + 1)) (label_of crossings first)) ≡ false
+    → ((is_over (entering_label crossings first) && is_over (entering_label crossings (first + 1)))
+    && int_lt (entering_label crossings (first + 1)) (entering_label crossings first)) ≡ false
 ascending crossings first oriented is two = elim (cases_Bool test) [
   | inr fails ↦ fails
   | inl holds ↦
@@ -206,10 +206,10 @@ ascending crossings first oriented is two = elim (cases_Bool test) [
 ]
   where
     here : ℤ
-    here = label_of crossings first
+    here = entering_label crossings first
 
     there : ℤ
-    there = label_of crossings (first + 1)
+    there = entering_label crossings (first + 1)
 
     test : Bool
     test = (is_over here && is_over there) && int_lt there here
@@ -218,16 +218,16 @@ ascending crossings first oriented is two = elim (cases_Bool test) [
     less x y holds = omega (arith, ints)
 
 -- so no component is turned
-turned-range : (label : ℕ → ℤ) (a n : ℕ)
+turned_labels-range : (label : ℕ → ℤ) (a n : ℕ)
     → (n ≡ 2 → ((is_over (label a) && is_over (label (a + 1))) && int_lt (label (a + 1)) (label a)) ≡ false)
-    → turned (map label (range_with_len a n)) ≡ map label (range_with_len a n)
-turned-range label a zero ascends = refl
-turned-range label a (suc zero) ascends = refl
-turned-range label a (suc (suc zero)) ascends =
+    → turned_labels (map label (range_with_len a n)) ≡ map label (range_with_len a n)
+turned_labels-range label a zero ascends = refl
+turned_labels-range label a (suc zero) ascends = refl
+turned_labels-range label a (suc (suc zero)) ascends =
     ap (λ b. if b then label (a + 1) ∷ label a ∷ [] else label a ∷ label (a + 1) ∷ []) (ascends (omega arith))
-turned-range label a (suc (suc (suc n))) ascends = refl
+turned_labels-range label a (suc (suc (suc n))) ascends = refl
 
-pub turned-component : (crossings : List (List ℕ)) (first : ℕ) → IsOriented crossings → IsFirst crossings first
-    → turned (component_labels crossings first) ≡ component_labels crossings first
-turned-component crossings first oriented is =
-    turned-range (label_of crossings) first (size crossings first) (λ two. ascending crossings first oriented is two)
+pub turned_labels-component : (crossings : List (List ℕ)) (first : ℕ) → IsOriented crossings → IsFirst crossings first
+    → turned_labels (component_labels crossings first) ≡ component_labels crossings first
+turned_labels-component crossings first oriented is =
+    turned_labels-range (entering_label crossings) first (size crossings first) (λ two. ascending crossings first oriented is two)

@@ -11,13 +11,13 @@ abbrev pub label_at : Dart → ℤ
 label_at dart = if nat_eq dart.slot 0 then neg_ℤ (pos dart.crossing) else pos dart.crossing
 
 -- the label of the pass that an arc enters
-abbrev pub label_of : List (List ℕ) → ℕ → ℤ
-label_of crossings arc = label_at (head_of crossings arc)
+abbrev pub entering_label : List (List ℕ) → ℕ → ℤ
+entering_label crossings arc = label_at (head_of crossings arc)
 
 -- the labels of a component, which is given by its least arc, from the pass on that this arc enters
 abbrev pub component_labels : List (List ℕ) → ℕ → List ℤ
 component_labels crossings first =
-    map (label_of crossings) (range_with_len first (arcs_in (components_of crossings) first))
+    map (entering_label crossings) (range_with_len first (arcs_in (components_of crossings) first))
 
 -- the labels of all components, in order
 abbrev pub labels_of_code : List (List ℕ) → List (List ℤ)

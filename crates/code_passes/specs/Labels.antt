@@ -4,8 +4,8 @@ use Rattle.std.specs.List.{find, list_any, range_with_len}
 use Rattle.std.specs.Ordering.{int_eq}
 
 -- the number at a place of a list
-abbrev pub number_at : List ℤ → ℕ → ℤ
-number_at numbers at = slice_index_or numbers at (pos 0)
+abbrev pub listed_number : List ℤ → ℕ → ℤ
+listed_number numbers at = slice_index_or numbers at (pos 0)
 
 -- a label names none of some crossings: it is 0, or greater in size than their number
 abbrev pub names_none : ℕ → ℤ → Bool
@@ -14,7 +14,7 @@ names_none crossings label = nat_eq (nat_abs label) 0 || nat_lt crossings (nat_a
 -- the label at a place is bad: it names no crossing, where there is one for any two labels, or it equals an earlier label
 abbrev pub is_bad_label : List ℤ → ℕ → Bool
 is_bad_label labels at =
-    names_none (length labels / 2) (number_at labels at) || list_any (int_eq (number_at labels at)) (take at labels)
+    names_none (length labels / 2) (listed_number labels at) || list_any (int_eq (listed_number labels at)) (take at labels)
 
 -- the place of the first bad label, if there is one
 abbrev pub bad_label : List ℤ → Option ℕ
@@ -26,4 +26,4 @@ is_bad_sign sign = not (int_eq sign (pos 1) || int_eq sign (neg_ℤ (pos 1)))
 
 -- the place of the first bad sign, if there is one
 abbrev pub bad_sign : List ℤ → Option ℕ
-bad_sign signs = find (λ at. is_bad_sign (number_at signs at)) (range_with_len 0 (length signs))
+bad_sign signs = find (λ at. is_bad_sign (listed_number signs at)) (range_with_len 0 (length signs))

@@ -3,7 +3,7 @@
 use Rattle.std.specs.Prelude.{ℕ, ◌+◌, ◌/◌, List, [], ◌∷◌, ◌++◌, length, map, nat_eq, ◌&&◌, Bool, ℤ, pos, neg_ℤ, int_lt, if◌then◌else◌, unwrap_or}
 use Rattle.std.specs.List.{find, flat_map, range_with_len}
 use Rattle.std.specs.Ordering.{int_eq}
-use Rattle.code_passes.specs.Labels.{number_at}
+use Rattle.code_passes.specs.Labels.{listed_number}
 
 -- a pass of a component at a crossing: its label is the number of the crossing where it passes over, and minus the number where
 -- it passes under; it enters on an arc, and leaves on an arc
@@ -18,16 +18,16 @@ is_over label = int_lt (pos 0) label
 
 -- a component that is over at both of its two crossings begins with the lesser label, as its arcs do in an accepted code; every
 -- other component begins as it is listed
-abbrev pub turned : List ℤ → List ℤ
-turned (first ∷ second ∷ []) =
+abbrev pub turned_labels : List ℤ → List ℤ
+turned_labels (first ∷ second ∷ []) =
     if (is_over first && is_over second) && int_lt second first then second ∷ first ∷ [] else first ∷ second ∷ []
-turned labels = labels
+turned_labels labels = labels
 
 -- the pass at a place of a component whose first arc is given: it enters on the arc of its place, and leaves on the next, the last
 -- on the first arc
 abbrev pub pass_at : ℕ → List ℤ → ℕ → Pass
 pass_at first labels at = record {
-  label = number_at labels at;
+  label = listed_number labels at;
   enters = first + at;
   leaves = if nat_eq (at + 1) (length labels) then first else first + at + 1;
 }
@@ -39,7 +39,7 @@ passes_from first labels = map (pass_at first labels) (range_with_len 0 (length 
 -- the passes of components, whose arcs follow those of the component before
 abbrev pub all_passes : ℕ → List (List ℤ) → List Pass
 all_passes first [] = []
-all_passes first (labels ∷ more) = passes_from first (turned labels) ++ all_passes (first + length labels) more
+all_passes first (labels ∷ more) = passes_from first (turned_labels labels) ++ all_passes (first + length labels) more
 
 -- no pass
 abbrev pub no_pass : Pass
@@ -59,7 +59,7 @@ slots_between under over sign =
 -- the slots of a crossing, given by its place
 abbrev pub slots_at : List Pass → List ℤ → ℕ → List ℕ
 slots_at passes signs at =
-    slots_between (pass_of passes (neg_ℤ (pos (at + 1)))) (pass_of passes (pos (at + 1))) (number_at signs at)
+    slots_between (pass_of passes (neg_ℤ (pos (at + 1)))) (pass_of passes (pos (at + 1))) (listed_number signs at)
 
 -- the labels of some components
 abbrev pub all_labels : List (List ℤ) → List ℤ

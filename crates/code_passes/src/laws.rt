@@ -6,7 +6,7 @@ ghost use Rattle.std.specs.Ordering.{int_eq};
 ghost use Rattle.kh_types.specs.Code.{IsCrossing};
 ghost use Rattle.kh_types.specs.Directions.{is_positive, HasNoSingleArcs};
 ghost use Rattle.kh_types.specs.Accepted.{IsDirected};
-ghost use Rattle.code_passes.specs.Labels.{bad_label, number_at};
+ghost use Rattle.code_passes.specs.Labels.{bad_label, listed_number};
 ghost use Rattle.code_passes.specs.Passes.{crossings_of};
 
 /// Where no label of some components is bad, their crossings are a directed code, whatever the
@@ -29,5 +29,5 @@ pub fn listed_components_have_their_signs()
         → HasNoSingleArcs (crossings_of components signs) → (crossing : ℕ)
         → IsCrossing (crossings_of components signs) crossing
         → is_positive (crossings_of components signs) crossing
-        ≡ int_eq (number_at signs (crossing - 1)) (pos 1) }
+        ≡ int_eq (listed_number signs (crossing - 1)) (pos 1) }
 {}

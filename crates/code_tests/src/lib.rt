@@ -2,6 +2,26 @@
 #![tactic(auto)]
 
 #[cfg(test)]
+mod acceptance;
+#[cfg(test)]
+mod components;
+#[cfg(test)]
+mod faces;
+#[cfg(test)]
+mod gauss_texts;
+#[cfg(test)]
+mod json_texts;
+#[cfg(test)]
+mod pd_texts;
+#[cfg(test)]
+mod plain_acceptance;
+#[cfg(test)]
+mod scripts;
+#[cfg(test)]
 mod tables;
+#[cfg(test)]
+mod tokens;
+#[cfg(test)]
+mod values;
 #[cfg(test)]
 mod words;

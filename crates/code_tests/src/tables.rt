@@ -29,7 +29,10 @@ fn reads_the_texts_of_tables(rt: HostRuntime) -> Result<(), Fail> {
         let printed = print_table(rt.alloc(), &table)?;
         assert!(rt; printed.as_slice() == text.as_bytes());
     }
-    let old = ["field 2\n", "field 7\nj -72 i -16 dim 4194304\nj 72 i 16 dim 1\n"];
+    let old = [
+        "field 2\n",
+        "field 7\nj -72 i -16 dim 4194304\nj 72 i 16 dim 1\n",
+    ];
     for text in old {
         let table = read_table(rt.alloc(), text.as_bytes())?;
         let printed = print_table(rt.alloc(), &table)?;

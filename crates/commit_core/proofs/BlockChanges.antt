@@ -12,7 +12,7 @@ use Rattle.std.proofs.lemmas.List.Elements.{All-from_recursion}
 use Rattle.kh_types.specs.Complex.{Pivot}
 use Rattle.shared_block.specs.BlockHistories.{BlockHistory}
 use Rattle.shared_block.specs.Commits.{with_pivot}
-use Rattle.commit_core.specs.States.{State, block_at, with_commit}
+use Rattle.commit_core.specs.States.{CoreState, block_at, with_commit}
 use Rattle.commit_core.proofs.Apart.{AreApart}
 use Rattle.commit_core.proofs.Lists.{find-map, found-place}
 
@@ -84,13 +84,13 @@ changed-set j pivot (held ∷ blocks) (suc place) block apart below is here =
 
 -- the block at a quantum degree has it, and stands at a place
 
-pub block_at-place : (state : State) (j : ℤ) (block : BlockHistory) → block_at state j ≡ Some block
+pub block_at-place : (state : CoreState) (j : ℤ) (block : BlockHistory) → block_at state j ≡ Some block
     → (place : ℕ) × (place < length state.blocks) × ((d : BlockHistory) → get_or state.blocks place d ≡ block) × (block.degree ≡ j)
 block_at-place state j block found =
     let at = found-place (λ held. int_eq held.degree j) state.blocks block found in
     (at.0, at.1.below, at.1.is, (Decides-int_eq block.degree j).0 at.1.passes)
 
-pub block_at-commit : (state : State) (j i : ℤ) (pivot : Pivot)
+pub block_at-commit : (state : CoreState) (j i : ℤ) (pivot : Pivot)
     → block_at (with_commit state j pivot) i ≡ option_map (changed j pivot) (block_at state i)
 block_at-commit state j i pivot =
     find-map (λ held. int_eq held.degree i) (changed j pivot) state.blocks

@@ -19,8 +19,8 @@ use Rattle.cube_signs.specs.Blocks.{block_degrees}
 use Rattle.cube_squares.proofs.BlockComplexes.{IsComplex-block}
 use Rattle.shared_block.specs.BlockHistories.{BlockCopy, BlockHistory, block_with, copy_with}
 use Rattle.commit_core.specs.Alone.{blocks_with, looks_and_commits, state_with}
-use Rattle.commit_core.specs.States.{Holding, State, block_at, holding_of, opening_state, state_of, with_held}
-use Rattle.commit_core.specs.Rows.{Commits, IsRun, LooksAt}
+use Rattle.commit_core.specs.States.{Holding, CoreState, block_at, holding_of, opening_state, state_of, with_held}
+use Rattle.commit_core.specs.Rows.{Commits, IsCoreRun, LooksAt}
 use Rattle.commit_core.specs.declared.answer.Answer.{Answer}
 use Rattle.commit_core.specs.declared.answer.Answer.TheVariants.{Looked, Committed}
 use Rattle.commit_core.proofs.BlockChanges.{changed}
@@ -97,7 +97,7 @@ module _ (p : ℕ) (code : Code) (workers : ℕ) (j : ℤ) (field : IsField p) (
   abbrev copy_for : List Pivot → Pivot → BlockCopy
   copy_for done pivot = copy_with (length done) (copied (replay p cube done) pivot)
 
-  abbrev state_between : List Pivot → Pivot → State
+  abbrev state_between : List Pivot → Pivot → CoreState
   state_between done pivot = with_held (state_with code workers j done) 1 (Some (holding_of j (copy_for done pivot)))
 
   shorter : (done : List Pivot) (pivot : Pivot) → IsLegal p cube done → IsPivot (replay p cube done) pivot
@@ -133,7 +133,7 @@ module _ (p : ℕ) (code : Code) (workers : ℕ) (j : ℤ) (field : IsField p) (
 
   runs-from : (later done : List Pivot) → IsLegal p cube done → IsLegal p (replay p cube done) later
       → (answers : List Answer)
-      × IsRun p (state_with code workers j done) (looks_and_commits 1 j (length later)) answers (state_with code workers j (done ++ later))
+      × IsCoreRun p (state_with code workers j done) (looks_and_commits 1 j (length later)) answers (state_with code workers j (done ++ later))
   runs-from [] done legal more = ([], ap (state_with code workers j) (append-nil done))
   runs-from (pivot ∷ later) done legal (is_pivot, more) =
       let next = done ++ pivot ∷ [] in
@@ -149,7 +149,7 @@ module _ (p : ℕ) (code : Code) (workers : ℕ) (j : ℤ) (field : IsField p) (
             commits done pivot,
             subst
                 (λ (history : List Pivot).
-                IsRun p (state_with code workers j next) (looks_and_commits 1 j (length later)) rest.0 (state_with code workers j history))
+                IsCoreRun p (state_with code workers j next) (looks_and_commits 1 j (length later)) rest.0 (state_with code workers j history))
                 (append_assoc done (pivot ∷ []) later) rest.1,
           ),
         ),
@@ -157,11 +157,11 @@ module _ (p : ℕ) (code : Code) (workers : ℕ) (j : ℤ) (field : IsField p) (
 
   pub history-run : (history : List Pivot) → IsLegal p cube history
       → (answers : List Answer)
-      × IsRun p (opening_state code workers) (looks_and_commits 1 j (length history)) answers (state_with code workers j history)
+      × IsCoreRun p (opening_state code workers) (looks_and_commits 1 j (length history)) answers (state_with code workers j history)
   history-run history legal =
       let run = runs-from history [] tt legal in (
         run.0,
         subst
-            (λ (state : State). IsRun p state (looks_and_commits 1 j (length history)) run.0 (state_with code workers j history))
+            (λ (state : CoreState). IsCoreRun p state (looks_and_commits 1 j (length history)) run.0 (state_with code workers j history))
             (state-opening code workers j) run.1,
       )

@@ -13,7 +13,7 @@ use Rattle.cube_squares.proofs.BlockComplexes.{IsComplex-block}
 use Rattle.shared_block.specs.BlockHistories.{BlockHistory, HasLegalHistory, complex_of}
 use Rattle.shared_block.proofs.BlockDimensions.{dimension_of-block}
 use Rattle.commit_core.specs.Answering.{turns}
-use Rattle.commit_core.specs.States.{IsSound, State}
+use Rattle.commit_core.specs.States.{IsSound, CoreState}
 use Rattle.commit_core.proofs.SoundRows.{IsSoundOf}
 
 -- a history ends at zero exactly where it has as many pivots as the block takes turns
@@ -31,7 +31,7 @@ dimension_of-legal p held i field is legal =
     (IsComplex-block p held.diagram held.degree field.above_one is) legal
     ∙ dimension_of-block p held.diagram held.degree i
 
-pub dimensions-sound : (p : ℕ) (state : State) → IsField p → IsTrue (accepted state.diagram) → IsSound p state
+pub dimensions-sound : (p : ℕ) (state : CoreState) → IsField p → IsTrue (accepted state.diagram) → IsSound p state
     → All (λ held. (i : ℤ) → dimension_of p (complex_of p held) i ≡ dimension p state.diagram i held.degree) state.blocks
 dimensions-sound p state field is sound k d below i =
     let held = get_or state.blocks k d in
@@ -39,7 +39,7 @@ dimensions-sound p state field is sound k d below i =
     dimension_of-legal p held i field (subst (λ (code : Code). IsTrue (accepted code)) (sym same) is) (sound.legal k d below)
     ∙ ap (λ (code : Code). dimension p code i held.degree) same
 
-pub dimensions-reached : (p : ℕ) (code : Code) (state : State) → IsField p → IsTrue (accepted code) → IsSoundOf p code state
+pub dimensions-reached : (p : ℕ) (code : Code) (state : CoreState) → IsField p → IsTrue (accepted code) → IsSoundOf p code state
     → All (λ held. (i : ℤ) → dimension_of p (complex_of p held) i ≡ dimension p code i held.degree) state.blocks
 dimensions-reached p code state field is (sound, of_code) =
     subst
@@ -49,7 +49,7 @@ dimensions-reached p code state field is (sound, of_code) =
     (dimensions-sound p state field (subst (λ (c : Code). IsTrue (accepted c)) (sym of_code) is) sound)
 
 -- the same of a core in memory
-pub dimensions-kept : (p : ℕ) (inside now : State) → IsField p → inside ≡ now → IsTrue (accepted inside.diagram) → IsSound p inside
+pub dimensions-kept : (p : ℕ) (inside now : CoreState) → IsField p → inside ≡ now → IsTrue (accepted inside.diagram) → IsSound p inside
     → All (λ held. (i : ℤ) → dimension_of p (complex_of p held) i ≡ dimension p now.diagram i held.degree) now.blocks
 dimensions-kept p inside now field same is sound =
-    dimensions-sound p now field (subst (λ (s : State). IsTrue (accepted s.diagram)) same is) (subst (IsSound p) same sound)
+    dimensions-sound p now field (subst (λ (s : CoreState). IsTrue (accepted s.diagram)) same is) (subst (IsSound p) same sound)

@@ -9,13 +9,13 @@ use Rattle.std.proofs.lemmas.List.Folds.{find_at}
 use Rattle.std.proofs.lemmas.Option.{get_or_from_slice_get, slice_get_cases}
 use Rattle.shared_block.specs.BlockHistories.{BlockHistory}
 use Rattle.commit_core.specs.Parts.{IsBlockAt}
-use Rattle.commit_core.specs.States.{State, block_at}
+use Rattle.commit_core.specs.States.{CoreState, block_at}
 
 le-ltb : (a b : ℕ) → a ≤ b → nat_lt b a ≡ false
 le-ltb a b le = false_from_ne_true (nat_lt b a) (λ less. omega (arith, le, (Decides-ltb b a).0 less))
 
 -- a first place of those that pass is where the search ends
-found-at : (state : State) (j : ℤ) (place : ℕ) (found : Option ℕ) → place ≡ position_or_len (λ held. int_eq held.degree j) state.blocks
+found-at : (state : CoreState) (j : ℤ) (place : ℕ) (found : Option ℕ) → place ≡ position_or_len (λ held. int_eq held.degree j) state.blocks
     → found ≡ cond (nat_lt place (length state.blocks)) (Some place) None
     → MatchOption found (block_at state j ≡ None) (IsBlockAt state j)
 found-at state j place found is_place is_found = elim ((slice_get_cases state.blocks place).1) [
@@ -37,15 +37,15 @@ found-at state j place found is_place is_found = elim ((slice_get_cases state.bl
     searched : block_at state j ≡ slice_get state.blocks place
     searched = find_at (λ held. int_eq held.degree j) state.blocks ∙ ap (slice_get state.blocks) (sym is_place)
 
-place-found : (state : State) (j : ℤ) (found : Option ℕ) → found ≡ position (λ held. int_eq held.degree j) state.blocks
+place-found : (state : CoreState) (j : ℤ) (found : Option ℕ) → found ≡ position (λ held. int_eq held.degree j) state.blocks
     → MatchOption found (block_at state j ≡ None) (IsBlockAt state j)
 place-found state j found is = found-at state j (position_or_len (λ held. int_eq held.degree j) state.blocks) found refl is
 
 -- a degree that is kept in memory is the same
-pub place-read : (inside now : State) (j kept : ℤ) (blocks : List BlockHistory) (found : Option ℕ) → kept ≡ j → inside ≡ now
+pub place-read : (inside now : CoreState) (j kept : ℤ) (blocks : List BlockHistory) (found : Option ℕ) → kept ≡ j → inside ≡ now
     → blocks ≡ inside.blocks → found ≡ position (λ held. int_eq held.degree kept) blocks
     → MatchOption found (block_at now j ≡ None) (IsBlockAt now j)
 place-read inside now j kept blocks found is_kept same are_blocks is =
     place-found now j found
     (is ∙ ap (λ (k : ℤ). position (λ (held : BlockHistory). int_eq held.degree k) blocks) is_kept
-    ∙ ap (position (λ (held : BlockHistory). int_eq held.degree j)) (are_blocks ∙ ap (λ (s : State). s.blocks) same))
+    ∙ ap (position (λ (held : BlockHistory). int_eq held.degree j)) (are_blocks ∙ ap (λ (s : CoreState). s.blocks) same))

@@ -3,7 +3,7 @@ use Rattle.std.proofs.Common.{◌≡◌, ◌≢◌, ℕ, ◌+◌, List, [], ◌�
 use Rattle.std.proofs.lemmas.Bool.Decides.{eqb_tells}
 use Rattle.kh_types.specs.Acceptance.{accepted}
 use Rattle.kh_types.specs.Code.{Code}
-use Rattle.kh_types.specs.Complex.{IsComplex, IsPivot, Pivot}
+use Rattle.kh_types.specs.Complex.{IsPivot, Pivot}
 use Rattle.prime_field.specs.Residues.{IsField}
 use Rattle.cancel_step.specs.Copies.{copied}
 use Rattle.cancel_step.proofs.HistoryEnds.{length-longest, length-zero}
@@ -11,8 +11,8 @@ use Rattle.cancel_step.proofs.HistoryLemmas.{legal-push}
 use Rattle.cancel_step.proofs.ZeroLemmas.{find_pivot}
 use Rattle.cube_squares.proofs.BlockComplexes.{IsComplex-block}
 use Rattle.shared_block.specs.BlockHistories.{BlockCopy, BlockHistory, HasLegalHistory, complex_of, copy_with, opening_of}
-use Rattle.commit_core.specs.States.{Holding, State, block_at, held_by, holding_of, opening_state, with_commit, with_held}
-use Rattle.commit_core.specs.Rows.{Commits, Forgets, IsRow, IsRun, LooksAt, turns_of}
+use Rattle.commit_core.specs.States.{Holding, CoreState, block_at, held_by, holding_of, opening_state, with_commit, with_held}
+use Rattle.commit_core.specs.Rows.{Commits, Forgets, ComesTo, IsCoreRun, LooksAt, turns_of}
 use Rattle.commit_core.specs.declared.event.Event.{Event}
 use Rattle.commit_core.specs.declared.event.Event.TheVariants.{Look, Commit, Forget}
 use Rattle.commit_core.specs.declared.answer.Answer.{Answer}
@@ -36,7 +36,7 @@ abbrev pub copy_now : ℕ → BlockHistory → Pivot → BlockCopy
 copy_now p block pivot = copy_with (length block.history) (copied (complex_of p block) pivot)
 
 module _ (p : ℕ) (code : Code) (field : IsField p) (is : IsTrue (accepted code)) where
-  block-sound : (state : State) (j : ℤ) (block : BlockHistory) → IsSoundOf p code state → block_at state j ≡ Some block
+  block-sound : (state : CoreState) (j : ℤ) (block : BlockHistory) → IsSoundOf p code state → block_at state j ≡ Some block
       → HasLegalHistory p block × IsTrue (accepted block.diagram)
   block-sound state j block (sound, of_code) there =
       let at = block_at-place state j block there in
@@ -46,8 +46,8 @@ module _ (p : ℕ) (code : Code) (field : IsField p) (is : IsTrue (accepted code
         subst (λ (c : Code). IsTrue (accepted c)) (sym diagram) (subst (λ (c : Code). IsTrue (accepted c)) (sym of_code) is),
       )
 
-  look-exists : (before : State) (worker : ℕ) (j : ℤ) (seen : Option BlockHistory) → IsSoundOf p code before → block_at before j ≡ seen
-      → (answer : Answer) × (after : State) × LooksAt p before worker j answer after
+  look-exists : (before : CoreState) (worker : ℕ) (j : ℤ) (seen : Option BlockHistory) → IsSoundOf p code before → block_at before j ≡ seen
+      → (answer : Answer) × (after : CoreState) × LooksAt p before worker j answer after
   look-exists before worker j None sound there = (NoBlock, with_held before worker None, (there, refl))
   look-exists before worker j (Some block) sound there =
       let known = block-sound before j block sound there in
@@ -76,8 +76,8 @@ module _ (p : ℕ) (code : Code) (field : IsField p) (is : IsTrue (accepted code
         )
       ]
 
-  commit-exists : (before : State) (worker : ℕ) (held : Option Holding) → IsSoundOf p code before → held_by before worker ≡ held
-      → (answer : Answer) × (after : State) × Commits before worker answer after
+  commit-exists : (before : CoreState) (worker : ℕ) (held : Option Holding) → IsSoundOf p code before → held_by before worker ≡ held
+      → (answer : Answer) × (after : CoreState) × Commits before worker answer after
   commit-exists before worker None sound holds = (Idle, before, (holds, refl))
   commit-exists before worker (Some held) sound holds =
       let known = held_by-sound p before worker held sound.0 holds in
@@ -95,19 +95,19 @@ module _ (p : ℕ) (code : Code) (field : IsField p) (is : IsTrue (accepted code
         )
       ]
 
-  forget-exists : (before : State) (worker : ℕ) (held : Option Holding) → held_by before worker ≡ held
-      → (answer : Answer) × (after : State) × Forgets before worker answer after
+  forget-exists : (before : CoreState) (worker : ℕ) (held : Option Holding) → held_by before worker ≡ held
+      → (answer : Answer) × (after : CoreState) × Forgets before worker answer after
   forget-exists before worker None holds = (Idle, before, (holds, refl))
   forget-exists before worker (Some held) holds = (Forgot, with_held before worker None, ((held, holds), refl))
 
-  row-exists : (before : State) (event : Event) → IsSoundOf p code before
-      → (answer : Answer) × (after : State) × IsRow p before event answer after
+  row-exists : (before : CoreState) (event : Event) → IsSoundOf p code before
+      → (answer : Answer) × (after : CoreState) × ComesTo p before event answer after
   row-exists before (Look worker j hint) sound = look-exists before worker j (block_at before j) sound refl
   row-exists before (Commit worker) sound = commit-exists before worker (held_by before worker) sound refl
   row-exists before (Forget worker) sound = forget-exists before worker (held_by before worker) refl
 
-  run-exists : (before : State) (events : List Event) → IsSoundOf p code before
-      → (made : List Answer) × (after : State) × IsRun p before events made after
+  run-exists : (before : CoreState) (events : List Event) → IsSoundOf p code before
+      → (made : List Answer) × (after : CoreState) × IsCoreRun p before events made after
   run-exists before [] sound = ([], before, refl)
   run-exists before (event ∷ events) sound =
       let row = row-exists before event sound in
@@ -115,5 +115,5 @@ module _ (p : ℕ) (code : Code) (field : IsField p) (is : IsTrue (accepted code
       (row.0 ∷ rest.0, rest.1, (row.1, row.2, rest.2))
 
   pub run-opening : (workers : ℕ) (events : List Event)
-      → (made : List Answer) × (after : State) × IsRun p (opening_state code workers) events made after
+      → (made : List Answer) × (after : CoreState) × IsCoreRun p (opening_state code workers) events made after
   run-opening workers events = run-exists (opening_state code workers) events (sound-opening p code workers, refl)

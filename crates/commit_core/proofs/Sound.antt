@@ -15,7 +15,7 @@ use Rattle.cube_signs.specs.Blocks.{block_degrees}
 use Rattle.shared_block.specs.BlockHistories.{BlockCopy, BlockHistory, HasLegalHistory, IsCopyOf, block_with, complex_of}
 use Rattle.shared_block.specs.Commits.{with_pivot}
 use Rattle.shared_block.proofs.AllBlocks.{AreBlocksOf-opening}
-use Rattle.commit_core.specs.States.{Holding, IsHeldOf, IsSound, State, block_at, held_by, holding_of, opening_state, with_commit, with_held}
+use Rattle.commit_core.specs.States.{Holding, IsHeldOf, IsSound, CoreState, block_at, held_by, holding_of, opening_state, with_commit, with_held}
 use Rattle.commit_core.proofs.Apart.{AreApart, block_degrees-apart}
 use Rattle.commit_core.proofs.Lists.{All-or_default}
 use Rattle.commit_core.proofs.BlockChanges.{block_at-commit, block_at-place, changed, changed-set, degrees-changed, diagram-changed}
@@ -33,13 +33,13 @@ sound-opening p code workers =
 
 -- a worker holds something else, or nothing
 
-held-with_held : (p : ℕ) (state : State) (worker : ℕ) (other : Option Holding) (held : Option Holding) → IfSome held (IsHeldOf p state)
+held-with_held : (p : ℕ) (state : CoreState) (worker : ℕ) (other : Option Holding) (held : Option Holding) → IfSome held (IsHeldOf p state)
     → IfSome held (IsHeldOf p (with_held state worker other))
 held-with_held p state worker other None is = tt
 held-with_held p state worker other (Some held) is =
     record { block = is.block; there = is.there; earlier = is.earlier; copy_is = is.copy_is }
 
-pub sound-held : (p : ℕ) (state : State) (worker : ℕ) (held : Option Holding) → IsSound p state → IfSome held (IsHeldOf p state)
+pub sound-held : (p : ℕ) (state : CoreState) (worker : ℕ) (held : Option Holding) → IsSound p state → IfSome held (IsHeldOf p state)
     → IsSound p (with_held state worker held)
 sound-held p state worker held sound is =
     let after = with_held state worker held in
@@ -54,7 +54,7 @@ sound-held p state worker held sound is =
 
 -- a copy of the block as it stands may be held
 
-pub held-copy : (p : ℕ) (state : State) (j : ℤ) (block : BlockHistory) (copy : BlockCopy) → block_at state j ≡ Some block
+pub held-copy : (p : ℕ) (state : CoreState) (j : ℤ) (block : BlockHistory) (copy : BlockCopy) → block_at state j ≡ Some block
     → IsCopyOf p block copy → IsHeldOf p state (holding_of j copy)
 held-copy p state j block copy there is =
     let whole : take copy.version block.history ≡ block.history = take_all copy.version block.history (omega (arith, is.version)) in
@@ -68,7 +68,7 @@ held-copy p state j block copy there is =
 
 -- what is held at the version of the block is a copy of it as it stands
 
-pub copy-held : (p : ℕ) (state : State) (held : Holding) (block : BlockHistory) → IsHeldOf p state held
+pub copy-held : (p : ℕ) (state : CoreState) (held : Holding) (block : BlockHistory) → IsHeldOf p state held
     → block_at state held.block ≡ Some block → held.copy.version ≡ length block.history → IsCopyOf p block held.copy
 copy-held p state held block is there now =
     let same : is.block ≡ block = cc (is.there, there) in
@@ -97,7 +97,7 @@ copy-changed p j pivot block copy is = elim (cases_Bool (int_eq block.degree j))
   | inr other ↦ subst (IsCopyBefore p copy) (sym (ap (λ b. cond b (with_pivot block pivot) block) other)) is
 ]
 
-held-with_commit : (p : ℕ) (state : State) (j : ℤ) (pivot : Pivot) (held : Option Holding) → IfSome held (IsHeldOf p state)
+held-with_commit : (p : ℕ) (state : CoreState) (j : ℤ) (pivot : Pivot) (held : Option Holding) → IfSome held (IsHeldOf p state)
     → IfSome held (IsHeldOf p (with_commit state j pivot))
 held-with_commit p state j pivot None is = tt
 held-with_commit p state j pivot (Some held) is =
@@ -109,17 +109,17 @@ held-with_commit p state j pivot (Some held) is =
       copy_is = later.1;
     }
 
-pub apart-sound : (p : ℕ) (state : State) → IsSound p state → AreApart (map (λ held. held.degree) state.blocks)
+pub apart-sound : (p : ℕ) (state : CoreState) → IsSound p state → AreApart (map (λ held. held.degree) state.blocks)
 apart-sound p state sound = subst AreApart (sym sound.blocks.degrees) (block_degrees-apart state.diagram)
 
 -- the blocks after a commit, by the place of the block that changes
-pub blocks-commit : (p : ℕ) (state : State) (j : ℤ) (pivot : Pivot) (place : ℕ) (block : BlockHistory) → IsSound p state
+pub blocks-commit : (p : ℕ) (state : CoreState) (j : ℤ) (pivot : Pivot) (place : ℕ) (block : BlockHistory) → IsSound p state
     → place < length state.blocks → ((d : BlockHistory) → get_or state.blocks place d ≡ block) → block.degree ≡ j
     → (with_commit state j pivot).blocks ≡ set state.blocks place (with_pivot block pivot)
 blocks-commit p state j pivot place block sound below is here =
     changed-set j pivot state.blocks place block (apart-sound p state sound) below is here
 
-pub sound-commit : (p : ℕ) (state : State) (j : ℤ) (pivot : Pivot) (block : BlockHistory) → IsSound p state
+pub sound-commit : (p : ℕ) (state : CoreState) (j : ℤ) (pivot : Pivot) (block : BlockHistory) → IsSound p state
     → block_at state j ≡ Some block → IsPivot (complex_of p block) pivot → IsSound p (with_commit state j pivot)
 sound-commit p state j pivot block sound there is =
     let after = with_commit state j pivot in
@@ -144,7 +144,7 @@ sound-commit p state j pivot block sound there is =
 
 -- what a worker holds
 
-pub held_by-sound : (p : ℕ) (state : State) (worker : ℕ) (held : Holding) → IsSound p state → held_by state worker ≡ Some held
+pub held_by-sound : (p : ℕ) (state : CoreState) (worker : ℕ) (held : Holding) → IsSound p state → held_by state worker ≡ Some held
     → IsHeldOf p state held
 held_by-sound p state worker held sound holds =
     let Is : Option Holding → Type 0 = λ one. IfSome one (IsHeldOf p state) in

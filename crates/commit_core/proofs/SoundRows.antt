@@ -2,8 +2,8 @@
 use Rattle.std.proofs.Common.{subst₂, get_or, length, take, ◌<◌, ◌+◌, ◌≡◌, ℕ, List, [], ◌∷◌, ◌++◌, ℤ, refl, sym, subst, None, Some}
 use Rattle.std.proofs.lemmas.List.{take_more}
 use Rattle.kh_types.specs.Code.{Code}
-use Rattle.commit_core.specs.States.{IsSound, State, holding_of, with_commit, with_held}
-use Rattle.commit_core.specs.Rows.{Commits, Forgets, IsRow, IsRun, LooksAt}
+use Rattle.commit_core.specs.States.{IsSound, CoreState, holding_of, with_commit, with_held}
+use Rattle.commit_core.specs.Rows.{Commits, Forgets, ComesTo, IsCoreRun, LooksAt}
 use Rattle.commit_core.specs.declared.event.Event.{Event}
 use Rattle.commit_core.specs.declared.event.Event.TheVariants.{Look, Commit, Forget}
 use Rattle.commit_core.specs.declared.answer.Answer.{Answer}
@@ -11,15 +11,15 @@ use Rattle.commit_core.specs.declared.answer.Answer.TheVariants.{Looked, Zero, C
 use Rattle.commit_core.proofs.Sound.{copy-held, held-copy, held_by-sound, sound-commit, sound-held}
 
 -- it keeps this of this diagram
-abbrev pub IsSoundOf : ℕ → Code → State → Type 0
+abbrev pub IsSoundOf : ℕ → Code → CoreState → Type 0
 IsSoundOf p code state = IsSound p state × (state.diagram ≡ code)
 
-sound-none : (p : ℕ) (code : Code) (state after : State) (worker : ℕ) → IsSoundOf p code state → after ≡ with_held state worker None
+sound-none : (p : ℕ) (code : Code) (state after : CoreState) (worker : ℕ) → IsSoundOf p code state → after ≡ with_held state worker None
     → IsSoundOf p code after
 sound-none p code state after worker (sound, of_code) is =
     subst (IsSoundOf p code) (sym is) (sound-held p state worker None sound tt, of_code)
 
-sound-look : (p : ℕ) (code : Code) (before : State) (worker : ℕ) (j : ℤ) (answer : Answer) (after : State) → IsSoundOf p code before
+sound-look : (p : ℕ) (code : Code) (before : CoreState) (worker : ℕ) (j : ℤ) (answer : Answer) (after : CoreState) → IsSoundOf p code before
     → LooksAt p before worker j answer after → IsSoundOf p code after
 sound-look p code before worker j NoBlock after sound row = sound-none p code before after worker sound row.1
 sound-look p code before worker j Zero after sound row = sound-none p code before after worker sound row.3
@@ -31,7 +31,7 @@ sound-look p code before worker j (Stale looked now) after sound row = absurd ro
 sound-look p code before worker j Idle after sound row = absurd row
 sound-look p code before worker j Forgot after sound row = absurd row
 
-sound-commits : (p : ℕ) (code : Code) (before : State) (worker : ℕ) (answer : Answer) (after : State) → IsSoundOf p code before
+sound-commits : (p : ℕ) (code : Code) (before : CoreState) (worker : ℕ) (answer : Answer) (after : CoreState) → IsSoundOf p code before
     → Commits before worker answer after → IsSoundOf p code after
 sound-commits p code before worker Idle after sound row = subst (IsSoundOf p code) (sym row.1) sound
 sound-commits p code before worker (Stale looked now) after sound (held, block, holds, there, is_looked, is_now, other, is_after) =
@@ -45,7 +45,7 @@ sound-commits p code before worker Zero after sound row = absurd row
 sound-commits p code before worker (Looked version) after sound row = absurd row
 sound-commits p code before worker Forgot after sound row = absurd row
 
-sound-forgets : (p : ℕ) (code : Code) (before : State) (worker : ℕ) (answer : Answer) (after : State) → IsSoundOf p code before
+sound-forgets : (p : ℕ) (code : Code) (before : CoreState) (worker : ℕ) (answer : Answer) (after : CoreState) → IsSoundOf p code before
     → Forgets before worker answer after → IsSoundOf p code after
 sound-forgets p code before worker Forgot after sound row = sound-none p code before after worker sound row.1
 sound-forgets p code before worker Idle after sound row = subst (IsSoundOf p code) (sym row.1) sound
@@ -55,14 +55,14 @@ sound-forgets p code before worker (Looked version) after sound row = absurd row
 sound-forgets p code before worker (Stale looked now) after sound row = absurd row
 sound-forgets p code before worker (Committed version) after sound row = absurd row
 
-pub sound-row : (p : ℕ) (code : Code) (before : State) (event : Event) (answer : Answer) (after : State) → IsSoundOf p code before
-    → IsRow p before event answer after → IsSoundOf p code after
+pub sound-row : (p : ℕ) (code : Code) (before : CoreState) (event : Event) (answer : Answer) (after : CoreState) → IsSoundOf p code before
+    → ComesTo p before event answer after → IsSoundOf p code after
 sound-row p code before (Look worker j hint) answer after sound row = sound-look p code before worker j answer after sound row
 sound-row p code before (Commit worker) answer after sound row = sound-commits p code before worker answer after sound row
 sound-row p code before (Forget worker) answer after sound row = sound-forgets p code before worker answer after sound row
 
-pub sound-run : (p : ℕ) (code : Code) (before : State) (events : List Event) (answers : List Answer) (after : State)
-    → IsSoundOf p code before → IsRun p before events answers after → IsSoundOf p code after
+pub sound-run : (p : ℕ) (code : Code) (before : CoreState) (events : List Event) (answers : List Answer) (after : CoreState)
+    → IsSoundOf p code before → IsCoreRun p before events answers after → IsSoundOf p code after
 sound-run p code before [] [] after sound run = subst (IsSoundOf p code) (sym run) sound
 sound-run p code before [] (answer ∷ answers) after sound run = absurd run
 sound-run p code before (event ∷ events) [] after sound run = absurd run
@@ -71,25 +71,25 @@ sound-run p code before (event ∷ events) (answer ∷ answers) after sound (mid
 
 -- runs are put together
 
-pub run-append : (p : ℕ) (before middle after : State) (first second : List Event) (answers more : List Answer)
-    → IsRun p before first answers middle → IsRun p middle second more after
-    → IsRun p before (first ++ second) (answers ++ more) after
-run-append p before middle after [] second [] more run rest = subst (λ (state : State). IsRun p state second more after) run rest
+pub run-append : (p : ℕ) (before middle after : CoreState) (first second : List Event) (answers more : List Answer)
+    → IsCoreRun p before first answers middle → IsCoreRun p middle second more after
+    → IsCoreRun p before (first ++ second) (answers ++ more) after
+run-append p before middle after [] second [] more run rest = subst (λ (state : CoreState). IsCoreRun p state second more after) run rest
 run-append p before middle after [] second (answer ∷ answers) more run rest = absurd run
 run-append p before middle after (event ∷ first) second [] more run rest = absurd run
 run-append p before middle after (event ∷ first) second (answer ∷ answers) more (next, row, run) rest =
     (next, row, run-append p next middle after first second answers more run rest)
 
-pub run-push : (p : ℕ) (before middle after : State) (events : List Event) (answers : List Answer) (event : Event) (answer : Answer)
-    → IsRun p before events answers middle → IsRow p middle event answer after
-    → IsRun p before (events ++ event ∷ []) (answers ++ answer ∷ []) after
+pub run-push : (p : ℕ) (before middle after : CoreState) (events : List Event) (answers : List Answer) (event : Event) (answer : Answer)
+    → IsCoreRun p before events answers middle → ComesTo p middle event answer after
+    → IsCoreRun p before (events ++ event ∷ []) (answers ++ answer ∷ []) after
 run-push p before middle after events answers event answer run row =
     run-append p before middle after events (event ∷ []) answers (answer ∷ []) run (after, row, refl)
 
 -- the run of the first events, and one more
-pub run-more : (p : ℕ) (before middle after : State) (events : List Event) (k : ℕ) (d : Event) (answers next : List Answer)
-    (answer : Answer) → k < length events → IsRun p before (take k events) answers middle
-    → IsRow p middle (get_or events k d) answer after → next ≡ answers ++ answer ∷ [] → IsRun p before (take (k + 1) events) next after
+pub run-more : (p : ℕ) (before middle after : CoreState) (events : List Event) (k : ℕ) (d : Event) (answers next : List Answer)
+    (answer : Answer) → k < length events → IsCoreRun p before (take k events) answers middle
+    → ComesTo p middle (get_or events k d) answer after → next ≡ answers ++ answer ∷ [] → IsCoreRun p before (take (k + 1) events) next after
 run-more p before middle after events k d answers next answer below run row is_next =
-    subst₂ (λ (es : List Event) (made : List Answer). IsRun p before es made after) (sym (take_more events k d below)) (sym is_next)
+    subst₂ (λ (es : List Event) (made : List Answer). IsCoreRun p before es made after) (sym (take_more events k d below)) (sym is_next)
     (run-push p before middle after (take k events) answers (get_or events k d) answer run row)

@@ -19,9 +19,9 @@ use Rattle.shared_block.specs.Commits.{Answers, IsForeignAnswer, IsOld, IsStale,
 use Rattle.shared_block.specs.declared.commit_answer.CommitAnswer.{CommitAnswer}
 use Rattle.shared_block.specs.declared.commit_answer.CommitAnswer.TheVariants.{Committed as BlockCommitted, Stale as BlockStale, Foreign as BlockForeign}
 use Rattle.shared_block.specs.AllBlocks.{opening_blocks}
-use Rattle.commit_core.specs.Parts.{CommitsTo, IsBlockAt, IsSameAnswer, IsSight}
+use Rattle.commit_core.specs.Parts.{CommitsToBlock, IsBlockAt, IsSameAnswer, IsSight}
 use Rattle.commit_core.specs.Rows.{Commits, LooksAt}
-use Rattle.commit_core.specs.States.{Holding, IsHeldOf, IsSound, State, block_at, held_by, holding_of, state_of, with_commit, with_held}
+use Rattle.commit_core.specs.States.{Holding, IsHeldOf, IsSound, CoreState, block_at, held_by, holding_of, state_of, with_commit, with_held}
 use Rattle.commit_core.specs.declared.answer.Answer.{Answer}
 use Rattle.commit_core.specs.declared.answer.Answer.TheVariants.{Looked, Zero, Committed, Stale, Idle, Forgot, NoBlock}
 use Rattle.commit_core.proofs.BlockChanges.{block_at-place}
@@ -42,27 +42,27 @@ sound-made p most code blocks seats workers are_blocks are_seats few = (
 
 -- holding
 
-pub sound-put : (p most : ℕ) (inside now : State) (worker : ℕ) (held : Option Holding)
+pub sound-put : (p most : ℕ) (inside now : CoreState) (worker : ℕ) (held : Option Holding)
     → IsSound p inside × (length inside.workers ≤ most) → inside ≡ now → IfSome held (IsHeldOf p now)
     → IsSound p (with_held inside worker held) × (length (with_held inside worker held).workers ≤ most)
 sound-put p most inside now worker held (sound, few) same is = (
-  sound-held p inside worker held sound (subst (λ (s : State). IfSome held (IsHeldOf p s)) (sym same) is),
+  sound-held p inside worker held sound (subst (λ (s : CoreState). IfSome held (IsHeldOf p s)) (sym same) is),
   omega (arith, few, length-set inside.workers (worker - 1) held),
 )
 
-pub sound-taken : (p : ℕ) (state : State) (left : Option Holding) → left ≡ None → IfSome left (IsHeldOf p state)
+pub sound-taken : (p : ℕ) (state : CoreState) (left : Option Holding) → left ≡ None → IfSome left (IsHeldOf p state)
 sound-taken p state left gone = subst (λ (held : Option Holding). IfSome held (IsHeldOf p state)) (sym gone) tt
 
 -- seeing
 
-pub sight-block : (p : ℕ) (inside now : State) (j : ℤ) (place : ℕ) (block : BlockHistory) (found : Option BlockCopy) → IsField p
+pub sight-block : (p : ℕ) (inside now : CoreState) (j : ℤ) (place : ℕ) (block : BlockHistory) (found : Option BlockCopy) → IsField p
     → inside ≡ now → IsBlockAt now j place → block ≡ get_or inside.blocks place block → IsTrue (accepted block.diagram)
     → HasLegalHistory p block → (found ≡ None) ↔ (is_zero (complex_of p block) ≡ true) → IfSome found (IsCopyOf p block)
     → IsSight p now j (Some found)
 sight-block p inside now j place block found field same at is is_code legal none copy = seen found none copy
   where
     there : block_at now j ≡ Some block
-    there = at.there ∙ ap Some (sym (is ∙ ap (λ (s : State). get_or s.blocks place block) same ∙ at.is block))
+    there = at.there ∙ ap Some (sym (is ∙ ap (λ (s : CoreState). get_or s.blocks place block) same ∙ at.is block))
 
     seen : (one : Option BlockCopy) → (one ≡ None) ↔ (is_zero (complex_of p block) ≡ true) → IfSome one (IsCopyOf p block)
         → IsSight p now j (Some one)
@@ -81,19 +81,19 @@ sight-block p inside now j place block found field same at is is_code legal none
 
 -- looking
 
-with_held-twice : (state : State) (worker : ℕ) (first second : Option Holding)
+with_held-twice : (state : CoreState) (worker : ℕ) (first second : Option Holding)
     → with_held (with_held state worker first) worker second ≡ with_held state worker second
 with_held-twice state worker first second =
     ap (state_of state.diagram state.blocks) (set-set state.workers (worker - 1) first second)
 
 -- a quantum degree that is kept in memory is the same
-pub looked-row : (p : ℕ) (before middle after : State) (worker : ℕ) (j kept : ℤ) (found : Option (Option BlockCopy))
+pub looked-row : (p : ℕ) (before middle after : CoreState) (worker : ℕ) (j kept : ℤ) (found : Option (Option BlockCopy))
     (inner : Option BlockCopy) (copy : BlockCopy) (version : ℕ) → kept ≡ j → middle ≡ with_held before worker None
     → IsSight p middle kept found → found ≡ Some inner → inner ≡ Some copy → version ≡ copy.version
     → after ≡ with_held middle worker (Some (holding_of kept copy)) → LooksAt p before worker j (Looked version) after
 looked-row p before middle after worker j kept found inner copy version is_kept is_middle sight is_inner is_copy is_version is_after =
     let seen : IsSight p (with_held before worker None) j (Some (Some copy)) =
-    subst₂ (λ (s : State) (f : Option (Option BlockCopy)). IsSight p s j f) is_middle (is_inner ∙ ap Some is_copy)
+    subst₂ (λ (s : CoreState) (f : Option (Option BlockCopy)). IsSight p s j f) is_middle (is_inner ∙ ap Some is_copy)
     (subst (λ (k : ℤ). IsSight p middle k found) is_kept sight) in
     let held = Some (holding_of j copy) in (
       seen.0,
@@ -104,11 +104,11 @@ looked-row p before middle after worker j kept found inner copy version is_kept 
         copy,
         seen.3,
         is_after ∙ ap (λ (k : ℤ). with_held middle worker (Some (holding_of k copy))) is_kept
-            ∙ ap (λ (s : State). with_held s worker held) is_middle ∙ with_held-twice before worker None held,
+            ∙ ap (λ (s : CoreState). with_held s worker held) is_middle ∙ with_held-twice before worker None held,
       ),
     )
 
-pub held-sight : (p : ℕ) (state : State) (j : ℤ) (copy : BlockCopy) → IsSight p state j (Some (Some copy))
+pub held-sight : (p : ℕ) (state : CoreState) (j : ℤ) (copy : BlockCopy) → IsSight p state j (Some (Some copy))
     → IsHeldOf p state (holding_of j copy)
 held-sight p state j copy (block, there, more, is) = held-copy p state j block copy there is
 
@@ -135,11 +135,11 @@ copied-not_foreign complex pivot (column, shows) =
           (λ e other. other (value_at-entries_of (row_of complex i e.place) column)) rows
     ]
 
-module _ (p : ℕ) (inside now : State) (j : ℤ) (place : ℕ) (block after : BlockHistory) (copy : BlockCopy) (sound : IsSound p inside)
+module _ (p : ℕ) (inside now : CoreState) (j : ℤ) (place : ℕ) (block after : BlockHistory) (copy : BlockCopy) (sound : IsSound p inside)
     (same : inside ≡ now) (at : IsBlockAt now j place) (is : block ≡ get_or inside.blocks place block)
     (fits : IsHeldOf p now (holding_of j copy)) where
   there : block_at now j ≡ Some block
-  there = at.there ∙ ap Some (sym (is ∙ ap (λ (s : State). get_or s.blocks place block) same ∙ at.is block))
+  there = at.there ∙ ap Some (sym (is ∙ ap (λ (s : CoreState). get_or s.blocks place block) same ∙ at.is block))
 
   pub not-foreign : (answer : CommitAnswer)
       → IsForeignAnswer answer ↔ ((copy.version ≡ length block.history) × IsForeign copy.parts (complex_of p block))
@@ -150,7 +150,7 @@ module _ (p : ℕ) (inside now : State) (j : ℤ) (place : ℕ) (block after : B
       copied-not_foreign (complex_of p block) copy.parts.pivot
       (subst (λ (parts : Copied). IsForeign parts (complex_of p block)) copy_is.parts both.1)
 
-  abbrev left : State
+  abbrev left : CoreState
   left = state_of inside.diagram (set inside.blocks place after) inside.workers
 
   at_version : (version : ℕ) → IsStale (BlockCommitted version) ↔ IsOld block copy → copy.version ≡ length block.history
@@ -159,15 +159,15 @@ module _ (p : ℕ) (inside now : State) (j : ℤ) (place : ℕ) (block after : B
   left-committed : after ≡ with_pivot block copy.parts.pivot → left ≡ with_commit now j copy.parts.pivot
   left-committed is_after =
       let pivot = copy.parts.pivot in
-      let here = block_at-place inside j block (ap (λ (s : State). block_at s j) same ∙ there) in
+      let here = block_at-place inside j block (ap (λ (s : CoreState). block_at s j) same ∙ there) in
       let within : place < length inside.blocks =
-      omega (arith, at.below, ap (λ (s : State). length s.blocks) same) in
+      omega (arith, at.below, ap (λ (s : CoreState). length s.blocks) same) in
       let stands : (d : BlockHistory) → get_or inside.blocks place d ≡ block =
       λ d. get_or_default inside.blocks place d block within ∙ sym is in
       ap (λ (b : BlockHistory). state_of inside.diagram (set inside.blocks place b) inside.workers) is_after
       ∙ ap (λ (blocks : List BlockHistory). state_of inside.diagram blocks inside.workers)
       (sym (blocks-commit p inside j pivot place block sound within stands here.3))
-      ∙ ap (λ (s : State). with_commit s j pivot) same
+      ∙ ap (λ (s : CoreState). with_commit s j pivot) same
 
   left-same : after ≡ block → left ≡ now
   left-same is_after =
@@ -186,12 +186,12 @@ module _ (p : ℕ) (inside now : State) (j : ℤ) (place : ℕ) (block after : B
       subst (IsSound p) (sym (left-same is_after)) (subst (IsSound p) same sound)
 
   pub commits-left : (answer : CommitAnswer) (told : Answer) → IsStale answer ↔ IsOld block copy
-      → Answers p block copy answer after → IsSameAnswer answer told → CommitsTo now j copy told left
+      → Answers p block copy answer after → IsSameAnswer answer told → CommitsToBlock now j copy told left
   commits-left (BlockCommitted version) told stale (is_after, more) is_told =
-      subst (λ (one : Answer). CommitsTo now j copy one left) (sym is_told)
+      subst (λ (one : Answer). CommitsToBlock now j copy one left) (sym is_told)
       (block, there, at_version version stale, more, left-committed is_after)
   commits-left (BlockStale looked count) told stale (is_after, is_looked, is_now) is_told =
-      subst (λ (one : Answer). CommitsTo now j copy one left) (sym is_told) (
+      subst (λ (one : Answer). CommitsToBlock now j copy one left) (sym is_told) (
         block,
         there,
         is_looked,
@@ -203,12 +203,12 @@ module _ (p : ℕ) (inside now : State) (j : ℤ) (place : ℕ) (block after : B
 
 -- what a worker held is committed
 
-pub committed-row : (before middle after : State) (worker : ℕ) (held : Holding) (answer : Answer) → Some held ≡ held_by before worker
-    → middle ≡ with_held before worker None → CommitsTo middle held.block held.copy answer after → Commits before worker answer after
+pub committed-row : (before middle after : CoreState) (worker : ℕ) (held : Holding) (answer : Answer) → Some held ≡ held_by before worker
+    → middle ≡ with_held before worker None → CommitsToBlock middle held.block held.copy answer after → Commits before worker answer after
 committed-row before middle after worker held answer holds is_middle commits =
-    row answer (subst (λ (s : State). CommitsTo s held.block held.copy answer after) is_middle commits)
+    row answer (subst (λ (s : CoreState). CommitsToBlock s held.block held.copy answer after) is_middle commits)
   where
-    row : (one : Answer) → CommitsTo (with_held before worker None) held.block held.copy one after → Commits before worker one after
+    row : (one : Answer) → CommitsToBlock (with_held before worker None) held.block held.copy one after → Commits before worker one after
     row (Stale looked now) (block, there, is_looked, is_now, other, is) =
         (held, block, sym holds, there, is_looked, is_now, other, is)
     row (Committed version) (block, there, version_is, more, is) = (held, block, sym holds, there, version_is, more, is)
@@ -219,7 +219,7 @@ committed-row before middle after worker held answer holds is_middle commits =
     row Forgot none = absurd none
 
 -- where a worker holds nothing, nothing changes
-pub nothing-given_up : (state : State) (worker : ℕ) → None ≡ held_by state worker → with_held state worker None ≡ state
+pub nothing-given_up : (state : CoreState) (worker : ℕ) → None ≡ held_by state worker → with_held state worker None ≡ state
 nothing-given_up state worker none =
     ap (state_of state.diagram state.blocks) (set-same state.workers (worker - 1) None (sym none))
 

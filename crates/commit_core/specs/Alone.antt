@@ -1,11 +1,11 @@
 -- One worker alone at one block (this project's rule).
-use Rattle.std.specs.Prelude.{ℕ, zero, suc, ℤ, List, [], ◌∷◌, map, replicate, if◌then◌else◌, None, Some}
+use Rattle.std.specs.Prelude.{ℕ, zero, suc, ℤ, List, [], ◌∷◌, map, replicate, if◌then◌else◌, None}
 use Rattle.std.specs.Ordering.{int_eq}
 use Rattle.kh_types.specs.Code.{Code}
 use Rattle.kh_types.specs.Complex.{Pivot}
 use Rattle.cube_signs.specs.Blocks.{block_degrees}
-use Rattle.shared_block.specs.BlockHistories.{BlockCopy, BlockHistory, block_with}
-use Rattle.commit_core.specs.States.{State, holding_of, state_of, with_held}
+use Rattle.shared_block.specs.BlockHistories.{BlockHistory, block_with}
+use Rattle.commit_core.specs.States.{CoreState, state_of}
 use Rattle.commit_core.specs.declared.event.Event.{Event}
 use Rattle.commit_core.specs.declared.event.Event.TheVariants.{Look, Commit}
 
@@ -19,9 +19,5 @@ abbrev pub blocks_with : Code → ℤ → List Pivot → List ℤ → List Block
 blocks_with code j history degrees = map (λ k. block_with code k (if int_eq k j then history else [])) degrees
 
 -- the opening state, but with this history of the block at j
-abbrev pub state_with : Code → ℕ → ℤ → List Pivot → State
+abbrev pub state_with : Code → ℕ → ℤ → List Pivot → CoreState
 state_with code workers j history = state_of code (blocks_with code j history (block_degrees code)) (replicate workers None)
-
--- the same, and worker 1 holds a copy that it made of that block
-abbrev pub state_between : Code → ℕ → ℤ → List Pivot → BlockCopy → State
-state_between code workers j history copy = with_held (state_with code workers j history) 1 (Some (holding_of j copy))

@@ -27,12 +27,12 @@ pub record Counts : Type 0 where
   pub workers : List (Option Count)
 
 -- these two
-abbrev pub counts_of : List Count → List (Option Count) → Counts
-counts_of blocks workers = record { blocks = blocks; workers = workers }
+abbrev pub counts_with : List Count → List (Option Count) → Counts
+counts_with blocks workers = record { blocks = blocks; workers = workers }
 
 -- at first all versions are 0, and no worker holds anything
 abbrev pub opening_counts : Code → ℕ → Counts
-opening_counts code workers = counts_of (map (λ j. count_of j 0) (block_degrees code)) (replicate workers None)
+opening_counts code workers = counts_with (map (λ j. count_of j 0) (block_degrees code)) (replicate workers None)
 
 -- how many turns the block at j takes: the ranks of all its differentials together
 abbrev pub turns : ℕ → Code → ℤ → ℕ
@@ -47,13 +47,13 @@ abbrev pub count_held : Counts → ℕ → Option Count
 count_held counts worker = slice_index_or counts.workers (worker - 1) None
 
 -- the worker holds this from now on
-abbrev pub holding : Counts → ℕ → Option Count → Counts
-holding counts worker held = counts_of counts.blocks (slice_set counts.workers (worker - 1) held)
+abbrev pub with_count : Counts → ℕ → Option Count → Counts
+with_count counts worker held = counts_with counts.blocks (slice_set counts.workers (worker - 1) held)
 
 -- the version of the block at a quantum degree is one more from now on
 abbrev pub raised : Counts → ℤ → Counts
 raised counts j =
-    counts_of (map (λ count. if int_eq count.block j then count_of count.block (count.version + 1) else count) counts.blocks) counts.workers
+    counts_with (map (λ count. if int_eq count.block j then count_of count.block (count.version + 1) else count) counts.blocks) counts.workers
 
 -- an answer, and the counts behind it
 pub record Outcome : Type 0 where
@@ -66,18 +66,18 @@ outcome_of answer counts = record { answer = answer; counts = counts }
 
 -- a worker looks at this block, if it is one
 abbrev pub look_at : ℕ → Code → Counts → ℕ → Option Count → Outcome
-look_at p code counts worker None = outcome_of NoBlock (holding counts worker None)
+look_at p code counts worker None = outcome_of NoBlock (with_count counts worker None)
 look_at p code counts worker (Some count) =
-    if nat_eq count.version (turns p code count.block) then outcome_of Zero (holding counts worker None)
-    else outcome_of (Looked count.version) (holding counts worker (Some count))
+    if nat_eq count.version (turns p code count.block) then outcome_of Zero (with_count counts worker None)
+    else outcome_of (Looked count.version) (with_count counts worker (Some count))
 
 -- a worker commits what it looked at to this block
 abbrev pub commit_to : Counts → ℕ → Count → Option Count → Outcome
 commit_to counts worker looked None = outcome_of Idle counts
 commit_to counts worker looked (Some count) =
     if nat_eq looked.version count.version
-    then outcome_of (Committed (count.version + 1)) (holding (raised counts count.block) worker None)
-    else outcome_of (Stale looked.version count.version) (holding counts worker None)
+    then outcome_of (Committed (count.version + 1)) (with_count (raised counts count.block) worker None)
+    else outcome_of (Stale looked.version count.version) (with_count counts worker None)
 
 -- a worker commits what it holds, if it holds anything
 abbrev pub commit_held : Counts → ℕ → Option Count → Outcome
@@ -87,7 +87,7 @@ commit_held counts worker (Some looked) = commit_to counts worker looked (count_
 -- a worker forgets what it holds, if it holds anything
 abbrev pub forget_held : Counts → ℕ → Option Count → Outcome
 forget_held counts worker None = outcome_of Idle counts
-forget_held counts worker (Some looked) = outcome_of Forgot (holding counts worker None)
+forget_held counts worker (Some looked) = outcome_of Forgot (with_count counts worker None)
 
 -- what an event comes to
 abbrev pub outcome : ℕ → Code → Counts → Event → Outcome

@@ -20,52 +20,52 @@ abbrev pub holding_of : ℤ → BlockCopy → Holding
 holding_of j copy = record { block = j; copy = copy }
 
 -- the diagram, a block for each quantum degree that has a generator, ascending, and for each worker, from worker 1 on, what it holds
-pub record State : Type 0 where
+pub record CoreState : Type 0 where
   pub diagram : Code
   pub blocks : List BlockHistory
   pub workers : List (Option Holding)
 
 -- these three
-abbrev pub state_of : Code → List BlockHistory → List (Option Holding) → State
+abbrev pub state_of : Code → List BlockHistory → List (Option Holding) → CoreState
 state_of code blocks workers = record { diagram = code; blocks = blocks; workers = workers }
 
 -- at first no block has a history, and no worker holds anything
-abbrev pub opening_state : Code → ℕ → State
+abbrev pub opening_state : Code → ℕ → CoreState
 opening_state code workers = state_of code (opening_blocks code) (replicate workers None)
 
 -- the block at a quantum degree, if there is one
-abbrev pub block_at : State → ℤ → Option BlockHistory
+abbrev pub block_at : CoreState → ℤ → Option BlockHistory
 block_at state j = find (λ held. int_eq held.degree j) state.blocks
 
 -- what a worker holds
-abbrev pub held_by : State → ℕ → Option Holding
+abbrev pub held_by : CoreState → ℕ → Option Holding
 held_by state worker = slice_index_or state.workers (worker - 1) None
 
 -- the worker holds this from now on, and all else stays
-abbrev pub with_held : State → ℕ → Option Holding → State
+abbrev pub with_held : CoreState → ℕ → Option Holding → CoreState
 with_held state worker held = state_of state.diagram state.blocks (slice_set state.workers (worker - 1) held)
 
 -- the history of the block at a quantum degree has one more pivot at its end, and all else stays
-abbrev pub with_commit : State → ℤ → Pivot → State
+abbrev pub with_commit : CoreState → ℤ → Pivot → CoreState
 with_commit state j pivot =
     state_of state.diagram (map (λ held. if int_eq held.degree j then with_pivot held pivot else held) state.blocks) state.workers
 
 -- what a worker holds was copied of the block that the first pivots of its history left, as many as the version of the copy
-pub record IsHeldOf (p : ℕ) (state : State) (held : Holding) : Type 0 where
+pub record IsHeldOf (p : ℕ) (state : CoreState) (held : Holding) : Type 0 where
   pub block : BlockHistory
   pub there : block_at state held.block ≡ Some block
   pub earlier : held.copy.version ≤ length block.history
   pub copy_is : IsCopyOf p (block_with block.diagram block.degree (take held.copy.version block.history)) held.copy
 
 -- the worker that an event is of
-abbrev pub worker_of : Event → ℕ
-worker_of (Look worker j hint) = worker
-worker_of (Commit worker) = worker
-worker_of (Forget worker) = worker
+abbrev pub event_worker : Event → ℕ
+event_worker (Look worker j hint) = worker
+event_worker (Commit worker) = worker
+event_worker (Forget worker) = worker
 
 -- what a core keeps: its blocks are those of the diagram, each with a legal history, and what a worker holds was copied of what the
 -- first pivots of its block's history left
-pub record IsSound (p : ℕ) (state : State) : Type 0 where
+pub record IsSound (p : ℕ) (state : CoreState) : Type 0 where
   pub blocks : AreBlocksOf state.diagram state.blocks
   pub legal : All (HasLegalHistory p) state.blocks
   pub holdings : All (λ held. IfSome held (IsHeldOf p state)) state.workers

@@ -2,7 +2,7 @@
 
 ghost use Rattle.std.specs.Prelude.{◌≡◌, None, IfOk, MatchOption};
 ghost use Rattle.shared_block.specs.Commits.{IsForeignAnswer};
-ghost use Rattle.commit_core.specs.Parts.{CommitsTo, IsBlockAt, IsSameAnswer, IsSight};
+ghost use Rattle.commit_core.specs.Parts.{CommitsToBlock, IsBlockAt, IsSameAnswer, IsSight};
 ghost use Rattle.commit_core.specs.States.{IsHeldOf, block_at, holding_of};
 ghost use Rattle.std.specs.List.{position};
 ghost use Rattle.std.specs.Ordering.{int_eq};
@@ -40,7 +40,7 @@ impl<F: PrimeField> Core<F> {
     /// Commits a patch that fits to the block at a quantum degree.
     pub(crate) fn commit_to(&mut self, block: i16, patch: BlockPatch<F>) -> Answer
         requires { IsHeldOf F.P self.old (holding_of block patch) }
-        ensures { CommitsTo self.old block patch result self.new }
+        ensures { CommitsToBlock self.old block patch result self.new }
     {
         let Some(place) = self.place_of(block) else {
             unreachable!();

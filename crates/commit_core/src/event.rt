@@ -1,7 +1,7 @@
 //! What a worker does.
 
 ghost use Rattle.std.specs.Prelude.{◌≡◌, ◌↔◌, ◌≤◌, All, IsTrue};
-ghost use Rattle.commit_core.specs.States.{worker_of};
+ghost use Rattle.commit_core.specs.States.{event_worker};
 
 /// What a worker does next. Workers are numbered from 1.
 #[derive(Clone, Copy, Debug, PartialEq, Eq)]
@@ -18,7 +18,7 @@ pub enum Event {
 impl Event {
     /// The worker that the event is of.
     pub fn worker(self) -> u32
-        ensures { result ≡ worker_of self }
+        ensures { result ≡ event_worker self }
     {
         match self {
             Event::Look { worker, .. } | Event::Commit { worker } | Event::Forget { worker } =>
@@ -30,7 +30,7 @@ impl Event {
 /// Whether all events are of workers from 1 to this number.
 pub fn are_of_workers(events: &[Event], workers: u32) -> bool
     ensures { IsTrue result
-        ↔ All (λ event. (1 ≤ worker_of event) × (worker_of event ≤ workers)) events.now }
+        ↔ All (λ event. (1 ≤ event_worker event) × (event_worker event ≤ workers)) events.now }
 {
     events
         .iter()

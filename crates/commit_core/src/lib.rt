@@ -9,8 +9,6 @@ mod held_look;
 pub mod laws;
 mod machine;
 mod run;
-#[cfg(test)]
-mod tests;
 
 pub use answer::Answer;
 pub use event::{Event, are_of_workers};

@@ -3,9 +3,9 @@
 ghost use Rattle.std.specs.Prelude.{◌≡◌, ◌⊎◌, ◌≤◌, length, None, IfErr, IfOk, IfSome};
 ghost use Rattle.circle_smoothing.specs.GeneratorCounts.{generator_count};
 ghost use Rattle.circle_smoothing.specs.declared.limits.TheConstants.{GENERATORS};
-ghost use Rattle.shared_block.specs.declared.limits.TheConstants.{WORKERS};
-ghost use Rattle.commit_core.specs.Rows.{Commits, Forgets, IsRow, LooksAt};
-ghost use Rattle.commit_core.specs.States.{IsHeldOf, held_by, opening_state, with_held, worker_of};
+ghost use Rattle.kh_types.specs.declared.limits.TheConstants.{WORKERS};
+ghost use Rattle.commit_core.specs.Rows.{Commits, Forgets, ComesTo, LooksAt};
+ghost use Rattle.commit_core.specs.States.{IsHeldOf, held_by, opening_state, with_held, event_worker};
 
 use crate::building::nothing_held;
 use crate::held_look::HeldLook;
@@ -17,7 +17,7 @@ use std::alloc::Global;
 use std::marker::Model;
 
 /// All blocks of a diagram's cube with their histories, and what each worker holds. Contracts see a
-/// `State`. Its type keeps what `core_laws` tells.
+/// `CoreState`. Its type keeps what `core_laws` tells.
 #[derive(Drop)]
 pub struct Core<F: PrimeField> {
     pub(crate) diagram: Diagram,
@@ -27,10 +27,10 @@ pub struct Core<F: PrimeField> {
 
 impl<F: PrimeField> Model for Core<F> {
     ghost use Rattle.std.specs.Prelude.{◌≤◌, length};
-    ghost use Rattle.shared_block.specs.declared.limits.TheConstants.{WORKERS};
-    ghost use Rattle.commit_core.specs.States.{IsSound, State, state_of};
+    ghost use Rattle.kh_types.specs.declared.limits.TheConstants.{WORKERS};
+    ghost use Rattle.commit_core.specs.States.{IsSound, CoreState, state_of};
 
-    ghost Value = { State };
+    ghost Value = { CoreState };
 
     ghost view = { λ core. state_of core.diagram core.blocks.items core.workers.items };
 
@@ -58,10 +58,10 @@ impl<F: PrimeField> Core<F> {
     /// What an event comes to. Where memory runs out nothing changes, but that the worker may have
     /// lost what it held.
     pub fn step(&mut self, alloc: Global, event: Event) -> Result<Answer, NoMemory>
-        requires { (1 ≤ worker_of event) × (worker_of event ≤ length self.old.workers) }
-        ensures row { IfOk result (λ answer. IsRow F.P self.old event answer self.new) }
+        requires { (1 ≤ event_worker event) × (event_worker event ≤ length self.old.workers) }
+        ensures row { IfOk result (λ answer. ComesTo F.P self.old event answer self.new) }
         ensures memory { IfErr result (λ _. (self.new ≡ self.old)
-            ⊎ (self.new ≡ with_held self.old (worker_of event) None)) }
+            ⊎ (self.new ≡ with_held self.old (event_worker event) None)) }
     {
         match event {
             Event::Look {

@@ -4,10 +4,10 @@ ghost use Rattle.std.specs.Prelude.{◌≡◌, ◌≤◌, length, All, IfOk};
 ghost use Rattle.circle_smoothing.specs.GeneratorCounts.{generator_count};
 ghost use Rattle.circle_smoothing.specs.declared.limits.TheConstants.{GENERATORS};
 ghost use Rattle.kh_types.specs.Table.{table};
-ghost use Rattle.shared_block.specs.declared.limits.TheConstants.{WORKERS};
+ghost use Rattle.kh_types.specs.declared.limits.TheConstants.{WORKERS};
 ghost use Rattle.commit_core.specs.Answering.{answers};
-ghost use Rattle.commit_core.specs.Rows.{IsRun};
-ghost use Rattle.commit_core.specs.States.{worker_of};
+ghost use Rattle.commit_core.specs.Rows.{IsCoreRun};
+ghost use Rattle.commit_core.specs.States.{event_worker};
 
 use crate::{Answer, Core, Event};
 use jones_sum::Table;
@@ -34,7 +34,7 @@ pub fn run_events<F: PrimeField>(
 ) -> Result<Run, NoMemory>
     requires size { generator_count diagram.now ≤ GENERATORS }
     requires workers { (1 ≤ workers) × (workers ≤ WORKERS) }
-    requires events { All (λ event. (1 ≤ worker_of event) × (worker_of event ≤ workers))
+    requires events { All (λ event. (1 ≤ event_worker event) × (event_worker event ≤ workers))
         events.now }
     ensures answers { IfOk result (λ run.
         run.answers.items ≡ answers F.P diagram.now workers events.now) }
@@ -49,9 +49,9 @@ pub fn run_events<F: PrimeField>(
 impl<F: PrimeField> Core<F> {
     /// The answers to events, one after another. Where memory runs out, some have taken place.
     fn run(&mut self, alloc: Global, events: &[Event]) -> Result<Vec<Answer>, NoMemory>
-        requires { All (λ event. (1 ≤ worker_of event)
-            × (worker_of event ≤ length self.old.workers)) events.now }
-        ensures { IfOk result (λ made. IsRun F.P self.old events.now made.items self.new) }
+        requires { All (λ event. (1 ≤ event_worker event)
+            × (event_worker event ≤ length self.old.workers)) events.now }
+        ensures { IfOk result (λ made. IsCoreRun F.P self.old events.now made.items self.new) }
     {
         let mut answers = Vec::with_capacity(alloc, events.len())?;
         'events: for k in 0..events.len() {

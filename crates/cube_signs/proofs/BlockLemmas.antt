@@ -17,7 +17,7 @@ use Rattle.sparse_block.specs.Inside.{lists_in}
 use Rattle.sparse_block.proofs.LineLemmas.{list-lists_in}
 use Rattle.cube_signs.specs.Columns.{column_to, names_from, AreAllColumns, AreColumns, IsColumn}
 use Rattle.cube_signs.specs.Steps.{HasSteps}
-use Rattle.cube_signs.specs.Tables.{base_of, AreRanks}
+use Rattle.cube_signs.specs.Tables.{own_base, AreRanks}
 use Rattle.cube_signs.proofs.ColumnHeads.{AreAround, IsColumn-entries}
 use Rattle.cube_signs.proofs.GeneratorPlaces.{generator-at, is_label, HasPlace-within}
 use Rattle.cube_signs.proofs.StateLists.{images-more}
@@ -47,7 +47,7 @@ label-small code i j tail is few tails =
 pub columns-more : (p : ℕ) (code : Code) (i j : ℤ) (names : List Generator) (k : ℕ) (tail : Generator) (steps : List (Option Edge))
     (bases ranks : List ℕ) (column : List Entry) (made next : List (List Entry)) → 1 < p → IsTrue (accepted code)
     → names ≡ generators_at code i j → k < length names → tail ≡ get_or names k tail
-    → HasSteps code tail.state (length code.crossings) steps → bases ≡ map (base_of code (i +ℤ pos 1) j) (states code)
+    → HasSteps code tail.state (length code.crossings) steps → bases ≡ map (own_base code j) (states code)
     → AreRanks code ranks → column ≡ column_to p steps bases ranks tail (length steps) → AreColumns p code i j k made
     → next ≡ made ++ column ∷ [] → AreColumns p code i j (k + 1) next
 columns-more p code i j names k tail steps bases ranks column made next prime is is_names below is_tail has_steps is_bases are_ranks

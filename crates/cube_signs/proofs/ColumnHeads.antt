@@ -24,7 +24,7 @@ use Rattle.sparse_block.proofs.AscendingLemmas.{Ascend, ascend-earlier, entries-
 use Rattle.cube_signs.specs.Columns.{column_to, entries_at, head_entry, sign_at, step_entries, IsColumn}
 use Rattle.cube_signs.specs.Heads.{labels_behind}
 use Rattle.cube_signs.specs.Steps.{HasSteps, IsStep}
-use Rattle.cube_signs.specs.Tables.{base_of}
+use Rattle.cube_signs.specs.Tables.{base_of, own_base, own_degree}
 use Rattle.cube_signs.proofs.ColumnLemmas.{All-elements, All-flat_map-range, Contains-images, ascend-append, ascend-map, value_at-is}
 use Rattle.cube_squares.proofs.Degrees.{coefficient-next}
 use Rattle.cube_signs.proofs.EdgeHeads.{coefficient-along, coefficient-elsewhere, labels_behind-ascend, labels_behind-below, list_any-decides}
@@ -40,7 +40,7 @@ pub record AreAround (p : ℕ) (code : Code) (i j : ℤ) (tail : Generator) (ste
   pub label_below : tail.label < 2 ^ circle_count code tail.state
   pub passes : is_label code i j tail.state tail.label ≡ true
   pub of_steps : HasSteps code tail.state (length code.crossings) steps
-  pub of_bases : bases ≡ map (base_of code (i +ℤ pos 1) j) (states code)
+  pub of_bases : bases ≡ map (own_base code j) (states code)
   pub of_ranks : (state label : ℕ) → state < 2 ^ length code.crossings → label < 2 ^ circle_count code state
       → is_label code (i +ℤ pos 1) j state label ≡ true
       → slice_index ranks label ≡ length (filter (is_label code (i +ℤ pos 1) j state) (range_with_len 0 label))
@@ -112,13 +112,17 @@ heads-at p code i j tail steps bases ranks around place label change below zero_
     ∙ ap (λ b. cond b (sign_at p tail.state place) 0) found in
     let positive = sign-positive p tail.state place around.prime in
     let passes = next-degrees p code i j tail (generator_of behind label) around.is_code around.passes (omega arith) in
+    let first = int_eq (homological_degree code (generator_of behind label)) (i +ℤ pos 1) in
+    let both = and_parts first (int_eq (quantum_degree code (generator_of behind label)) j) passes in
+    let is_own : own_degree code behind ≡ i +ℤ pos 1 = (Decides-int_eq (own_degree code behind) (i +ℤ pos 1)).0 both.0 in
     record {
       behind = behind_below;
       small = small;
       passes = passes;
       is = ap₂ (λ x y. x + y)
           (ap (λ xs. slice_index xs behind) around.of_bases
-          ∙ get_or-map-range_with_len (base_of code (i +ℤ pos 1) j) 0 (2 ^ n) behind behind 0 behind_below (omega arith))
+          ∙ get_or-map-range_with_len (own_base code j) 0 (2 ^ n) behind behind 0 behind_below (omega arith)
+          ∙ ap (λ (d : ℤ). base_of code d j behind) is_own)
           (around.of_ranks behind label behind_below small passes);
       coefficient = is_sign;
     }

@@ -25,7 +25,7 @@ use Rattle.circle_smoothing.specs.declared.change.Edge.TheVariants.{Merge, Split
 use Rattle.circle_smoothing.proofs.EdgeNumbers.{renumbers}
 use Rattle.cube_signs.specs.Heads.{labels_behind, merged_labels, minuses_gained, split_labels}
 use Rattle.cube_squares.proofs.Merges.{IsMerge, IsSwitch, switch-edge}
-use Rattle.cube_squares.proofs.Sums.{sum_by-single}
+use Rattle.kh_types.proofs.ListSums.{sum_by-single}
 use Rattle.cube_squares.proofs.MarkedLabels.{labels-lower}
 use Rattle.cube_squares.proofs.TouchedCircles.{fits, fits-decides}
 use Rattle.cube_squares.proofs.Pairs.{IsStep, edge_or_zero, is_edge-decides}

@@ -17,3 +17,4 @@ pub mod ColumnHeads
 pub mod BlockLemmas
 pub mod SpanLemmas
 pub mod NamedBlocks
+pub mod PlaceLemmas

@@ -85,18 +85,3 @@ below-all code i j state made all is_made =
 pub wide-enough : (code : Code) (state circles : ℕ) (weights : List ℕ) → AtState code state weights → circles ≡ circle_count code state
     → 2 ^ circles ≤ length weights
 wide-enough code state circles weights at is = omega (arith, at.wide, ap (λ n. 2 ^ n) is)
-
--- the bases of one state more
-pub bases-more : (code : Code) (i j : ℤ) (state count next : ℕ) → count ≡ base_of code i j state
-    → next ≡ count + length (state_generators code i j state) → next ≡ base_of code i j (state + 1)
-bases-more code i j state count next is is_next = omega (arith, base-more code i j state)
-
-pub bases-small : (code : Code) (i j : ℤ) (bases : List ℕ) → generator_count code ≤ GENERATORS
-    → bases ≡ map (base_of code i j) (states code) → All (λ base. base < 2 ^ 31) bases
-bases-small code i j bases size is =
-    subst (λ (bases : List ℕ). All (λ base. base < 2 ^ 31) bases) (sym is)
-    (All-map (λ base. base < 2 ^ 31) (base_of code i j) (states code)
-    (λ k d within.
-    let below : k < 2 ^ length code.crossings = omega (arith, within, length-range_with_len 0 (2 ^ length code.crossings)) in
-    let at : get_or (states code) k d ≡ k = get_or-range_with_len 0 (2 ^ length code.crossings) k d below ∙ omega arith in
-    omega (arith, ap (base_of code i j) at, base-small code i j k (omega arith) size)))

@@ -1,5 +1,5 @@
 -- What is looked up for the blocks of a cube, found once for all of them.
-use Rattle.std.specs.Prelude.{◌≡◌, ℕ, ◌^◌, ◌<◌, ◌≤◌, ℤ, List, length, map, slice_index, true, Option, IsTrue}
+use Rattle.std.specs.Prelude.{◌≡◌, ℕ, ◌^◌, ◌+◌, ◌<◌, ◌≤◌, ℤ, pos, ◌-ℤ◌, List, length, map, slice_index, true, Option, IsTrue}
 use Rattle.std.specs.List.{filter, flat_map, range_with_len}
 use Rattle.arrayvec.specs.ArrayVec.{ArrayVec}
 use Rattle.kh_types.specs.declared.limits.TheConstants.{CROSSINGS}
@@ -8,7 +8,7 @@ use Rattle.kh_types.specs.Bits.{ones}
 use Rattle.kh_types.specs.Circles.{circle_count}
 use Rattle.kh_types.specs.Code.{Code}
 use Rattle.kh_types.specs.Directions.{minus_count}
-use Rattle.kh_types.specs.Generators.{Generator, generator_of, generators_of, has_degrees, states}
+use Rattle.kh_types.specs.Generators.{Generator, generator_of, generators_of, has_degrees, homological_degree, states}
 use Rattle.circle_smoothing.specs.GeneratorCounts.{generator_count}
 use Rattle.circle_smoothing.specs.declared.change.Edge.{Edge}
 use Rattle.circle_smoothing.specs.declared.limits.TheConstants.{GENERATORS}
@@ -28,6 +28,20 @@ generators_below code i j count = flat_map (state_generators code i j) (range_wi
 -- how many there are: the place of the first that the next state has
 abbrev pub base_of : Code → ℤ → ℤ → ℕ → ℕ
 base_of code i j state = length (generators_below code i j state)
+
+-- the homological degree of the generators of a state
+abbrev pub own_degree : Code → ℕ → ℤ
+own_degree code state = homological_degree code (generator_of state 0)
+
+-- the place of the first generator of a state, among those of its homological degree and the quantum degree j
+abbrev pub own_base : Code → ℤ → ℕ → ℕ
+own_base code j state = base_of code (own_degree code state) j state
+
+-- how many generators of the quantum degree j the states below a number have, by the ones of the states
+pub record HaveSizes (code : Code) (j : ℤ) (count : ℕ) (sizes : List ℕ) : Type 0 where
+  pub size : length sizes ≡ CROSSINGS + 1
+  pub each : (level : ℕ) → level ≤ CROSSINGS
+      → slice_index sizes level ≡ base_of code (pos level -ℤ pos (minus_count code.crossings)) j count
 
 -- the diagram's code is accepted and within the limits; there are its negative crossings, for each state its shape and the edges out
 -- of it, and for each label of as many circles as any state has how many v- it has, and how many labels before it have as many

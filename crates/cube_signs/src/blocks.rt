@@ -1,9 +1,9 @@
 //! The blocks of a cube.
 
 ghost use Rattle.std.specs.Prelude.{◌≡◌, ◌+◌, ◌-◌, ◌*◌, ◌^◌, ◌<◌, ◌≤◌, ◌++◌, [], length, map, not};
-ghost use Rattle.std.specs.Prelude.{pos, neg_ℤ, ◌+ℤ◌, ◌-ℤ◌, ◌≤ℤ◌, IfOk, OnOk};
+ghost use Rattle.std.specs.Prelude.{pos, neg_ℤ, ◌+ℤ◌, ◌-ℤ◌, ◌≤ℤ◌, All, IfOk, OnOk};
 ghost use Rattle.std.specs.List.{Contains, position, position_or_len};
-ghost use Rattle.kh_types.specs.Generators.{generators_at};
+ghost use Rattle.kh_types.specs.Generators.{generators_at, states};
 ghost use Rattle.kh_types.specs.History.{first_or_zero, homological_degrees, is_empty};
 ghost use Rattle.kh_types.specs.Table.{from_minus};
 ghost use Rattle.kh_types.specs.declared.limits.TheConstants.{CROSSINGS};
@@ -13,6 +13,7 @@ ghost use Rattle.sparse_block.specs.Inside.{entries_in, lines_in, lists_in};
 ghost use Rattle.cube_signs.specs.Blocks.{block_degrees, named_block};
 ghost use Rattle.cube_signs.specs.Columns.{flags_of, names_from, AreAllColumns, AreColumns};
 ghost use Rattle.cube_signs.specs.Columns.{AreParts};
+ghost use Rattle.cube_signs.specs.Tables.{own_base, HaveSizes};
 
 use crate::columns::{Column, Heads, column};
 use crate::cube::Cube;
@@ -59,10 +60,11 @@ impl Cube {
     {
         // (what a cube keeps)
         let _ = self.state_count();
-        let span = self.span(alloc, self.lowest(j))?;
+        let places = self.places(alloc, j)?;
+        let span = self.span(alloc, &places.sizes, self.lowest(j))?;
         let least = span.least;
         let names = self.all_names(alloc, least, span.count)?;
-        let columns = self.all_columns(alloc, p, least, &names)?;
+        let columns = self.all_columns(alloc, p, least, &places.bases, &names)?;
         Ok(Parts {
             least,
             names,
@@ -76,17 +78,18 @@ impl Cube {
         alloc: Global,
         p: u8,
         at: Degrees,
+        bases: &[u32],
         names: &[Generator],
     ) -> Result<Vec<Column>, NoMemory>
         requires prime { 1 < p }
-        requires degree { at.i ≤ℤ pos 32 }
+        requires bases { bases.now ≡ map (own_base self.now at.j) (states self.now) }
+        requires small { All (λ base. base < 2 ^ 31) bases.now }
         requires names { names.now ≡ generators_at self.now at.i at.j }
         ensures { IfOk result (λ columns.
             AreColumns p self.now at.i at.j (length names.now) (entries_in columns.items)) }
     {
-        let bases = self.bases(alloc, at.next())?;
         let heads = Heads {
-            bases: &bases,
+            bases,
             ranks: self.ranks(),
         };
         let mut columns = Vec::with_capacity(alloc, names.len())?;
@@ -103,9 +106,12 @@ impl Cube {
         alloc: Global,
         p: u8,
         least: Degrees,
+        bases: &[u32],
         names: &[Vec<Generator>],
     ) -> Result<Vec<Vec<Column>>, NoMemory>
         requires prime { 1 < p }
+        requires bases { bases.now ≡ map (own_base self.now least.j) (states self.now) }
+        requires small { All (λ base. base < 2 ^ 31) bases.now }
         requires low { neg_ℤ (pos 32) ≤ℤ least.i }
         requires high { (least.i +ℤ pos (length names.now)) ≤ℤ pos 32 }
         requires names { lists_in names.now
@@ -115,7 +121,7 @@ impl Cube {
     {
         let mut columns = Vec::with_capacity(alloc, names.len())?;
         'degrees: for k in 0..names.len() {
-            let degree = self.columns(alloc, p, least.above(k), &names[k])?;
+            let degree = self.columns(alloc, p, least.above(k), bases, &names[k])?;
             columns.push(degree)?;
         }
         Ok(columns)
@@ -143,7 +149,8 @@ impl Cube {
 
     /// The degrees of the block at a quantum degree, which is given with the lowest homological
     /// degree that there can be.
-    fn span(&self, alloc: Global, lowest: Degrees) -> Result<Span, NoMemory>
+    fn span(&self, alloc: Global, sizes: &[usize], lowest: Degrees) -> Result<Span, NoMemory>
+        requires sizes { HaveSizes self.now lowest.j (2 ^ length self.now.crossings) sizes.now }
         requires lowest { lowest.i ≡ neg_ℤ (pos (length self.now.crossings)) }
         requires some { 0 < length (homological_degrees self.now lowest.j) }
         ensures low { IfOk result (λ span.
@@ -156,7 +163,7 @@ impl Cube {
     {
         // (the number of crossings is small)
         let _ = self.crossing_count();
-        let mut flags = self.flags(alloc, lowest)?;
+        let mut flags = self.flags(alloc, sizes, lowest)?;
         let first = leading(&flags);
         flags.reverse();
         let behind = leading(&flags);
@@ -168,14 +175,15 @@ impl Cube {
 
     /// Whether each homological degree has a generator of a quantum degree, from the number of
     /// crossings below 0 to that above 0.
-    fn flags(&self, alloc: Global, lowest: Degrees) -> Result<Vec<bool>, NoMemory>
-        requires { lowest.i ≡ neg_ℤ (pos (length self.now.crossings)) }
+    fn flags(&self, alloc: Global, sizes: &[usize], lowest: Degrees) -> Result<Vec<bool>, NoMemory>
+        requires sizes { HaveSizes self.now lowest.j (2 ^ length self.now.crossings) sizes.now }
+        requires lowest { lowest.i ≡ neg_ℤ (pos (length self.now.crossings)) }
         ensures { IfOk result (λ flags. flags.items ≡ flags_of self.now lowest.j) }
     {
         let count = 2 * self.crossing_count() + 1;
         let mut flags = Vec::new(alloc);
         'degrees: for k in 0..count {
-            flags.push(self.size(lowest.above(k)) != 0)?;
+            flags.push(self.size(sizes, lowest.above(k)) != 0)?;
         }
         Ok(flags)
     }
@@ -192,7 +200,7 @@ impl Cube {
     }
 
     /// The number of crossings.
-    fn crossing_count(&self) -> usize
+    pub(crate) fn crossing_count(&self) -> usize
         ensures count { result ≡ length self.now.crossings }
         ensures few { result ≤ CROSSINGS }
     {

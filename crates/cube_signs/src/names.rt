@@ -88,34 +88,8 @@ impl Cube {
         }
     }
 
-    /// How many generators of two degrees there are.
-    pub(crate) fn size(&self, at: Degrees) -> usize
-        ensures { result ≡ length (generators_at self.now at.i at.j) }
-    {
-        let mut size = 0;
-        'states: for state in 0..self.state_count() {
-            size += self.count(state, at);
-        }
-        size
-    }
-
-    /// For each state, how many generators of two degrees the states before it have.
-    pub(crate) fn bases(&self, alloc: Global, at: Degrees) -> Result<Vec<u32>, NoMemory>
-        ensures bases { IfOk result (λ bases.
-            bases.items ≡ map (base_of self.now at.i at.j) (states self.now)) }
-        ensures small { IfOk result (λ bases. All (λ base. base < 2 ^ 31) bases.items) }
-    {
-        let mut bases = Vec::with_capacity(alloc, self.state_count())?;
-        let mut count = 0;
-        'states: for state in 0..self.state_count() {
-            bases.push(count as u32)?;
-            count += self.count(state, at);
-        }
-        Ok(bases)
-    }
-
     /// How many generators of two degrees a state has.
-    fn count(&self, state: usize, at: Degrees) -> usize
+    pub(crate) fn count(&self, state: usize, at: Degrees) -> usize
         requires { state < 2 ^ length self.now.crossings }
         ensures { result ≡ length (state_generators self.now at.i at.j state) }
     {
@@ -159,7 +133,7 @@ impl Cube {
     }
 
     /// The shape of a state.
-    fn shape(&self, state: usize) -> Shape
+    pub(crate) fn shape(&self, state: usize) -> Shape
         requires { state < 2 ^ length self.now.crossings }
         ensures shape { result ≡ shape_of self.now state }
         ensures few { result.circles ≤ 22 }

@@ -1,20 +1,20 @@
 -- A block is a complex: the sizes of its matrices, and the product of neighbouring ones.
-use Rattle.std.proofs.Common.{◌≡◌, ℕ, ◌+◌, ◌*◌, ◌%◌, ◌<◌, ◌∙◌, inl, inr, ℤ, pos, ◌+ℤ◌, ◌-ℤ◌, List, [], ◌∷◌, length, map, refl, sym, ap, ap₂, arith, true, false, zero, suc, IsTrue}
+use Rattle.std.proofs.Common.{◌≡◌, ℕ, ◌*◌, ◌%◌, ◌<◌, ◌∙◌, inl, inr, ℤ, pos, ◌+ℤ◌, List, [], ◌∷◌, length, map, refl, sym, ap, ap₂, arith, true, false, zero, suc, IsTrue}
 use Rattle.std.specs.Prelude.{slice_index_or}
 use Rattle.std.specs.List.{sum_by, range_with_len}
-use Rattle.std.proofs.lemmas.Int.{ints}
 use Rattle.std.proofs.lemmas.Bool.{cases_lt}
 use Rattle.std.proofs.lemmas.List.{get_or_past, length-map}
 use Rattle.kh_types.specs.Acceptance.{accepted}
 use Rattle.kh_types.specs.Code.{Code}
-use Rattle.kh_types.specs.Complex.{Complex, IsComplex, degree_from, degree_number, degree_of, entry_in, entry_of, product_entry}
+use Rattle.kh_types.specs.Complex.{IsComplex, degree_of, entry_in, entry_of, product_entry}
 use Rattle.kh_types.specs.Differential.{differential}
 use Rattle.kh_types.specs.Generators.{Generator, generators_at}
 use Rattle.kh_types.specs.History.{block, homological_degrees}
 use Rattle.kh_types.proofs.MatrixTests.{entry-past_rows}
-use Rattle.cube_squares.proofs.Sums.{sum_by-alike}
+use Rattle.kh_types.proofs.ListSums.{sum_by-alike}
 use Rattle.cube_squares.proofs.Matrices.{differentials-square, entry-below, entry-column_past, length-differential, length-row}
 use Rattle.cube_squares.proofs.BlockDegrees.{cube_degree, degree-block, degree-numbered}
+use Rattle.kh_types.proofs.ComplexLemmas.{degree_of-number, degree_of-next}
 
 -- at each degree the block has a place for each generator, all of them alive, and the entries of the differential
 pub alive-block : (p : ℕ) (code : Code) (j i : ℤ)
@@ -65,16 +65,6 @@ not_dead p code j i place dead =
     absurd (cc)
 
 -- the degrees of a complex by their numbers
-degree_of-number : (complex : Complex) (k : ℕ) → degree_of complex (complex.low +ℤ pos k) ≡ degree_number complex k
-degree_of-number complex k =
-    let distance : complex.low +ℤ pos k -ℤ complex.low ≡ pos k = omega (arith, ints) in
-    ap (degree_from complex) distance
-
-degree_of-next : (complex : Complex) (k : ℕ) → degree_of complex (complex.low +ℤ pos k +ℤ pos 1) ≡ degree_number complex (k + 1)
-degree_of-next complex k =
-    let distance : complex.low +ℤ pos k +ℤ pos 1 -ℤ complex.low ≡ pos (k + 1) = omega (arith, ints) in
-    ap (degree_from complex) distance
-
 pub IsComplex-block : (p : ℕ) (code : Code) (j : ℤ) → 1 < p → IsTrue (accepted code) → IsComplex p (block p code j)
 IsComplex-block p code j above is =
     let whole = block p code j in

@@ -17,7 +17,7 @@ use Rattle.kh_types.specs.Directions.{minus_count, plus_count}
 use Rattle.kh_types.specs.Generators.{Generator, generators, generators_at, has_degrees, homological_degree, one_count, quantum_degree}
 use Rattle.cube_squares.specs.NextDegrees.{IsNext}
 use Rattle.cube_squares.proofs.Merges.{IsSwitch, switch-edge}
-use Rattle.cube_squares.proofs.Sums.{sum_by-alike, sum_by-filter, sum_by-none}
+use Rattle.kh_types.proofs.ListSums.{sum_by-alike, sum_by-filter, sum_by-none}
 use Rattle.cube_squares.proofs.Marks.{one_if}
 use Rattle.cube_squares.proofs.MarkedLabels.{labels-lower}
 use Rattle.cube_squares.proofs.TouchedCircles.{fits, fits-decides}

@@ -17,7 +17,7 @@ use Rattle.kh_types.specs.Generators.{Generator, generator_of}
 use Rattle.kh_types.specs.CircleNumbers.{IsName, number_of}
 use Rattle.kh_types.proofs.CircleNumbers.{IsCircle, IsCircle-of, circle_names-number_of, number_of-below}
 use Rattle.cube_squares.proofs.Merges.{circle_in}
-use Rattle.cube_squares.proofs.Sums.{sum_by-places, sum_by-range_alike, sum_by-single}
+use Rattle.kh_types.proofs.ListSums.{sum_by-places, sum_by-range_alike, sum_by-single}
 
 -- the numbers of a range that pass a test stand there once: each is found at its own place
 from-filter : (p : ℕ → Bool) (a n i d : ℕ) → i < length (filter p (range_with_len a n))

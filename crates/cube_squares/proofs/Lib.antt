@@ -1,5 +1,4 @@
 pub mod Merges
-pub mod Sums
 pub mod SquareKinds
 pub mod Marks
 pub mod LabelNumbers

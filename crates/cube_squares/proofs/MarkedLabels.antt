@@ -14,7 +14,7 @@ use Rattle.kh_types.specs.CircleNumbers.{IsName}
 use Rattle.kh_types.specs.Edges.{arc_at_slot}
 use Rattle.kh_types.proofs.CircleNumbers.{IsCircle-of}
 use Rattle.cube_squares.proofs.Merges.{IsSwitch, circle_in}
-use Rattle.cube_squares.proofs.Sums.{sum_by-alike, sum_by-filter, sum_by-places, sum_by-plus, sum_by-range_alike, sum_by-zeros}
+use Rattle.kh_types.proofs.ListSums.{sum_by-alike, sum_by-filter, sum_by-places, sum_by-plus, sum_by-range_alike, sum_by-zeros}
 use Rattle.cube_squares.proofs.Marks.{hits, hits-cons, hits-sum, one_if}
 use Rattle.cube_squares.proofs.LabelNumbers.{IsName-name_at, IsName-names, name_at, ones-labels, sum_by-names}
 use Rattle.cube_squares.proofs.EdgeMarks.{IsChange, IsMarked, label_of-circle, label_of-le, marked-merge, split-marked}

@@ -13,7 +13,7 @@ use Rattle.kh_types.specs.Edges.{arc_at_slot}
 use Rattle.cube_squares.specs.Squares.{circle_at_slot}
 use Rattle.cube_squares.proofs.Merges.{IsMerge, circle_in}
 use Rattle.cube_squares.proofs.SquareKinds.{IsOn, circle-on}
-use Rattle.cube_squares.proofs.Sums.{sum_by-plus}
+use Rattle.kh_types.proofs.ListSums.{sum_by-plus}
 
 -- 1 where a test passes, else 0
 abbrev pub one_if : Bool → ℕ

@@ -12,7 +12,7 @@ use Rattle.kh_types.specs.Complex.{entry_in}
 use Rattle.kh_types.specs.Differential.{coefficient, differential}
 use Rattle.kh_types.specs.Generators.{Generator, generator_of, generators, generators_at, has_degrees}
 use Rattle.kh_types.proofs.MatrixTests.{entry-past_rows}
-use Rattle.cube_squares.proofs.Sums.{sum_by-none, sum_by-places, sum_by-range_alike}
+use Rattle.kh_types.proofs.ListSums.{sum_by-none, sum_by-places, sum_by-range_alike}
 use Rattle.cube_squares.proofs.Pairs.{times-zero, zero-times}
 use Rattle.cube_squares.proofs.Degrees.{coefficient-below, product_sum-at}
 

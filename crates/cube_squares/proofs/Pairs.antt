@@ -16,7 +16,7 @@ use Rattle.kh_types.specs.Generators.{Generator, generator_of, generators, gener
 use Rattle.kh_types.specs.Edges.{state_behind}
 use Rattle.kh_types.proofs.EdgeBits.{bit-set_other, bit-set_there, set-within}
 use Rattle.cube_squares.proofs.SquareKinds.{edges-square}
-use Rattle.cube_squares.proofs.Sums.{sum_by-alike, sum_by-flat_map, sum_by-map, sum_by-none, sum_by-single, sum_by-times, sum_by-zeros}
+use Rattle.kh_types.proofs.ListSums.{sum_by-alike, sum_by-flat_map, sum_by-map, sum_by-none, sum_by-single, sum_by-times, sum_by-zeros}
 use Rattle.cube_squares.proofs.Marks.{one_if}
 use Rattle.cube_squares.proofs.TouchedCircles.{fits}
 use Rattle.cube_squares.proofs.Paths.{path_count, path_count-turned}

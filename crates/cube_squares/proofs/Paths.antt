@@ -13,7 +13,7 @@ use Rattle.kh_types.specs.Edges.{arc_at_slot, state_behind}
 use Rattle.cube_squares.specs.Squares.{EndOnOne, EndOnTwo, IsKind}
 use Rattle.cube_squares.proofs.Merges.{IsSwitch, circle_in}
 use Rattle.cube_squares.proofs.SquareKinds.{HasEdges}
-use Rattle.cube_squares.proofs.Sums.{sum_by-alike, sum_by-none, sum_by-single, sum_by-times, sum_by-turned}
+use Rattle.kh_types.proofs.ListSums.{sum_by-alike, sum_by-none, sum_by-single, sum_by-times, sum_by-turned}
 use Rattle.cube_squares.proofs.Marks.{hits, hits-circle, hits-exchanged, hits-moved, one_if}
 use Rattle.cube_squares.proofs.LabelNumbers.{label-exists, label-once}
 use Rattle.cube_squares.proofs.EdgeMarks.{IsMarked, edge-marks, grown, is_marked, is_marked-decides}

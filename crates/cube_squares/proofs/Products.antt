@@ -8,7 +8,7 @@ use Rattle.kh_types.specs.Code.{Code, crossing_numbers}
 use Rattle.kh_types.specs.Generators.{Generator, generators}
 use Rattle.kh_types.specs.Differential.{coefficient_at, coefficient}
 use Rattle.kh_types.proofs.Ranges.{sum_by-range_more}
-use Rattle.cube_squares.proofs.Sums.{sum_by-alike, sum_by-plus, sum_by-times, sum_by-turned}
+use Rattle.kh_types.proofs.ListSums.{sum_by-alike, sum_by-plus, sum_by-times, sum_by-turned}
 use Rattle.cube_squares.proofs.Pairs.{pair_sum, pair_sum-same, pairs-cancel, product_at}
 
 -- a product of sums

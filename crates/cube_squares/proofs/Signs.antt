@@ -10,7 +10,7 @@ use Rattle.kh_types.specs.Differential.{edge_sign}
 use Rattle.kh_types.proofs.BitLemmas.{ones-more}
 use Rattle.kh_types.specs.Edges.{state_behind}
 use Rattle.kh_types.proofs.EdgeBits.{bit-set_other, bit-set_there}
-use Rattle.cube_squares.proofs.Sums.{sum_by-range_alike}
+use Rattle.kh_types.proofs.ListSums.{sum_by-range_alike}
 
 -- how many bits below a place are 1 where a bit was set: as before where it is not below the place, and else one more
 ones-set_above : (state place count : ℕ) → bit state place ≡ 0 → count ≤ place → ones count (state + 2 ^ place) ≡ ones count state

@@ -14,7 +14,7 @@ use Rattle.kh_types.specs.Code.{Code}
 use Rattle.kh_types.specs.Circles.{circle_names}
 use Rattle.kh_types.specs.Differential.{label_of, is_touched, touched, is_merge, is_split, keeps_labels, changes_labels}
 use Rattle.kh_types.specs.Generators.{Generator}
-use Rattle.kh_types.proofs.JoinedClasses.{min-fixed}
+use Rattle.kh_types.proofs.JoinedClasses.{min-cases, min-fixed}
 use Rattle.kh_types.proofs.Lists.{Contains-filter}
 use Rattle.kh_types.proofs.RangeCounts.{list_any-at}
 use Rattle.kh_types.specs.CircleNumbers.{IsName, number_of}
@@ -66,9 +66,6 @@ touched-on_after : (code : Code) (before after crossing arc : ℕ) → IsMerge c
 touched-on_after code before after crossing arc merge on =
     is_touched-slot code after crossing 0 (circle_in code after arc) (omega arith)
     (sym (circle-on code before after crossing arc merge on))
-
-least_which : (p q : ℕ) → (min p q ≡ p) ⊎ (min p q ≡ q)
-least_which p q = grind arith
 
 not_least : (p q c : ℕ) → c ≢ p → c ≢ q → c ≢ min p q
 not_least p q c not_p not_q = grind arith
@@ -195,7 +192,7 @@ label-one code before crossing one is merge =
     min-fixed (circle_in code before) p q (IsCircle-of code before x is merge.first).own (IsCircle-of code before y is merge.third).own in
     label_of-circle code one (min p q) x
     (circle-on code before one.state crossing (min p q) merge
-    (elim (least_which p q) [ inl first ↦ inl (own ∙ first) | inr third ↦ inr (own ∙ third) ]))
+    (elim (min-cases p q) [ inl first ↦ inl (own ∙ first) | inr third ↦ inr (own ∙ third) ]))
 
 -- the test of the labels that change, by lists of touched circles
 abbrev changes_lists : Code → Generator → Generator → List ℕ → List ℕ → Bool

@@ -4,6 +4,14 @@
 #[cfg(test)]
 mod cancellations;
 #[cfg(test)]
+mod cores;
+#[cfg(test)]
 mod homology_tables;
 #[cfg(test)]
+mod locks;
+#[cfg(test)]
+mod shared_blocks;
+#[cfg(test)]
 mod sparse_complexes;
+#[cfg(test)]
+mod workers;

@@ -1,27 +1,15 @@
 -- The numbers of classes, by counting.
-use Rattle.std.proofs.Common.{◌≡◌, ℕ, zero, suc, ◌+◌, ◌-◌, ◌<◌, ◌∙◌, List, ◌∷◌, ◌++◌, length, refl, ap, arith, Bool, true, false, cond, not}
+use Rattle.std.proofs.Common.{◌≡◌, ℕ, ◌+◌, ◌-◌, ◌<◌, ◌∙◌, List, ◌∷◌, ◌++◌, length, ap, arith, true, cond}
 use Rattle.std.specs.Prelude.{nat_eq, slice_index}
 use Rattle.std.specs.List.{filter, position_or_len, range_with_len}
-use Rattle.std.proofs.lemmas.Bool.{eq-eqb, eqb-true, false_from_ne_true}
+use Rattle.std.proofs.lemmas.Bool.{eq-eqb}
 use Rattle.std.proofs.Math.Seq.{get_or-append_seam}
 use Rattle.std.proofs.lemmas.List.{length-append}
 use Rattle.std.proofs.lemmas.List.Elements.{filter-append}
 use Rattle.kh_types.specs.Classes.{class_count, is_least, IsNamed}
 use Rattle.kh_types.proofs.Ranges.{range_around}
 use Rattle.face_walk.specs.ClassNumbers.{least_numbers, class_number}
-
--- the place of a number behind the lesser ones that pass a test is how many those are
-position-behind : (p : ℕ → Bool) (a k c : ℕ) (rest : List ℕ) → a + k ≡ c
-    → position_or_len (nat_eq c) (filter p (range_with_len a k) ++ c ∷ rest) ≡ length (filter p (range_with_len a k))
-position-behind p a zero c rest is = ap (λ b. cond (not b) (1 + position_or_len (nat_eq c) rest) 0) (eq-eqb c c refl)
-position-behind p a (suc k) c rest is =
-    let passed = filter p (range_with_len (a + 1) k) in
-    let later : position_or_len (nat_eq c) (passed ++ c ∷ rest) ≡ length passed = position-behind p (a + 1) k c rest (omega (arith, is)) in
-    let apart : nat_eq c a ≡ false = false_from_ne_true (nat_eq c a) (λ same. omega (arith, is, eqb-true c a same)) in
-    elim (p a) as (λ b. position_or_len (nat_eq c) (cond b (a ∷ passed) passed ++ c ∷ rest) ≡ length (cond b (a ∷ passed) passed)) [
-      | true ↦ ap (λ b. cond (not b) (1 + position_or_len (nat_eq c) (passed ++ c ∷ rest)) 0) apart ∙ ap (λ n. 1 + n) later ∙ omega arith
-      | false ↦ later
-    ]
+use Rattle.kh_types.proofs.FilteredRanges.{position-behind}
 
 -- the least numbers of the classes, about one of them
 least_numbers-around : (classes : List ℕ) (least : ℕ) → least < length classes → is_least classes least ≡ true

@@ -17,7 +17,7 @@ abbrev pub code_of_faces : Inside → Code
 code_of_faces faces = faces.diagram
 
 -- the diagram's code is accepted and within the limits; for each dart the number of its face is kept, and how many faces there are
-pub record AreNumbered (faces : Inside) : Type 0 where
+pub record AreNumberedFaces (faces : Inside) : Type 0 where
   pub code : IsTrue (accepted faces.diagram)
   pub few : length faces.diagram.crossings ≤ CROSSINGS
   pub numbers : faces.numbers.items ≡ face_numbers faces.diagram.crossings

@@ -7,8 +7,6 @@ mod finding;
 pub mod laws;
 mod numbered;
 mod sides;
-#[cfg(test)]
-mod tests;
 mod walk;
 
 pub use connected::{piece_of, pieces};

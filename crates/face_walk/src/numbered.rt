@@ -25,11 +25,11 @@ impl Model for Faces {
 
     ghost Value = { Code };
 
-    ghost use Rattle.face_walk.specs.Numbered.{code_of_faces, AreNumbered};
+    ghost use Rattle.face_walk.specs.Numbered.{code_of_faces, AreNumberedFaces};
 
     ghost view = { code_of_faces };
 
-    ghost invariant = { AreNumbered };
+    ghost invariant = { AreNumberedFaces };
 }
 
 impl Faces {

@@ -8,13 +8,13 @@ use Rattle.std.proofs.lemmas.List.{append-nil}
 use Rattle.std.proofs.lemmas.List.Folds.{sum_by-replicate}
 use Rattle.std.proofs.lemmas.List.Sums.{sum_by-append, sum_by-cons}
 use Rattle.kh_types.proofs.Lists.{AllByRecursion-append}
-use Rattle.gauss_code.specs.Listings.{Body, groups_of, is_loop, labels_of, loop_count}
+use Rattle.gauss_code.specs.Listings.{Body, groups_of, is_loop_group, labels_of, loop_group_count}
 use Rattle.gauss_code.specs.Printing.{body_of, body_of_groups}
 use Rattle.gauss_code.proofs.PrintedTexts.{AreSmall, HasSmallNumbers, IsSmall}
 
 -- a component has a label
 pub record HasLabel (labels : List ℤ) : Type 0 where
-  pub some : is_loop labels ≡ false
+  pub some : is_loop_group labels ≡ false
 
 -- where there is not one component without a loop, all are groups
 body_of-several : (components : List (List ℤ)) (loops : ℕ) → (length components ≢ 1) ⊎ (loops ≢ 0)
@@ -61,19 +61,19 @@ labels_of-body_of components loops each =
     ∙ append-nil (flat_map (λ labels. labels) components)
 
 -- and components have some, so so many are the loops
-no_loops : (components : List (List ℤ)) → AllByRecursion HasLabel components → count_by is_loop components ≡ 0
+no_loops : (components : List (List ℤ)) → AllByRecursion HasLabel components → count_by is_loop_group components ≡ 0
 no_loops [] each = refl
 no_loops (labels ∷ components) each =
-    sum_by-cons (λ group. cond (is_loop group) 1 0) labels components
-    ∙ ap (λ b. cond b 1 0 + count_by is_loop components) each.0.some
+    sum_by-cons (λ group. cond (is_loop_group group) 1 0) labels components
+    ∙ ap (λ b. cond b 1 0 + count_by is_loop_group components) each.0.some
     ∙ omega (arith, no_loops components each.1)
 
-pub loop_count-body_of : (components : List (List ℤ)) (loops : ℕ) → AllByRecursion HasLabel components
-    → loop_count (body_of components loops) ≡ loops
-loop_count-body_of components loops each =
-    ap (λ groups. count_by is_loop groups) (groups_of-body_of components loops each)
-    ∙ sum_by-append (λ group. cond (is_loop group) 1 0) components (replicate loops [])
-    ∙ omega (arith, no_loops components each, sum_by-replicate (λ (group : List ℤ). cond (is_loop group) 1 0) loops [])
+pub loop_group_count-body_of : (components : List (List ℤ)) (loops : ℕ) → AllByRecursion HasLabel components
+    → loop_group_count (body_of components loops) ≡ loops
+loop_group_count-body_of components loops each =
+    ap (λ groups. count_by is_loop_group groups) (groups_of-body_of components loops each)
+    ∙ sum_by-append (λ group. cond (is_loop_group group) 1 0) components (replicate loops [])
+    ∙ omega (arith, no_loops components each, sum_by-replicate (λ (group : List ℤ). cond (is_loop_group group) 1 0) loops [])
 
 -- where the labels are small, so are the numbers of the body
 small-flat : (components : List (List ℤ)) → AllByRecursion AreSmall components → AreSmall (flat_map (λ labels. labels) components)

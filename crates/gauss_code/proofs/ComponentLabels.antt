@@ -12,7 +12,7 @@ use Rattle.kh_types.proofs.Ranges.{range-append}
 use Rattle.orient_arcs.specs.Numbers.{first_arc}
 use Rattle.orient_arcs.proofs.ComponentLemmas.{IsDirected-accepted}
 use Rattle.orient_arcs.proofs.FirstArcs.{component-first_arc, first_is_arc}
-use Rattle.code_passes.specs.ComponentLabels.{component_labels, label_of}
+use Rattle.code_passes.specs.ComponentLabels.{component_labels, entering_label}
 use Rattle.code_passes.proofs.CutArcs.{IsFirst, end-within, size}
 
 -- some numbers of a range that follow one another
@@ -41,7 +41,7 @@ IsFirst-first_arc crossings component within = record {
 -- the labels of all arcs, and a component that is given by its number, by its first arc and by its length
 pub record IsGiven (code : Code) (labels : List ℤ) (component first count : ℕ) : Type 0 where
   pub holds : IsTrue (accepted code)
-  pub all : labels ≡ map (label_of code.crossings) (arcs code.crossings)
+  pub all : labels ≡ map (entering_label code.crossings) (arcs code.crossings)
   pub within : component < component_count code.crossings
   pub begins : first ≡ first_arc code.crossings component
   pub counts : count ≡ size code.crossings (first_arc code.crossings component)
@@ -65,7 +65,7 @@ labels-within code labels component first count given =
     omega (
       arith,
       section-within code labels component first count given,
-      ap length given.all ∙ length-map (arcs code.crossings) (label_of code.crossings) ∙ length-range_with_len 1 (arc_count code.crossings),
+      ap length given.all ∙ length-map (arcs code.crossings) (entering_label code.crossings) ∙ length-range_with_len 1 (arc_count code.crossings),
     )
 
 labels-of_component : (code : Code) (labels : List ℤ) (component first count : ℕ) → IsGiven code labels component first count
@@ -76,12 +76,12 @@ labels-of_component code labels component first count given =
     let begin : 1 + start ≡ first_arc crossings component =
     omega (arith, given.begins, first-positive code labels component first count given) in
     ap (λ ls. take count (drop start ls)) given.all
-    ∙ ap (λ ls. take count ls) (drop-map (label_of crossings) start (arcs crossings))
-    ∙ take-map (label_of crossings) count (drop start (arcs crossings))
-    ∙ ap (λ xs. map (label_of crossings) xs)
+    ∙ ap (λ ls. take count ls) (drop-map (entering_label crossings) start (arcs crossings))
+    ∙ take-map (entering_label crossings) count (drop start (arcs crossings))
+    ∙ ap (λ xs. map (entering_label crossings) xs)
     (section-range 1 start count (arc_count crossings) (section-within code labels component first count given))
-    ∙ ap (λ a. map (label_of crossings) (range_with_len a count)) begin
-    ∙ ap (λ n. map (label_of crossings) (range_with_len (first_arc crossings component) n)) given.counts
+    ∙ ap (λ a. map (entering_label crossings) (range_with_len a count)) begin
+    ∙ ap (λ n. map (entering_label crossings) (range_with_len (first_arc crossings component) n)) given.counts
 
 -- the labels of one component more
 pub component_more : (code : Code) (labels : List ℤ) (component first count : ℕ) (groups : List (List ℤ))

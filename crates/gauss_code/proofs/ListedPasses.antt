@@ -12,16 +12,16 @@ use Rattle.kh_types.specs.Components.{first_arcs, next}
 use Rattle.kh_types.proofs.Ranges.{find-map, range-append}
 use Rattle.kh_types.proofs.NextArcs.{component, HasPlace-directed}
 use Rattle.code_passes.specs.Passes.{Pass, all_passes, no_pass, pass_at, pass_of, passes_from}
-use Rattle.code_passes.specs.ComponentLabels.{component_labels, label_of, labels_of_code}
-use Rattle.code_passes.proofs.ArcLabels.{IsOriented, label_of-once}
+use Rattle.code_passes.specs.ComponentLabels.{component_labels, entering_label, labels_of_code}
+use Rattle.code_passes.proofs.ArcLabels.{IsOriented, entering_label-once}
 use Rattle.gauss_code.proofs.Bodies.{HasLabel}
 use Rattle.code_passes.proofs.CutArcs.{Cut, Cut-first_arcs, IsFirst, component-in, end-within, size, size-positive}
 use Rattle.code_passes.proofs.Searches.{find-first, other_int, same_int}
-use Rattle.code_passes.proofs.TwoArcComponents.{turned-component}
+use Rattle.code_passes.proofs.TwoArcComponents.{turned_labels-component}
 
 -- the pass that an arc enters
 abbrev pub pass_on : List (List ℕ) → ℕ → Pass
-pass_on crossings arc = record { label = label_of crossings arc; enters = arc; leaves = next crossings arc }
+pass_on crossings arc = record { label = entering_label crossings arc; enters = arc; leaves = next crossings arc }
 
 -- two functions that agree on two ranges, number by number
 map-ranges : {X : Type 0} (f g : ℕ → X) (a b n : ℕ) → ((x y : ℕ) → a ≤ x → x < a + n → x + b ≡ y + a → f x ≡ g y)
@@ -64,15 +64,15 @@ passes_from-component : (crossings : List (List ℕ)) → IsOriented crossings �
     → passes_from first (component_labels crossings first) ≡ map (pass_on crossings) (range_with_len first (size crossings first))
 passes_from-component crossings oriented first is =
     let labels = component_labels crossings first in
-    let count = length-map-range_with_len (label_of crossings) first (size crossings first) in
+    let count = length-map-range_with_len (entering_label crossings) first (size crossings first) in
     ap (λ n. map (pass_at first labels) (range_with_len 0 n)) count
     ∙ map-ranges (pass_at first labels) (pass_on crossings) 0 first (size crossings first)
     (λ at arc from below together.
     let is_arc : arc ≡ first + at = omega (arith, together) in
     let within : at < size crossings first = omega (arith, below) in
-    same_pass (get_or labels at (pos 0)) (label_of crossings arc) (first + at) arc
+    same_pass (get_or labels at (pos 0)) (entering_label crossings arc) (first + at) arc
     (if nat_eq (at + 1) (length labels) then first else first + at + 1) (next crossings arc)
-    (get_or-map-range_with_len (label_of crossings) first (size crossings first) at arc (pos 0) within (sym is_arc)) (sym is_arc)
+    (get_or-map-range_with_len (entering_label crossings) first (size crossings first) at arc (pos 0) within (sym is_arc)) (sym is_arc)
     (next-in crossings oriented first at arc (length labels) is is_arc within count))
   where
     same_pass : (label l : ℤ) (enters e leaves v : ℕ) → label ≡ l → enters ≡ e → leaves ≡ v
@@ -96,10 +96,10 @@ all_passes-cut crossings oriented loops a n (first ∷ firsts) cut =
     let parts : n ≡ count + (n - count) = omega (arith, cut.2) in
     ap (λ f. all_passes a (component_labels crossings f ∷ more)) cut.0
     ∙ ap (λ ls. passes_from a ls ++ all_passes (a + length (component_labels crossings a)) more)
-    (turned-component crossings a oriented is)
+    (turned_labels-component crossings a oriented is)
     ∙ ap (λ ps. ps ++ all_passes (a + length (component_labels crossings a)) more) (passes_from-component crossings oriented a is)
     ∙ ap (λ k. map (pass_on crossings) (range_with_len a count) ++ all_passes (a + k) more)
-    (length-map-range_with_len (label_of crossings) a count)
+    (length-map-range_with_len (entering_label crossings) a count)
     ∙ ap (λ ps. map (pass_on crossings) (range_with_len a count) ++ ps)
     (all_passes-cut crossings oriented loops (a + count) (n - count) firsts cut.3)
     ∙ sym (map-append (pass_on crossings) (range_with_len a count) (range_with_len (a + count) (n - count)))
@@ -113,20 +113,20 @@ all_passes-code crossings oriented loops =
     (Cut-first_arcs crossings oriented.directed)
 
 labels-cut : (crossings : List (List ℕ)) (a n : ℕ) (firsts : List ℕ) → Cut crossings a firsts n
-    → flat_map (λ labels. labels) (map (component_labels crossings) firsts) ≡ map (label_of crossings) (range_with_len a n)
-labels-cut crossings a n [] cut = ap (λ k. map (label_of crossings) (range_with_len a k)) (sym cut)
+    → flat_map (λ labels. labels) (map (component_labels crossings) firsts) ≡ map (entering_label crossings) (range_with_len a n)
+labels-cut crossings a n [] cut = ap (λ k. map (entering_label crossings) (range_with_len a k)) (sym cut)
 labels-cut crossings a n (first ∷ firsts) cut =
     let count = size crossings a in
     let later = flat_map (λ labels. labels) (map (component_labels crossings) firsts) in
     let parts : n ≡ count + (n - count) = omega (arith, cut.2) in
     ap (λ f. component_labels crossings f ++ later) cut.0
     ∙ ap (λ ls. component_labels crossings a ++ ls) (labels-cut crossings (a + count) (n - count) firsts cut.3)
-    ∙ sym (map-append (label_of crossings) (range_with_len a count) (range_with_len (a + count) (n - count)))
-    ∙ ap (λ xs. map (label_of crossings) xs) (sym (ap (λ k. range_with_len a k) parts ∙ range-append a count (n - count)))
+    ∙ sym (map-append (entering_label crossings) (range_with_len a count) (range_with_len (a + count) (n - count)))
+    ∙ ap (λ xs. map (entering_label crossings) xs) (sym (ap (λ k. range_with_len a k) parts ∙ range-append a count (n - count)))
 
 -- all labels, in the order of the arcs
 pub labels-code : (crossings : List (List ℕ)) → IsOriented crossings
-    → flat_map (λ labels. labels) (labels_of_code crossings) ≡ map (label_of crossings) (arcs crossings)
+    → flat_map (λ labels. labels) (labels_of_code crossings) ≡ map (entering_label crossings) (arcs crossings)
 labels-code crossings oriented =
     labels-cut crossings 1 (arc_count crossings) (first_arcs crossings) (Cut-first_arcs crossings oriented.directed)
 
@@ -140,7 +140,7 @@ HasLabel-cut : (crossings : List (List ℕ)) → IsOriented crossings → (a n :
 HasLabel-cut crossings oriented a n [] cut = tt
 HasLabel-cut crossings oriented a n (first ∷ firsts) cut =
     let positive = size-positive crossings oriented.directed a cut.1 in (
-      HasLabel-range (label_of crossings) first (size crossings first) (omega (arith, positive, ap (size crossings) cut.0)),
+      HasLabel-range (entering_label crossings) first (size crossings first) (omega (arith, positive, ap (size crossings) cut.0)),
       HasLabel-cut crossings oriented (a + size crossings a) (n - size crossings a) firsts cut.3,
     )
 
@@ -150,16 +150,16 @@ HasLabel-code crossings oriented =
 
 -- the pass with the label of an arc is the one that the arc enters
 pub pass_of-label : (crossings : List (List ℕ)) → IsOriented crossings → (arc : ℕ) (label : ℤ) → IsArc crossings arc
-    → label_of crossings arc ≡ label → pass_of (map (pass_on crossings) (arcs crossings)) label ≡ pass_on crossings arc
+    → entering_label crossings arc ≡ label → pass_of (map (pass_on crossings) (arcs crossings)) label ≡ pass_on crossings arc
 pass_of-label crossings oriented arc label is has =
     ap (λ o. unwrap_or o no_pass)
     (find-map (λ pass. int_eq pass.label label) (pass_on crossings) (arcs crossings)
     ∙ ap (λ o. option_map (pass_on crossings) o)
-    (find-first (λ x. int_eq (label_of crossings x) label) 1 (arc_count crossings) arc is.positive (omega (arith, is.within))
-    (same_int (label_of crossings arc) label has)
+    (find-first (λ x. int_eq (entering_label crossings x) label) 1 (arc_count crossings) arc is.positive (omega (arith, is.within))
+    (same_int (entering_label crossings arc) label has)
     (λ earlier from before.
-    other_int (label_of crossings earlier) label
+    other_int (entering_label crossings earlier) label
     (λ same.
     let earlier_is : IsArc crossings earlier = record { positive = from; within = omega (arith, before, is.within) } in
-    let one = label_of-once crossings oriented earlier arc earlier_is is (same ∙ sym has) in
+    let one = entering_label-once crossings oriented earlier arc earlier_is is (same ∙ sym has) in
     omega (arith, one, before)))))

@@ -6,24 +6,24 @@ use Rattle.std.proofs.lemmas.List.{at_drop_more}
 use Rattle.std.proofs.lemmas.List.FromFn.{length-map-range_with_len}
 use Rattle.kh_types.proofs.Ranges.{map_from_zero, range_steps}
 use Rattle.gauss_code.specs.Held.{labels_held, numbers_of}
-use Rattle.code_passes.specs.Passes.{Pass, all_passes, is_over, pass_at, passes_from, turned}
+use Rattle.code_passes.specs.Passes.{Pass, all_passes, is_over, pass_at, passes_from, turned_labels}
 
 -- turning keeps the number of labels
-pub length-turned : (labels : List ℤ) → length (turned labels) ≡ length labels
-length-turned [] = refl
-length-turned (first ∷ []) = refl
-length-turned (first ∷ second ∷ []) = go ((is_over first && is_over second) && int_lt second first)
+pub length-turned_labels : (labels : List ℤ) → length (turned_labels labels) ≡ length labels
+length-turned_labels [] = refl
+length-turned_labels (first ∷ []) = refl
+length-turned_labels (first ∷ second ∷ []) = go ((is_over first && is_over second) && int_lt second first)
   where
     go : (turns : Bool) → length (cond turns (second ∷ first ∷ []) (first ∷ second ∷ [])) ≡ 2
     go true = refl
     go false = refl
-length-turned (first ∷ second ∷ third ∷ labels) = refl
+length-turned_labels (first ∷ second ∷ third ∷ labels) = refl
 
-pub ruleset one_more_pass = (length-turned, range_steps)
+pub ruleset one_more_pass = (length-turned_labels, range_steps)
 
 -- a component has a pass for each label
-pub length-passes_from : (first : ℕ) (labels : List ℤ) → length (passes_from first (turned labels)) ≡ length labels
-length-passes_from first labels = length-map-range_with_len (pass_at first (turned labels)) 0 (length (turned labels)) ∙ length-turned labels
+pub length-passes_from : (first : ℕ) (labels : List ℤ) → length (passes_from first (turned_labels labels)) ≡ length labels
+length-passes_from first labels = length-map-range_with_len (pass_at first (turned_labels labels)) 0 (length (turned_labels labels)) ∙ length-turned_labels labels
 
 -- one more pass
 pub passes-push : (initial passes made : List Pass) (pass : Pass) (first : ℕ) (labels : List ℤ) (at : ℕ)
@@ -43,12 +43,12 @@ passes-length initial passes first labels at so_far =
 
 -- one more component
 pub passes_more : (passes initial : List Pass) (components : List (Vec ℤ)) (i : ℕ) (d : Vec ℤ) (made : List Pass) → i < length components
-    → made ≡ passes ++ passes_from (length passes + 1) (turned (get_or components i d).items)
+    → made ≡ passes ++ passes_from (length passes + 1) (turned_labels (get_or components i d).items)
     → passes ++ all_passes (length passes + 1) (numbers_of (drop i components)) ≡ initial
     → made ++ all_passes (length made + 1) (numbers_of (drop (i + 1) components)) ≡ initial
 passes_more passes initial components i d made less is so_far =
     let labels : List ℤ = (get_or components i d).items in
-    let added : List Pass = passes_from (length passes + 1) (turned labels) in
+    let added : List Pass = passes_from (length passes + 1) (turned_labels labels) in
     let rest : List (List ℤ) = numbers_of (drop (i + 1) components) in
     let size : length made + 1 ≡ length passes + 1 + length labels
     = omega (arith, ap length is, length-append passes added, length-passes_from (length passes + 1) labels) in

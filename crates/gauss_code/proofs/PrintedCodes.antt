@@ -12,15 +12,15 @@ use Rattle.kh_types.specs.Acceptance.{accepted}
 use Rattle.kh_types.specs.declared.limits.TheConstants.{CROSSINGS, LOOPS}
 use Rattle.kh_types.proofs.PassPairs.{IsArc-at}
 use Rattle.kh_types.proofs.Heads.{HasNoSingleArcs-accepted, IsPass-over, IsPass-under}
-use Rattle.gauss_code.specs.Listings.{groups_of, crossing_count, loop_count}
+use Rattle.gauss_code.specs.Listings.{groups_of, crossing_count, loop_group_count}
 use Rattle.gauss_code.specs.Grammar.{number_places}
 use Rattle.code_passes.specs.Passes.{Pass, all_passes, pass_of, slots_at, slots_between}
-use Rattle.gauss_code.specs.Codes.{code_of}
-use Rattle.code_passes.specs.ComponentLabels.{component_labels, label_at, label_of, labels_of_code}
+use Rattle.gauss_code.specs.Codes.{listed_code}
+use Rattle.code_passes.specs.ComponentLabels.{component_labels, label_at, entering_label, labels_of_code}
 use Rattle.gauss_code.specs.Printing.{body_of, gauss_text}
-use Rattle.gauss_code.specs.Reading.{IsReading}
-use Rattle.code_passes.proofs.ArcLabels.{IsOriented, label_of-names, label_of-under}
-use Rattle.gauss_code.proofs.Bodies.{groups_of-body_of, HasSmallNumbers-body_of, labels_of-body_of, loop_count-body_of}
+use Rattle.gauss_code.specs.Reading.{IsGaussReading}
+use Rattle.code_passes.proofs.ArcLabels.{IsOriented, entering_label-names, entering_label-under}
+use Rattle.gauss_code.proofs.Bodies.{groups_of-body_of, HasSmallNumbers-body_of, labels_of-body_of, loop_group_count-body_of}
 use Rattle.gauss_code.proofs.GoodListings.{half-arc_labels, no_fault, signs}
 use Rattle.code_passes.proofs.CutArcs.{Cut, Cut-first_arcs, end-within, size}
 use Rattle.gauss_code.proofs.ListedPasses.{HasLabel-code, all_passes-code, labels-code, pass_of-label, pass_on}
@@ -40,9 +40,9 @@ small-cut crossings oriented few a n (first ∷ firsts) cut =
     let is = cut.1 in
     let ends = end-within crossings oriented.directed a is in (
       subst (λ (f : ℕ). AreSmall (component_labels crossings f)) (sym cut.0)
-          (small-range (label_of crossings) a (size crossings a)
+          (small-range (entering_label crossings) a (size crossings a)
           (λ x from below.
-          let names = label_of-names crossings oriented x (record {
+          let names = entering_label-names crossings oriented x (record {
             positive = omega (arith, from, is.is_arc.positive);
             within = omega (arith, below, ends);
           }) in
@@ -83,7 +83,7 @@ between crossings oriented crossing is =
     let sign = sign_of crossings crossing in
     let over_pass = pass_of (listed crossings) (pos crossing) in
     let under = pass_of-label crossings oriented (arc_in slots 0) (neg_ℤ (pos crossing)) (at 0 (omega arith))
-    (label_of-under crossings oriented crossing is) in
+    (entering_label-under crossings oriented crossing is) in
     let under_pass = IsPass-under crossings oriented.directed oriented.moves crossing is in
     let passes = IsPass-over crossings oriented.directed oriented.moves crossing is in
     ap (λ pass. slots_between pass over_pass sign) under
@@ -134,9 +134,9 @@ abbrev made : List (List ℕ) → ℕ → Code
 made crossings loops = record { crossings = crossings; loops = loops }
 
 -- the code of the listing of a code is the code
-code_of-listing : (code : Code) → IsOriented code.crossings → All (λ slots. length slots ≡ 4) code.crossings
-    → code ≡ code_of (body_of (labels_of_code code.crossings) code.loops) (signs code.crossings)
-code_of-listing code oriented four =
+listed_code-listing : (code : Code) → IsOriented code.crossings → All (λ slots. length slots ≡ 4) code.crossings
+    → code ≡ listed_code (body_of (labels_of_code code.crossings) code.loops) (signs code.crossings)
+listed_code-listing code oriented four =
     let crossings = code.crossings in
     let components = labels_of_code crossings in
     let body = body_of components code.loops in
@@ -145,15 +145,15 @@ code_of-listing code oriented four =
     ap (λ groups. all_passes 1 groups) (groups_of-body_of components code.loops each) ∙ all_passes-code crossings oriented code.loops in
     let count : crossing_count body ≡ length crossings =
     ap (λ ls. length ls / 2) (labels_of-body_of components code.loops each ∙ labels-code crossings oriented) ∙ half-arc_labels crossings in
-    sym (ap (λ ps. made (map (slots_at ps (signs crossings)) (range_with_len 0 (crossing_count body))) (loop_count body)) passes
-    ∙ ap (λ n. made (map (slots_at (listed crossings) (signs crossings)) (range_with_len 0 n)) (loop_count body)) count
-    ∙ ap (λ xs. made xs (loop_count body)) (crossings-code crossings oriented four)
-    ∙ ap (λ n. made crossings n) (loop_count-body_of components code.loops each))
+    sym (ap (λ ps. made (map (slots_at ps (signs crossings)) (range_with_len 0 (crossing_count body))) (loop_group_count body)) passes
+    ∙ ap (λ n. made (map (slots_at (listed crossings) (signs crossings)) (range_with_len 0 n)) (loop_group_count body)) count
+    ∙ ap (λ xs. made xs (loop_group_count body)) (crossings-code crossings oriented four)
+    ∙ ap (λ n. made crossings n) (loop_group_count-body_of components code.loops each))
 
 -- the text of a code reads as the code
-pub IsReading-gauss_text : (code : Code) → IsTrue (accepted code) → All (λ slots. length slots ≡ 4) code.crossings
-    → length code.crossings ≤ CROSSINGS → code.loops ≤ LOOPS → IsReading (gauss_text code) (Ok code)
-IsReading-gauss_text code holds four few few_loops =
+pub IsGaussReading-gauss_text : (code : Code) → IsTrue (accepted code) → All (λ slots. length slots ≡ 4) code.crossings
+    → length code.crossings ≤ CROSSINGS → code.loops ≤ LOOPS → IsGaussReading (gauss_text code) (Ok code)
+IsGaussReading-gauss_text code holds four few few_loops =
     let crossings = code.crossings in
     let is = HasNoSingleArcs-accepted code holds in
     let oriented : IsOriented crossings = record { directed = is.0; moves = is.1 } in
@@ -170,6 +170,6 @@ IsReading-gauss_text code holds four few few_loops =
       lists = record { tokens = means.tokens; cut = means.cut; spells = means.meaning; at = refl };
       good = no_fault crossings body (number_places means.tokens) oriented
           (labels_of-body_of components code.loops each ∙ labels-code crossings oriented) few
-          (omega (arith, few_loops, loop_count-body_of components code.loops each));
-      same = code_of-listing code oriented four;
+          (omega (arith, few_loops, loop_group_count-body_of components code.loops each));
+      same = listed_code-listing code oriented four;
     }

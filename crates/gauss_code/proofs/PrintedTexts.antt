@@ -10,7 +10,7 @@ use Rattle.kh_lex.specs.declared.symbol.Symbol.{Symbol}
 use Rattle.kh_lex.specs.declared.symbol.Symbol.TheVariants.{LeftBrace, Number, RightBrace}
 use Rattle.kh_lex.proofs.WrittenTexts.{IsWritten, Means-written, comma-written, left_brace-written, left_bracket-written, nothing-written, number-written, right_brace-written, right_bracket-written, space-written, word-written}
 use Rattle.gauss_code.specs.Listings.{Body, Listing}
-use Rattle.gauss_code.specs.Grammar.{body_symbols, group_symbols, next_group, next_number, numbers_symbols, spelled}
+use Rattle.gauss_code.specs.Grammar.{body_symbols, group_symbols, next_group, next_number, numbers_symbols, gauss_spelled}
 use Rattle.gauss_code.specs.Printing.{body_text, group_text, listing_text, next_group_text, next_number_text, numbers_text}
 
 -- a number is small enough to be read
@@ -95,9 +95,9 @@ listing_with body signs = record { body = body; signs = Some signs }
 
 -- its text means the symbols that spell it
 pub Means-listing_text : (body : Body) (signs : List ℤ) → HasSmallNumbers body → AreSmall signs
-    → Means (listing_text (listing_with body signs)) (spelled (listing_with body signs))
+    → Means (listing_text (listing_with body signs)) (gauss_spelled (listing_with body signs))
 Means-listing_text body signs small small_signs =
-    Means-written (listing_text (listing_with body signs)) (spelled (listing_with body signs))
+    Means-written (listing_text (listing_with body signs)) (gauss_spelled (listing_with body signs))
     (word-written (codes "GaussCode") (omega arith) refl refl (left_bracket-written (body-written body small refl
     (right_bracket-written (space-written (word-written (codes "Signs") (omega arith) refl refl (left_bracket-written
     (numbers-written signs small_signs refl (right_bracket-written nothing-written)))))))))

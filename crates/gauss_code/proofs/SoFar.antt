@@ -10,8 +10,8 @@ use Rattle.kh_lex.specs.Machine.{run}
 use Rattle.gauss_code.specs.declared.machine.State.{State}
 use Rattle.gauss_code.specs.declared.machine.State.TheVariants.{Start, Named, Open, BareNumber, BareComma, GroupOpen, GroupNumber, GroupComma, GroupEnd, NextGroup, BodyEnd, SignsNamed, SignsOpen, SignNumber, SignComma, Done}
 use Rattle.gauss_code.specs.Listings.{Body}
-use Rattle.gauss_code.specs.Grammar.{body_symbols, group_symbols, next_group, next_number, numbers_symbols, spelled}
-use Rattle.gauss_code.specs.Machine.{Progress, advanced, body_after, entered, is_done, is_end, listing_read, numbers_after, progress_at, start, step, with_group}
+use Rattle.gauss_code.specs.Grammar.{body_symbols, group_symbols, next_group, next_number, numbers_symbols, gauss_spelled}
+use Rattle.gauss_code.specs.Machine.{GaussProgress, gauss_advanced, body_after, entered, is_gauss_done, is_gauss_end, listing_read, numbers_after, gauss_progress, start, gauss_step, with_group}
 
 -- the symbols before one more number
 abbrev pub leading : List ℤ → List Symbol
@@ -115,65 +115,65 @@ Keeps state body numbers symbol next =
     × (so_far next (body_after next numbers body) (numbers_after next symbol numbers) ≡ so_far state body numbers ++ symbol ∷ [])
 
 -- a step keeps this
-so_far-step : (state : State) (symbol : Symbol) (body : Body) (numbers : List ℤ) → IsProper state body numbers
-    → IfSome (step state symbol) (Keeps state body numbers symbol)
-so_far-step Start GaussCode body numbers proper = (proper, refl)
-so_far-step Named LeftBracket body numbers proper = (proper, refl)
-so_far-step Open (Number n) (Body.Bare labels) [] proper = ((tt, omega arith), refl)
-so_far-step Open (Number n) (Body.Bare labels) (first ∷ numbers) proper = absurd (cc)
-so_far-step Open (Number n) (Body.Groups group groups) numbers proper = absurd (cc)
-so_far-step Open LeftBrace (Body.Bare labels) numbers proper = (proper.1, refl)
-so_far-step Open LeftBrace (Body.Groups group groups) numbers proper = absurd (cc)
-so_far-step Open RightBracket (Body.Bare labels) [] proper = (refl, refl)
-so_far-step Open RightBracket (Body.Bare labels) (first ∷ numbers) proper = absurd (cc)
-so_far-step Open RightBracket (Body.Groups group groups) numbers proper = absurd (cc)
-so_far-step BareNumber Comma body [] proper = absurd (omega arith)
-so_far-step BareNumber Comma body (first ∷ numbers) proper = (proper, refl)
-so_far-step BareNumber RightBracket (Body.Bare labels) numbers proper = (refl, refl)
-so_far-step BareNumber RightBracket (Body.Groups group groups) numbers proper = absurd proper.0
-so_far-step BareComma (Number n) body numbers proper = ((proper.0, some-push numbers n), more_number [] [] numbers n)
-so_far-step GroupOpen (Number n) body [] proper = (omega arith, more (front body) (LeftBrace ∷ []) (Number n))
-so_far-step GroupOpen (Number n) body (first ∷ numbers) proper = absurd (cc)
-so_far-step GroupOpen RightBrace body [] proper = ((grouped-push body [], refl), group_ends body [])
-so_far-step GroupOpen RightBrace body (first ∷ numbers) proper = absurd (cc)
-so_far-step GroupNumber Comma body [] proper = absurd (omega arith)
-so_far-step GroupNumber Comma body (first ∷ numbers) proper = (proper, more (front body) (LeftBrace ∷ numbers_symbols (first ∷ numbers)) Comma)
-so_far-step GroupNumber RightBrace body numbers proper = ((grouped-push body numbers, refl), group_ends body numbers)
-so_far-step GroupComma (Number n) body numbers proper = (some-push numbers n, more_number (front body) (LeftBrace ∷ []) numbers n)
-so_far-step GroupEnd Comma (Body.Bare labels) numbers proper = absurd proper.0
-so_far-step GroupEnd Comma (Body.Groups group groups) numbers proper = (proper, refl)
-so_far-step GroupEnd RightBracket (Body.Bare labels) numbers proper = absurd proper.0
-so_far-step GroupEnd RightBracket (Body.Groups group groups) numbers proper = (refl, refl)
-so_far-step NextGroup LeftBrace body numbers proper = (proper.1, refl)
-so_far-step BodyEnd Signs body numbers proper = (proper, more (body_symbols body) (RightBracket ∷ []) Signs)
-so_far-step SignsNamed LeftBracket body numbers proper = (proper, more (body_symbols body) (RightBracket ∷ Signs ∷ []) LeftBracket)
-so_far-step SignsOpen (Number n) body [] proper = (omega arith, more (body_symbols body) (RightBracket ∷ Signs ∷ LeftBracket ∷ []) (Number n))
-so_far-step SignsOpen (Number n) body (first ∷ numbers) proper = absurd (cc)
-so_far-step SignsOpen RightBracket body [] proper = (tt, more (body_symbols body) (RightBracket ∷ Signs ∷ LeftBracket ∷ []) RightBracket)
-so_far-step SignsOpen RightBracket body (first ∷ numbers) proper = absurd (cc)
-so_far-step SignNumber Comma body [] proper = absurd (omega arith)
-so_far-step SignNumber Comma body (first ∷ numbers) proper = (proper, more (body_symbols body) (RightBracket ∷ Signs ∷ LeftBracket ∷ numbers_symbols (first ∷ numbers)) Comma)
-so_far-step SignNumber RightBracket body numbers proper = (tt, more (body_symbols body) (RightBracket ∷ Signs ∷ LeftBracket ∷ numbers_symbols numbers) RightBracket)
-so_far-step SignComma (Number n) body numbers proper = (some-push numbers n, more_number (body_symbols body) (RightBracket ∷ Signs ∷ LeftBracket ∷ []) numbers n)
-so_far-step _ _ body numbers proper = tt
+so_far-gauss_step : (state : State) (symbol : Symbol) (body : Body) (numbers : List ℤ) → IsProper state body numbers
+    → IfSome (gauss_step state symbol) (Keeps state body numbers symbol)
+so_far-gauss_step Start GaussCode body numbers proper = (proper, refl)
+so_far-gauss_step Named LeftBracket body numbers proper = (proper, refl)
+so_far-gauss_step Open (Number n) (Body.Bare labels) [] proper = ((tt, omega arith), refl)
+so_far-gauss_step Open (Number n) (Body.Bare labels) (first ∷ numbers) proper = absurd (cc)
+so_far-gauss_step Open (Number n) (Body.Groups group groups) numbers proper = absurd (cc)
+so_far-gauss_step Open LeftBrace (Body.Bare labels) numbers proper = (proper.1, refl)
+so_far-gauss_step Open LeftBrace (Body.Groups group groups) numbers proper = absurd (cc)
+so_far-gauss_step Open RightBracket (Body.Bare labels) [] proper = (refl, refl)
+so_far-gauss_step Open RightBracket (Body.Bare labels) (first ∷ numbers) proper = absurd (cc)
+so_far-gauss_step Open RightBracket (Body.Groups group groups) numbers proper = absurd (cc)
+so_far-gauss_step BareNumber Comma body [] proper = absurd (omega arith)
+so_far-gauss_step BareNumber Comma body (first ∷ numbers) proper = (proper, refl)
+so_far-gauss_step BareNumber RightBracket (Body.Bare labels) numbers proper = (refl, refl)
+so_far-gauss_step BareNumber RightBracket (Body.Groups group groups) numbers proper = absurd proper.0
+so_far-gauss_step BareComma (Number n) body numbers proper = ((proper.0, some-push numbers n), more_number [] [] numbers n)
+so_far-gauss_step GroupOpen (Number n) body [] proper = (omega arith, more (front body) (LeftBrace ∷ []) (Number n))
+so_far-gauss_step GroupOpen (Number n) body (first ∷ numbers) proper = absurd (cc)
+so_far-gauss_step GroupOpen RightBrace body [] proper = ((grouped-push body [], refl), group_ends body [])
+so_far-gauss_step GroupOpen RightBrace body (first ∷ numbers) proper = absurd (cc)
+so_far-gauss_step GroupNumber Comma body [] proper = absurd (omega arith)
+so_far-gauss_step GroupNumber Comma body (first ∷ numbers) proper = (proper, more (front body) (LeftBrace ∷ numbers_symbols (first ∷ numbers)) Comma)
+so_far-gauss_step GroupNumber RightBrace body numbers proper = ((grouped-push body numbers, refl), group_ends body numbers)
+so_far-gauss_step GroupComma (Number n) body numbers proper = (some-push numbers n, more_number (front body) (LeftBrace ∷ []) numbers n)
+so_far-gauss_step GroupEnd Comma (Body.Bare labels) numbers proper = absurd proper.0
+so_far-gauss_step GroupEnd Comma (Body.Groups group groups) numbers proper = (proper, refl)
+so_far-gauss_step GroupEnd RightBracket (Body.Bare labels) numbers proper = absurd proper.0
+so_far-gauss_step GroupEnd RightBracket (Body.Groups group groups) numbers proper = (refl, refl)
+so_far-gauss_step NextGroup LeftBrace body numbers proper = (proper.1, refl)
+so_far-gauss_step BodyEnd Signs body numbers proper = (proper, more (body_symbols body) (RightBracket ∷ []) Signs)
+so_far-gauss_step SignsNamed LeftBracket body numbers proper = (proper, more (body_symbols body) (RightBracket ∷ Signs ∷ []) LeftBracket)
+so_far-gauss_step SignsOpen (Number n) body [] proper = (omega arith, more (body_symbols body) (RightBracket ∷ Signs ∷ LeftBracket ∷ []) (Number n))
+so_far-gauss_step SignsOpen (Number n) body (first ∷ numbers) proper = absurd (cc)
+so_far-gauss_step SignsOpen RightBracket body [] proper = (tt, more (body_symbols body) (RightBracket ∷ Signs ∷ LeftBracket ∷ []) RightBracket)
+so_far-gauss_step SignsOpen RightBracket body (first ∷ numbers) proper = absurd (cc)
+so_far-gauss_step SignNumber Comma body [] proper = absurd (omega arith)
+so_far-gauss_step SignNumber Comma body (first ∷ numbers) proper = (proper, more (body_symbols body) (RightBracket ∷ Signs ∷ LeftBracket ∷ numbers_symbols (first ∷ numbers)) Comma)
+so_far-gauss_step SignNumber RightBracket body numbers proper = (tt, more (body_symbols body) (RightBracket ∷ Signs ∷ LeftBracket ∷ numbers_symbols numbers) RightBracket)
+so_far-gauss_step SignComma (Number n) body numbers proper = (some-push numbers n, more_number (body_symbols body) (RightBracket ∷ Signs ∷ LeftBracket ∷ []) numbers n)
+so_far-gauss_step _ _ body numbers proper = tt
 
 -- a run keeps this
-so_far-run : (state : State) (body : Body) (numbers : List ℤ) (symbols : List Symbol) (end : Progress) → IsProper state body numbers
-    → run advanced (progress_at state body numbers) symbols ≡ Some end
+so_far-run : (state : State) (body : Body) (numbers : List ℤ) (symbols : List Symbol) (end : GaussProgress) → IsProper state body numbers
+    → run gauss_advanced (gauss_progress state body numbers) symbols ≡ Some end
     → IsProper end.state end.body end.numbers × (so_far end.state end.body end.numbers ≡ so_far state body numbers ++ symbols)
 so_far-run state body numbers [] end proper ran =
-    let e : progress_at state body numbers ≡ end = cc in
-    (subst (λ (p : Progress). IsProper p.state p.body p.numbers) e proper, ap (λ (p : Progress). so_far p.state p.body p.numbers) (sym e) ∙ sym (append-nil (so_far state body numbers)))
+    let e : gauss_progress state body numbers ≡ end = cc in
+    (subst (λ (p : GaussProgress). IsProper p.state p.body p.numbers) e proper, ap (λ (p : GaussProgress). so_far p.state p.body p.numbers) (sym e) ∙ sym (append-nil (so_far state body numbers)))
 so_far-run state body numbers (symbol ∷ symbols) end proper ran =
-    go (step state symbol) (so_far-step state symbol body numbers proper)
+    go (gauss_step state symbol) (so_far-gauss_step state symbol body numbers proper)
     (λ next. so_far-run next (body_after next numbers body) (numbers_after next symbol numbers) symbols end) ran
   where
     go : (next : Option State) → IfSome next (Keeps state body numbers symbol)
         → ((next : State) → IsProper next (body_after next numbers body) (numbers_after next symbol numbers)
-        → run advanced (entered next symbol (progress_at state body numbers)) symbols ≡ Some end
+        → run gauss_advanced (entered next symbol (gauss_progress state body numbers)) symbols ≡ Some end
         → IsProper end.state end.body end.numbers
         × (so_far end.state end.body end.numbers ≡ so_far next (body_after next numbers body) (numbers_after next symbol numbers) ++ symbols))
-        → option_and_then (λ next. run advanced next symbols) (option_map (λ next. entered next symbol (progress_at state body numbers)) next) ≡ Some end
+        → option_and_then (λ next. run gauss_advanced next symbols) (option_map (λ next. entered next symbol (gauss_progress state body numbers)) next) ≡ Some end
         → IsProper end.state end.body end.numbers × (so_far end.state end.body end.numbers ≡ so_far state body numbers ++ symbol ∷ symbols)
     go None after goes ran = absurd (cc)
     go (Some next) after goes ran =
@@ -181,15 +181,15 @@ so_far-run state body numbers (symbol ∷ symbols) end proper ran =
         (rest.0, rest.1 ∙ ap (λ before. before ++ symbols) after.1 ∙ append_assoc (so_far state body numbers) (symbol ∷ []) symbols)
 
 -- what a run from the start has read
-run-so_far : (symbols : List Symbol) (end : Progress) → run advanced start symbols ≡ Some end → symbols ≡ so_far end.state end.body end.numbers
+run-so_far : (symbols : List Symbol) (end : GaussProgress) → run gauss_advanced start symbols ≡ Some end → symbols ≡ so_far end.state end.body end.numbers
 run-so_far symbols end ran = sym (so_far-run Start (Body.Bare []) [] symbols end (refl, refl) ran).1
 
 -- at an end this is a spelling
-so_far-done : (state : State) (body : Body) (numbers : List ℤ) → is_done state ≡ true → so_far state body numbers ≡ spelled (listing_read (progress_at state body numbers))
+so_far-done : (state : State) (body : Body) (numbers : List ℤ) → is_gauss_done state ≡ true → so_far state body numbers ≡ gauss_spelled (listing_read (gauss_progress state body numbers))
 so_far-done BodyEnd body numbers done = refl
 so_far-done Done body numbers done = refl
 so_far-done _ body numbers done = absurd (cc)
 
 -- what is read to an end is spelled
-pub run-done : (symbols : List Symbol) (end : Progress) → run advanced start symbols ≡ Some end → is_end end ≡ true → symbols ≡ spelled (listing_read end)
+pub run-done : (symbols : List Symbol) (end : GaussProgress) → run gauss_advanced start symbols ≡ Some end → is_gauss_end end ≡ true → symbols ≡ gauss_spelled (listing_read end)
 run-done symbols end ran done = run-so_far symbols end ran ∙ so_far-done end.state end.body end.numbers done

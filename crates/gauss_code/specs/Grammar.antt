@@ -42,17 +42,17 @@ signs_symbols None = []
 signs_symbols (Some signs) = Signs ∷ LeftBracket ∷ (numbers_symbols signs ++ RightBracket ∷ [])
 
 -- the symbols that spell what a text lists: `GaussCode[`, the body, `]` and the signs
-abbrev pub spelled : Listing → List Symbol
-spelled listing =
+abbrev pub gauss_spelled : Listing → List Symbol
+gauss_spelled listing =
     GaussCode ∷ LeftBracket ∷ (body_symbols listing.body ++ RightBracket ∷ signs_symbols listing.signs)
 
 -- symbols are a text of the grammar: they spell some listing
-abbrev pub IsText : List Symbol → Type 0
-IsText symbols = (listing : Listing) × (symbols ≡ spelled listing)
+abbrev pub IsGaussText : List Symbol → Type 0
+IsGaussText symbols = (listing : Listing) × (symbols ≡ gauss_spelled listing)
 
 -- whether a token is a number
-abbrev pub is_number : Token → Bool
-is_number token = is_number_kind token.kind
+abbrev pub is_number_token : Token → Bool
+is_number_token token = is_number_kind token.kind
   where
     is_number_kind : Kind → Bool
     is_number_kind kinds.Number = true
@@ -60,11 +60,11 @@ is_number token = is_number_kind token.kind
 
 -- the places of the numbers among some tokens, in order: those of the labels, and then those of the signs
 abbrev pub number_places : List Token → List ℕ
-number_places tokens = map (λ token. token.place) (filter is_number tokens)
+number_places tokens = map (λ token. token.place) (filter is_number_token tokens)
 
 -- a text lists a body and signs, with its numbers at these places
 pub record Lists (text : List ℕ) (listing : Listing) (places : List ℕ) : Type 0 where
   pub tokens : List Token
   pub cut : Cuts 0 text tokens
-  pub spells : symbols_of text tokens ≡ spelled listing
+  pub spells : symbols_of text tokens ≡ gauss_spelled listing
   pub at : places ≡ number_places tokens

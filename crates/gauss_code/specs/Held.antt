@@ -4,7 +4,7 @@ use Rattle.std.specs.Global.{Vec}
 use Rattle.std.specs.List.{flat_map}
 use Rattle.std.specs.Option.{option_map}
 use Rattle.kh_types.specs.declared.limits.TheConstants.{INPUT_BYTES}
-use Rattle.gauss_code.specs.Listings.{Body, Listing, labels_of, loop_count}
+use Rattle.gauss_code.specs.Listings.{Body, Listing, labels_of, loop_group_count}
 use Rattle.gauss_code.specs.Faults.{signs_of}
 
 -- the numbers of lists in memory
@@ -27,5 +27,5 @@ listing_held body signs = record { body = body; signs = option_map (λ list. lis
 -- a listing has no more labels, loops or signs than a text can have bytes
 pub record HasFewNumbers (listing : Listing) : Type 0 where
   pub labels : length (labels_of listing.body) ≤ INPUT_BYTES
-  pub loops : loop_count listing.body ≤ INPUT_BYTES
+  pub loops : loop_group_count listing.body ≤ INPUT_BYTES
   pub signs : length (signs_of listing) ≤ INPUT_BYTES

@@ -21,13 +21,13 @@ groups_of (Bare (label ∷ labels)) = (label ∷ labels) ∷ []
 groups_of (Groups group groups) = group ∷ groups
 
 -- whether a list of labels is empty
-abbrev pub is_loop : List ℤ → Bool
-is_loop [] = true
-is_loop (label ∷ labels) = false
+abbrev pub is_loop_group : List ℤ → Bool
+is_loop_group [] = true
+is_loop_group (label ∷ labels) = false
 
 -- the number of loops
-abbrev pub loop_count : Body → ℕ
-loop_count body = count_by is_loop (groups_of body)
+abbrev pub loop_group_count : Body → ℕ
+loop_group_count body = count_by is_loop_group (groups_of body)
 
 -- the labels of all components, in the order of the text
 abbrev pub labels_of : Body → List ℤ

@@ -5,7 +5,7 @@ use Rattle.gauss_code.specs.declared.stop.GaussStop.{GaussStop}
 use Rattle.gauss_code.specs.declared.stop.GaussStop.TheVariants.{Text, Number, NoMemory}
 
 -- a byte that begins no token is a fault of the text
-abbrev pub stop_of : LexStop → GaussStop
-stop_of (lexical.Bad place) = Text place
-stop_of (lexical.Number place) = Number place
-stop_of lexical.NoMemory = NoMemory
+abbrev pub gauss_stop_of : LexStop → GaussStop
+gauss_stop_of (lexical.Bad place) = Text place
+gauss_stop_of (lexical.Number place) = Number place
+gauss_stop_of lexical.NoMemory = NoMemory

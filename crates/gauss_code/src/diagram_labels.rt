@@ -5,7 +5,7 @@ ghost use Rattle.kh_types.specs.declared.limits.TheConstants.{CROSSINGS};
 ghost use Rattle.kh_types.specs.Code.{IsArc, arcs, crossing_numbers};
 ghost use Rattle.kh_types.specs.Acceptance.{accepted};
 ghost use Rattle.kh_types.specs.Directions.{sign_of};
-ghost use Rattle.code_passes.specs.ComponentLabels.{label_of, labels_of_code};
+ghost use Rattle.code_passes.specs.ComponentLabels.{entering_label, labels_of_code};
 
 use arrayvec::ArrayVec;
 use kh_types::{ARCS, CROSSINGS, Diagram, NoMemory};
@@ -43,22 +43,22 @@ fn labels_from(alloc: Global, labels: &[i8], first: u8, count: u8) -> Result<Vec
 #[tactic(auto, using(kh_types::proofs::Ranges::range_steps))]
 fn arc_labels(diagram: &Diagram) -> ArrayVec<i8, ARCS>
     ensures labels { result.items
-        ≡ map (label_of diagram.now.crossings) (arcs diagram.now.crossings) }
+        ≡ map (entering_label diagram.now.crossings) (arcs diagram.now.crossings) }
     ensures accepted { IsTrue (accepted diagram.now) }
 {
     let crossings = diagram.crossings();
     let mut labels = ArrayVec::new();
     for before in 0..2 * crossings.len() as u8 {
-        labels.push(label_of(diagram, before + 1));
+        labels.push(entering_label(diagram, before + 1));
     }
     labels
 }
 
 // The label of the pass that an arc enters.
-fn label_of(diagram: &Diagram, arc: u8) -> i8
+fn entering_label(diagram: &Diagram, arc: u8) -> i8
     requires arc { IsArc diagram.now.crossings arc }
     requires few { length diagram.now.crossings ≤ CROSSINGS }
-    ensures { result ≡ label_of diagram.now.crossings arc }
+    ensures { result ≡ entering_label diagram.now.crossings arc }
 {
     let head = diagram.head(arc);
     let crossing = head.crossing as i8;

@@ -3,10 +3,10 @@
 ghost use Rattle.std.specs.Prelude.{◌≡◌, ◌≤◌, length, slice_index};
 ghost use Rattle.std.specs.Option.{option_or};
 ghost use Rattle.kh_types.specs.declared.limits.TheConstants.{CROSSINGS, INPUT_BYTES};
-ghost use Rattle.gauss_code.specs.Faults.{crossing_limit, first_fault, label_fault, loop_limit, no_signs, sign_count, sign_fault};
-ghost use Rattle.gauss_code.specs.Grammar.{is_number, number_places};
+ghost use Rattle.gauss_code.specs.Faults.{crossing_limit, first_gauss_fault, label_fault, loop_limit, no_signs, sign_count, sign_fault};
+ghost use Rattle.gauss_code.specs.Grammar.{is_number_token, number_places};
 ghost use Rattle.gauss_code.specs.Held.{HasFewNumbers};
-ghost use Rattle.gauss_code.specs.Listings.{crossing_count, labels_of, loop_count};
+ghost use Rattle.gauss_code.specs.Listings.{crossing_count, labels_of, loop_group_count};
 
 use crate::labels::{bad_label, bad_sign};
 use crate::listing::{Body, Listing};
@@ -16,9 +16,9 @@ use kh_types::{CROSSINGS, INPUT_BYTES, LOOPS};
 
 /// The first fault of a listing, if it has one, whose numbers stand at the places of those tokens
 /// that are numbers.
-pub fn first_fault(listing: &Listing, tokens: &[Token]) -> Option<GaussStop>
+pub fn first_gauss_fault(listing: &Listing, tokens: &[Token]) -> Option<GaussStop>
     requires { HasFewNumbers listing.now }
-    ensures { result ≡ first_fault listing.now (number_places tokens.now) }
+    ensures { result ≡ first_gauss_fault listing.now (number_places tokens.now) }
 {
     if let Some(fault) = crossing_limit(&listing.body) {
         return Some(fault);
@@ -52,10 +52,10 @@ fn crossing_limit(body: &Body) -> Option<GaussStop>
 
 // There are too many loops.
 fn loop_limit(body: &Body) -> Option<GaussStop>
-    requires { loop_count body.now ≤ INPUT_BYTES }
+    requires { loop_group_count body.now ≤ INPUT_BYTES }
     ensures { result ≡ loop_limit body.now }
 {
-    let count = body.loop_count();
+    let count = body.loop_group_count();
     if count > LOOPS {
         Some(GaussStop::LoopLimit {
             count: count as u32,
@@ -110,7 +110,7 @@ fn number_place(tokens: &[Token], at: usize) -> u32
 {
     let mut before = at;
     for token in tokens {
-        if is_number(token) {
+        if is_number_token(token) {
             if before == 0 {
                 return token.place;
             }
@@ -121,8 +121,8 @@ fn number_place(tokens: &[Token], at: usize) -> u32
 }
 
 // Whether a token is a number.
-fn is_number(token: &Token) -> bool
-    ensures { result ≡ is_number token.now }
+fn is_number_token(token: &Token) -> bool
+    ensures { result ≡ is_number_token token.now }
 {
     match token.kind {
         Kind::Number => true,

@@ -3,11 +3,11 @@
 ghost use Rattle.std.specs.Prelude.{◌≡◌, ◌<◌, IfSome, length};
 ghost use Rattle.std.specs.List.{list_any};
 ghost use Rattle.std.specs.Ordering.{int_eq};
-ghost use Rattle.code_passes.specs.Labels.{bad_label, bad_sign, is_bad_label, is_bad_sign, names_none, number_at};
+ghost use Rattle.code_passes.specs.Labels.{bad_label, bad_sign, is_bad_label, is_bad_sign, names_none, listed_number};
 
 /// The number at a place, and 0 where there is none.
-pub fn number_at(numbers: &[i32], at: usize) -> i32
-    ensures { result ≡ number_at numbers.now at }
+pub fn listed_number(numbers: &[i32], at: usize) -> i32
+    ensures { result ≡ listed_number numbers.now at }
 {
     numbers.get(at).copied().unwrap_or(0)
 }
@@ -24,7 +24,7 @@ fn is_bad_label(labels: &[i32], at: usize) -> bool
     requires { at < length labels.now }
     ensures { result ≡ is_bad_label labels.now at }
 {
-    let label = number_at(labels, at);
+    let label = listed_number(labels, at);
     names_none(labels.len() / 2, label) || stands_in(&labels[..at], label)
 }
 
@@ -47,7 +47,7 @@ pub fn bad_sign(signs: &[i32]) -> Option<usize>
     ensures place { result ≡ bad_sign signs.now }
     ensures within { IfSome result (λ at. at < length signs.now) }
 {
-    (0..signs.len()).find(|at| is_bad_sign(number_at(signs, *at)))
+    (0..signs.len()).find(|at| is_bad_sign(listed_number(signs, *at)))
 }
 
 // Whether a sign is neither 1 nor -1.

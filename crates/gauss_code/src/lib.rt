@@ -11,8 +11,6 @@ mod passes;
 mod printer;
 mod reader;
 mod stop;
-#[cfg(test)]
-mod tests;
 
 pub use printer::print_gauss;
 pub use reader::read_gauss;

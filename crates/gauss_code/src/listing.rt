@@ -4,9 +4,9 @@ ghost use Rattle.std.specs.Prelude.{◌≡◌, ◌≤◌, ◌+◌, ◌++◌, [],
 ghost use Rattle.kh_types.specs.declared.limits.TheConstants.{INPUT_BYTES};
 ghost use Rattle.gauss_code.specs.declared.listing.TheConstants.{LABELS};
 ghost use Rattle.gauss_code.specs.Faults.{signs_of};
-ghost use Rattle.gauss_code.specs.Listings.{crossing_count, groups_of, labels_of, loop_count};
+ghost use Rattle.gauss_code.specs.Listings.{crossing_count, groups_of, labels_of, loop_group_count};
 ghost use Rattle.gauss_code.specs.Held.{body_held, labels_held};
-ghost use Rattle.gauss_code.specs.Machine.{ended, with_group};
+ghost use Rattle.gauss_code.specs.Machine.{group_ended, with_group};
 ghost use Rattle.code_passes.specs.Passes.{all_passes};
 
 use crate::passes::{Pass, push_all_passes, push_passes};
@@ -85,7 +85,7 @@ impl Body {
 
     /// Ends the body: numbers behind no group are its labels.
     pub fn end(&mut self, numbers: Vec<i32>)
-        ensures { self.new ≡ ended numbers.items self.old }
+        ensures { self.new ≡ group_ended numbers.items self.old }
     {
         self.bare = numbers;
     }
@@ -139,8 +139,8 @@ impl Body {
     }
 
     /// The number of loops.
-    pub fn loop_count(&self) -> usize
-        ensures { result ≡ loop_count self.now }
+    pub fn loop_group_count(&self) -> usize
+        ensures { result ≡ loop_group_count self.now }
     {
         self.groups.iter().filter(|group| group.is_empty()).count()
     }

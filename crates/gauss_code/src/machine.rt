@@ -3,8 +3,8 @@
 ghost use Rattle.std.specs.Prelude.{◌≡◌, ◌≢◌, ◌+◌, ◌≤◌, All, IfErr, IfOk, OnOk, length, vec_len};
 ghost use Rattle.kh_lex.specs.Lexer.{EndsWithin};
 ghost use Rattle.kh_lex.specs.Symbols.{symbols_of};
-ghost use Rattle.gauss_code.specs.Grammar.{spelled};
-ghost use Rattle.gauss_code.specs.Machine.{IsGrammarFault, entered, start, step};
+ghost use Rattle.gauss_code.specs.Grammar.{gauss_spelled};
+ghost use Rattle.gauss_code.specs.Machine.{IsGaussFault, entered, start, gauss_step};
 
 use crate::listing::{Body, Listing};
 use crate::stop::GaussStop;
@@ -53,26 +53,26 @@ pub enum State {
 
 /// Where the machine stands, and what it has read: the body, and the numbers behind that.
 #[derive(Drop)]
-pub struct Progress {
+pub struct GaussProgress {
     state: State,
     body: Body,
     numbers: Vec<i32>,
 }
 
-impl Model for Progress {
-    ghost use Rattle.gauss_code.specs.Machine.{Progress, progress_at};
+impl Model for GaussProgress {
+    ghost use Rattle.gauss_code.specs.Machine.{GaussProgress, gauss_progress};
 
-    ghost Value = { Progress };
+    ghost Value = { GaussProgress };
 
-    ghost view = { λ progress. progress_at progress.state progress.body progress.numbers.items };
+    ghost view = { λ progress. gauss_progress progress.state progress.body progress.numbers.items };
 }
 
-impl Progress {
+impl GaussProgress {
     // The machine at its beginning.
-    fn new(alloc: Global) -> Progress
+    fn new(alloc: Global) -> GaussProgress
         ensures { result ≡ start }
     {
-        Progress {
+        GaussProgress {
             state: State::Start,
             body: Body::new(alloc),
             numbers: Vec::new(alloc),
@@ -104,11 +104,11 @@ impl Progress {
 pub fn listing_of(alloc: Global, text: &[u8], tokens: &[Token]) -> Result<Listing, GaussStop>
     requires short { length text.now ≤ INPUT_BYTES }
     requires within { All (EndsWithin (length text.now)) tokens.now }
-    ensures spelled { IfOk result (λ listing. symbols_of text.now tokens.now ≡ spelled listing) }
+    ensures gauss_spelled { IfOk result (λ listing. symbols_of text.now tokens.now ≡ gauss_spelled listing) }
     ensures fault { IfErr result (λ stop.
-        stop ≢ GaussStop.NoMemory → IsGrammarFault text.now tokens.now stop) }
+        stop ≢ GaussStop.NoMemory → IsGaussFault text.now tokens.now stop) }
 {
-    let mut progress = Progress::new(alloc);
+    let mut progress = GaussProgress::new(alloc);
     for token in tokens {
         let symbol = symbol_of(text, token);
         let Some(next) = next_state(progress.state, symbol) else {
@@ -133,7 +133,7 @@ pub fn listing_of(alloc: Global, text: &[u8], tokens: &[Token]) -> Result<Listin
 
 // Where a symbol leads from a state, if the grammar has it there.
 fn next_state(state: State, symbol: Symbol) -> Option<State>
-    ensures { result ≡ step state symbol }
+    ensures { result ≡ gauss_step state symbol }
 {
     match (state, symbol) {
         (State::Start, Symbol::GaussCode) => Some(State::Named),

@@ -6,10 +6,10 @@ ghost use Rattle.std.specs.Ordering.{int_eq};
 ghost use Rattle.kh_types.specs.declared.limits.TheConstants.{CROSSINGS};
 ghost use Rattle.gauss_code.specs.declared.listing.TheConstants.{LABELS};
 ghost use Rattle.gauss_code.specs.Held.{labels_held, numbers_of};
-ghost use Rattle.code_passes.specs.Labels.{number_at};
-ghost use Rattle.code_passes.specs.Passes.{all_passes, no_pass, pass_at, pass_of, passes_from, slots_at, slots_between, turned};
+ghost use Rattle.code_passes.specs.Labels.{listed_number};
+ghost use Rattle.code_passes.specs.Passes.{all_passes, no_pass, pass_at, pass_of, passes_from, slots_at, slots_between, turned_labels};
 
-use crate::labels::number_at;
+use crate::labels::listed_number;
 use crate::listing::LABELS;
 use arrayvec::ArrayVec;
 use kh_types::{CROSSINGS, Crossing};
@@ -66,7 +66,7 @@ pub fn push_all_passes(passes: &mut ArrayVec<Pass, LABELS>, components: &[Vec<i3
 pub fn push_passes(passes: &mut ArrayVec<Pass, LABELS>, labels: &[i32])
     requires { length passes.old.items + length labels.now ≤ LABELS }
     ensures { passes.new.items ≡ passes.old.items
-        ++ passes_from (length passes.old.items + 1) (turned labels.now) }
+        ++ passes_from (length passes.old.items + 1) (turned_labels labels.now) }
 {
     let first = passes.len() as u8 + 1;
     for at in 0..labels.len() {
@@ -78,11 +78,11 @@ pub fn push_passes(passes: &mut ArrayVec<Pass, LABELS>, labels: &[i32])
 fn pass_at(first: u8, labels: &[i32], at: usize) -> Pass
     requires at { at < length labels.now }
     requires few { first + length labels.now ≤ LABELS + 1 }
-    ensures { result ≡ pass_at first (turned labels.now) at }
+    ensures { result ≡ pass_at first (turned_labels labels.now) at }
 {
     let enters = first + at as u8;
     Pass {
-        label: number_at(labels, place_before_turning(labels, at)),
+        label: listed_number(labels, place_before_turning(labels, at)),
         enters,
         leaves: if at + 1 == labels.len() {
             first
@@ -95,7 +95,7 @@ fn pass_at(first: u8, labels: &[i32], at: usize) -> Pass
 // The place where the label at a place of a turned component is listed.
 fn place_before_turning(labels: &[i32], at: usize) -> usize
     requires at { at < length labels.now }
-    ensures label { number_at labels.now result ≡ number_at (turned labels.now) at }
+    ensures label { listed_number labels.now result ≡ listed_number (turned_labels labels.now) at }
 {
     match *labels {
         [first, second] if first > 0 && second > 0 && second < first => 1 - at,
@@ -110,7 +110,7 @@ pub fn crossing_at(passes: &[Pass], signs: &[i32], at: usize) -> Crossing
 {
     let under = pass_of(passes, under_label(at));
     let over = pass_of(passes, over_label(at));
-    slots_between(under, over, number_at(signs, at))
+    slots_between(under, over, listed_number(signs, at))
 }
 
 // The label of the over pass of the crossing at a place.

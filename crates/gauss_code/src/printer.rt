@@ -3,10 +3,7 @@
 ghost use Rattle.std.specs.Prelude.{◌≡◌, ◌≤◌, ◌++◌, All, IfOk, Ok, OnOk, length, map, string_bytes};
 ghost use Rattle.std.specs.Fmt.{signed_decimal};
 ghost use Rattle.gauss_code.specs.Printing.{body_of_groups, body_text, gauss_text, group_text, listing_of, numbers_text};
-ghost use Rattle.gauss_code.specs.Reading.{IsReading};
-
-#[cfg(test)]
-mod tests;
+ghost use Rattle.gauss_code.specs.Reading.{IsGaussReading};
 
 use crate::diagram_labels::{component_labels, signs_of};
 use kh_types::{Crossing, Diagram, LOOPS, NoMemory};
@@ -18,7 +15,7 @@ use std::alloc::Global;
 pub fn print_gauss(alloc: Global, diagram: &Diagram) -> Result<Vec<u8>, NoMemory>
     ensures text { IfOk result (λ text. text.items ≡ gauss_text diagram.now) }
     ensures reads_back { diagram.now.loops ≤ LOOPS →
-        IfOk result (λ text. IsReading text.items (Ok diagram.now)) }
+        IfOk result (λ text. IsGaussReading text.items (Ok diagram.now)) }
 {
     read_crossings(diagram.crossings());
     let text = gauss_text(alloc, diagram)?;

@@ -3,12 +3,12 @@
 ghost use Rattle.std.specs.Prelude.{◌≡◌, ◌≢◌, ◌≤◌, Err, IfOk, length, map};
 ghost use Rattle.std.specs.List.{range_with_len};
 ghost use Rattle.gauss_code.specs.Faults.{signs_of};
-ghost use Rattle.gauss_code.specs.Listings.{crossing_count, loop_count};
+ghost use Rattle.gauss_code.specs.Listings.{crossing_count, loop_group_count};
 ghost use Rattle.code_passes.specs.Passes.{slots_at};
-ghost use Rattle.gauss_code.specs.Codes.{code_of};
-ghost use Rattle.gauss_code.specs.Reading.{IsReading};
+ghost use Rattle.gauss_code.specs.Codes.{listed_code};
+ghost use Rattle.gauss_code.specs.Reading.{IsGaussReading};
 
-use crate::faults::first_fault;
+use crate::faults::first_gauss_fault;
 use crate::listing::Listing;
 use crate::machine::listing_of;
 use crate::passes::{Pass, crossing_at};
@@ -23,23 +23,23 @@ use std::alloc::Global;
 /// of the text. Source: Knot Atlas, "Gauss Codes"; all else is this project's rule.
 pub fn read_gauss(alloc: Global, text: &[u8]) -> Result<RawCode, GaussStop>
     requires { length text.now ≤ INPUT_BYTES }
-    ensures reads { result ≢ Err GaussStop.NoMemory → IsReading text.now result }
+    ensures reads { result ≢ Err GaussStop.NoMemory → IsGaussReading text.now result }
     ensures crossings { IfOk result (λ code. length code.crossings ≤ CROSSINGS) }
     ensures loops { IfOk result (λ code. code.loops ≤ LOOPS) }
 {
     let tokens = tokens(alloc, text)?;
     let listing = listing_of(alloc, text, &tokens)?;
-    match first_fault(&listing, &tokens) {
+    match first_gauss_fault(&listing, &tokens) {
         Some(fault) => Err(fault),
-        None => Ok(code_of(&listing)),
+        None => Ok(listed_code(&listing)),
     }
 }
 
 // The code of a listing that has no fault.
-fn code_of(listing: &Listing) -> RawCode
+fn listed_code(listing: &Listing) -> RawCode
     requires crossings { crossing_count listing.now.body ≤ CROSSINGS }
-    requires loops { loop_count listing.now.body ≤ LOOPS }
-    ensures { result ≡ code_of listing.now.body (signs_of listing.now) }
+    requires loops { loop_group_count listing.now.body ≤ LOOPS }
+    ensures { result ≡ listed_code listing.now.body (signs_of listing.now) }
 {
     RawCode {
         crossings: crossings_of(
@@ -47,7 +47,7 @@ fn code_of(listing: &Listing) -> RawCode
             listing.signs(),
             listing.body.crossing_count(),
         ),
-        loops: listing.body.loop_count() as u8,
+        loops: listing.body.loop_group_count() as u8,
     }
 }
 

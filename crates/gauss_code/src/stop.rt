@@ -1,7 +1,7 @@
 //! Why no code was read.
 
 ghost use Rattle.std.specs.Prelude.{◌≡◌};
-ghost use Rattle.gauss_code.specs.Stops.{stop_of};
+ghost use Rattle.gauss_code.specs.Stops.{gauss_stop_of};
 ghost use Rattle.gauss_code.specs.declared.stop.GaussStop.TheVariants.{NoMemory};
 
 use kh_lex::LexStop;
@@ -50,7 +50,7 @@ impl<T: Drop> From<AllocFailed<T>> for GaussStop {
 }
 
 impl From<LexStop> for GaussStop {
-    ghost from_gives = { λ before stop. stop ≡ stop_of before };
+    ghost from_gives = { λ before stop. stop ≡ gauss_stop_of before };
 
     fn from(stop: LexStop) -> Self {
         match stop {

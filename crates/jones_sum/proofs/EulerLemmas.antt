@@ -1,10 +1,10 @@
 -- The Euler characteristic, row by row.
-use Rattle.std.proofs.Common.{◌≡◌, ◌≢◌, ℕ, ◌+◌, ◌*◌, ◌%◌, ◌<◌, ◌≤◌, ◌∙◌, List, [], ◌∷◌, ◌++◌, map, length, get_or, take, ap, sym, refl, subst, inl, inr, arith, ℤ, pos, negsuc, neg_ℤ, ◌+ℤ◌, ◌-ℤ◌, Bool, true, false, cond}
+use Rattle.std.proofs.Common.{◌≡◌, ◌≢◌, ℕ, suc, ◌+◌, ◌*◌, ◌%◌, ◌<◌, ◌≤◌, ◌∙◌, List, [], ◌∷◌, ◌++◌, map, length, get_or, take, ap, sym, refl, subst, inl, inr, arith, ℤ, pos, negsuc, neg_ℤ, ◌+ℤ◌, ◌-ℤ◌, Bool, true, false, cond}
 use Rattle.std.specs.Prelude.{unsigned_abs, nat_eq}
 use Rattle.std.specs.List.{All, filter, sum_by}
 use Rattle.std.specs.Ordering.{int_eq}
 use Rattle.std.proofs.Math.ListN.{set, length-set}
-use Rattle.std.proofs.lemmas.Bool.{cases_Bool, cases_eq}
+use Rattle.std.proofs.lemmas.Bool.{cases_Bool, cases_eq, false_from_ne_true}
 use Rattle.std.proofs.lemmas.Bool.Decides.{Decides-int_eq}
 use Rattle.std.proofs.lemmas.Int.{ints}
 use Rattle.std.proofs.lemmas.List.{append-nil, length-map, map-append, take_more, get_or-set_same, get_or-set_other}
@@ -13,7 +13,7 @@ use Rattle.std.proofs.lemmas.List.FromFn.{length-map-range_with_len}
 use Rattle.std.proofs.lemmas.List.Sums.{sum_by-cons, sum_by_more, sum_by_more_le}
 use Rattle.kh_types.specs.declared.limits.TheConstants.{EXPONENT}
 use Rattle.kh_types.specs.StateSum.{int_sum, signed_by, signed_by_parity}
-use Rattle.kh_types.specs.Table.{Row, from_minus}
+use Rattle.kh_types.specs.Table.{Row, IsWithin, from_minus}
 use Rattle.jones_sum.specs.Coefficients.{coefficients_of}
 use Rattle.jones_sum.specs.Tables.{IsRow}
 use Rattle.jones_sum.proofs.CoefficientLemmas.{filled, get_or-map-from_minus}
@@ -172,3 +172,20 @@ coefficients-small rows row k place old below is_row is_old within =
 -- an element of rows that are all within the limits
 pub IsRow-item : (rows : List Row) (row : Row) (k : ℕ) → All IsRow rows → k < length rows → row ≡ get_or rows k row → IsRow row
 IsRow-item rows row k are below is = subst IsRow (sym is) (are k row below)
+
+-- no row of a table has a degree outside of the exponents, so that nothing is added there
+none-at : (rows : List Row) (exponent : ℤ) → All IsRow rows → ¬ IsWithin EXPONENT exponent
+    → filter (λ row. int_eq row.j exponent) rows ≡ []
+none-at [] exponent are outside = refl
+none-at (row ∷ rows) exponent are outside =
+    let is : IsRow row = are 0 row (omega arith) in
+    let other : int_eq row.j exponent ≡ false =
+    false_from_ne_true (int_eq row.j exponent)
+    (λ same. outside (subst (IsWithin EXPONENT) ((Decides-int_eq row.j exponent).0 same) is.j)) in
+    ap (λ b. cond b (row ∷ filter (λ r. int_eq r.j exponent) rows) (filter (λ r. int_eq r.j exponent) rows)) other
+    ∙ none-at rows exponent (λ k d below. are (suc k) d (omega (arith, below))) outside
+
+pub euler-outside : (rows : List Row) (exponent : ℤ) → All IsRow rows → ¬ IsWithin EXPONENT exponent
+    → int_sum (map (λ row. signed_by row.i row.dim) (filter (λ row. int_eq row.j exponent) rows)) ≡ pos 0
+euler-outside rows exponent are outside =
+    ap (λ some. int_sum (map (λ row. signed_by row.i row.dim) some)) (none-at rows exponent are outside)

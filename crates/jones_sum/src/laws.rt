@@ -6,6 +6,7 @@ ghost use Rattle.prime_field.specs.Residues.{IsSmallPrime};
 ghost use Rattle.kh_types.specs.declared.limits.TheConstants.{CROSSINGS, EXPONENT};
 ghost use Rattle.kh_types.specs.Code.{Code};
 ghost use Rattle.kh_types.specs.Acceptance.{accepted};
+ghost use Rattle.kh_types.specs.Table as tables;
 ghost use Rattle.kh_types.specs.Table.{IsWithin, table};
 ghost use Rattle.kh_types.specs.StateSum.{circle_coefficient, state_sum, euler, polynomial_text};
 ghost use Rattle.kh_types.specs.WorkedCodes.{trefoil};
@@ -34,6 +35,12 @@ pub fn state_sums_are_within_the_exponents()
     ensures { (code : Code) (exponent : ℤ) → IsTrue (accepted code)
         → length code.crossings ≤ CROSSINGS → ¬ IsWithin EXPONENT exponent
         → state_sum code exponent ≡ pos 0 }
+{}
+
+/// The graded Euler characteristic of a table has no exponents but those of a `Laurent`.
+pub fn eulers_are_within_the_exponents()
+    ensures { (homology : tables.Table) (exponent : ℤ) → IsTable homology → ¬ IsWithin EXPONENT exponent
+        → euler homology exponent ≡ pos 0 }
 {}
 
 /// The list of a polynomial's coefficients tells each of them within the exponents, and the Jones

@@ -5,8 +5,6 @@ mod crossing;
 mod laws;
 mod reader;
 mod stop;
-#[cfg(test)]
-mod tests;
 
 pub use laws::{as_u64_gives_whole_numbers, each_text_has_one_reading, worked_texts};
 pub use reader::read_json;

@@ -9,3 +9,9 @@ mod LexerSteps
 pub mod GrammarLemmas
 pub mod MachineLemmas
 pub mod WrittenTexts
+pub mod Sections
+mod SectionLoops
+mod CutSections
+pub mod LineCuts
+pub mod WordCuts
+pub mod NumeralReads

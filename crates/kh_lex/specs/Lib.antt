@@ -3,3 +3,7 @@ pub mod Lexer
 pub mod Symbols
 pub mod Grammar
 pub mod Machine
+pub mod Sections
+pub mod Lines
+pub mod LineWords
+pub mod Numerals

@@ -7,6 +7,7 @@ ghost use Rattle.std.specs.Str.Parse.{digits_value};
 ghost use Rattle.kh_lex.specs.Cuts.{is_blank};
 ghost use Rattle.kh_lex.specs.Lexer.{mark_of, word_at, has_minus, sign_length, digits_at, begins_number, number_at, mark_at, token_at, piece_at, piece_length};
 
+use crate::digits::size_of;
 use crate::limits::NUMBER_LIMIT;
 use crate::stop::LexStop;
 use crate::token::{Kind, Token};
@@ -105,7 +106,7 @@ fn number_at(place: u32, text: &[u8]) -> Result<Token, LexStop>
     ensures { result ≡ number_at place text.now }
 {
     let digits = digits_at(text);
-    let size = size_of(digits);
+    let size = size_of(digits, NUMBER_LIMIT);
     if size > NUMBER_LIMIT {
         return Err(LexStop::Number { place });
     }
@@ -122,15 +123,15 @@ fn number_at(place: u32, text: &[u8]) -> Result<Token, LexStop>
     })
 }
 
-// Whether a text begins with a minus sign.
-fn has_minus(text: &[u8]) -> bool
+/// Whether a text begins with a minus sign.
+pub fn has_minus(text: &[u8]) -> bool
     ensures { result ≡ has_minus text.now }
 {
     byte_at(text, 0) == b'-'
 }
 
-// The bytes of a sign.
-fn sign_length(text: &[u8]) -> usize
+/// The bytes of a sign.
+pub fn sign_length(text: &[u8]) -> usize
     ensures { result ≡ sign_length text.now }
 {
     if has_minus(text) { 1 } else { 0 }
@@ -152,28 +153,6 @@ fn digit_count(text: &[u8]) -> usize
     ensures { result ≡ prefix_len is_ascii_digit text.now }
 {
     text.iter().take_while(|byte| byte.is_ascii_digit()).count()
-}
-
-// The number that digits write, and one above the limit for any number that is above it.
-fn size_of(digits: &[u8]) -> u32
-    requires { AllPass is_ascii_digit digits.now }
-    ensures { result ≡ min (digits_value 10 digits.now) (NUMBER_LIMIT + 1) }
-{
-    let mut size = 0;
-    for digit in digits {
-        size = capped_with_digit(size, *digit);
-    }
-    size
-}
-
-// A number with one more digit behind it, and one above the limit for any number that is above it.
-fn capped_with_digit(size: u32, digit: u8) -> u32
-    requires size { size ≤ NUMBER_LIMIT + 1 }
-    requires digit { IsTrue (is_ascii_digit digit) }
-    ensures { result ≡ min (size * 10 + digit_value digit) (NUMBER_LIMIT + 1) }
-{
-    let next = size * 10 + u32::from(digit - b'0');
-    next.min(NUMBER_LIMIT + 1)
 }
 
 // The mark that begins a text.

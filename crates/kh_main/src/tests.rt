@@ -13,7 +13,8 @@ use system::System;
 
 const TREFOIL: &[u8] = b"PD[X[1,4,2,5], X[3,6,4,1], X[5,2,6,3]]";
 
-const TREFOIL_TABLE: &str = "field 2
+const TREFOIL_TABLE: &str = "table 2
+field 2
 j -9 i -3 dim 1
 j -7 i -3 dim 1
 j -7 i -2 dim 1

@@ -1,6 +1,6 @@
 //! The words after the program's name.
 
-ghost use Rattle.std.specs.Prelude.{◌≡◌, ◌⊎◌, IfOk, IfErr, map, drop, string_bytes};
+ghost use Rattle.std.specs.Prelude.{◌≡◌, ◌≢◌, ◌⊎◌, IfOk, IfErr, map, drop, string_bytes};
 ghost use Rattle.std.specs.Vec.Iter.{into_iter_items};
 
 use kh_types::{NoMemory, Words};
@@ -18,8 +18,18 @@ pub fn words_of<R: Env + AllocGlobal>(rt: &R) -> Result<Words, Status>
 {
     match env::args(rt) {
         Ok(args) => words_after_name(rt.alloc(), args).map_err(|_| Status::NoMemory),
-        Err(error) if error.kind() == ErrorKind::OutOfMemory => Err(Status::NoMemory),
-        Err(_) => Err(Status::Usage),
+        Err(error) => Err(status_without_words(error.kind())),
+    }
+}
+
+/// How the program ends where a system does not give its words: out of memory, or one of them is no text.
+fn status_without_words(kind: ErrorKind) -> Status
+    ensures memory { kind ≡ ErrorKind.OutOfMemory → result ≡ Status.NoMemory }
+    ensures other { kind ≢ ErrorKind.OutOfMemory → result ≡ Status.Usage }
+{
+    match kind {
+        ErrorKind::OutOfMemory => Status::NoMemory,
+        _ => Status::Usage,
     }
 }
 

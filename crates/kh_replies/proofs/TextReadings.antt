@@ -57,7 +57,7 @@ IsRead-one IsReading IsRefusal one_reading one_reply (Err a) (Err b) is_a is_b =
 
 -- PD texts
 
-IsPdRefusal-some : (bytes : List ℕ) (stop : PdStop) → pd.IsReading bytes (Err stop) → (reply : Reply) × IsPdRefusal stop reply
+IsPdRefusal-some : (bytes : List ℕ) (stop : PdStop) → pd.IsPdReading bytes (Err stop) → (reply : Reply) × IsPdRefusal stop reply
 IsPdRefusal-some bytes (pd_stops.Text place) read = (refused_with (codes "text at ") place, refl)
 IsPdRefusal-some bytes (pd_stops.Number place) read = (refused_with (codes "number at ") place, refl)
 IsPdRefusal-some bytes (pd_stops.CrossingLimit count) read = (too_many_crossings count, refl)
@@ -73,7 +73,7 @@ IsPdRefusal-one pd_stops.NoMemory a b is_a is_b = absurd is_a
 
 -- signed Gauss texts
 
-IsGaussRefusal-some : (bytes : List ℕ) (stop : GaussStop) → gauss.IsReading bytes (Err stop) → (reply : Reply) × IsGaussRefusal stop reply
+IsGaussRefusal-some : (bytes : List ℕ) (stop : GaussStop) → gauss.IsGaussReading bytes (Err stop) → (reply : Reply) × IsGaussRefusal stop reply
 IsGaussRefusal-some bytes (gauss_stops.Text place) read = (refused_with (codes "text at ") place, refl)
 IsGaussRefusal-some bytes (gauss_stops.Number place) read = (refused_with (codes "number at ") place, refl)
 IsGaussRefusal-some bytes (gauss_stops.CrossingLimit count) read = (too_many_crossings count, refl)
@@ -113,19 +113,19 @@ IsJsonRefusal-one json_stops.NoMemory a b is_a is_b = absurd is_a
 
 pub IsReadAs-some : (form : InputForm) (bytes : List ℕ) → (outcome : Result Code Reply) × IsReadAs form bytes outcome
 IsReadAs-some forms.Pd bytes =
-    IsRead-some (pd.IsReading bytes) IsPdRefusal (IsPdRefusal-some bytes) (pd_readings.reading_of bytes)
-    (pd_readings.IsReading-reading_of bytes)
+    IsRead-some (pd.IsPdReading bytes) IsPdRefusal (IsPdRefusal-some bytes) (pd_readings.reading_of bytes)
+    (pd_readings.IsPdReading-reading_of bytes)
 IsReadAs-some forms.Gauss bytes =
-    IsRead-some (gauss.IsReading bytes) IsGaussRefusal (IsGaussRefusal-some bytes) (gauss_readings.reading_of bytes)
-    (gauss_readings.IsReading-reading_of bytes)
+    IsRead-some (gauss.IsGaussReading bytes) IsGaussRefusal (IsGaussRefusal-some bytes) (gauss_readings.reading_of bytes)
+    (gauss_readings.IsGaussReading-reading_of bytes)
 IsReadAs-some forms.Json bytes =
     IsRead-some (json.IsJsonReading bytes) IsJsonRefusal (IsJsonRefusal-some bytes) (json_steps.json_reading_of bytes)
     (json_readings.json_reading_of-sound bytes)
 
 IsReadAs-one : (form : InputForm) (bytes : List ℕ) (a b : Result Code Reply) → IsReadAs form bytes a → IsReadAs form bytes b → a ≡ b
-IsReadAs-one forms.Pd bytes = IsRead-one (pd.IsReading bytes) IsPdRefusal (pd_readings.IsReading-one bytes) IsPdRefusal-one
+IsReadAs-one forms.Pd bytes = IsRead-one (pd.IsPdReading bytes) IsPdRefusal (pd_readings.IsPdReading-one bytes) IsPdRefusal-one
 IsReadAs-one forms.Gauss bytes =
-    IsRead-one (gauss.IsReading bytes) IsGaussRefusal (gauss_readings.IsReading-one bytes) IsGaussRefusal-one
+    IsRead-one (gauss.IsGaussReading bytes) IsGaussRefusal (gauss_readings.IsGaussReading-one bytes) IsGaussRefusal-one
 IsReadAs-one forms.Json bytes = IsRead-one (json.IsJsonReading bytes) IsJsonRefusal (json_readings.readings-one bytes) IsJsonRefusal-one
 
 pub IsCodeRead-one : (bytes : List ℕ) (a b : Result Code Reply) → IsCodeRead bytes a → IsCodeRead bytes b → a ≡ b

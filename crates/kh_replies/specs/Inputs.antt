@@ -34,11 +34,11 @@ IsRead {Stop = Stop} IsReading IsRefusal (Err reply) = (stop : Stop) × IsReadin
 
 -- a PD text is that of a code, or is refused with a reply
 abbrev pub IsPdRead : List ℕ → Result Code Reply → Type 0
-IsPdRead bytes outcome = IsRead (pd.IsReading bytes) IsPdRefusal outcome
+IsPdRead bytes outcome = IsRead (pd.IsPdReading bytes) IsPdRefusal outcome
 
 -- a signed Gauss text is that of a code, or is refused with a reply
 abbrev pub IsGaussRead : List ℕ → Result Code Reply → Type 0
-IsGaussRead bytes outcome = IsRead (gauss.IsReading bytes) IsGaussRefusal outcome
+IsGaussRead bytes outcome = IsRead (gauss.IsGaussReading bytes) IsGaussRefusal outcome
 
 -- a JSON text is that of a code, or is refused with a reply
 abbrev pub IsJsonRead : List ℕ → Result Code Reply → Type 0

@@ -43,10 +43,10 @@ fn too_many_loops(alloc: Global, count: u32) -> Result<Reply, NoMemory>
 }
 
 /// The reply to a diagram with more generators than one whose homology is computed.
-pub fn too_many_generators(alloc: Global, count: u64) -> Result<Reply, NoMemory>
+pub fn too_many_generators(alloc: Global, count: u128) -> Result<Reply, NoMemory>
     ensures { IfOk result (λ reply. reply ≡ too_many_generators count) }
 {
-    limit_on(alloc, "generators", count.into(), GENERATORS as u128)
+    limit_on(alloc, "generators", count, GENERATORS as u128)
 }
 
 /// The reply to a script with more lines than a script may have.

@@ -39,12 +39,12 @@ product-zero_column p degree next row column zeros =
     ∙ zero-mod p
 
 -- the degrees by their numbers: that of a number, and the one after it
-degree_of-number : (complex : Complex) (k : ℕ) → degree_of complex (complex.low +ℤ pos k) ≡ degree_number complex k
+pub degree_of-number : (complex : Complex) (k : ℕ) → degree_of complex (complex.low +ℤ pos k) ≡ degree_number complex k
 degree_of-number complex k =
     let distance : complex.low +ℤ pos k -ℤ complex.low ≡ pos k = omega (arith, ints) in
     ap (degree_from complex) distance
 
-degree_of-next : (complex : Complex) (k : ℕ)
+pub degree_of-next : (complex : Complex) (k : ℕ)
     → degree_of complex (complex.low +ℤ pos k +ℤ pos 1) ≡ degree_number complex (k + 1)
 degree_of-next complex k =
     let distance : complex.low +ℤ pos k +ℤ pos 1 -ℤ complex.low ≡ pos (k + 1) = omega (arith, ints) in

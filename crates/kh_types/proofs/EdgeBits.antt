@@ -41,7 +41,7 @@ set-above state place rest is_zero =
     ∙ ap (λ q. q / 2 ^ rest) (half-same (state / 2 ^ place) is_zero)
     ∙ sym (high-quotient state place rest))
 
-lower_or_higher : (k place : ℕ) → k ≢ place → (k < place) ⊎ (place < k)
+pub lower_or_higher : (k place : ℕ) → k ≢ place → (k < place) ⊎ (place < k)
 lower_or_higher k place other = grind arith
 
 -- the other bits stay

@@ -25,6 +25,7 @@ use Rattle.kh_types.proofs.EdgeBits.{bit-set_there}
 use Rattle.kh_types.proofs.EdgeCircles.{joins_or_parts}
 use Rattle.kh_types.proofs.FilteredRanges.{filter-filter, filter-one, filter-two}
 use Rattle.kh_types.proofs.JoinedSlots.{across-below, across-slot, arc_at-slot, respects-across}
+use Rattle.kh_types.proofs.WalkLemmas.{lesser_or}
 
 -- the circle of the arc at a slot of a crossing
 abbrev pub circle_at : Code → ℕ → ℕ → ℕ → ℕ
@@ -167,9 +168,6 @@ pub stays_least : (p q c x : ℕ) → p ≢ q → (x ≡ max p q → c ≡ x) �
     → nat_eq (merged p q c) x ≡ (nat_eq c x && not (nat_eq x (max p q)))
 stays_least p q c x apart own_greatest own_least = grind (arith, nat_tests)
 
-below_or_past : (x n : ℕ) → (x < n) ⊎ (n ≤ x)
-below_or_past x n = grind arith
-
 -- the circles of the arcs at the slots 0 and 2 have become one
 two_become_one : (code : Code) (before after crossing : ℕ) → IsTrue (accepted code) → IsCrossing code.crossings crossing
     → (circle_at code before crossing 1 ≡ circle_at code before crossing 0)
@@ -241,11 +239,11 @@ two_become_one code before after crossing is is_crossing second fourth join =
           ∙ sym (filter-filter (is_least circles) (is_other gone) (arcs_and_loops code));
       count = length-HasMore gone (circle_names code before) (filter (is_least (joined circles (first, third))) (arcs_and_loops code)) more
           ∙ ap (λ cs. length (filter (is_least cs) (arcs_and_loops code)) + 1) (sym join.one);
-      one = λ x is_gone. elim (below_or_past x n) [
+      one = λ x is_gone. elim (lesser_or x n) [
         | inl x_below ↦ now x x_below ∙ greatest_becomes p q (slice_index circles x) is_gone
         | inr past ↦ absurd (omega (arith, is_gone, get_or_past circles x 0 (omega (arith, is_n, past)), order))
       ];
-      others = λ x other. elim (below_or_past x n) [
+      others = λ x other. elim (lesser_or x n) [
         | inl x_below ↦ now x x_below ∙ stays p q (slice_index circles x) other
         | inr past ↦
             get_or_past afterwards x 0 (omega (arith, after_length, past)) ∙ sym (get_or_past circles x 0 (omega (arith, is_n, past)))

@@ -135,7 +135,7 @@ classes_of-same n pairs others below others_below onward back =
 max-cases : (x y : ℕ) → (max x y ≡ x) ⊎ (max x y ≡ y)
 max-cases x y = grind (arith, nat_tests)
 
-min-cases : (x y : ℕ) → (min x y ≡ x) ⊎ (min x y ≡ y)
+pub min-cases : (x y : ℕ) → (min x y ≡ x) ⊎ (min x y ≡ y)
 min-cases x y = grind (arith, nat_tests)
 
 -- what leaves two numbers as they are leaves the greater and the smaller as they are

@@ -51,3 +51,7 @@ pub mod EdgeCircles
 pub mod EdgeNames
 pub mod FilteredRanges
 pub mod CircleNumbers
+pub mod ListSums
+pub mod Prefixes
+pub mod MappedLists
+pub mod Integers

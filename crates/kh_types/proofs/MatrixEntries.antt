@@ -13,6 +13,7 @@ use Rattle.kh_types.specs.MatrixRanks.{IsMatrix, Leaves}
 use Rattle.kh_types.proofs.Residues.{same-inverse, same-equal, same-unit_left, same-unit_right}
 use Rattle.kh_types.proofs.DependentRows.{row_cleared, column_cleared}
 use Rattle.kh_types.proofs.Reduced.{minus_mod-nothing, minus_mod-added}
+use Rattle.kh_types.proofs.MatrixTests.{entry-past_rows}
 
 -- a row made entry by entry
 abbrev row_made : (ℕ → ℕ) → List ℕ → List ℕ
@@ -78,9 +79,6 @@ matrix-with_entries p n entry rows is entries below =
     }
 
 -- past the end, entries are 0
-pub entry-past_rows : (rows : List (List ℕ)) (i j : ℕ) → length rows ≤ i → entry_in rows i j ≡ 0
-entry-past_rows rows i j past = ap (λ row. slice_index row j) (get_or_past rows i [] past)
-
 pub entry-past_columns : (rows : List (List ℕ)) (i j : ℕ) → length (slice_index_or rows i []) ≤ j → entry_in rows i j ≡ 0
 entry-past_columns rows i j past = get_or_past (slice_index_or rows i []) j 0 past
 

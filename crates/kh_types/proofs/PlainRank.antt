@@ -1,5 +1,5 @@
 -- The plain rank of a matrix is its rank as the least middle size of a product.
-use Rattle.std.proofs.Common.{◌≡◌, ℕ, zero, suc, ◌+◌, ◌-◌, ◌≤◌, ◌<◌, ◌≢◌, ◌∙◌, inl, inr, List, [], ◌∷◌, length, refl, ap, sym, arith, Bool, true, false, cond, not}
+use Rattle.std.proofs.Common.{◌≡◌, ℕ, zero, suc, ◌+◌, ◌-◌, ◌≤◌, ◌<◌, ◌≢◌, ◌∙◌, inl, inr, List, [], length, refl, ap, sym, arith, Bool, true, false, cond, not}
 use Rattle.std.specs.Prelude.{Option, Some, None, nat_eq, nat_lt, slice_index, slice_index_or}
 use Rattle.std.specs.List.{position, position_or_len, remove}
 use Rattle.std.specs.Option.{option_map_or}
@@ -17,6 +17,7 @@ use Rattle.kh_types.proofs.Residues.{same-equal}
 use Rattle.kh_types.proofs.PivotLemmas.{rank-same, rank-pivot, rank-zeros, leaves-row, leaves-column}
 use Rattle.kh_types.proofs.Removed.{without, rank-without}
 use Rattle.kh_types.proofs.Reduced.{entry_left, leaves-entry_left, entry-reduced, length-reduced, matrix-reduced}
+use Rattle.kh_types.proofs.RankLemmas.{slice_index-none}
 
 -- a row with an entry leads with one
 pub record Leads (row : List ℕ) : Type 0 where
@@ -40,15 +41,6 @@ leads-from_entry row found =
 
     differs : (x : ℕ) → not (nat_eq x 0) ≡ true → x ≢ 0
     differs x passes = λ is_zero. grind (arith, nat_tests)
-
--- a row without an entry has only 0
-slice_index-none : (row : List ℕ) (column : ℕ) → has_entry row ≡ false → slice_index row column ≡ 0
-slice_index-none [] column none = refl
-slice_index-none (x ∷ row) zero none = grind (arith, nat_tests)
-slice_index-none (x ∷ row) (suc column) none = slice_index-none row column (rest x row none)
-  where
-    rest : (x : ℕ) (row : List ℕ) → has_entry (x ∷ row) ≡ false → has_entry row ≡ false
-    rest x row none = grind (arith, nat_tests)
 
 -- where no row has an entry, each row has none
 no_row : (rows : List (List ℕ)) → position has_entry rows ≡ None → (i : ℕ) → has_entry (slice_index_or rows i []) ≡ false

@@ -10,7 +10,8 @@ use Rattle.kh_types.proofs.Residues.{same-equal}
 use Rattle.kh_types.proofs.PivotLemmas.{rank-same, rank-pivot, rank-transposed, rank-determined}
 use Rattle.kh_types.proofs.DependentRows.{rank-row_cleared, rank-column_cleared, row_cleared, column_cleared}
 use Rattle.kh_types.proofs.PlainRank.{rank-least, other-below}
-use Rattle.kh_types.proofs.MatrixEntries.{entry-past_rows, entry_cancelled, entry_cancelled-below, entry-cancelled_matrix, leaves-entry_cancelled, entry-without_row, entry-without_column, matrix-without_row, matrix-without_column, matrix-with_entries}
+use Rattle.kh_types.proofs.MatrixEntries.{entry_cancelled, entry_cancelled-below, entry-cancelled_matrix, leaves-entry_cancelled, entry-without_row, entry-without_column, matrix-without_row, matrix-without_column, matrix-with_entries}
+use Rattle.kh_types.proofs.MatrixTests.{entry-past_rows}
 
 -- a number that is the rank is the plain rank
 pub rank-plain : (p n r : ℕ) (rows : List (List ℕ)) → HasInverses p → IsMatrix p n rows → HasRank p (entry_in rows) r → rank p rows ≡ r

@@ -50,7 +50,7 @@ rest_none x row none = grind (arith, nat_tests)
 none_again : (x : ℕ) (row : List ℕ) → x ≡ 0 → has_entry row ≡ false → has_entry (x ∷ row) ≡ false
 none_again x row x_zero none = grind (arith, nat_tests)
 
-slice_index-none : (row : List ℕ) (column : ℕ) → has_entry row ≡ false → slice_index row column ≡ 0
+pub slice_index-none : (row : List ℕ) (column : ℕ) → has_entry row ≡ false → slice_index row column ≡ 0
 slice_index-none [] column none = refl
 slice_index-none (x ∷ row) zero none = first_zero x row none
 slice_index-none (x ∷ row) (suc column) none = slice_index-none row column (rest_none x row none)

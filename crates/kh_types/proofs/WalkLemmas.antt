@@ -106,7 +106,7 @@ own_is_least cycles classes m p named walked below own = elim (cases_eq (slice_i
       absurd (apart (sym (walked.before p (omega (arith, named.size, below)) (omega (arith, least, apart))) ∙ own))
 ]
 
-lesser_or : (x p : ℕ) → (x < p) ⊎ (p ≤ x)
+pub lesser_or : (x p : ℕ) → (x < p) ⊎ (p ≤ x)
 lesser_or x p = grind (arith, nat_tests)
 
 only_own : (cycles classes : List ℕ) (m p y : ℕ) → IsNamed m cycles → IsWalked cycles classes p → y < m

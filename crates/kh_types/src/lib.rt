@@ -12,8 +12,6 @@ mod fault;
 pub mod laws;
 mod limits;
 mod memory;
-#[cfg(test)]
-mod tests;
 mod words;
 
 pub use acceptance::{arcs_in, components_of, next_in};

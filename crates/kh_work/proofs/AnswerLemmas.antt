@@ -27,7 +27,7 @@ use Rattle.kh_replies.specs.Jones.{jones_line}
 use Rattle.kh_work.specs.Homology.{homology_reply, homology_text}
 use Rattle.kh_work.specs.Schedule.{answer_lines, events_of, schedule_reply, schedule_text}
 use Rattle.commit_core.specs.Answering.{answers}
-use Rattle.shared_block.specs.declared.limits.TheConstants.{WORKERS}
+use Rattle.kh_types.specs.declared.limits.TheConstants.{WORKERS}
 use Rattle.undo_stack.specs.Schedule.{IsSchedule}
 use Rattle.undo_stack.specs.declared.schedule.ScheduleLine.{ScheduleLine}
 use Rattle.kh_work.specs.Answer.{IsIntakeReply, IsCommandReply, IsAnswer, ReadsNothing, ReadsUpTo}

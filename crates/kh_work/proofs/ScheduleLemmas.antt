@@ -1,17 +1,17 @@
 -- The events of a schedule that is read are of workers that there are.
 use Rattle.std.proofs.Common.{◌≡◌, ℕ, ◌≤◌, List, All, slice_index_or, sym, subst}
 use Rattle.std.proofs.lemmas.List.Elements.{All-map}
-use Rattle.shared_block.specs.declared.limits.TheConstants.{WORKERS}
+use Rattle.kh_types.specs.declared.limits.TheConstants.{WORKERS}
 use Rattle.undo_stack.specs.Schedule.{HasWorker}
 use Rattle.undo_stack.specs.declared.schedule.ScheduleLine.{ScheduleLine}
 use Rattle.undo_stack.specs.declared.schedule.ScheduleLine.TheVariants as lines
-use Rattle.commit_core.specs.States.{worker_of}
+use Rattle.commit_core.specs.States.{event_worker}
 use Rattle.commit_core.specs.declared.event.Event.{Event}
 use Rattle.kh_work.specs.Schedule.{event_of, events_of}
 
 -- the worker of an event is one that there is
 abbrev IsOfWorker : Event → Type 0
-IsOfWorker event = (1 ≤ worker_of event) × (worker_of event ≤ WORKERS)
+IsOfWorker event = (1 ≤ event_worker event) × (event_worker event ≤ WORKERS)
 
 HasWorker-event : (line : ℕ × ScheduleLine) → HasWorker line → IsOfWorker (event_of line.1)
 HasWorker-event (number, lines.Look worker block) has = has
@@ -19,7 +19,7 @@ HasWorker-event (number, lines.Commit worker) has = has
 HasWorker-event (number, lines.Forget worker) has = has
 
 pub events_of-workers : (script : List (ℕ × ScheduleLine)) (events : List Event) → events ≡ events_of script → All HasWorker script
-    → All (λ event. (1 ≤ worker_of event) × (worker_of event ≤ WORKERS)) events
+    → All (λ event. (1 ≤ event_worker event) × (event_worker event ≤ WORKERS)) events
 events_of-workers script events are all =
     subst (All IsOfWorker) (sym are)
     (All-map IsOfWorker (λ line. event_of line.1) script

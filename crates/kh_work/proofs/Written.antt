@@ -32,9 +32,9 @@ not_both status is (inr same) = let both : WriteFault ≡ NoMemory = sym is ∙ 
 
 run_whole : (words : List (List ℕ)) (source_before source_after sink_before sink_after : Seen) (same_source same_sink : Type 0)
     (reply : Reply) (status : Status) → IsReplied words source_before source_after same_source (Ok reply)
-    → Gives reply status sink_before.bytes sink_after.bytes
+    → Gives reply status sink_before.bytes sink_after.bytes → sink_after.faults ≡ sink_before.faults
     → IsProgramRun words source_before source_after sink_before sink_after same_source same_sink status
-run_whole words source_before source_after sink_before sink_after same_source same_sink reply status replied gives =
+run_whole words source_before source_after sink_before sink_after same_source same_sink reply status replied gives quiet =
     let whole : IsWhole status = subst IsWhole (sym gives.status) replied.whole in
     record {
       answered = λ w. with_answer source_before.bytes words reply (λ r. Gives r status sink_before.bytes sink_after.bytes) replied.known gives;
@@ -45,6 +45,8 @@ run_whole words source_before source_after sink_before sink_after same_source sa
       read_out = λ limit reads no_fault memory. replied.read_out limit reads;
       read_fault = λ is. absurd (subst IsWhole is whole);
       write_fault = λ is. absurd (subst IsWhole is whole);
+      quiet_source = λ w. replied.quiet;
+      quiet_sink = λ w. quiet;
       unwritten = λ stopped. absurd (not_stopped status whole stopped);
       prefix_written = λ is. absurd (subst IsWhole is whole);
       blind_prefix = λ nothing is. absurd (subst IsWhole is whole);
@@ -65,6 +67,8 @@ run_cut words source_before source_after sink_before sink_after same_source same
       read_out = λ limit reads no_fault memory. replied.read_out limit reads;
       read_fault = λ is. absurd (not_both status is_fault (inl is));
       write_fault = λ is. rose;
+      quiet_source = λ whole. absurd (subst IsWhole is_fault whole);
+      quiet_sink = λ whole. absurd (subst IsWhole is_fault whole);
       unwritten = λ stopped. absurd (not_both status is_fault stopped);
       prefix_written = λ is. with_answer source_before.bytes words reply (λ r. GivesPrefix r sink_before.bytes sink_after.bytes) replied.known prefix;
       blind_prefix = λ nothing is. (reply, replied.blind nothing, prefix);
@@ -84,6 +88,8 @@ run_unread words source_before source_after sink_before sink_after same_source s
       read_out = λ limit reads no_fault memory. absurd (no_fault is_fault);
       read_fault = λ is. replied.fault refl;
       write_fault = λ is. let both : ReadFault ≡ WriteFault = sym is_fault ∙ is in absurd (cc);
+      quiet_source = λ whole. absurd (subst IsWhole is_fault whole);
+      quiet_sink = λ whole. absurd (subst IsWhole is_fault whole);
       unwritten = λ stopped. same;
       prefix_written = λ is. let both : ReadFault ≡ WriteFault = sym is_fault ∙ is in absurd (cc);
       blind_prefix = λ nothing is. let both : ReadFault ≡ WriteFault = sym is_fault ∙ is in absurd (cc);
@@ -103,6 +109,8 @@ run_unmade words source_before source_after sink_before sink_after same_source s
       read_out = λ limit reads no_fault memory. absurd (memory is_memory);
       read_fault = λ is. let both : NoMemory ≡ ReadFault = sym is_memory ∙ is in absurd (cc);
       write_fault = λ is. let both : NoMemory ≡ WriteFault = sym is_memory ∙ is in absurd (cc);
+      quiet_source = λ whole. absurd (subst IsWhole is_memory whole);
+      quiet_sink = λ whole. absurd (subst IsWhole is_memory whole);
       unwritten = λ stopped. same;
       prefix_written = λ is. let both : NoMemory ≡ WriteFault = sym is_memory ∙ is in absurd (cc);
       blind_prefix = λ nothing is. let both : NoMemory ≡ WriteFault = sym is_memory ∙ is in absurd (cc);
@@ -114,8 +122,8 @@ pub IsProgramRun-written : (words : List (List ℕ)) (source_before source_after
     (same_source same_sink : Type 0) (made : Result Reply ReplyStop) (status : Status)
     → IsReplied words source_before source_after same_source made → IsWritten made sink_before sink_after same_sink status
     → IsProgramRun words source_before source_after sink_before sink_after same_source same_sink status
-IsProgramRun-written words source_before source_after sink_before sink_after same_source same_sink (Ok reply) status replied (inl gives) =
-    run_whole words source_before source_after sink_before sink_after same_source same_sink reply status replied gives
+IsProgramRun-written words source_before source_after sink_before sink_after same_source same_sink (Ok reply) status replied (inl (gives, quiet)) =
+    run_whole words source_before source_after sink_before sink_after same_source same_sink reply status replied gives quiet
 IsProgramRun-written words source_before source_after sink_before sink_after same_source same_sink (Ok reply) status replied (inr (is, rose, prefix)) =
     run_cut words source_before source_after sink_before sink_after same_source same_sink reply status replied is rose prefix
 IsProgramRun-written words source_before source_after sink_before sink_after same_source same_sink (Err stops.ReadFault) status replied (is, same) =

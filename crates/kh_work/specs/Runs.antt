@@ -48,17 +48,18 @@ pub record IsReplied (words : List (List ℕ)) (source_before source_after : See
   pub taken : IsTaken source_before.bytes source_after.bytes
   pub read_out : (limit : ℕ) → ReadsUpTo words limit → OnOk made (IsReadOut limit source_before.bytes source_after.bytes)
   pub fault : made ≡ Err stops.ReadFault → Rose source_before.faults source_after.faults
+  pub quiet : OnOk made (source_after.faults ≡ source_before.faults)
 
 -- the status of a stop without a reply
 abbrev pub status_of : ReplyStop → Status
 status_of stops.ReadFault = ReadFault
 status_of stops.NoMemory = NoMemory
 
--- a sink has gained a reply, whole, and the status is its status; or its count of faults rose, and it has gained a prefix. Without a
+-- a sink has gained a reply, whole, without a fault, and the status is its status; or its count of faults rose, and it has gained a prefix. Without a
 -- reply it is the same
 abbrev pub IsWritten : Result Reply ReplyStop → Seen → Seen → Type 0 → Status → Type 0
 IsWritten (Ok reply) before after same_sink status =
-    Gives reply status before.bytes after.bytes
+    (Gives reply status before.bytes after.bytes × (after.faults ≡ before.faults))
     ⊎ ((status ≡ WriteFault) × Rose before.faults after.faults × GivesPrefix reply before.bytes after.bytes)
 IsWritten (Err stop) before after same_sink status = (status ≡ status_of stop) × same_sink
 
@@ -80,6 +81,9 @@ pub record IsProgramRun (words : List (List ℕ)) (source_before source_after si
   -- a fault comes only where its count rose
   pub read_fault : status ≡ ReadFault → Rose source_before.faults source_after.faults
   pub write_fault : status ≡ WriteFault → Rose sink_before.faults sink_after.faults
+  -- where an answer is written whole no count of faults has risen
+  pub quiet_source : IsWhole status → source_after.faults ≡ source_before.faults
+  pub quiet_sink : IsWhole status → sink_after.faults ≡ sink_before.faults
   -- on a fault of reading and out of memory nothing is written, and on a fault of writing a prefix of an answer
   pub unwritten : (status ≡ ReadFault) ⊎ (status ≡ NoMemory) → same_sink
   pub prefix_written : status ≡ WriteFault → IfSome source_before.bytes (λ bytes.

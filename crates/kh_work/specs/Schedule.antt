@@ -6,7 +6,7 @@ use Rattle.std.specs.List.{flat_map, zip}
 use Rattle.kh_types.specs.Code.{Code}
 use Rattle.circle_smoothing.specs.GeneratorCounts.{generator_count}
 use Rattle.circle_smoothing.specs.declared.limits.TheConstants.{GENERATORS}
-use Rattle.shared_block.specs.declared.limits.TheConstants.{WORKERS}
+use Rattle.kh_types.specs.declared.limits.TheConstants.{WORKERS}
 use Rattle.undo_stack.specs.Schedule.{IsSchedule}
 use Rattle.undo_stack.specs.declared.schedule.ScheduleLine.{ScheduleLine}
 use Rattle.undo_stack.specs.declared.schedule.ScheduleLine.TheVariants as lines

@@ -59,6 +59,7 @@ pub fn draft_to<S: Source>(alloc: Global, words: &Words, source: &mut S) -> Resu
         → OnOk result (IsReadOut limit (S.left source.old) (S.left source.new)) }
     ensures fault { result ≡ Err ReplyStop.ReadFault
         → Rose (S.faults source.old) (S.faults source.new) }
+    ensures quiet { OnOk result (S.faults source.new ≡ S.faults source.old) }
 {
     match read_words(alloc, words) {
         Ok(command) => draft_to_source(alloc, command, source),
@@ -83,6 +84,7 @@ fn draft_to_source<S: Source>(
     ensures read_out { OnOk result (IsReadOut INPUT_BYTES (S.left source.old) (S.left source.new)) }
     ensures fault { result ≡ Err ReplyStop.ReadFault
         → Rose (S.faults source.old) (S.faults source.new) }
+    ensures quiet { OnOk result (S.faults source.new ≡ S.faults source.old) }
 {
     match read_all(alloc, source) {
         Ok(bytes) => Ok(draft_to_bytes(alloc, command, &bytes)?),

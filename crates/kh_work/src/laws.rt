@@ -21,7 +21,7 @@ ghost use Rattle.word_line.specs.Commands.{IsCommand};
 ghost use Rattle.word_line.specs.Values.{IsFieldSize};
 ghost use Rattle.kh_work.specs.Schedule.{answer_lines, events_of};
 ghost use Rattle.kh_work.specs.Answer.{IsAnswer};
-ghost use Rattle.shared_block.specs.declared.limits.TheConstants.{WORKERS};
+ghost use Rattle.kh_types.specs.declared.limits.TheConstants.{WORKERS};
 ghost use Rattle.undo_stack.specs.Schedule.{IsSchedule};
 ghost use Rattle.undo_stack.specs.declared.schedule.ScheduleLine.{ScheduleLine};
 

@@ -49,8 +49,8 @@ pub fn run_alone<S: Source, K: Sink>(
     ensures headline { KeepsHeadline words.now (seen (S.left source.old) (S.faults source.old))
         (seen (K.written sink.old) (K.faults sink.old)) (seen (K.written sink.new) (K.faults sink.new)) result }
 {
-    let made = reply_alone(alloc, words, source);
-    written(sink, made)
+    let alone = reply_alone(alloc, words, source);
+    written(sink, alone)
 }
 
 /// The reply to words and a source, made with workers.

@@ -2,7 +2,7 @@
 #![tactic(auto)]
 
 mod codes;
-mod diagram_of;
+mod diagrams;
 
 pub use codes::{CURL, FIGURE_EIGHT, HOPF, TORUS_KNOT, TREFOIL, WHITEHEAD};
-pub use diagram_of::{KnownFault, diagram_of};
+pub use diagrams::{KnownFault, diagram_of};

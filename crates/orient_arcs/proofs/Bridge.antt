@@ -9,7 +9,7 @@ use Rattle.kh_types.specs.Code.{arc_in, slots_of, IsArc, IsCrossing}
 use Rattle.kh_types.specs.Components.{next}
 use Rattle.kh_types.specs.Directions.{is_positive}
 use Rattle.kh_types.specs.Accepted.{IsDirected}
-use Rattle.code_passes.specs.Labels.{number_at, bad_label}
+use Rattle.code_passes.specs.Labels.{listed_number, bad_label}
 use Rattle.code_passes.specs.Passes as gauss
 use Rattle.code_passes.specs.Passes.{Pass, all_passes, slots_between}
 use Rattle.code_passes.specs.Passes.{all_labels}
@@ -126,7 +126,7 @@ module _ (parts : Parts) (paired : ArePaired parts) where
   signs_of = map sign_at (range_with_len 0 (length parts.crossings))
 
   pub sign-is : (place : ℕ) → place < length parts.crossings
-      → int_eq (number_at signs_of place) (pos 1) ≡ is_positive_at parts.positive place
+      → int_eq (listed_number signs_of place) (pos 1) ≡ is_positive_at parts.positive place
   unfolding signs_of sign_at
   sign-is place below =
       ap (λ s. int_eq s (pos 1))
@@ -198,7 +198,7 @@ module _ (parts : Parts) (paired : ArePaired parts) where
       let under = passing.under_pass groups_of place in
       let over = passing.over_pass groups_of place in
       let slots = slots_in parts.crossings place in
-      by (is_positive_at parts.positive place) (int_eq (number_at signs_of place) (pos 1)) (sign-is place below) under over slots
+      by (is_positive_at parts.positive place) (int_eq (listed_number signs_of place) (pos 1)) (sign-is place below) under over slots
       (under-is place below) (over-is place below).0 (over-is place below).1
     where
       by : (b test : Bool) → test ≡ b → (under over : Pass) (slots : List ℕ)

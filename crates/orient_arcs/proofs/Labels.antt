@@ -7,11 +7,11 @@ use Rattle.std.proofs.lemmas.Bool.{cases_eq}
 use Rattle.std.proofs.lemmas.Bool.Decides.{nat_tests}
 use Rattle.std.proofs.lemmas.List.{length-map, length-append, take-map}
 use Rattle.kh_types.proofs.Lists.{AllByRecursion-append, find-none}
-use Rattle.code_passes.specs.Labels.{number_at, is_bad_label, bad_label, names_none}
+use Rattle.code_passes.specs.Labels.{listed_number, is_bad_label, bad_label, names_none}
 use Rattle.code_passes.specs.Passes as gauss
 use Rattle.code_passes.specs.Passes.{Pass, is_over, pass_at, passes_from, all_passes}
 use Rattle.code_passes.specs.Passes.{all_labels}
-use Rattle.code_passes.proofs.LabelCounts.{int_eq-other}
+use Rattle.kh_types.proofs.Integers.{int_eq-other}
 use Rattle.orient_arcs.specs.Renumbered.{all_of, turned_names, number_in}
 use Rattle.orient_arcs.proofs.Members.{IsIn, IsIn-same, IsIn-left, IsIn-right, IsIn-parts, AreDistinct, AreDistinct-append, IsIn-get, apart-before, position-get}
 use Rattle.orient_arcs.proofs.Walks.{AreLed}
@@ -69,7 +69,7 @@ round-turned label next names round =
     turned-holds label (IsRound next) names round (λ a b both. (sym both.1, sym both.0))
 
 -- labels are turned as names are
-pub turned-labels : (label : ℕ → ℤ) (names : List ℕ) → gauss.turned (map label names) ≡ map label (turned_names label names)
+pub turned-labels : (label : ℕ → ℤ) (names : List ℕ) → gauss.turned_labels (map label names) ≡ map label (turned_names label names)
 turned-labels label [] = refl
 turned-labels label (a ∷ []) = refl
 turned-labels label (a ∷ b ∷ []) = by ((is_over (label a) && is_over (label b)) && int_lt (label b) (label a))
@@ -180,7 +180,7 @@ number-middle front xs back order is distinct at below =
     ap (λ x. position_or_len (nat_eq x) order) (sym here) ∙ place in
     omega (arith, same)
 
-number_at-map : (label : ℕ → ℤ) (xs : List ℕ) (at : ℕ) → at < length xs → number_at (map label xs) at ≡ label (get_or xs at 0)
+number_at-map : (label : ℕ → ℤ) (xs : List ℕ) (at : ℕ) → at < length xs → listed_number (map label xs) at ≡ label (get_or xs at 0)
 number_at-map label [] at below = absurd (omega (arith, below))
 number_at-map label (x ∷ xs) zero below = refl
 number_at-map label (x ∷ xs) (suc at) below = number_at-map label xs at (omega (arith, below))
@@ -232,7 +232,7 @@ module _ (label : ℕ → ℤ) (next : ℕ → ℕ) (order : List ℕ) (distinct
       let size = length-turned_names label names in
       let after : length (front ++ xs) + 1 ≡ length front + 1 + length labels =
       omega (arith, length-append front xs, size, length-map names label) in
-      AllByRecursion-append (IsNumbered label next order) (passes_from (length front + 1) (gauss.turned labels))
+      AllByRecursion-append (IsNumbered label next order) (passes_from (length front + 1) (gauss.turned_labels labels))
       (all_passes (length front + 1 + length labels) (map (map label) more))
       (subst (λ (ls : List ℤ). AllByRecursion (IsNumbered label next order) (passes_from (length front + 1) ls)) (sym turn)
       (All-range (IsNumbered label next order) (pass_at (length front + 1) (map label xs)) 0 (length (map label xs))

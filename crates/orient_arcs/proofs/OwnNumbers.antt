@@ -19,7 +19,7 @@ use Rattle.code_passes.specs.ComponentLabels as printing
 use Rattle.code_passes.specs.ComponentLabels.{label_at, component_labels}
 use Rattle.code_passes.proofs.ArcLabels.{IsOriented}
 use Rattle.code_passes.proofs.CutArcs.{IsFirst, IsFirst-next, size, component-in, end-within, size-positive}
-use Rattle.code_passes.proofs.TwoArcComponents.{turned-component}
+use Rattle.code_passes.proofs.TwoArcComponents.{turned_labels-component}
 use Rattle.orient_arcs.specs.Parts.{Parts, ArePaired, parts_of, passes_through, passes_at, slots_in, is_positive_at, under_pass, over_pass}
 use Rattle.orient_arcs.specs.Renumbered.{follows, label_entered, walk, turned_names, is_in, bound_of, order_of, number_in, renamed, renumber}
 use Rattle.orient_arcs.specs.Steps.{order_below, is_new}
@@ -61,7 +61,7 @@ module _ (code : Code) (directed : IsDirected code.crossings) (moves : HasNoSing
 
   -- a pass goes from an arc to the next, and its label is that of the arc
   IsOwn : Pass → Type 0
-  IsOwn pass = (pass.leaves ≡ next cs pass.enters) × (pass.label ≡ printing.label_of cs pass.enters)
+  IsOwn pass = (pass.leaves ≡ next cs pass.enters) × (pass.label ≡ printing.entering_label cs pass.enters)
 
   own-passes : AllByRecursion IsOwn passes
   unfolding IsOwn
@@ -83,7 +83,7 @@ module _ (code : Code) (directed : IsDirected code.crossings) (moves : HasNoSing
           → MatchBool b (IsPass code.crossings (place + 1) 3 1) (IsPass code.crossings (place + 1) 1 3)
           → (arc_in (slots_of code.crossings (place + 1)) (if c then 1 else 3)
           ≡ next code.crossings (arc_in (slots_of code.crossings (place + 1)) (if c then 3 else 1)))
-          × (pos (place + 1) ≡ printing.label_of code.crossings (arc_in (slots_of code.crossings (place + 1)) (if c then 3 else 1)))
+          × (pos (place + 1) ≡ printing.entering_label code.crossings (arc_in (slots_of code.crossings (place + 1)) (if c then 3 else 1)))
       by true true same place pass = (pass.follows, sym (ap label_at pass.head))
       by false false same place pass = (pass.follows, sym (ap label_at pass.head))
       by true false same place pass = absurd (cc)
@@ -109,11 +109,11 @@ module _ (code : Code) (directed : IsDirected code.crossings) (moves : HasNoSing
       (entering-holds parts paired IsOwn x own-passes (arc-head x is)).0
       ∙ ap (next cs) (entering-enters parts paired x (arc-head x is))
 
-  label-own : (x : ℕ) → IsArc cs x → label_entered passes x ≡ printing.label_of cs x
+  label-own : (x : ℕ) → IsArc cs x → label_entered passes x ≡ printing.entering_label cs x
   unfolding IsOwn
   label-own x is =
       (entering-holds parts paired IsOwn x own-passes (arc-head x is)).1
-      ∙ ap (printing.label_of cs) (entering-enters parts paired x (arc-head x is))
+      ∙ ap (printing.entering_label cs) (entering-enters parts paired x (arc-head x is))
 
   -- a walk from a first arc goes over the arcs of its component
   walk-range : (first : ℕ) → IsFirst cs first → (fuel i : ℕ) → i < size cs first → size cs first ≤ fuel + i
@@ -156,9 +156,9 @@ module _ (code : Code) (directed : IsDirected code.crossings) (moves : HasNoSing
       λ x here. let r = range-in first (size cs first) x here in
       record { positive = omega (arith, r.0, is.is_arc.positive); within = omega (arith, r.1, end) } in
       let labels : map label names ≡ component_labels cs first =
-      map-alike label (printing.label_of cs) names (λ x here. label-own x (arcs_in x here)) in
+      map-alike label (printing.entering_label cs) names (λ x here. label-own x (arcs_in x here)) in
       let same : map label (turned_names label names) ≡ map label names =
-      sym (turned-labels label names) ∙ ap gauss.turned labels ∙ turned-component cs first oriented is ∙ sym labels in
+      sym (turned-labels label names) ∙ ap gauss.turned_labels labels ∙ turned_labels-component cs first oriented is ∙ sym labels in
       elim (turned-cases label names) [
         | inl stays ↦ stays
         | inr two ↦

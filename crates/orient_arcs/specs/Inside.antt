@@ -19,13 +19,13 @@ pub record IsComponents (components : Inside) : Type 0 where
   pub least : components.least ≡ spread (components_of components.diagram.crossings)
 
 -- what the components of a code keep
-abbrev pub inside_of : Code → Inside
-inside_of code = record { diagram = code; least = spread (components_of code.crossings) }
+abbrev pub inside_of_components : Code → Inside
+inside_of_components code = record { diagram = code; least = spread (components_of code.crossings) }
 
 -- the code gives back what they keep
-pub inside_of-code_of_components : (components : Inside) → IsComponents components
-    → inside_of (code_of_components components) ≡ components
-inside_of-code_of_components components h = ap (made components.diagram) (sym h.least)
+pub inside_of_components-code : (components : Inside) → IsComponents components
+    → inside_of_components (code_of_components components) ≡ components
+inside_of_components-code components h = ap (made components.diagram) (sym h.least)
   where
     made : Code → List ℕ → Inside
     made code least = record { diagram = code; least = least }

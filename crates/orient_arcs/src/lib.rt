@@ -7,8 +7,6 @@ mod numbered;
 mod of_diagram;
 mod parts;
 mod renumbering;
-#[cfg(test)]
-mod tests;
 
 pub use numbered::Components;
 pub use of_diagram::{components, next};

@@ -33,15 +33,15 @@ impl Model for Components {
 
     ghost Value = { Code };
 
-    ghost use Rattle.orient_arcs.specs.Inside.{code_of_components, IsComponents, inside_of, inside_of-code_of_components};
+    ghost use Rattle.orient_arcs.specs.Inside.{code_of_components, IsComponents, inside_of_components, inside_of_components-code};
 
     ghost view = { code_of_components };
 
     ghost invariant = { IsComponents };
 
-    ghost inverse = { inside_of };
+    ghost inverse = { inside_of_components };
 
-    ghost inverse_ok = { inside_of-code_of_components };
+    ghost inverse_ok = { inside_of_components-code };
 }
 
 impl Components {

@@ -13,9 +13,9 @@ use Rattle.kh_lex.proofs.MachineLemmas.{LeavesAt-early, LeavesAt-refused, ReadsG
 use Rattle.pd_code.specs.declared.machine.State.{State}
 use Rattle.pd_code.specs.declared.machine.State.TheVariants.{Start, Named, Open, Listed, Separated, Done, Crossing, CrossingOpen, First, FirstComma, Second, SecondComma, Third, ThirdComma, Fourth, Loop, LoopOpen, LoopNumber}
 use Rattle.pd_code.specs.declared.item.Item.{Item}
-use Rattle.pd_code.specs.Grammar.{IsText, spelled}
-use Rattle.pd_code.specs.Machine.{added, advanced, is_done, is_end, progress_at, step}
-use Rattle.pd_code.proofs.Spellings.{run-spelled}
+use Rattle.pd_code.specs.Grammar.{IsPdText, pd_spelled}
+use Rattle.pd_code.specs.Machine.{added, pd_advanced, is_pd_done, is_pd_end, pd_progress, pd_step}
+use Rattle.pd_code.proofs.Spellings.{run-pd_spelled}
 use Rattle.pd_code.proofs.SoFar.{run-done}
 
 -- symbols that lead from a state to the end
@@ -40,7 +40,7 @@ completion LoopOpen = Number (pos 0) ∷ RightBracket ∷ RightBracket ∷ []
 completion (LoopNumber n) = RightBracket ∷ RightBracket ∷ []
 
 -- they do
-run-completion : (state : State) (items : List Item) → (all : List Item) × (run advanced (progress_at state items) (completion state) ≡ Some (progress_at Done all))
+run-completion : (state : State) (items : List Item) → (all : List Item) × (run pd_advanced (pd_progress state items) (completion state) ≡ Some (pd_progress Done all))
 unfolding completion
 run-completion Start items = (_, refl)
 run-completion Named items = (_, refl)
@@ -62,30 +62,30 @@ run-completion LoopOpen items = (_, refl)
 run-completion (LoopNumber n) items = (_, refl)
 
 -- the machine reads the grammar
-pub reads_grammar : ReadsGrammar IsText advanced (progress_at Start []) is_end
+pub reads_grammar : ReadsGrammar IsPdText pd_advanced (pd_progress Start []) is_pd_end
 reads_grammar = record {
   sound = λ symbols end ran symbols_of-done. (end.items, run-done symbols end ran symbols_of-done);
-  whole = λ symbols text. (progress_at Done text.0, ap (run advanced (progress_at Start [])) text.1 ∙ run-spelled text.0, refl);
-  finish = λ progress. let end = run-completion progress.state progress.items in (completion progress.state, progress_at Done end.0, end.1, refl);
+  whole = λ symbols text. (pd_progress Done text.0, ap (run pd_advanced (pd_progress Start [])) text.1 ∙ run-pd_spelled text.0, refl);
+  finish = λ progress. let end = run-completion progress.state progress.items in (completion progress.state, pd_progress Done end.0, end.1, refl);
 }
 
 -- the tokens up to one lead the machine to a state and items
 abbrev pub LeadsTo : List ℕ → List Token → State → List Item → Type 0
-LeadsTo text tokens state items = run advanced (progress_at Start []) (symbols_of text tokens) ≡ Some (progress_at state items)
+LeadsTo text tokens state items = run pd_advanced (pd_progress Start []) (symbols_of text tokens) ≡ Some (pd_progress state items)
 
 -- the machine takes the symbol of one more token
 pub LeadsTo-more : (state next : State) (items : List Item) (text : List ℕ) (tokens : List Token) (i : ℕ) (d : Token) (symbol : Symbol) → i < length tokens
-    → LeadsTo text (take i tokens) state items → symbol ≡ symbol_of text (get_or tokens i d) → step state symbol ≡ Some next
+    → LeadsTo text (take i tokens) state items → symbol ≡ symbol_of text (get_or tokens i d) → pd_step state symbol ≡ Some next
     → LeadsTo text (take (i + 1) tokens) next (added state items)
 LeadsTo-more state next items text tokens i d symbol less ran means steps =
-    run-more advanced (progress_at Start []) (progress_at state items) (progress_at next (added state items)) text tokens i d less ran (rw (← means, steps) refl)
+    run-more pd_advanced (pd_progress Start []) (pd_progress state items) (pd_progress next (added state items)) text tokens i d less ran (rw (← means, steps) refl)
 
 -- or refuses it, and the tokens leave the grammar there
 pub LeavesAt-refusal : (state : State) (items : List Item) (text : List ℕ) (tokens : List Token) (i : ℕ) (d : Token) (symbol : Symbol) → i < length tokens
-    → LeadsTo text (take i tokens) state items → symbol ≡ symbol_of text (get_or tokens i d) → step state symbol ≡ None
-    → LeavesAt IsText text tokens (get_or tokens i d).place
+    → LeadsTo text (take i tokens) state items → symbol ≡ symbol_of text (get_or tokens i d) → pd_step state symbol ≡ None
+    → LeavesAt IsPdText text tokens (get_or tokens i d).place
 LeavesAt-refusal state items text tokens i d symbol less ran means stops =
-    LeavesAt-refused IsText advanced (progress_at Start []) is_end reads_grammar (progress_at state items) text tokens i d less ran (rw (← means, stops) refl)
+    LeavesAt-refused IsPdText pd_advanced (pd_progress Start []) is_pd_end reads_grammar (pd_progress state items) text tokens i d less ran (rw (← means, stops) refl)
 
 -- all tokens are taken
 LeadsTo-all : (state : State) (items : List Item) (text : List ℕ) (tokens : List Token) (i : ℕ) → i ≡ length tokens
@@ -94,16 +94,16 @@ LeadsTo-all state items text tokens i all ran = subst (λ t. LeadsTo text t stat
 
 -- and the machine is not at its end: the tokens leave the grammar at the end of the text
 pub LeavesAt-end : (state : State) (items : List Item) (text : List ℕ) (tokens : List Token) (i : ℕ) → i ≡ length tokens
-    → LeadsTo text (take i tokens) state items → state ≢ Done → LeavesAt IsText text tokens (length text)
+    → LeadsTo text (take i tokens) state items → state ≢ Done → LeavesAt IsPdText text tokens (length text)
 LeavesAt-end state items text tokens i all ran going =
-    LeavesAt-early IsText advanced (progress_at Start []) is_end reads_grammar (progress_at state items) text tokens
+    LeavesAt-early IsPdText pd_advanced (pd_progress Start []) is_pd_end reads_grammar (pd_progress state items) text tokens
     (LeadsTo-all state items text tokens i all ran) (undone state going)
   where
-    undone : (state : State) → state ≢ Done → is_done state ≡ false
+    undone : (state : State) → state ≢ Done → is_pd_done state ≡ false
     undone Done going = absurd (going refl)
     undone _ going = refl
 
 -- or it is, and the tokens spell the items
 pub symbols_of-done : (items : List Item) (text : List ℕ) (tokens : List Token) (i : ℕ) → i ≡ length tokens
-    → LeadsTo text (take i tokens) Done items → symbols_of text tokens ≡ spelled items
-symbols_of-done items text tokens i all ran = run-done (symbols_of text tokens) (progress_at Done items) (LeadsTo-all Done items text tokens i all ran) refl
+    → LeadsTo text (take i tokens) Done items → symbols_of text tokens ≡ pd_spelled items
+symbols_of-done items text tokens i all ran = run-done (symbols_of text tokens) (pd_progress Done items) (LeadsTo-all Done items text tokens i all ran) refl

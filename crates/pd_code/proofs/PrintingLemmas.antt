@@ -13,10 +13,10 @@ use Rattle.kh_lex.specs.declared.symbol.Symbol.{Symbol}
 use Rattle.kh_lex.proofs.WrittenTexts.{IsWritten, Means-written, comma-written, left_bracket-written, nothing-written, number-written, right_bracket-written, space-written, word-written}
 use Rattle.pd_code.specs.declared.item.Item.{Item}
 use Rattle.pd_code.specs.declared.item.Item.TheVariants.{Crossing, Loop}
-use Rattle.pd_code.specs.Grammar.{Spells, item_symbols, listed, next_symbols, spelled}
-use Rattle.pd_code.specs.Items.{crossings_of, is_loop, loop_count, slots_of_item}
+use Rattle.pd_code.specs.Grammar.{Spells, item_symbols, listed, next_symbols, pd_spelled}
+use Rattle.pd_code.specs.Items.{crossings_of, is_loop_item, loop_item_count, slots_of_item}
 use Rattle.pd_code.specs.Printing.{HasFourSlots, crossing_item, item_text, items_of_code, listed_text, loop_item, loop_names, next_text, pd_text, text_of_items}
-use Rattle.pd_code.specs.Reading.{IsReading}
+use Rattle.pd_code.specs.Reading.{IsPdReading}
 
 -- items and then the loops up to one name, and that one
 pub loops_more : (items others : List Item) (first name : ℕ) → first ≤ name → others ≡ items ++ map loop_item (range_with_len first (name - first))
@@ -72,7 +72,7 @@ listed-written {rest = rest} {more = more} (item ∷ items) small written =
 
 -- the text that lists items spells them
 Spells-text_of_items : (items : List Item) → AllByRecursion HasSmallNumbers items → Spells (text_of_items items) items
-Spells-text_of_items items small = Means-written (text_of_items items) (spelled items)
+Spells-text_of_items items small = Means-written (text_of_items items) (pd_spelled items)
     (word-written (codes "PD") (omega arith) refl refl (left_bracket-written (listed-written items small (right_bracket-written nothing-written))))
 
 -- the items of a code have small numbers
@@ -104,7 +104,7 @@ crossings_of-loops : (names : List ℕ) → crossings_of (map loop_item names) �
 crossings_of-loops [] = refl
 crossings_of-loops (name ∷ names) = crossings_of-loops names
 
-loops-loops : (names : List ℕ) → length (filter is_loop (map loop_item names)) ≡ length names
+loops-loops : (names : List ℕ) → length (filter is_loop_item (map loop_item names)) ≡ length names
 loops-loops [] = refl
 loops-loops (name ∷ names) = ap suc (loops-loops names)
 
@@ -115,7 +115,7 @@ crossings_of-items (arcs ∷ crossings) names four =
     ap (λ first. cons_option first (crossings_of (map crossing_item crossings ++ map loop_item names))) (slots_of_item-crossing arcs four.0)
     ∙ ap (λ others. arcs ∷ others) (crossings_of-items crossings names four.1)
 
-loops-items : (crossings : List (List ℕ)) (names : List ℕ) → length (filter is_loop (map crossing_item crossings ++ map loop_item names)) ≡ length names
+loops-items : (crossings : List (List ℕ)) (names : List ℕ) → length (filter is_loop_item (map crossing_item crossings ++ map loop_item names)) ≡ length names
 loops-items [] names = loops-loops names
 loops-items (arcs ∷ crossings) names = loops-items crossings names
 
@@ -124,10 +124,10 @@ abbrev made : ℕ → List (List ℕ) → Code
 made loops crossings = record { crossings = crossings; loops = loops }
 
 -- the text of a code reads as the code
-pub IsReading-pd_text : (code : Code) → All HasFourSlots code.crossings → length code.crossings ≤ CROSSINGS → code.loops ≤ LOOPS → IsReading (pd_text code) (Ok code)
-IsReading-pd_text code all few few_loops = record {
+pub IsPdReading-pd_text : (code : Code) → All HasFourSlots code.crossings → length code.crossings ≤ CROSSINGS → code.loops ≤ LOOPS → IsPdReading (pd_text code) (Ok code)
+IsPdReading-pd_text code all few few_loops = record {
   items = items_of_code code;
-  spelled = Spells-text_of_items (items_of_code code)
+  pd_spelled = Spells-text_of_items (items_of_code code)
       (small_crossings code.crossings (map loop_item (loop_names code)) four (small_loops (arc_count code.crossings + 1) code.loops (omega arith)));
   crossings = rw same_crossings few;
   loops = rw same_loops few_loops;
@@ -140,6 +140,6 @@ IsReading-pd_text code all few few_loops = record {
     same_crossings : crossings_of (items_of_code code) ≡ code.crossings
     same_crossings = crossings_of-items code.crossings (loop_names code) four
 
-    same_loops : loop_count (items_of_code code) ≡ code.loops
-    same_loops = sym (length-filter is_loop (items_of_code code)) ∙ loops-items code.crossings (loop_names code)
+    same_loops : loop_item_count (items_of_code code) ≡ code.loops
+    same_loops = sym (length-filter is_loop_item (items_of_code code)) ∙ loops-items code.crossings (loop_names code)
         ∙ length-range_with_len (arc_count code.crossings + 1) code.loops

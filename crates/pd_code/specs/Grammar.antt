@@ -27,13 +27,13 @@ listed [] = []
 listed (item ∷ items) = item_symbols item ++ flat_map next_symbols items
 
 -- the symbols that spell a list of items: `PD[`, the items and `]`
-abbrev pub spelled : List Item → List Symbol
-spelled items = Pd ∷ LeftBracket ∷ (listed items ++ RightBracket ∷ [])
+abbrev pub pd_spelled : List Item → List Symbol
+pd_spelled items = Pd ∷ LeftBracket ∷ (listed items ++ RightBracket ∷ [])
 
 -- symbols are a text of the grammar: they spell some items
-abbrev pub IsText : List Symbol → Type 0
-IsText symbols = (items : List Item) × (symbols ≡ spelled items)
+abbrev pub IsPdText : List Symbol → Type 0
+IsPdText symbols = (items : List Item) × (symbols ≡ pd_spelled items)
 
 -- a text spells items: its tokens mean their spelling
 abbrev pub Spells : List ℕ → List Item → Type 0
-Spells text items = Means text (spelled items)
+Spells text items = Means text (pd_spelled items)

@@ -16,18 +16,18 @@ slots_of_item (Crossing i j k l) = Some (arc_named i ∷ arc_named j ∷ arc_nam
 slots_of_item (Loop n) = None
 
 -- an item is a loop
-abbrev pub is_loop : Item → Bool
-is_loop (Crossing i j k l) = false
-is_loop (Loop n) = true
+abbrev pub is_loop_item : Item → Bool
+is_loop_item (Crossing i j k l) = false
+is_loop_item (Loop n) = true
 
 -- the crossings among items, in order
 abbrev pub crossings_of : List Item → List (List ℕ)
 crossings_of items = filter_map slots_of_item items
 
 -- how many loops there are among items; their numbers are not used
-abbrev pub loop_count : List Item → ℕ
-loop_count items = count_by is_loop items
+abbrev pub loop_item_count : List Item → ℕ
+loop_item_count items = count_by is_loop_item items
 
 -- the code that items stand for
 abbrev pub code_of_items : List Item → Code
-code_of_items items = record { crossings = crossings_of items; loops = loop_count items }
+code_of_items items = record { crossings = crossings_of items; loops = loop_item_count items }

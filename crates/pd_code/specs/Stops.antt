@@ -5,7 +5,7 @@ use Rattle.pd_code.specs.declared.stop.PdStop.{PdStop}
 use Rattle.pd_code.specs.declared.stop.PdStop.TheVariants.{Text, Number, NoMemory}
 
 -- a byte that begins no token is a fault of the text
-abbrev pub stop_of : LexStop → PdStop
-stop_of (lexical.Bad place) = Text place
-stop_of (lexical.Number place) = Number place
-stop_of lexical.NoMemory = NoMemory
+abbrev pub pd_stop_of : LexStop → PdStop
+pd_stop_of (lexical.Bad place) = Text place
+pd_stop_of (lexical.Number place) = Number place
+pd_stop_of lexical.NoMemory = NoMemory

@@ -1,7 +1,7 @@
 //! What a planar diagram text lists.
 
 ghost use Rattle.std.specs.Prelude.{◌≡◌};
-ghost use Rattle.pd_code.specs.Items.{arc_named, is_loop, slots_of_item};
+ghost use Rattle.pd_code.specs.Items.{arc_named, is_loop_item, slots_of_item};
 
 use kh_types::Crossing;
 
@@ -16,8 +16,8 @@ pub enum Item {
 }
 
 /// Whether an item is a loop.
-pub fn is_loop(item: &Item) -> bool
-    ensures { result ≡ is_loop item.now }
+pub fn is_loop_item(item: &Item) -> bool
+    ensures { result ≡ is_loop_item item.now }
 {
     match item {
         Item::Crossing(..) => false,

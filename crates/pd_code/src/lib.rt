@@ -7,8 +7,6 @@ mod machine;
 mod printer;
 mod reader;
 mod stop;
-#[cfg(test)]
-mod tests;
 
 pub use item::Item;
 pub use laws::{each_text_has_one_reading, printed_codes_are_read_back, worked_texts};

@@ -3,8 +3,8 @@
 ghost use Rattle.std.specs.Prelude.{◌≡◌, ◌≢◌, ◌+◌, ◌≤◌, All, IfErr, IfOk, OnOk, length, vec_len};
 ghost use Rattle.kh_lex.specs.Lexer.{EndsWithin};
 ghost use Rattle.kh_lex.specs.Symbols.{symbols_of};
-ghost use Rattle.pd_code.specs.Grammar.{spelled};
-ghost use Rattle.pd_code.specs.Machine.{IsGrammarFault, added, step};
+ghost use Rattle.pd_code.specs.Grammar.{pd_spelled};
+ghost use Rattle.pd_code.specs.Machine.{IsPdFault, added, pd_step};
 
 use crate::item::Item;
 use crate::stop::PdStop;
@@ -57,10 +57,10 @@ pub enum State {
 pub fn items_of(alloc: Global, text: &[u8], tokens: &[Token]) -> Result<Vec<Item>, PdStop>
     requires short { length text.now ≤ INPUT_BYTES }
     requires within { All (EndsWithin (length text.now)) tokens.now }
-    ensures spelled { IfOk result (λ items.
-        symbols_of text.now tokens.now ≡ spelled items.items) }
+    ensures pd_spelled { IfOk result (λ items.
+        symbols_of text.now tokens.now ≡ pd_spelled items.items) }
     ensures fault { IfErr result (λ stop.
-        stop ≢ PdStop.NoMemory → IsGrammarFault text.now tokens.now stop) }
+        stop ≢ PdStop.NoMemory → IsPdFault text.now tokens.now stop) }
     ensures few { IfOk result (λ items. vec_len items ≤ length tokens.now) }
 {
     let mut items = Vec::new(alloc);
@@ -82,7 +82,7 @@ pub fn items_of(alloc: Global, text: &[u8], tokens: &[Token]) -> Result<Vec<Item
 
 // Where a symbol leads from a state, if the grammar has it there.
 fn next_state(state: State, symbol: Symbol) -> Option<State>
-    ensures { result ≡ step state symbol }
+    ensures { result ≡ pd_step state symbol }
 {
     match (state, symbol) {
         (State::Start, Symbol::Pd) => Some(State::Named),

@@ -2,7 +2,7 @@
 
 ghost use Rattle.std.specs.Prelude.{◌≡◌, ◌≤◌, ◌++◌, All, length, string_bytes, IfOk, OnOk, Ok};
 ghost use Rattle.pd_code.specs.Printing.{HasFourSlots, crossing_item, item_text, items_of_code, listed_text, loop_item, pd_text, text_of_items};
-ghost use Rattle.pd_code.specs.Reading.{IsReading};
+ghost use Rattle.pd_code.specs.Reading.{IsPdReading};
 
 use crate::item::Item;
 use kh_types::{CROSSINGS, Crossing, Diagram, LOOPS, NoMemory};
@@ -14,7 +14,7 @@ use std::alloc::Global;
 pub fn print_pd(alloc: Global, diagram: &Diagram) -> Result<Vec<u8>, NoMemory>
     ensures text { IfOk result (λ text. text.items ≡ pd_text diagram.now) }
     ensures reads_back { diagram.now.loops ≤ LOOPS →
-        IfOk result (λ text. IsReading text.items (Ok diagram.now)) }
+        IfOk result (λ text. IsPdReading text.items (Ok diagram.now)) }
 {
     let items = items_of_code(alloc, diagram)?;
     let text = text_of_items(alloc, &items)?;

@@ -2,11 +2,11 @@
 
 ghost use Rattle.std.specs.Prelude.{◌≡◌, ◌≢◌, ◌++◌, ◌≤◌, Err, IfOk, length};
 ghost use Rattle.std.specs.Option.{option_to_list};
-ghost use Rattle.pd_code.specs.Items.{crossings_of, loop_count, slots_of_item};
+ghost use Rattle.pd_code.specs.Items.{crossings_of, loop_item_count, slots_of_item};
 ghost use Rattle.pd_code.specs.Limits.{code_within};
-ghost use Rattle.pd_code.specs.Reading.{IsReading};
+ghost use Rattle.pd_code.specs.Reading.{IsPdReading};
 
-use crate::item::{Item, is_loop, slots_of_item};
+use crate::item::{Item, is_loop_item, slots_of_item};
 use crate::machine::items_of;
 use crate::stop::PdStop;
 use arrayvec::ArrayVec;
@@ -18,7 +18,7 @@ use std::alloc::Global;
 /// Source: Knot Atlas, "Planar Diagrams"; the loops and the limits are this project's rule.
 pub fn read_pd(alloc: Global, text: &[u8]) -> Result<RawCode, PdStop>
     requires { length text.now ≤ INPUT_BYTES }
-    ensures reads { result ≢ Err PdStop.NoMemory → IsReading text.now result }
+    ensures reads { result ≢ Err PdStop.NoMemory → IsPdReading text.now result }
     ensures crossings { IfOk result (λ code. length code.crossings ≤ CROSSINGS) }
     ensures loops { IfOk result (λ code. code.loops ≤ LOOPS) }
 {
@@ -40,7 +40,7 @@ fn code_within(items: &[Item]) -> Result<RawCode, PdStop>
             count: crossings as u32,
         });
     }
-    let loops = loop_count(items);
+    let loops = loop_item_count(items);
     if loops > LOOPS {
         return Err(PdStop::LoopLimit {
             count: loops as u32,
@@ -61,11 +61,11 @@ fn crossing_count(items: &[Item]) -> usize
 }
 
 // The number of loops among items.
-fn loop_count(items: &[Item]) -> usize
-    ensures count { result ≡ loop_count items.now }
+fn loop_item_count(items: &[Item]) -> usize
+    ensures count { result ≡ loop_item_count items.now }
     ensures within { result ≤ length items.now }
 {
-    items.iter().filter(|item| is_loop(item)).count()
+    items.iter().filter(|item| is_loop_item(item)).count()
 }
 
 // The crossings among items, of which there are few enough.

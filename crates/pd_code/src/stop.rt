@@ -1,7 +1,7 @@
 //! Why no code was read.
 
 ghost use Rattle.std.specs.Prelude.{◌≡◌};
-ghost use Rattle.pd_code.specs.Stops.{stop_of};
+ghost use Rattle.pd_code.specs.Stops.{pd_stop_of};
 ghost use Rattle.pd_code.specs.declared.stop.PdStop.TheVariants.{NoMemory};
 
 use kh_lex::LexStop;
@@ -42,7 +42,7 @@ impl<T: Drop> From<AllocFailed<T>> for PdStop {
 }
 
 impl From<LexStop> for PdStop {
-    ghost from_gives = { λ before stop. stop ≡ stop_of before };
+    ghost from_gives = { λ before stop. stop ≡ pd_stop_of before };
 
     fn from(stop: LexStop) -> Self {
         match stop {

@@ -7,7 +7,7 @@ use Rattle.std.proofs.lemmas.List.Edits.{length-remove}
 use Rattle.std.proofs.lemmas.List.Quantifiers.{position-Some}
 use Rattle.kh_types.specs.Rank.{has_entry, reduced_by, rank}
 use Rattle.plain_matrix.specs.Inside.{values_of}
-use Rattle.plain_matrix.proofs.ListLemmas.{map-remove, position-map}
+use Rattle.kh_types.proofs.Lists.{map-remove, position-map}
 
 -- no row has an entry
 rank-no_row : (p : ℕ) (rows : List (List ℕ)) → position has_entry rows ≡ None → rank p rows ≡ 0

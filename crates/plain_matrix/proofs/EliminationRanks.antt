@@ -1,5 +1,5 @@
 -- The plain rank is the number of steps of any elimination, and the order of the rows does not change it.
-use Rattle.std.proofs.Common.{◌≡◌, ℕ, suc, ◌%◌, ◌∙◌, List, ap, sym}
+use Rattle.std.proofs.Common.{◌≡◌, ℕ, ◌%◌, ◌∙◌, List, ap, sym}
 use Rattle.kh_types.specs.Rank.{rank}
 use Rattle.kh_types.specs.Complex.{entry_in}
 use Rattle.kh_types.specs.Residues.{HasInverses}

@@ -3,6 +3,5 @@ pub mod EliminationRanks
 pub mod StepLemmas
 pub mod InsideLemmas
 pub mod TransposeLemmas
-pub mod ListLemmas
 pub mod RowLemmas
 pub mod EliminationLemmas

@@ -4,7 +4,7 @@ use Rattle.std.specs.Prelude.{slice_index}
 use Rattle.std.specs.List.{remove}
 use Rattle.std.proofs.lemmas.Nat.{mul-mod_first}
 use Rattle.std.proofs.lemmas.List.{length-map, get_or-map, map-append}
-use Rattle.plain_matrix.proofs.ListLemmas.{map-remove}
+use Rattle.kh_types.proofs.Lists.{map-remove}
 use Rattle.kh_types.proofs.PlainRank.{leads-from_entry}
 use Rattle.kh_types.specs.Rank.{has_entry, inverse, lead_of, minus_mod, less_multiple, cleared}
 use Rattle.prime_field.specs.Residues.{product_mod, inverse_mod}

@@ -11,28 +11,29 @@ use Rattle.std.specs.Global.{Vec}
 use Rattle.plain_matrix.specs.Inside.{HasSize, values_of}
 use Rattle.plain_matrix.proofs.InsideLemmas.{size-from_values}
 use Rattle.kh_types.specs.MatrixRanks.{IsMatrix}
-use Rattle.plain_matrix.specs.Matrices.{column_of, transposed_rows}
-use Rattle.kh_types.proofs.MatrixEntries.{entry-past_rows, entry-past_columns}
+use Rattle.plain_matrix.specs.Matrices.{matrix_column, transposed_rows}
+use Rattle.kh_types.proofs.MatrixEntries.{entry-past_columns}
 use Rattle.kh_types.proofs.RankLaws.{rank-transposed_rows}
+use Rattle.kh_types.proofs.MatrixTests.{entry-past_rows}
 
 -- an entry of a column
-slice_index-column_of : (rows : List (List ℕ)) (j i : ℕ) → slice_index (column_of rows j) i ≡ entry_in rows i j
-slice_index-column_of [] j i = refl
-slice_index-column_of (row ∷ rows) j zero = refl
-slice_index-column_of (row ∷ rows) j (suc i) = slice_index-column_of rows j i
+slice_index-matrix_column : (rows : List (List ℕ)) (j i : ℕ) → slice_index (matrix_column rows j) i ≡ entry_in rows i j
+slice_index-matrix_column [] j i = refl
+slice_index-matrix_column (row ∷ rows) j zero = refl
+slice_index-matrix_column (row ∷ rows) j (suc i) = slice_index-matrix_column rows j i
 
 -- a column of one row more
-pub column_of-more : {F : Type 0} (value_of : F → ℕ) (rows : List (Vec F)) (k column : ℕ) (made next seen : List F) (row : Vec F) (x : F)
-    → map value_of made ≡ column_of (values_of value_of (take k rows)) column → k < length rows → row ≡ get_or rows k row
+pub matrix_column-more : {F : Type 0} (value_of : F → ℕ) (rows : List (Vec F)) (k column : ℕ) (made next seen : List F) (row : Vec F) (x : F)
+    → map value_of made ≡ matrix_column (values_of value_of (take k rows)) column → k < length rows → row ≡ get_or rows k row
     → seen ≡ row.items → value_of x ≡ slice_index (map value_of seen) column → next ≡ made ++ x ∷ []
-    → map value_of next ≡ column_of (values_of value_of (take (k + 1) rows)) column
-column_of-more {F = F} value_of rows k column made next seen row x is_made below is_row is_seen is_x is_next =
+    → map value_of next ≡ matrix_column (values_of value_of (take (k + 1) rows)) column
+matrix_column-more {F = F} value_of rows k column made next seen row x is_made below is_row is_seen is_x is_next =
     ap (map value_of) is_next ∙ map_push value_of made x
     ∙ ap₂ (λ (xs : List ℕ) (y : ℕ). xs ++ y ∷ []) is_made (is_x ∙ ap (λ ys. slice_index (map value_of ys) column) is_seen)
     ∙ sym (map_push (λ r. slice_index r column) (values_of value_of (take k rows)) (map value_of row.items))
-    ∙ ap (λ rs. column_of rs column) (sym (map_push (λ r. map value_of r.items) (take k rows) row))
-    ∙ ap (λ (r : Vec F). column_of (values_of value_of (take k rows ++ r ∷ [])) column) is_row
-    ∙ ap (λ rs. column_of (values_of value_of rs) column) (sym (take_more rows k row below))
+    ∙ ap (λ rs. matrix_column rs column) (sym (map_push (λ r. map value_of r.items) (take k rows) row))
+    ∙ ap (λ (r : Vec F). matrix_column (values_of value_of (take k rows ++ r ∷ [])) column) is_row
+    ∙ ap (λ rs. matrix_column (values_of value_of rs) column) (sym (take_more rows k row below))
 
 -- past the last column, entries are 0
 entry-past_width : (p columns : ℕ) (rows : List (List ℕ)) → IsMatrix p columns rows → (i j : ℕ) → columns ≤ j → entry_in rows i j ≡ 0
@@ -43,11 +44,11 @@ entry-past_width p columns rows is i j past =
     ]
 
 length-transposed_rows : (columns : ℕ) (rows : List (List ℕ)) → length (transposed_rows columns rows) ≡ columns
-length-transposed_rows columns rows = length-map-range_with_len (column_of rows) 0 columns
+length-transposed_rows columns rows = length-map-range_with_len (matrix_column rows) 0 columns
 
 row-transposed_rows : (columns : ℕ) (rows : List (List ℕ)) (j : ℕ) → j < columns
-    → slice_index_or (transposed_rows columns rows) j [] ≡ column_of rows j
-row-transposed_rows columns rows j below = get_or-map-range_with_len (column_of rows) 0 columns j j [] below (omega arith)
+    → slice_index_or (transposed_rows columns rows) j [] ≡ matrix_column rows j
+row-transposed_rows columns rows j below = get_or-map-range_with_len (matrix_column rows) 0 columns j j [] below (omega arith)
 
 pub entry-transposed_rows : (p columns : ℕ) (rows : List (List ℕ)) → IsMatrix p columns rows → (j i : ℕ)
     → entry_in (transposed_rows columns rows) j i ≡ entry_in rows i j
@@ -57,7 +58,7 @@ entry-transposed_rows p columns rows is j i =
           entry-past_rows (transposed_rows columns rows) j i (omega (arith, length-transposed_rows columns rows, past.1))
           ∙ sym (entry-past_width p columns rows is i j past.1)
       | inr below ↦
-          ap (λ row. slice_index row i) (row-transposed_rows columns rows j below.1) ∙ slice_index-column_of rows j i
+          ap (λ row. slice_index row i) (row-transposed_rows columns rows j below.1) ∙ slice_index-matrix_column rows j i
     ]
 
 pub matrix-transposed_rows : (p columns : ℕ) (rows : List (List ℕ)) → IsMatrix p columns rows
@@ -78,12 +79,12 @@ rank-transpose p columns rows field is =
 
 -- one column more, in memory
 pub values_of-column : {F : Type 0} (value_of : F → ℕ) (made more : List (Vec F)) (column : Vec F) (k : ℕ) (rows : List (List ℕ))
-    → more ≡ made ++ column ∷ [] → map value_of column.items ≡ column_of rows k → values_of value_of made ≡ transposed_rows k rows
+    → more ≡ made ++ column ∷ [] → map value_of column.items ≡ matrix_column rows k → values_of value_of made ≡ transposed_rows k rows
     → values_of value_of more ≡ transposed_rows (k + 1) rows
 values_of-column {F} value_of made more column k rows is_more is_column before =
     ap (values_of value_of) is_more ∙ map-append (λ (row : Vec F). map value_of row.items) made (column ∷ [])
     ∙ ap₂ (λ values row. values ++ row ∷ []) before is_column
-    ∙ sym (map-range_with_len_more (column_of rows) 0 k k (omega arith))
+    ∙ sym (map-range_with_len_more (matrix_column rows) 0 k k (omega arith))
 
 -- all columns have the size of a matrix with as many columns as there are rows
 pub size-transposed : {F : Type 0} (value_of : F → ℕ) (p k columns height : ℕ) (made : List (Vec F)) (inside rows : List (List ℕ))

@@ -20,12 +20,12 @@ with_entry matrix row column value =
     }
 
 -- a column: its entry of each row
-abbrev pub column_of : List (List ℕ) → ℕ → List ℕ
-column_of rows column = map (λ row. slice_index row column) rows
+abbrev pub matrix_column : List (List ℕ) → ℕ → List ℕ
+matrix_column rows column = map (λ row. slice_index row column) rows
 
 -- the rows of the transpose are the columns
 abbrev pub transposed_rows : ℕ → List (List ℕ) → List (List ℕ)
-transposed_rows columns rows = map (column_of rows) (range_with_len 0 columns)
+transposed_rows columns rows = map (matrix_column rows) (range_with_len 0 columns)
 
 -- the transpose: its rows are the columns, and its columns the rows
 abbrev pub transpose : Matrix → Matrix

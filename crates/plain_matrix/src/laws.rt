@@ -1,15 +1,22 @@
 //! Laws of ranks: the plain rank does not depend on the pivots that are taken, and what keeps it. They
-//! hold modulo every p that gives a field; `prime_field` has the law that 2, 3, 5 and 7 do.
+//! hold modulo every p with inverses, which each field has; `prime_field` has the law that 2, 3, 5 and 7
+//! are fields.
 
 ghost use Rattle.std.specs.Prelude.{◌≡◌, ◌≢◌, ℕ, suc, List};
 ghost use Rattle.kh_types.specs.Complex.{Pivot, cancelled_matrix, entry_in};
 ghost use Rattle.kh_types.specs.Complex.{without_column, without_row};
 ghost use Rattle.kh_types.specs.Rank.{rank};
 ghost use Rattle.kh_types.specs.Residues.{HasInverses};
+ghost use Rattle.prime_field.specs.Residues.{IsField};
 ghost use Rattle.kh_types.specs.MatrixRanks.{IsMatrix, HasRank, IsDependent};
 ghost use Rattle.plain_matrix.specs.Matrices.{transposed_rows};
 ghost use Rattle.plain_matrix.specs.Ranks.{IsAmong};
 ghost use Rattle.plain_matrix.specs.Steps.{IsColumnStep, IsElimination, IsRowStep};
+
+/// Modulo each p that gives a field, what is not 0 has an inverse.
+pub fn fields_have_inverses()
+    ensures { (p : ℕ) → IsField p → HasInverses p }
+{}
 
 /// A matrix has one rank, the least middle size of a product that is the matrix: the plain rank.
 pub fn plain_rank_is_the_rank()

@@ -10,7 +10,7 @@ use prime_field::{PrimeField, difference, quotient};
 use std::alloc::Global;
 
 /// Whether a row has an entry other than 0.
-#[tactic(auto, using(crate::proofs::ListLemmas::images))]
+#[tactic(auto, using(kh_types::proofs::MappedLists::images))]
 pub fn has_entry<F: PrimeField>(row: &[F]) -> bool
     ensures { result ≡ has_entry (map F.value_of row.now) }
 {
@@ -18,7 +18,7 @@ pub fn has_entry<F: PrimeField>(row: &[F]) -> bool
 }
 
 /// The place of a row's first entry other than 0, or the row's length where it has none.
-#[tactic(auto, using(crate::proofs::ListLemmas::images))]
+#[tactic(auto, using(kh_types::proofs::MappedLists::images))]
 pub fn lead_of<F: PrimeField>(row: &[F]) -> usize
     ensures { result ≡ lead_of (map F.value_of row.now) }
 {

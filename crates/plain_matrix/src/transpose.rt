@@ -2,7 +2,7 @@
 
 ghost use Rattle.std.specs.Prelude.{◌≡◌, map, IfOk};
 ghost use Rattle.plain_matrix.specs.Inside.{values_of};
-ghost use Rattle.plain_matrix.specs.Matrices.{column_of, transpose};
+ghost use Rattle.plain_matrix.specs.Matrices.{matrix_column, transpose};
 
 use crate::rows::entry;
 use crate::{Dense, matrix_laws};
@@ -31,7 +31,7 @@ fn column_of<F: PrimeField>(
     column: usize,
 ) -> Result<Vec<F>, NoMemory>
     ensures { IfOk result (λ made. map F.value_of made.items
-        ≡ column_of (values_of F.value_of rows.now) column) }
+        ≡ matrix_column (values_of F.value_of rows.now) column) }
 {
     let mut made = Vec::with_capacity(alloc, rows.len())?;
     'rows: for row in rows {

@@ -9,6 +9,7 @@ use Rattle.kh_types.specs.Code.{Code}
 use Rattle.cube_signs.specs.Blocks.{block_degrees}
 use Rattle.shared_block.specs.BlockHistories.{BlockHistory, block_with}
 use Rattle.shared_block.specs.AllBlocks.{AreBlocksOf, IsLaterOf, degrees_of, opening_blocks}
+use Rattle.kh_types.proofs.Prefixes.{prefix_self, prefix_trans}
 
 -- before any cancellation
 
@@ -46,13 +47,6 @@ pub AreBlocksOf-opened : (code : Code) (blocks : List BlockHistory) → blocks �
 AreBlocksOf-opened code blocks are = subst (AreBlocksOf code) (sym are) (AreBlocksOf-opening code)
 
 -- after some cancellations
-
-prefix_self : {A : Type 0} (xs : List A) → IsPrefix xs xs
-prefix_self [] = ([], refl)
-prefix_self (x ∷ xs) = (let r = prefix_self xs in r.0, ap (λ ys. x ∷ ys) (prefix_self xs).1)
-
-prefix_trans : {A : Type 0} (xs ys zs : List A) → IsPrefix xs ys → IsPrefix ys zs → IsPrefix xs zs
-prefix_trans xs ys zs p q = (p.0 ++ q.0, sym (append_assoc xs p.0 q.0) ∙ (ap (λ w. w ++ q.0) p.1 ∙ q.1))
 
 pub IsLaterOf-self : (held : BlockHistory) → IsLaterOf held held
 IsLaterOf-self held = record { diagram = refl; degree = refl; history = prefix_self held.history }

@@ -18,7 +18,7 @@ use Rattle.cancel_step.specs.Foreign.{IsForeign, IsOtherColumn, IsOtherRowAt, Sh
 use Rattle.cancel_step.specs.RankSums.{live_places}
 use Rattle.cancel_step.proofs.HistoryLemmas.{complex-replay, legal-push, replay-push}
 use Rattle.cancel_step.proofs.RankSumLemmas.{live_places-cancel}
-use Rattle.shared_block.specs.BlockHistories.{BlockCopy, BlockHistory, HasLegalHistory, IsCopyOf, IsKept, block_with, complex_of}
+use Rattle.shared_block.specs.BlockHistories.{BlockCopy, BlockHistory, HasLegalHistory, IsCopyOf, IsKeptBlock, block_with, complex_of}
 use Rattle.shared_block.specs.Commits.{with_pivot}
 
 -- the complex that a legal history leaves of the block of an accepted code is a complex
@@ -51,13 +51,13 @@ half-less x y less = omega (arith, less)
 -- what a block keeps: where its complex has a pivot, its history has room for it, and the block keeps the same once it is cancelled
 
 live_places-pivot : (p : ℕ) (held : BlockHistory) (room : ℕ) (complex : Complex) (pivot : Pivot) → IsField p
-    → IsKept p held room complex → IsPivot complex pivot → live_places (cancel p complex pivot) + 2 ≡ live_places complex
+    → IsKeptBlock p held room complex → IsPivot complex pivot → live_places (cancel p complex pivot) + 2 ≡ live_places complex
 live_places-pivot p held room complex pivot field kept is_pivot =
     live_places-cancel p complex pivot
     (subst (IsComplex p) (sym kept.replayed) (complex-left p held field kept.accepted kept.legal)) is_pivot
 
 pub room-pivot : (p : ℕ) (held : BlockHistory) (room : ℕ) (complex : Complex) (pivot : Pivot) → IsField p
-    → IsKept p held room complex → IsPivot complex pivot → length held.history < room
+    → IsKeptBlock p held room complex → IsPivot complex pivot → length held.history < room
 room-pivot p held room complex pivot field kept is_pivot =
     omega (
       arith,
@@ -67,10 +67,10 @@ room-pivot p held room complex pivot field kept is_pivot =
     )
 
 pub kept-pivot : (p : ℕ) (held : BlockHistory) (room : ℕ) (complex : Complex) (pivot : Pivot) (history : List Pivot) (later : ℕ)
-    (after : Complex) → IsField p → IsKept p held room complex → IsPivot complex pivot → history ≡ held.history ++ pivot ∷ []
-    → later ≡ room → after ≡ cancel p complex pivot → IsKept p (block_with held.diagram held.degree history) later after
+    (after : Complex) → IsField p → IsKeptBlock p held room complex → IsPivot complex pivot → history ≡ held.history ++ pivot ∷ []
+    → later ≡ room → after ≡ cancel p complex pivot → IsKeptBlock p (block_with held.diagram held.degree history) later after
 kept-pivot p held room complex pivot history later after field kept is_pivot is_history is_room is_after =
-    let made : IsKept p (with_pivot held pivot) room (cancel p complex pivot) =
+    let made : IsKeptBlock p (with_pivot held pivot) room (cancel p complex pivot) =
     record {
       accepted = kept.accepted;
       legal = legal-with_pivot p held pivot kept.legal (subst (λ c. IsPivot c pivot) kept.replayed is_pivot);
@@ -84,8 +84,8 @@ kept-pivot p held room complex pivot history later after field kept is_pivot is_
       );
       short = kept.short;
     } in
-    subst (λ (h : List Pivot). IsKept p (block_with held.diagram held.degree h) later after) (sym is_history)
-    (subst₂ (λ (r : ℕ) (c : Complex). IsKept p (with_pivot held pivot) r c) (sym is_room) (sym is_after) made)
+    subst (λ (h : List Pivot). IsKeptBlock p (block_with held.diagram held.degree h) later after) (sym is_history)
+    (subst₂ (λ (r : ℕ) (c : Complex). IsKeptBlock p (with_pivot held pivot) r c) (sym is_room) (sym is_after) made)
 
 -- a pivot of the complex that is seen is one of the complex that is kept
 pub pivot-inside : (p : ℕ) (held seen : BlockHistory) (complex : Complex) (pivot : Pivot) → complex ≡ complex_of p held → held ≡ seen

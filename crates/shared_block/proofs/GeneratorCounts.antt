@@ -12,10 +12,11 @@ use Rattle.kh_types.specs.Circles.{circle_count}
 use Rattle.kh_types.specs.Generators.{generator_of, generators, generators_at, generators_of, has_degrees, one_count, states}
 use Rattle.kh_types.specs.StateSum.{circle_coefficient, signed_by, state_sum, state_term}
 use Rattle.kh_types.proofs.QuantumDegrees.{homological_degree-within}
-use Rattle.cube_squares.proofs.Sums.{sum_by-alike, sum_by-flat_map, sum_by-map, sum_by-zeros}
+use Rattle.kh_types.proofs.ListSums.{sum_by-alike, sum_by-flat_map, sum_by-map, sum_by-zeros}
 use Rattle.shared_block.proofs.Alternating.{alternating, alternating-alike, alternating-sum, signed_by-zero}
 use Rattle.shared_block.proofs.IntSums.{int_sum-alike, int_sum-within}
 use Rattle.shared_block.proofs.LabelCounts.{degree_of_label, int_eq-iff, labels_with-is}
+use Rattle.kh_types.proofs.Integers.{int_eq-other}
 
 -- the degree i of all generators of a state
 abbrev degree_of_state : Code → ℕ → ℤ
@@ -64,9 +65,6 @@ length-generators_at code i j =
     ∙ sum_by-flat_map (λ generator. cond (has_degrees code i j generator) 1 0) (generators_of code) (states code)
     ∙ sum_by-alike (λ state. count_by (has_degrees code i j) (generators_of code state)) (λ state. state_count code j state i)
     (count-state code i j) (states code)
-
-pub int_eq-other : (i j : ℤ) → i ≢ j → int_eq i j ≡ false
-int_eq-other i j other = false_from_ne_true (int_eq i j) (λ same. other ((Decides-int_eq i j).0 same))
 
 -- the generators of a state add its term
 alternating-state : (code : Code) (j : ℤ) (state : ℕ)

@@ -12,7 +12,7 @@ use Rattle.kh_types.specs.StateSum.{circle_coefficient}
 use Rattle.kh_types.proofs.BitLemmas.{bit-past, ones-more}
 use Rattle.kh_types.proofs.Ranges.{range-append}
 use Rattle.kh_types.proofs.EdgeBits.{bit-set_there, bit-set_other}
-use Rattle.cube_squares.proofs.Sums.{sum_by-range_alike}
+use Rattle.kh_types.proofs.ListSums.{sum_by-range_alike}
 
 -- the number of labels v+ less the number of labels v-
 abbrev pub degree_of_label : ℕ → ℕ → ℤ

@@ -21,7 +21,8 @@ use Rattle.jones_sum.proofs.StateSumLemmas.{state_sum-outside}
 use Rattle.prime_field.specs.Residues.{IsField}
 use Rattle.shared_block.proofs.Alternating.{alternating, alternating-add, alternating-alike, alternating-neighbours, signed_by-zero}
 use Rattle.shared_block.proofs.BlockDimensions.{rank-no_columns, rank-no_rows, ranks-generators}
-use Rattle.shared_block.proofs.GeneratorCounts.{alternating-generators, int_eq-other}
+use Rattle.kh_types.proofs.Integers.{int_eq-other}
+use Rattle.shared_block.proofs.GeneratorCounts.{alternating-generators}
 use Rattle.shared_block.proofs.IntSums.{int_sum-alike, int_sum-filter, int_sum-flat_map, int_sum-map, int_sum-outside, int_sum-within, int_sum-zeros, within_or_not}
 
 -- in the alternating sum of the generators each rank comes twice, with opposite signs

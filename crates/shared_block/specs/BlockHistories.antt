@@ -53,7 +53,7 @@ pub record Fits (p : ℕ) (held : BlockHistory) (copy : BlockCopy) : Type 0 wher
 
 -- what a block in memory keeps: its diagram is accepted, its history is legal, its complex is what the history leaves, and the
 -- history has room for half as many pivots more as places are alive, rounded down, in all for fewer than 2^63
-pub record IsKept (p : ℕ) (held : BlockHistory) (room : ℕ) (complex : Complex) : Type 0 where
+pub record IsKeptBlock (p : ℕ) (held : BlockHistory) (room : ℕ) (complex : Complex) : Type 0 where
   pub accepted : IsTrue (accepted held.diagram)
   pub legal : HasLegalHistory p held
   pub replayed : complex ≡ complex_of p held

@@ -9,7 +9,6 @@ ghost use Rattle.kh_types.specs.Table.{dimension};
 ghost use Rattle.kh_types.specs.declared.limits.TheConstants.{CROSSINGS};
 ghost use Rattle.prime_field.specs.Residues.{IsField};
 ghost use Rattle.shared_block.specs.BlockHistories.{HasLegalHistory};
-ghost use Rattle.shared_block.specs.declared.limits.TheConstants.{WORKERS};
 
 use crate::SharedBlock;
 use prime_field::PrimeField;
@@ -38,9 +37,4 @@ pub fn finished_blocks_have_the_dimensions()
         → IsTrue (accepted code) → IsLegal p (block p code j) history
         → is_zero (replay p (block p code j) history) ≡ true
         → alive_count (replay p (block p code j) history) i ≡ dimension p code i j }
-{}
-
-/// The number of workers.
-pub fn limits()
-    ensures { WORKERS ≡ 64 }
 {}

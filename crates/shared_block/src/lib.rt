@@ -10,18 +10,14 @@ mod commit_answer;
 mod finishing;
 mod held;
 pub mod laws;
-mod limits;
 mod rows;
 mod shared_block;
 mod table;
 pub mod table_laws;
-#[cfg(test)]
-mod tests;
 
 pub use all_blocks::{blocks_of, finish_all};
 pub use block_look::BlockLook;
 pub use block_patch::BlockPatch;
 pub use commit_answer::CommitAnswer;
-pub use limits::WORKERS;
 pub use shared_block::SharedBlock;
 pub use table::{homology_table, table_of};

@@ -32,13 +32,13 @@ pub struct SharedBlock<F: PrimeField> {
 
 impl<F: PrimeField> Model for SharedBlock<F> {
     ghost use Rattle.std.specs.Prelude.{vec_capacity};
-    ghost use Rattle.shared_block.specs.BlockHistories.{BlockHistory, IsKept, block_with};
+    ghost use Rattle.shared_block.specs.BlockHistories.{BlockHistory, IsKeptBlock, block_with};
 
     ghost Value = { BlockHistory };
 
     ghost view = { λ held. block_with held.diagram held.degree held.history.items };
 
-    ghost invariant = { λ held. IsKept F.P (block_with held.diagram held.degree held.history.items)
+    ghost invariant = { λ held. IsKeptBlock F.P (block_with held.diagram held.degree held.history.items)
         (vec_capacity held.history) held.complex.complex };
 }
 

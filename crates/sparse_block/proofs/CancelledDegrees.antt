@@ -7,6 +7,7 @@ use Rattle.std.proofs.lemmas.Bool.{cases_Bool, cond-true, cond-false, false_from
 use Rattle.std.proofs.lemmas.Bool.Decides.{Decides-int_eq, eqb_tells, not_from_Decides}
 use Rattle.std.proofs.lemmas.Int.{ints}
 use Rattle.kh_types.specs.Complex.{Complex, Degree, Pivot, empty_degree, degree_from, degree_of, without_place, without_row, without_column, cancelled_matrix, cancelled_degree, cancel}
+use Rattle.kh_types.proofs.Integers.{int_eq-other, int_eq-same}
 
 -- a degree without places stays without them
 chosen-empty : (first second third : Bool) (a b c d : Degree) → a ≡ empty_degree → b ≡ empty_degree → c ≡ empty_degree
@@ -46,12 +47,6 @@ degree_from-cancel p complex pivot i (negsuc k) is_distance = sym (cancelled_deg
 pub degree_of-cancel : (p : ℕ) (complex : Complex) (pivot : Pivot) (i : ℤ)
     → degree_of (cancel p complex pivot) i ≡ cancelled_degree p pivot i (degree_of complex i)
 degree_of-cancel p complex pivot i = degree_from-cancel p complex pivot i (i -ℤ complex.low) refl
-
-int_eq-same : (i j : ℤ) → i ≡ j → int_eq i j ≡ true
-int_eq-same i j same = (Decides-int_eq i j).1 same
-
-int_eq-other : (i j : ℤ) → i ≢ j → int_eq i j ≡ false
-int_eq-other i j other = false_from_ne_true (int_eq i j) (λ same. other ((Decides-int_eq i j).0 same))
 
 -- the pivot's degree loses the pivot's column, and its matrix is cancelled
 pub degree-at_pivot : (p : ℕ) (complex : Complex) (pivot : Pivot) (i : ℤ) → i ≡ pivot.degree

@@ -12,7 +12,8 @@ use Rattle.kh_types.specs.MatrixRanks.{IsMatrix}
 use Rattle.kh_types.specs.Residues.{Same}
 use Rattle.kh_types.specs.Products.{sum_below, product_at}
 use Rattle.kh_types.proofs.Sums.{sum_below-equal}
-use Rattle.kh_types.proofs.MatrixEntries.{entry-past_rows, entry-past_columns}
+use Rattle.kh_types.proofs.MatrixEntries.{entry-past_columns}
+use Rattle.kh_types.proofs.MatrixTests.{entry-past_rows}
 
 -- a sum over a range is a sum below its length
 sum_by-range : (f : ℕ → ℕ) (a n : ℕ) → sum_by f (range_with_len a n) ≡ sum_below n (λ k. f (a + k))

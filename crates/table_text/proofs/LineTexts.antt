@@ -17,8 +17,12 @@ use Rattle.kh_types.proofs.QuantumDegrees.{IsWithin-place, place-IsWithin}
 use Rattle.kh_types.specs.declared.limits.TheConstants.{CROSSINGS, EXPONENT}
 use Rattle.kh_types.specs.Table.{Row, IsWithin, row_text}
 use Rattle.circle_smoothing.specs.declared.limits.TheConstants.{GENERATORS}
+use Rattle.kh_lex.specs.Numerals.{signed_numeral_of}
+use Rattle.kh_lex.specs.declared.limits.TheConstants.{NUMBER_DIGITS}
+use Rattle.kh_lex.proofs.NumeralReads.{WritesSigned-signed_decimal, signed_numeral_of-WritesSigned}
 use Rattle.jones_sum.specs.Tables.{IsRow}
-use Rattle.table_text.specs.Lines.{first_line, is_feed, field_text}
+use Rattle.table_text.specs.Lines.{first_line, field_text}
+use Rattle.kh_lex.specs.Lines.{is_line_feed}
 use Rattle.table_text.specs.Words.{is_end, word_of, behind_word, IsFieldIn}
 use Rattle.table_text.proofs.LineLemmas.{first_line-line}
 
@@ -105,7 +109,7 @@ above-signed_decimal : (z : ℤ) → unsigned_abs z ≤ GENERATORS → AllByRecu
 above-signed_decimal (pos n) small = above-decimal n (omega (arith, small))
 above-signed_decimal (negsuc n) small = (omega arith, above-decimal (suc n) (omega (arith, small)))
 
-no_feed : (bytes : List ℕ) → AllByRecursion above_space bytes → AllByRecursion (λ byte. is_feed byte ≡ false) bytes
+no_feed : (bytes : List ℕ) → AllByRecursion above_space bytes → AllByRecursion (λ byte. is_line_feed byte ≡ false) bytes
 no_feed [] are = tt
 no_feed (byte ∷ bytes) (is, are) = (grind (arith, nat_tests), no_feed bytes are)
 
@@ -136,10 +140,10 @@ row_text-front : (row : Row) (more : List ℕ) → row_text row ++ more ≡ row_
 unfolding row_front
 row_text-front row more = simp append_assoc
 
-row_front-no_feed : (row : Row) → IsRow row → AllByRecursion (λ byte. is_feed byte ≡ false) (row_front row)
+row_front-no_feed : (row : Row) → IsRow row → AllByRecursion (λ byte. is_line_feed byte ≡ false) (row_front row)
 unfolding row_front
 row_front-no_feed row is =
-    let NoFeed : ℕ → Type 0 = λ byte. is_feed byte ≡ false in
+    let NoFeed : ℕ → Type 0 = λ byte. is_line_feed byte ≡ false in
     let dim = no_feed (decimal row.dim) (above-decimal row.dim (omega (arith, is.few))) in
     let i = no_feed (signed_decimal row.i) (above-signed_decimal row.i (small-i row is)) in
     let j = no_feed (signed_decimal row.j) (above-signed_decimal row.j (small-j row is)) in
@@ -207,6 +211,14 @@ HasNumbers-row row is =
       dim = ap (λ (line : List ℕ). second_word (behind_two line)) after_j ∙ ap second_word after_i
           ∙ word_of-word dim [] 10 dim_above refl;
     }
+
+-- a number that is not large is read from what is printed of it
+pub number-written : (z : ℤ) (word : List ℕ) → unsigned_abs z ≤ GENERATORS → word ≡ signed_decimal z
+    → signed_numeral_of NUMBER_DIGITS word ≡ Some z
+number-written z word small is =
+    ap (signed_numeral_of NUMBER_DIGITS) is
+    ∙ signed_numeral_of-WritesSigned NUMBER_DIGITS (signed_decimal z) z
+    (WritesSigned-signed_decimal NUMBER_DIGITS z (omega arith) (omega (arith, small)) (omega (arith, small)))
 
 -- a row is told by its line
 

@@ -4,7 +4,8 @@ ghost use Rattle.std.specs.Prelude.{◌≡◌, ◌≤◌, pos, ◌↔◌, IsTrue
 ghost use Rattle.std.specs.List.{All, AllPairs, position};
 ghost use Rattle.kh_types.specs.Table.{Row, row_text};
 ghost use Rattle.jones_sum.specs.Tables.{IsBefore};
-ghost use Rattle.table_text.specs.Lines.{first_line, is_feed};
+ghost use Rattle.table_text.specs.Lines.{first_line};
+ghost use Rattle.kh_lex.specs.Lines.{is_line_feed};
 ghost use Rattle.table_text.specs.Versions.{IsRowIn};
 ghost use Rattle.table_text.specs.Words.{IsFieldIn, IsNextRow};
 
@@ -126,7 +127,7 @@ fn first_line(text: &[u8]) -> &[u8]
 
 /// The place of the first line feed.
 fn first_feed(text: &[u8]) -> Option<usize>
-    ensures { result ≡ position is_feed text.now }
+    ensures { result ≡ position is_line_feed text.now }
 {
     text.iter().position(|byte| *byte == b'\n')
 }

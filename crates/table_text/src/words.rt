@@ -6,6 +6,8 @@ ghost use Rattle.std.specs.List.{position, position_or_len};
 ghost use Rattle.circle_smoothing.specs.declared.limits.TheConstants.{GENERATORS};
 ghost use Rattle.table_text.specs.Words.{is_end, word_of, behind_word};
 
+use kh_lex::{NUMBER_DIGITS, signed_number_of};
+
 /// The first word of a text, which ends at a space or a line feed.
 pub fn word(text: &[u8]) -> &[u8]
     ensures { result.now ≡ word_of text.now }
@@ -25,10 +27,7 @@ pub fn number(word: &[u8]) -> Option<i32>
     ensures { (number : ℤ) → unsigned_abs number ≤ GENERATORS → word.now ≡ signed_decimal number
         → result ≡ Some number }
 {
-    let Ok(text) = str::from_utf8(word) else {
-        return None;
-    };
-    text.parse().ok()
+    signed_number_of(word, NUMBER_DIGITS)
 }
 
 /// The length of the first word of a text.

@@ -7,13 +7,13 @@ use Rattle.std.specs.Option.{option_map_or}
 use Rattle.undo_stack.specs.declared.limits.TheConstants.{SCRIPT_LINES}
 use Rattle.undo_stack.specs.declared.stop.ScriptStop.{ScriptStop}
 use Rattle.undo_stack.specs.declared.stop.ScriptStop.TheVariants.{LineLimit, Line, NoMemory}
-use Rattle.undo_stack.specs.Lines.{CutsLines}
-use Rattle.undo_stack.specs.Words.{CutsWords, has_words, is_blank}
-use Rattle.undo_stack.specs.Reading.{IsCommand, IsFirstWrong, IsNumbered, IsReading, worded_lines}
-use Rattle.undo_stack.specs.Steps.{command_of, commands_from, followed_by, lines_of, preceded_by, reading_of, words_of}
-use Rattle.undo_stack.proofs.LineCuts.{CutsLines-lines_of, lines_of-CutsLines}
-use Rattle.undo_stack.proofs.Loops.{preceded_by-none}
-use Rattle.undo_stack.proofs.WordCuts.{CutsWords-words_of, words_of-CutsWords, words_of-none}
+use Rattle.kh_lex.specs.Lines.{CutsLines, lines_of}
+use Rattle.kh_lex.specs.LineWords.{CutsWords, has_words, is_gap, words_of}
+use Rattle.undo_stack.specs.Reading.{IsCommand, IsFirstWrong, IsNumbered, IsScriptReading, worded_lines}
+use Rattle.undo_stack.specs.Steps.{line_command, commands_from, then_lines, led_by, script_reading}
+use Rattle.kh_lex.proofs.LineCuts.{CutsLines-lines_of, lines_of-CutsLines}
+use Rattle.undo_stack.proofs.Loops.{led_by-none}
+use Rattle.kh_lex.proofs.WordCuts.{CutsWords-words_of, words_of-CutsWords, words_of-none}
 
 -- a meaning gives what words spell
 pub record IsMeaning {T : Type 0} (Spells : List (List ℕ) → T → Type 0) (meaning : List (List ℕ) → Option T) : Type 0 where
@@ -32,13 +32,13 @@ meaning-IsCommand Spells meaning m line command is =
 -- a line has words where there are some
 has_words-none : (line : List ℕ) → words_of line ≡ [] → has_words line ≡ false
 has_words-none line none =
-    let blank : list_all is_blank line ≡ true = subst (CutsWords line) none (CutsWords-words_of line) in
+    let blank : list_all is_gap line ≡ true = subst (CutsWords line) none (CutsWords-words_of line) in
     ap not blank
 
 has_words-some : (line word : List ℕ) (words : List (List ℕ)) → words_of line ≡ word ∷ words → has_words line ≡ true
-has_words-some line word words some = go (list_all is_blank line) refl
+has_words-some line word words some = go (list_all is_gap line) refl
   where
-    go : (blank : Bool) → list_all is_blank line ≡ blank → not blank ≡ true
+    go : (blank : Bool) → list_all is_gap line ≡ blank → not blank ≡ true
     go true blank = absurd (omega (arith, ap length (sym (words_of-none line blank) ∙ some)))
     go false blank = refl
 
@@ -56,7 +56,7 @@ AreLines Spells lines (Err NoMemory) = ⊥
 -- one more line before others
 AreLines-cons : {T : Type 0} (Spells : List (List ℕ) → T → Type 0) (number : ℕ) (line : List ℕ) (lines : List (ℕ × List ℕ)) (command : T)
     (r : Result (List (ℕ × T)) ScriptStop) → IsCommand Spells line command → AreLines Spells lines r
-    → AreLines Spells ((number, line) ∷ lines) (preceded_by ((number, command) ∷ []) r)
+    → AreLines Spells ((number, line) ∷ lines) (led_by ((number, command) ∷ []) r)
 AreLines-cons Spells number line lines command (Ok commands) is later = ((refl, is), later)
 AreLines-cons Spells number line lines command (Err (LineLimit count)) is later = later
 AreLines-cons Spells number line lines command (Err (Line wrong)) is later = record {
@@ -80,7 +80,7 @@ AreLines-commands_from {T} Spells meaning m number (line ∷ lines) = go (words_
     one : (o : Option T) → meaning (words_of line) ≡ o → (r : Result (List (ℕ × T)) ScriptStop)
         → AreLines Spells (worded (number + 1) lines) r
         → AreLines Spells ((number, line) ∷ worded (number + 1) lines)
-        (followed_by number (option_map_or (λ command. Ok (Some command)) o (Err (Line number))) r)
+        (then_lines number (option_map_or (λ command. Ok (Some command)) o (Err (Line number))) r)
     one (Some command) is r later =
         AreLines-cons Spells number line (worded (number + 1) lines) command r (IsCommand-meaning Spells meaning m line command is) later
     one None none r later = record {
@@ -96,28 +96,28 @@ AreLines-commands_from {T} Spells meaning m number (line ∷ lines) = go (words_
     go : (words : List (List ℕ)) → words_of line ≡ words
         → AreLines Spells (worded (number + 1) lines) (commands_from meaning (number + 1) lines)
         → AreLines Spells (cond (has_words line) ((number, line) ∷ worded (number + 1) lines) (worded (number + 1) lines))
-        (followed_by number (command_of meaning number words) (commands_from meaning (number + 1) lines))
-    go [] none later = rw (has_words-none line none, preceded_by-none (commands_from meaning (number + 1) lines)) later
+        (then_lines number (line_command meaning number words) (commands_from meaning (number + 1) lines))
+    go [] none later = rw (has_words-none line none, led_by-none (commands_from meaning (number + 1) lines)) later
     go (word ∷ words) some later =
         rw (has_words-some line word words some)
         (one (meaning (word ∷ words)) (ap meaning some) (commands_from meaning (number + 1) lines) later)
 
 -- what the words of a line give
-command_of-some : {T : Type 0} (meaning : List (List ℕ) → Option T) (number : ℕ) (word : List ℕ) (words ws : List (List ℕ)) (o : Option T)
-    → ws ≡ word ∷ words → meaning ws ≡ o → command_of meaning number ws ≡ option_map_or (λ command. Ok (Some command)) o (Err (Line number))
-command_of-some meaning number word words [] o are is = absurd (omega (arith, ap length are))
-command_of-some meaning number word words (w ∷ ws) o are is = ap
+line_command-some : {T : Type 0} (meaning : List (List ℕ) → Option T) (number : ℕ) (word : List ℕ) (words ws : List (List ℕ)) (o : Option T)
+    → ws ≡ word ∷ words → meaning ws ≡ o → line_command meaning number ws ≡ option_map_or (λ command. Ok (Some command)) o (Err (Line number))
+line_command-some meaning number word words [] o are is = absurd (omega (arith, ap length are))
+line_command-some meaning number word words (w ∷ ws) o are is = ap
     (λ p. option_map_or (λ command. Ok (Some command)) p (Err (Line number))) is
 
 -- a line with words, and what those behind it read as
 commands_from-cons : {T : Type 0} (meaning : List (List ℕ) → Option T) (number : ℕ) (line word : List ℕ) (words : List (List ℕ))
     (lines : List (List ℕ))
     (command : T) (r : Result (List (ℕ × T)) ScriptStop) → words_of line ≡ word ∷ words → meaning (words_of line) ≡ Some command
-    → commands_from meaning (number + 1) lines ≡ r → commands_from meaning number (line ∷ lines) ≡ preceded_by ((number, command) ∷ []) r
+    → commands_from meaning (number + 1) lines ≡ r → commands_from meaning number (line ∷ lines) ≡ led_by ((number, command) ∷ []) r
 commands_from-cons meaning number line word words lines command r some is later =
-    ap (λ c. followed_by number c (commands_from meaning (number + 1) lines))
-    (command_of-some meaning number word words (words_of line) (Some command) some is)
-    ∙ ap (preceded_by ((number, command) ∷ [])) later
+    ap (λ c. then_lines number c (commands_from meaning (number + 1) lines))
+    (line_command-some meaning number word words (words_of line) (Some command) some is)
+    ∙ ap (led_by ((number, command) ∷ [])) later
 
 -- the first of some lines, and those behind it
 abbrev first_line : List (ℕ × List ℕ) → ℕ × List ℕ
@@ -146,8 +146,8 @@ commands_from-AreLines {T} Spells meaning m number (line ∷ lines) r are =
         → words_of line ≡ word ∷ words → meaning (words_of line) ≡ o → (number, line) ∷ worded (number + 1) lines ≡ (wrong, bad) ∷ after
         → ((command : T) → ¬ IsCommand Spells bad command) → commands_from meaning number (line ∷ lines) ≡ Err (Line wrong)
     wrong-first wrong bad after None word words some is parts none =
-        ap (λ c. followed_by number c (commands_from meaning (number + 1) lines))
-        (command_of-some meaning number word words (words_of line) None some is)
+        ap (λ c. then_lines number c (commands_from meaning (number + 1) lines))
+        (line_command-some meaning number word words (words_of line) None some is)
         ∙ ap (λ ls. Err (Line (first_line ls).0)) parts
     wrong-first wrong bad after (Some command) word words some is parts none =
         absurd (none command
@@ -201,29 +201,29 @@ commands_from-AreLines {T} Spells meaning m number (line ∷ lines) r are =
         let rest = later r
         (subst (λ b. AreLines Spells (cond b ((number, line) ∷ worded (number + 1) lines) (worded (number + 1) lines)) r)
         (has_words-none line none) are) in
-        ap (λ words. followed_by number (command_of meaning number words) (commands_from meaning (number + 1) lines)) none
-        ∙ preceded_by-none (commands_from meaning (number + 1) lines) ∙ rest
+        ap (λ words. then_lines number (line_command meaning number words) (commands_from meaning (number + 1) lines)) none
+        ∙ led_by-none (commands_from meaning (number + 1) lines) ∙ rest
     go (word ∷ words) some later are = one word words some later r
         (subst (λ b. AreLines Spells (cond b ((number, line) ∷ worded (number + 1) lines) (worded (number + 1) lines)) r)
         (has_words-some line word words some) are)
 
 -- what lines with words read as, a text of them does
-IsReading-AreLines : {T : Type 0} (Spells : List (List ℕ) → T → Type 0) (text : List ℕ) (lines : List (List ℕ))
+IsScriptReading-AreLines : {T : Type 0} (Spells : List (List ℕ) → T → Type 0) (text : List ℕ) (lines : List (List ℕ))
     (r : Result (List (ℕ × T)) ScriptStop)
-    → CutsLines text lines → length lines ≤ SCRIPT_LINES → AreLines Spells (worded_lines lines) r → IsReading Spells text r
-IsReading-AreLines Spells text lines (Ok commands) cut few are = record { lines = lines; cut = cut; few = few; each = are }
-IsReading-AreLines Spells text lines (Err (LineLimit count)) cut few are = absurd are
-IsReading-AreLines Spells text lines (Err (Line wrong)) cut few are = record { lines = lines; cut = cut; few = few; first = are }
-IsReading-AreLines Spells text lines (Err NoMemory) cut few are = absurd are
+    → CutsLines text lines → length lines ≤ SCRIPT_LINES → AreLines Spells (worded_lines lines) r → IsScriptReading Spells text r
+IsScriptReading-AreLines Spells text lines (Ok commands) cut few are = record { lines = lines; cut = cut; few = few; each = are }
+IsScriptReading-AreLines Spells text lines (Err (LineLimit count)) cut few are = absurd are
+IsScriptReading-AreLines Spells text lines (Err (Line wrong)) cut few are = record { lines = lines; cut = cut; few = few; first = are }
+IsScriptReading-AreLines Spells text lines (Err NoMemory) cut few are = absurd are
 
 -- what is computed of a text, it reads as
-pub IsReading-reading_of : {T : Type 0} (Spells : List (List ℕ) → T → Type 0) (meaning : List (List ℕ) → Option T)
+pub IsScriptReading-script_reading : {T : Type 0} (Spells : List (List ℕ) → T → Type 0) (meaning : List (List ℕ) → Option T)
     → IsMeaning Spells meaning
-    → (text : List ℕ) → IsReading Spells text (reading_of meaning text)
-IsReading-reading_of Spells meaning m text = go (nat_lt SCRIPT_LINES (length (lines_of text))) refl
+    → (text : List ℕ) → IsScriptReading Spells text (script_reading meaning text)
+IsScriptReading-script_reading Spells meaning m text = go (nat_lt SCRIPT_LINES (length (lines_of text))) refl
   where
     go : (above : Bool) → nat_lt SCRIPT_LINES (length (lines_of text)) ≡ above
-        → IsReading Spells text (cond above (Err (LineLimit (length (lines_of text)))) (commands_from meaning 1 (lines_of text)))
+        → IsScriptReading Spells text (cond above (Err (LineLimit (length (lines_of text)))) (commands_from meaning 1 (lines_of text)))
     go true above = record {
       lines = lines_of text;
       cut = CutsLines-lines_of text;
@@ -231,30 +231,30 @@ IsReading-reading_of Spells meaning m text = go (nat_lt SCRIPT_LINES (length (li
       above = ltb-true SCRIPT_LINES (length (lines_of text)) above;
     }
     go false few =
-        IsReading-AreLines Spells text (lines_of text) (commands_from meaning 1 (lines_of text)) (CutsLines-lines_of text)
+        IsScriptReading-AreLines Spells text (lines_of text) (commands_from meaning 1 (lines_of text)) (CutsLines-lines_of text)
         (ltb-false SCRIPT_LINES (length (lines_of text)) few) (AreLines-commands_from Spells meaning m 1 (lines_of text))
 
 -- a text of few lines, and what they read as
-reading_of-AreLines : {T : Type 0} (Spells : List (List ℕ) → T → Type 0) (meaning : List (List ℕ) → Option T) → IsMeaning Spells meaning
+script_reading-AreLines : {T : Type 0} (Spells : List (List ℕ) → T → Type 0) (meaning : List (List ℕ) → Option T) → IsMeaning Spells meaning
     → (text : List ℕ) (lines : List (List ℕ)) (r : Result (List (ℕ × T)) ScriptStop) → CutsLines text lines → length lines ≤ SCRIPT_LINES
-    → AreLines Spells (worded_lines lines) r → reading_of meaning text ≡ r
-reading_of-AreLines Spells meaning m text lines r cut few are =
+    → AreLines Spells (worded_lines lines) r → script_reading meaning text ≡ r
+script_reading-AreLines Spells meaning m text lines r cut few are =
     ap (λ ls. cond (nat_lt SCRIPT_LINES (length ls)) (Err (LineLimit (length ls))) (commands_from meaning 1 ls))
     (sym (lines_of-CutsLines text lines cut))
     ∙ ap (λ b. cond b (Err (LineLimit (length lines))) (commands_from meaning 1 lines)) (le-ltb SCRIPT_LINES (length lines) few)
     ∙ commands_from-AreLines Spells meaning m 1 lines r are
 
 -- what a text reads as is computed of it
-pub reading_of-IsReading : {T : Type 0} (Spells : List (List ℕ) → T → Type 0) (meaning : List (List ℕ) → Option T)
+pub script_reading-IsScriptReading : {T : Type 0} (Spells : List (List ℕ) → T → Type 0) (meaning : List (List ℕ) → Option T)
     → IsMeaning Spells meaning
-    → (text : List ℕ) (r : Result (List (ℕ × T)) ScriptStop) → IsReading Spells text r → reading_of meaning text ≡ r
-reading_of-IsReading Spells meaning m text (Ok commands) reads =
-    reading_of-AreLines Spells meaning m text reads.lines (Ok commands) reads.cut reads.few reads.each
-reading_of-IsReading Spells meaning m text (Err (LineLimit count)) many =
+    → (text : List ℕ) (r : Result (List (ℕ × T)) ScriptStop) → IsScriptReading Spells text r → script_reading meaning text ≡ r
+script_reading-IsScriptReading Spells meaning m text (Ok commands) reads =
+    script_reading-AreLines Spells meaning m text reads.lines (Ok commands) reads.cut reads.few reads.each
+script_reading-IsScriptReading Spells meaning m text (Err (LineLimit count)) many =
     ap (λ ls. cond (nat_lt SCRIPT_LINES (length ls)) (Err (LineLimit (length ls))) (commands_from meaning 1 ls))
     (sym (lines_of-CutsLines text many.lines many.cut))
     ∙ ap (λ n. cond (nat_lt SCRIPT_LINES n) (Err (LineLimit n)) (commands_from meaning 1 many.lines)) (sym many.counted)
     ∙ ap (λ b. cond b (Err (LineLimit count)) (commands_from meaning 1 many.lines)) (lt-ltb SCRIPT_LINES count many.above)
-reading_of-IsReading Spells meaning m text (Err (Line wrong)) reads =
-    reading_of-AreLines Spells meaning m text reads.lines (Err (Line wrong)) reads.cut reads.few reads.first
-reading_of-IsReading Spells meaning m text (Err NoMemory) none = absurd none
+script_reading-IsScriptReading Spells meaning m text (Err (Line wrong)) reads =
+    script_reading-AreLines Spells meaning m text reads.lines (Err (Line wrong)) reads.cut reads.few reads.first
+script_reading-IsScriptReading Spells meaning m text (Err NoMemory) none = absurd none

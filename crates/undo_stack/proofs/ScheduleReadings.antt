@@ -10,11 +10,11 @@ use Rattle.undo_stack.specs.declared.schedule.ScheduleLine.{ScheduleLine}
 use Rattle.undo_stack.specs.declared.schedule.ScheduleLine.TheVariants.{Look, Commit, Forget}
 use Rattle.undo_stack.specs.declared.stop.ScriptStop.{ScriptStop}
 use Rattle.undo_stack.specs.declared.stop.ScriptStop.TheVariants.{NoMemory}
-use Rattle.undo_stack.specs.Words.{has_words}
+use Rattle.kh_lex.specs.LineWords.{has_words}
 use Rattle.undo_stack.specs.Reading.{IsNumbered, worded_lines}
 use Rattle.undo_stack.specs.Schedule.{HasWorker, IsSchedule, SpellsLine}
 use Rattle.undo_stack.specs.ScheduleSteps.{schedule_line_of, schedule_of}
-use Rattle.undo_stack.proofs.Readings.{IsMeaning, IsReading-reading_of, reading_of-IsReading}
+use Rattle.undo_stack.proofs.Readings.{IsMeaning, IsScriptReading-script_reading, script_reading-IsScriptReading}
 use Rattle.undo_stack.proofs.ScheduleLines.{schedule_line_of-means}
 
 IsMeaning-schedule_line_of : IsMeaning SpellsLine schedule_line_of
@@ -22,13 +22,13 @@ IsMeaning-schedule_line_of = record { means = schedule_line_of-means }
 
 -- a text reads as what is computed of it
 pub IsSchedule-schedule_of : (text : List ℕ) → IsSchedule text (schedule_of text)
-IsSchedule-schedule_of text = IsReading-reading_of SpellsLine schedule_line_of IsMeaning-schedule_line_of text
+IsSchedule-schedule_of text = IsScriptReading-script_reading SpellsLine schedule_line_of IsMeaning-schedule_line_of text
 
 -- and as nothing else
 pub schedule_of-reads : (text : List ℕ) (r : Result (List (ℕ × ScheduleLine)) ScriptStop) → (schedule_of text ≡ r) ↔ IsSchedule text r
 schedule_of-reads text r = (
   λ same. subst (IsSchedule text) same (IsSchedule-schedule_of text),
-  reading_of-IsReading SpellsLine schedule_line_of IsMeaning-schedule_line_of text r,
+  script_reading-IsScriptReading SpellsLine schedule_line_of IsMeaning-schedule_line_of text r,
 )
 
 pub IsSchedule-one : (text : List ℕ) (a b : Result (List (ℕ × ScheduleLine)) ScriptStop) → IsSchedule text a → IsSchedule text b → a ≡ b

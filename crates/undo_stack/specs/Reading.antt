@@ -5,8 +5,8 @@ use Rattle.std.specs.List.{AllZip, enumerate_from}
 use Rattle.undo_stack.specs.declared.limits.TheConstants.{SCRIPT_LINES}
 use Rattle.undo_stack.specs.declared.stop.ScriptStop.{ScriptStop}
 use Rattle.undo_stack.specs.declared.stop.ScriptStop.TheVariants.{LineLimit, Line, NoMemory}
-use Rattle.undo_stack.specs.Lines.{CutsLines}
-use Rattle.undo_stack.specs.Words.{CutsWords, has_words}
+use Rattle.kh_lex.specs.Lines.{CutsLines}
+use Rattle.kh_lex.specs.LineWords.{CutsWords, has_words}
 
 -- those of some lines that have words, each with its number, from 1
 abbrev pub worded_lines : List (List ℕ) → List (ℕ × List ℕ)
@@ -24,7 +24,7 @@ IsNumbered Spells line command = (command.0 ≡ line.0) × IsCommand Spells line
 
 -- a text reads as commands: lines cut it, of which there are no more than the limit, and each line that has words is a
 -- command, in order and with its number
-pub record ReadsAs {T : Type 0} (Spells : List (List ℕ) → T → Type 0) (text : List ℕ) (commands : List (ℕ × T)) : Type 0 where
+pub record ReadsAsScript {T : Type 0} (Spells : List (List ℕ) → T → Type 0) (text : List ℕ) (commands : List (ℕ × T)) : Type 0 where
   pub lines : List (List ℕ)
   pub cut : CutsLines text lines
   pub few : length lines ≤ SCRIPT_LINES
@@ -55,8 +55,8 @@ pub record HasWrongLine {T : Type 0} (Spells : List (List ℕ) → T → Type 0)
   pub first : IsFirstWrong Spells (worded_lines lines) number
 
 -- what the reading of a text comes to; running out of memory is no reading
-abbrev pub IsReading : {T : Type 0} → (List (List ℕ) → T → Type 0) → List ℕ → Result (List (ℕ × T)) ScriptStop → Type 0
-IsReading Spells text (Ok commands) = ReadsAs Spells text commands
-IsReading Spells text (Err (LineLimit count)) = HasManyLines text count
-IsReading Spells text (Err (Line number)) = HasWrongLine Spells text number
-IsReading Spells text (Err NoMemory) = ⊥
+abbrev pub IsScriptReading : {T : Type 0} → (List (List ℕ) → T → Type 0) → List ℕ → Result (List (ℕ × T)) ScriptStop → Type 0
+IsScriptReading Spells text (Ok commands) = ReadsAsScript Spells text commands
+IsScriptReading Spells text (Err (LineLimit count)) = HasManyLines text count
+IsScriptReading Spells text (Err (Line number)) = HasWrongLine Spells text number
+IsScriptReading Spells text (Err NoMemory) = ⊥

@@ -1,11 +1,11 @@
 -- The lines of a schedule: `look W J`, `commit W` and `forget W` (this project's rule).
 use Rattle.std.specs.Prelude.{◌≡◌, ℕ, ◌≤◌, List, [], ◌∷◌, codes, ℤ, Result}
-use Rattle.undo_stack.specs.declared.limits.TheConstants.{WORKERS}
+use Rattle.kh_types.specs.declared.limits.TheConstants.{WORKERS}
 use Rattle.undo_stack.specs.declared.schedule.ScheduleLine.{ScheduleLine}
 use Rattle.undo_stack.specs.declared.schedule.ScheduleLine.TheVariants.{Look, Commit, Forget}
 use Rattle.undo_stack.specs.declared.stop.ScriptStop.{ScriptStop}
-use Rattle.undo_stack.specs.Digits.{WritesNumber, WritesSigned}
-use Rattle.undo_stack.specs.Reading.{IsReading}
+use Rattle.kh_lex.specs.Numerals.{WritesNumber, WritesSigned}
+use Rattle.undo_stack.specs.Reading.{IsScriptReading}
 
 -- a word names a worker: one or two digits, and the number is one of a worker, from 1 on
 pub record NamesWorker (word : List ℕ) (worker : ℕ) : Type 0 where
@@ -27,7 +27,7 @@ SpellsLine words (Forget worker) = (first : List ℕ) × (words ≡ codes "forge
 
 -- what the reading of the text of a schedule comes to
 abbrev pub IsSchedule : List ℕ → Result (List (ℕ × ScheduleLine)) ScriptStop → Type 0
-IsSchedule text reading = IsReading SpellsLine text reading
+IsSchedule text reading = IsScriptReading SpellsLine text reading
 
 -- the worker of a line
 abbrev pub worker_in : ScheduleLine → ℕ

@@ -3,28 +3,16 @@
 ghost use Rattle.std.specs.Prelude.{◌≡◌, ◌↔◌, ℕ, List, [], ◌∷◌, ◌++◌, codes, pos, neg_ℤ, replicate, Result, Ok, Err};
 ghost use Rattle.undo_stack.specs.declared.schedule.ScheduleLine.{ScheduleLine};
 ghost use Rattle.undo_stack.specs.declared.stop.ScriptStop.{ScriptStop};
-ghost use Rattle.undo_stack.specs.Lines.{CutsLines};
-ghost use Rattle.undo_stack.specs.Words.{CutsWords};
 ghost use Rattle.undo_stack.specs.Schedule.{IsSchedule};
 ghost use Rattle.undo_stack.specs.ScheduleSteps.{schedule_of};
-ghost use Rattle.undo_stack.specs.Steps.{lines_of, words_of};
 
-use crate::limits::{SCRIPT_LINES, WORKERS};
+use crate::limits::SCRIPT_LINES;
 use crate::schedule::ScheduleLine;
 use crate::stop::ScriptStop;
 
-/// The values of the limits, which the definitions name and do not write out.
+/// The value of the limit, which the definitions name and do not write out.
 pub fn limits_of_scripts()
     ensures lines { SCRIPT_LINES ≡ 4096 }
-    ensures workers { WORKERS ≡ 64 }
-{}
-
-/// Lines cut a text in one way, and words a line: `lines_of` and `words_of` compute it.
-pub fn each_text_is_cut_in_one_way()
-    ensures lines { (text : List ℕ) (lines : List (List ℕ)) →
-        (lines_of text ≡ lines) ↔ CutsLines text lines }
-    ensures words { (line : List ℕ) (words : List (List ℕ)) →
-        (words_of line ≡ words) ↔ CutsWords line words }
 {}
 
 /// Each text has a reading, which `schedule_of` computes, and no text has two.

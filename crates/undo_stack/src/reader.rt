@@ -1,21 +1,22 @@
 //! Reads a script, whatever its commands are.
 
 ghost use Rattle.std.specs.Prelude.{◌≡◌, ◌≢◌, ◌≤◌, ◌<◌, ◌^◌, ◌++◌, IfOk, IfErr, OnOk, Ok, Err, length};
-ghost use Rattle.undo_stack.specs.Steps.{command_of, commands_from, lines_of, numbered, reading_of, words_of};
+ghost use Rattle.kh_lex.specs.Lines.{lines_of};
+ghost use Rattle.kh_lex.specs.LineWords.{words_of};
+ghost use Rattle.undo_stack.specs.Steps.{line_command, commands_from, with_number, script_reading};
 
 use crate::command::Command;
 use crate::limits::SCRIPT_LINES;
-use crate::line::{line_at, line_count};
 use crate::script::Script;
 use crate::stop::ScriptStop;
-use crate::word::words_of;
+use kh_lex::{line_at, line_count, words_of};
 use kh_types::INPUT_BYTES;
 use std::alloc::{AllocFailed, Global};
 
 /// Reads a script: its lines in order, of which those without words do nothing.
 pub fn read_script<T: Command>(alloc: Global, text: &[u8]) -> Result<Script<T>, ScriptStop>
     requires { length text.now ≤ INPUT_BYTES }
-    ensures { result ≢ Err ScriptStop.NoMemory → result ≡ reading_of T.meaning text.now }
+    ensures { result ≢ Err ScriptStop.NoMemory → result ≡ script_reading T.meaning text.now }
 {
     let count = line_count(text);
     if count as usize > SCRIPT_LINES {
@@ -52,7 +53,7 @@ fn push_command<T: Copy>(
     number: u32,
     command: Option<T>,
 ) -> Result<(), AllocFailed<(u32, T)>>
-    ensures { OnOk result (commands.new.items ≡ commands.old.items ++ numbered number command) }
+    ensures { OnOk result (commands.new.items ≡ commands.old.items ++ with_number number command) }
 {
     match command {
         Some(command) => commands.push((number, command)),
@@ -64,9 +65,9 @@ fn push_command<T: Copy>(
 fn command_of<T: Command>(alloc: Global, line: &[u8], number: u32) -> Result<Option<T>, ScriptStop>
     requires { length line.now ≤ INPUT_BYTES }
     ensures ok { IfOk result (λ command.
-        command_of T.meaning number (words_of line.now) ≡ Ok command) }
+        line_command T.meaning number (words_of line.now) ≡ Ok command) }
     ensures wrong { IfErr result (λ stop.
-        stop ≢ ScriptStop.NoMemory → command_of T.meaning number (words_of line.now) ≡ Err stop) }
+        stop ≢ ScriptStop.NoMemory → line_command T.meaning number (words_of line.now) ≡ Err stop) }
 {
     let words = words_of(alloc, line)?;
     if words.is_empty() {

@@ -1,17 +1,16 @@
 //! Schedules: what workers do, and when.
 
-ghost use Rattle.std.specs.Prelude.{◌≡◌, ◌≢◌, ◌≤◌, if◌then◌else◌, All, Err, IfOk, drop, length};
+ghost use Rattle.std.specs.Prelude.{◌≡◌, ◌≢◌, ◌≤◌, All, Err, IfOk, length};
 ghost use Rattle.undo_stack.specs.Schedule.{HasWorker, IsSchedule};
-ghost use Rattle.undo_stack.specs.Digits.{signed};
-ghost use Rattle.undo_stack.specs.ScheduleSteps.{block_of, has_minus, line_of_three, line_of_two, schedule_line_of, worker_of};
+ghost use Rattle.undo_stack.specs.ScheduleSteps.{line_of_three, line_of_two, named_block, named_worker, schedule_line_of};
 
 use crate::command::Command;
-use crate::digits::number_of;
-use crate::limits::{SCRIPT_LINES, WORKERS};
+use crate::limits::SCRIPT_LINES;
 use crate::reader::read_script;
 use crate::script::Script;
 use crate::stop::ScriptStop;
-use kh_types::INPUT_BYTES;
+use kh_lex::{number_of, signed_number_of};
+use kh_types::{INPUT_BYTES, WORKERS};
 use std::alloc::Global;
 
 /// What a line of a schedule lets a worker do. Workers are counted from 1; a block is named by
@@ -78,7 +77,7 @@ fn line_of_two(name: &[u8], first: &[u8]) -> Option<ScheduleLine>
 
 // The worker that a word names.
 fn worker_of(word: &[u8]) -> Option<u32>
-    ensures { result ≡ worker_of word.now }
+    ensures { result ≡ named_worker word.now }
 {
     let worker = number_of(word, 2)?;
     if 1 <= worker && worker <= WORKERS {
@@ -90,26 +89,8 @@ fn worker_of(word: &[u8]) -> Option<u32>
 
 // The block that a word names.
 fn block_of(word: &[u8]) -> Option<i16>
-    ensures { result ≡ block_of word.now }
+    ensures { result ≡ named_block word.now }
 {
-    let size = number_of(digits_of(word), 3)?;
-    Some(if has_minus(word) {
-        -(size as i16)
-    } else {
-        size as i16
-    })
-}
-
-// Whether a word begins with a minus sign.
-fn has_minus(word: &[u8]) -> bool
-    ensures { result ≡ has_minus word.now }
-{
-    word.first().copied().unwrap_or(0) == b'-'
-}
-
-// A word without the minus sign that it may begin with.
-fn digits_of(word: &[u8]) -> &[u8]
-    ensures { result.now ≡ drop (if has_minus word.now then 1 else 0) word.now }
-{
-    if has_minus(word) { &word[1..] } else { word }
+    let block = signed_number_of(word, 3)?;
+    Some(block as i16)
 }

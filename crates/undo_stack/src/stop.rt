@@ -3,7 +3,8 @@
 ghost use Rattle.std.specs.Prelude.{◌≡◌};
 ghost use Rattle.undo_stack.specs.declared.stop.ScriptStop.TheVariants.{NoMemory};
 
-use std::alloc::{AllocError, AllocFailed};
+use kh_types as types;
+use std::alloc::AllocFailed;
 
 /// Why no script was read from a text. Lines are counted from 1. This project's rule.
 #[derive(Clone, Copy, Debug, PartialEq, Eq)]
@@ -17,10 +18,10 @@ pub enum ScriptStop {
     NoMemory,
 }
 
-impl From<AllocError> for ScriptStop {
+impl From<types::NoMemory> for ScriptStop {
     ghost from_gives = { λ _ stop. stop ≡ NoMemory };
 
-    fn from(_: AllocError) -> Self {
+    fn from(_: types::NoMemory) -> Self {
         ScriptStop::NoMemory
     }
 }

@@ -7,7 +7,7 @@ use Rattle.version_lock.specs.Places.{Each, IsAscending, AreOwn, longer}
 use Rattle.version_lock.specs.Views.{joined_view}
 use Rattle.version_lock.specs.Turns.{Saw, Commits}
 use Rattle.version_lock.proofs.Sums.{Each-map, Each-push, IsAscending-push}
-use Rattle.version_lock.proofs.Prefixes.{prefix_length}
+use Rattle.kh_types.proofs.Prefixes.{prefix_length}
 use Rattle.version_lock.proofs.Merging.{Each-merged_places}
 use Rattle.version_lock.proofs.RuleKept.{longer_size}
 

@@ -22,7 +22,7 @@ use Rattle.version_lock.specs.Views.{opening_view, one_held, latest, spent, hold
 use Rattle.version_lock.specs.Rule.{turn_of, share_of, owns, Knows, Dealt, IsAtHome, LockRule}
 use Rattle.version_lock.specs.Steps.{tried, measured, committed, released, withdrawn, affirmed}
 use Rattle.version_lock.proofs.Sums.{Each-map, Each-push, IsAscending-push, total-append, total-set, total-alone, term_le, terms_le}
-use Rattle.version_lock.proofs.Prefixes.{prefix_self, prefix_trans, prefix_length, prefix_whole}
+use Rattle.kh_types.proofs.Prefixes.{prefix_self, prefix_trans, prefix_length, prefix_whole}
 
 abbrev some_or : {A : Type 0} → A → Option A → A
 some_or a None = a

@@ -6,14 +6,15 @@ ghost use Rattle.version_lock.specs.Places.{AreOwn};
 use crate::held::Held;
 use crate::work_seat::WorkSeat;
 
-/// What the type of a seat keeps: it stands for at least one seat, and the places of the entries
-/// that it committed ascend and lie in what it has seen of the history. It does nothing: a function
-/// calls it, and its proof then has these facts at hand.
+/// What the type of a seat keeps: it stands for at least one seat, what it has seen of the history
+/// is shorter than 2^64, and the places of the entries that it committed ascend and lie in that. It
+/// does nothing: a function calls it, and its proof then has these facts at hand.
 pub fn seat_laws<B: Held>(seat: &WorkSeat<B>)
     ensures least { 1 ≤ seat.now.share }
     ensures few { seat.now.share < 2 ^ 32 }
+    ensures short { length seat.now.seen < 2 ^ 64 }
     ensures own { AreOwn (length seat.now.seen) seat.now.mine }
 {
     let _ = seat.share();
-    let _ = &seat.looked;
+    let _looked = seat.looked;
 }

@@ -7,8 +7,6 @@ mod held;
 pub mod laws;
 mod rule;
 mod steps;
-#[cfg(test)]
-mod tests;
 mod turns;
 mod versioned;
 mod work_seat;

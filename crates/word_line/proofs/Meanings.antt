@@ -9,7 +9,8 @@ use Rattle.word_line.specs.declared.command.Task.{Task}
 use Rattle.word_line.specs.declared.command.Task.TheVariants.{Homology, Convert, Check, Jones, Schedule}
 use Rattle.word_line.specs.declared.command.Form.{Form}
 use Rattle.word_line.specs.declared.command.Form.TheVariants.{Pd, Gauss}
-use Rattle.word_line.specs.declared.limits.TheConstants.{WORKERS, WORKERS_DIGITS}
+use Rattle.kh_types.specs.declared.limits.TheConstants.{WORKERS}
+use Rattle.word_line.specs.declared.limits.TheConstants.{WORKERS_DIGITS}
 use Rattle.word_line.specs.Values.{IsGiven, NamesField, NamesForm, NamesWorkers, form_name, task_name}
 use Rattle.word_line.specs.Reading.{field_of, form_of, given_by, number_of, task_of, workers_of}
 use Rattle.word_line.proofs.Numbers.{WritesNumber-number_of, number_of-WritesNumber}

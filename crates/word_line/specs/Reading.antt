@@ -11,7 +11,8 @@ use Rattle.word_line.specs.declared.command.Task.TheVariants.{Homology, Convert,
 use Rattle.word_line.specs.declared.command.Form.{Form}
 use Rattle.word_line.specs.declared.command.Form.TheVariants.{Pd, Gauss}
 use Rattle.word_line.specs.declared.command.Command.{Command}
-use Rattle.word_line.specs.declared.limits.TheConstants.{WORKERS, WORKERS_DIGITS}
+use Rattle.kh_types.specs.declared.limits.TheConstants.{WORKERS}
+use Rattle.word_line.specs.declared.limits.TheConstants.{WORKERS_DIGITS}
 
 -- a word is digits, of which there is one at least, and no more than a limit
 abbrev pub is_number : ℕ → List ℕ → Bool

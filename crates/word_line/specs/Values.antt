@@ -9,7 +9,8 @@ use Rattle.word_line.specs.declared.command.Form.{Form}
 use Rattle.word_line.specs.declared.command.Form.TheVariants.{Pd, Gauss}
 use Rattle.word_line.specs.Pieces.{Key, Piece, positional, apart, joined}
 use Rattle.word_line.specs.Pieces as key
-use Rattle.word_line.specs.declared.limits.TheConstants.{WORKERS, WORKERS_DIGITS}
+use Rattle.kh_types.specs.declared.limits.TheConstants.{WORKERS}
+use Rattle.word_line.specs.declared.limits.TheConstants.{WORKERS_DIGITS}
 
 -- the word of a task
 abbrev pub task_name : Task → List ℕ

@@ -11,5 +11,4 @@ mod values;
 
 pub use command::{Command, Form, Task, WordStop};
 pub use laws::{words_are_decided, words_mean_one_command, worked_commands, worked_usage};
-pub use limits::WORKERS;
 pub use reader::read_words;

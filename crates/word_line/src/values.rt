@@ -5,7 +5,8 @@ ghost use Rattle.word_line.specs.Reading.{command_given, field_in, field_of, for
 
 use crate::command::{Command, Form, Task};
 use crate::digits::number_of;
-use crate::limits::{WORKERS, WORKERS_DIGITS};
+use crate::limits::WORKERS_DIGITS;
+use kh_types::WORKERS;
 
 /// The texts that a line gives: its one positional, and the values of its options.
 #[derive(Clone, Copy)]

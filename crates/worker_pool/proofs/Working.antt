@@ -4,7 +4,7 @@ use mathlib.Core.List.{IsPrefix}
 use Rattle.version_lock.specs.Calls.{CommitsTo, LockFacts, SeatFacts, IsSeatOf}
 use Rattle.version_lock.specs.declared.commit_seen.CommitSeen.{CommitSeen}
 use Rattle.version_lock.specs.declared.commit_seen.CommitSeen.TheVariants.{Committed, Stale}
-use Rattle.version_lock.proofs.Prefixes.{prefix_length, prefix_self, prefix_trans}
+use Rattle.kh_types.proofs.Prefixes.{prefix_length, prefix_self, prefix_trans}
 
 grown : {E : Type 0} (before x y : List E) (entry : E) (turns : ℕ) → y ≡ x ++ entry ∷ [] → length before + turns ≤ length x
     → length before + (turns + 1) ≤ length y

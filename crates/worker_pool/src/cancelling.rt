@@ -8,7 +8,7 @@ ghost use Rattle.cube_signs.specs.Blocks.{block_degrees};
 ghost use Rattle.kh_types.specs.Table.{table};
 ghost use Rattle.shared_block.specs.AllBlocks.{AreBlocksOf, IsFinished};
 ghost use Rattle.shared_block.specs.BlockHistories.{HasLegalHistory};
-ghost use Rattle.shared_block.specs.declared.limits.TheConstants.{WORKERS};
+ghost use Rattle.kh_types.specs.declared.limits.TheConstants.{WORKERS};
 ghost use Rattle.worker_pool.specs.Outcomes.{AreBlocksAt, AreDone, HasCommitted};
 ghost use Rattle.worker_pool.specs.Outcomes.{IsSizeLimit, TellsCount};
 

@@ -10,8 +10,6 @@ mod outcome;
 mod rows;
 mod sharing;
 mod sizes;
-#[cfg(test)]
-mod tests;
 mod turns;
 mod waves;
 

@@ -1,10 +1,11 @@
 //! How many generators the blocks of a diagram have. They say how blocks are shared out; no clause
 //! rests on them.
 
-ghost use Rattle.std.specs.Prelude.{◌≡◌, ◌^◌, ◌≤ℤ◌, neg_ℤ, pos, IfOk, length};
+ghost use Rattle.std.specs.Prelude.{◌≡◌, ◌^◌, ◌≤◌, ◌≤ℤ◌, neg_ℤ, pos, IfOk, length};
+ghost use Rattle.kh_types.specs.declared.limits.TheConstants.{CIRCLES, CROSSINGS};
 
-use circle_smoothing::Smoothings;
-use kh_types::{Diagram, NoMemory};
+use circle_smoothing::StateKinds;
+use kh_types::{CIRCLES, CROSSINGS, Diagram, NoMemory};
 use std::alloc::Global;
 
 /// How many generators the blocks at some quantum degrees have, of which each is 2 more than the
@@ -21,11 +22,9 @@ pub(crate) fn block_sizes(
         return Ok(sizes);
     };
     let lift = lift(diagram, *first);
-    let smoothings = Smoothings::new(diagram);
-    'states: for state in 0..1u32 << diagram.count() {
-        let circles = smoothings.circles(state).count();
-        let top = i64::from(lift) + i64::from(circles) + i64::from(state.count_ones());
-        add_state(&mut sizes, circles, top);
+    let kinds = StateKinds::of_diagram(diagram);
+    'ones: for ones in 0..CROSSINGS + 1 {
+        add_states(&mut sizes, &kinds, lift, ones);
     }
     Ok(sizes)
 }
@@ -46,27 +45,39 @@ pub(crate) fn no_sizes(alloc: Global, count: usize) -> Result<Vec<u64>, NoMemory
     Ok(sizes)
 }
 
-/// Adds the generators of a state with so many circles, whose greatest quantum degree is so far
-/// above that of the first block.
-fn add_state(sizes: &mut [u64], circles: u8, top: i64)
+/// Adds the generators of the states with so many 1-smoothings.
+fn add_states(sizes: &mut [u64], kinds: &StateKinds, lift: i32, ones: usize)
+    requires { ones ≤ CROSSINGS }
+    ensures { length sizes.new ≡ length sizes.old }
+{
+    'circles: for circles in 0..CIRCLES + 1 {
+        let top = i64::from(lift) + ones as i64 + circles as i64;
+        add_kind(sizes, u64::from(kinds.count(ones, circles)), circles, top);
+    }
+}
+
+/// Adds the generators of so many states with so many circles each, whose greatest quantum degree is
+/// so far above that of the first block.
+fn add_kind(sizes: &mut [u64], states: u64, circles: usize, top: i64)
+    requires circles { circles ≤ CIRCLES }
     requires low { neg_ℤ (pos (2 ^ 40)) ≤ℤ top }
     ensures { length sizes.new ≡ length sizes.old }
 {
-    let mut labels = 1u64;
-    'minuses: for minuses in 0..=u64::from(circles) {
-        add_at(sizes, top - 2 * minuses as i64, labels);
-        labels = labels.saturating_mul(u64::from(circles) - minuses) / (minuses + 1);
+    let mut generators = states;
+    'minuses: for minuses in 0..circles + 1 {
+        add_at(sizes, top - 2 * minuses as i64, generators);
+        generators = generators.saturating_mul((circles - minuses) as u64) / (minuses + 1) as u64;
     }
 }
 
 /// Adds to the size at an even distance from the first quantum degree.
-fn add_at(sizes: &mut [u64], distance: i64, labels: u64)
+fn add_at(sizes: &mut [u64], distance: i64, generators: u64)
     ensures { length sizes.new ≡ length sizes.old }
 {
     if distance < 0 {
         return;
     }
     if let Some(size) = sizes.get_mut((distance / 2) as usize) {
-        *size = size.saturating_add(labels);
+        *size = size.saturating_add(generators);
     }
 }

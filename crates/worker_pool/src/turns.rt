@@ -15,6 +15,7 @@ use std::alloc::Global;
 use std::sync::Wait;
 use std::sync::atomic::AtomicU64;
 use std::time::Duration;
+use version_lock::laws::seat_laws;
 use version_lock::{CommitSeen, Versioned, WorkSeat};
 
 /// How long a worker sleeps after a commit that was stale, in microseconds, the first time.
@@ -22,6 +23,10 @@ const FIRST_PAUSE: u64 = 100;
 
 /// How long it sleeps at most, in microseconds.
 const LONGEST_PAUSE: u64 = 4000;
+
+/// More turns than any block takes: each is a pivot more that the seat knows, and no history has as
+/// many.
+const MOST_TURNS: u128 = 1 << 64;
 
 /// Takes turns at a block until a look finds it zero, and answers their number. A turn is a look, a
 /// patch, one call of the gate and a commit; it brings the seat at least one pivot more to know, of
@@ -47,7 +52,7 @@ pub fn work<R: Wait, F: PrimeField + Send, G: Gate>(
     let mut turns = 0u64;
     let mut hint = 0u32;
     let mut pause = FIRST_PAUSE;
-    'turns: for _ in rt.forever() {
+    'turns: for _ in 0..MOST_TURNS {
         let Some(look) = lock.look_with(rt, alloc, seat, hint)? else {
             return Ok(turns);
         };
@@ -57,6 +62,7 @@ pub fn work<R: Wait, F: PrimeField + Send, G: Gate>(
         gate.before_commit(worker, turns);
         pause = paused(rt, lock.commit_with(rt, seat, patch), pause);
     }
+    seat_laws(seat);
     unreachable!()
 }
 

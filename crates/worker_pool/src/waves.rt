@@ -3,7 +3,7 @@
 //! next wave is built.
 
 ghost use Rattle.std.specs.Prelude.{◌≡◌, ◌<◌, ◌≤◌, ◌++◌, IfOk, OnOk, length, map, reverse};
-ghost use Rattle.shared_block.specs.declared.limits.TheConstants.{WORKERS};
+ghost use Rattle.kh_types.specs.declared.limits.TheConstants.{WORKERS};
 ghost use Rattle.worker_pool.specs.Outcomes.{AreBlocksAt, AreDegreesOf, AreDone, origin_of};
 ghost use Rattle.worker_pool.specs.Rows.{AreSeated};
 
@@ -54,7 +54,7 @@ pub(crate) fn finished_in_waves<
     alloc: Global,
     cube: &Cube,
     degrees: &[i16],
-    generators: u64,
+    generators: u128,
     workers: u32,
     gate: &G,
 ) -> Result<Finished<F>, NoMemory>
@@ -88,11 +88,11 @@ fn sizes_of(
     alloc: Global,
     cube: &Cube,
     degrees: &[i16],
-    generators: u64,
+    generators: u128,
 ) -> Result<Vec<u64>, NoMemory>
     ensures { IfOk result (λ sizes. length sizes.items ≡ length degrees.now) }
 {
-    if generators <= WAVE {
+    if generators <= u128::from(WAVE) {
         no_sizes(alloc, degrees.len())
     } else {
         block_sizes(alloc, cube.diagram(), degrees)

@@ -10,8 +10,6 @@ ghost use Rattle.kh_types.specs.WorkedCodes.{trefoil, virtual_trefoil};
 ghost use Rattle.face_walk.specs.AddedArcs.{bare, open_dart_count, open_face_count, open_piece_count, with_arc, HasArcMore, IsPart, IsPlanar, JoinsPieces, StaysInPiece};
 ghost use Rattle.kh_types.specs.Permutations.{IsExchange, AreJoined, IsPermutation, cycles_of};
 
-use kh_types::{RawCode, count_faces};
-
 /// Where two images of a permutation are exchanged, its cycles are one fewer where the two numbers
 /// were on two cycles, and one more where they were on one.
 pub fn exchanges_change_cycles_by_one()
@@ -103,15 +101,6 @@ pub fn accepted_codes_have_most_faces()
         → piece_count others ≡ piece_count code.crossings
         → face_count others ≤ face_count code.crossings }
 {}
-
-/// Where each arc of a code stands twice, `count_faces` counts no more faces than a drawing on the
-/// sphere has.
-pub fn few_faces_are_counted(raw: &RawCode) -> bool
-    ensures { HasArcsTwice raw.now.crossings → IsTrue result }
-{
-    let counted = count_faces(raw);
-    counted.faces <= counted.wanted
-}
 
 /// The trefoil has its five faces. At one crossing a first arc splits the face; one beside it
 /// splits one more, and one across it makes one face of the two. In the virtual trefoil each arc

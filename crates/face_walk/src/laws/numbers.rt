@@ -10,18 +10,6 @@ ghost use Rattle.kh_types.specs.Acceptance.{accepted};
 ghost use Rattle.face_walk.specs.ClassNumbers.{least_numbers, class_number};
 ghost use Rattle.face_walk.specs.FaceNumbers.{face_number, face_length};
 
-use crate::finding::faces;
-use kh_types::{Diagram, count_faces};
-
-/// The faces of a diagram are as many as are counted by its code, and as many as those of a drawing on the sphere.
-pub fn counts_of_faces_agree(diagram: &Diagram) -> bool
-    ensures { IsTrue result }
-{
-    let counted = count_faces(&diagram.to_raw());
-    let count = faces(diagram).count();
-    count == counted.faces && count == counted.wanted
-}
-
 /// Where classes are named by their least numbers, the least number of a class stands in the list of these at the number of the
 /// class. So two numbers are in one class exactly where their classes have one number.
 pub fn class_numbers_are_places()

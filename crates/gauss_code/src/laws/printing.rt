@@ -4,7 +4,7 @@ ghost use Rattle.std.specs.Prelude.{◌≡◌, ◌≤◌, All, IsTrue, Ok, lengt
 ghost use Rattle.kh_types.specs.Code.{Code};
 ghost use Rattle.kh_types.specs.Acceptance.{accepted};
 ghost use Rattle.gauss_code.specs.Printing.{gauss_text};
-ghost use Rattle.gauss_code.specs.Reading.{IsReading};
+ghost use Rattle.gauss_code.specs.Reading.{IsGaussReading};
 
 use kh_types::{CROSSINGS, LOOPS};
 
@@ -14,5 +14,5 @@ pub fn printed_codes_are_read_back()
     ensures { (code : Code) → IsTrue (accepted code)
         → All (λ slots. length slots ≡ 4) code.crossings
         → length code.crossings ≤ CROSSINGS → code.loops ≤ LOOPS
-        → IsReading (gauss_text code) (Ok code) }
+        → IsGaussReading (gauss_text code) (Ok code) }
 {}

@@ -7,7 +7,7 @@ ghost use Rattle.commit_core.specs.Answering.{answers};
 ghost use Rattle.kh_types.specs.Table.{table, table_text};
 ghost use Rattle.kh_types.specs.declared.limits.TheConstants.{INPUT_BYTES};
 ghost use Rattle.kh_work.specs.Schedule.{IsScheduleReply, answer_line, answer_lines, answer_text, event_of, events_of, numbered_answers, schedule_reply, schedule_text};
-ghost use Rattle.shared_block.specs.declared.limits.TheConstants.{WORKERS};
+ghost use Rattle.kh_types.specs.declared.limits.TheConstants.{WORKERS};
 ghost use Rattle.undo_stack.specs.Schedule.{HasWorker};
 ghost use Rattle.word_line.specs.Values.{IsFieldSize};
 
@@ -16,9 +16,8 @@ use cube_signs::check_size;
 use kh_replies::{
     Reply, Status, jones_line, refused_line, reply_made, too_many_generators, too_many_lines,
 };
-use kh_types::{Diagram, NoMemory};
+use kh_types::{Diagram, NoMemory, WORKERS};
 use prime_field::{F2, F3, F5, F7, PrimeField};
-use shared_block::WORKERS;
 use std::alloc::Global;
 use table_text::print_table;
 use undo_stack::{ScheduleLine, ScriptStop, read_schedule};

@@ -5,7 +5,7 @@ use Rattle.kh_types.specs.Complex.{IsPivot, Pivot}
 use Rattle.sparse_block.specs.Changes.{pivot_at}
 use Rattle.sparse_block.specs.Complexes.{column_of, row_of}
 use Rattle.sparse_block.specs.Entries.{entries_of}
-use Rattle.cancel_step.specs.Copies.{Copied, WasPatched, parts_of}
+use Rattle.cancel_step.specs.Copies.{Copied, WasPatched, split_parts}
 use Rattle.cancel_step.specs.Foreign.{IsForeign}
 use Rattle.cancel_step.specs.Updates.{IsAlone}
 use Rattle.cancel_step.specs.declared.patched.Update.{Update}
@@ -15,7 +15,7 @@ use Rattle.cancel_step.proofs.applying.apply_fitting.Goals as goal
 pub drop_pair-requires-clause-pivot : goal.drop_pair-requires-clause-pivot
 drop_pair-requires-clause-pivot g c =
     let complex = c.args.complex.now.complex in
-    let look : Copied = parts_of c.look.inside.pivot c.look.inside.columns c.look.inside.rows in
+    let look : Copied = split_parts c.look.inside.pivot c.look.inside.count c.look.inside.lines in
     let fits =
     subst (λ (parts : Copied). ¬ IsForeign parts complex) (sym (c.look.view_is ∙ c.patch.view_is)) c.requires in
     let inside = c.pivot.inside in
@@ -26,7 +26,7 @@ drop_pair-requires-clause-pivot g c =
 pub drop_pair-requires-clause-alone : goal.drop_pair-requires-clause-alone
 drop_pair-requires-clause-alone g c =
     let complex = c.args.complex.now.complex in
-    let look : Copied = parts_of c.look.inside.pivot c.look.inside.columns c.look.inside.rows in
+    let look : Copied = split_parts c.look.inside.pivot c.look.inside.count c.look.inside.lines in
     let fits =
     subst (λ (parts : Copied). ¬ IsForeign parts complex) (sym (c.look.view_is ∙ c.patch.view_is)) c.requires in
     let inside = c.pivot.inside in
@@ -45,7 +45,7 @@ drop_pair-requires-clause-alone g c =
 pub returns-in-None-clause-pivot : goal.returns-in-None-clause-pivot
 returns-in-None-clause-pivot g c =
     let complex = c.args.complex.now.complex in
-    let look : Copied = parts_of c.look.inside.pivot c.look.inside.columns c.look.inside.rows in
+    let look : Copied = split_parts c.look.inside.pivot c.look.inside.count c.look.inside.lines in
     let is_look = c.look.view_is ∙ c.patch.view_is in
     let fits = subst (λ (parts : Copied). ¬ IsForeign parts complex) (sym is_look) c.requires in
     subst (λ (parts : Copied). IsPivot complex parts.pivot) is_look
@@ -54,7 +54,7 @@ returns-in-None-clause-pivot g c =
 pub exchange-requires-clause-pivot : goal.exchange-requires-clause-pivot
 exchange-requires-clause-pivot g c =
     let complex = c.args.complex.now.complex in
-    let look : Copied = parts_of c.look.inside.pivot c.look.inside.columns c.look.inside.rows in
+    let look : Copied = split_parts c.look.inside.pivot c.look.inside.count c.look.inside.lines in
     let fits =
     subst (λ (parts : Copied). ¬ IsForeign parts complex) (sym (c.look.view_is ∙ c.patch.view_is)) c.requires in
     pivot-same g.F.PrimeField.P complex look c.complex_laws.ensures.complex c.look.invariant (λ column shows. fits (column, shows))
@@ -63,7 +63,7 @@ pub exchange-requires-clause-columns : goal.exchange-requires-clause-columns
 exchange-requires-clause-columns g c =
     let p = g.F.PrimeField.P in
     let complex = c.args.complex.now.complex in
-    let look : Copied = parts_of c.look.inside.pivot c.look.inside.columns c.look.inside.rows in
+    let look : Copied = split_parts c.look.inside.pivot c.look.inside.count c.look.inside.lines in
     let fits =
     subst (λ (parts : Copied). ¬ IsForeign parts complex) (sym (c.look.view_is ∙ c.patch.view_is)) c.requires in
     let made = c.in-Some.field-0 in
@@ -81,7 +81,7 @@ pub exchange-requires-clause-rows : goal.exchange-requires-clause-rows
 exchange-requires-clause-rows g c =
     let p = g.F.PrimeField.P in
     let complex = c.args.complex.now.complex in
-    let look : Copied = parts_of c.look.inside.pivot c.look.inside.columns c.look.inside.rows in
+    let look : Copied = split_parts c.look.inside.pivot c.look.inside.count c.look.inside.lines in
     let fits =
     subst (λ (parts : Copied). ¬ IsForeign parts complex) (sym (c.look.view_is ∙ c.patch.view_is)) c.requires in
     let made = c.in-Some.field-0 in
@@ -98,7 +98,7 @@ exchange-requires-clause-rows g c =
 pub returns-clause-pivot : goal.returns-clause-pivot
 returns-clause-pivot g c =
     let complex = c.args.complex.now.complex in
-    let look : Copied = parts_of c.look.inside.pivot c.look.inside.columns c.look.inside.rows in
+    let look : Copied = split_parts c.look.inside.pivot c.look.inside.count c.look.inside.lines in
     let is_look = c.look.view_is ∙ c.patch.view_is in
     let fits = subst (λ (parts : Copied). ¬ IsForeign parts complex) (sym is_look) c.requires in
     subst (λ (parts : Copied). IsPivot complex parts.pivot) is_look

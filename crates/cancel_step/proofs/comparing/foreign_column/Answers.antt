@@ -1,9 +1,10 @@
-use Rattle.std.proofs.Common.{◌≡◌, ◌∙◌, ℤ, ap, sym, subst, arith, to_z, of_z, w16}
+use Rattle.std.proofs.Common.{◌≡◌, ◌∙◌, ℤ, List, ap, sym, subst, subst₂, arith, to_z, of_z, w16}
 use Rattle.std.proofs.lemmas.Int.{ints}
 use Rattle.kh_types.specs.Complex.{Pivot}
+use Rattle.sparse_block.specs.Changes.{PlacedLine}
 use Rattle.sparse_block.specs.Complexes.{place_count}
 use Rattle.cancel_step.specs.Copies.{Copied}
-use Rattle.cancel_step.specs.Foreign.{FindsLeast, ShowsAt, ShowsBetween}
+use Rattle.cancel_step.specs.Foreign.{FindsLeast, ShowsBetween}
 use Rattle.cancel_step.specs.Lines.{AreLines}
 use Rattle.cancel_step.proofs.CopiedLemmas.{rows-lines}
 use Rattle.cancel_step.proofs.comparing.foreign_column.Goals as goal
@@ -14,8 +15,10 @@ other_line-requires g c =
     let was = c.look.invariant in
     let pivot = c.look.inside.pivot in
     let size = place_count was.complex pivot.degree in
-    let are : AreLines p size c.look.inside.rows =
-    subst (AreLines p size) (sym (ap (λ (parts : Copied). parts.rows) was.are_copied))
+    let are : AreLines p size c.rows.result =
+    subst (AreLines p size)
+    (sym (c.rows.ensures ∙ sym (ap (λ (parts : Copied). parts.rows) c.look.view_is)
+    ∙ ap (λ (parts : Copied). parts.rows) was.are_copied))
     (rows-lines p was.complex pivot was.is_complex) in
     (p, size, are)
 
@@ -23,8 +26,12 @@ pub returns : goal.returns
 returns g c =
     let complex = c.args.complex.now.complex in
     let found = c.other_line.result in
-    let inside = c.look.inside in
     let same : to_z w16 (of_z w16 c.pivot.inside.degree) ≡ c.pivot.inside.degree = omega (arith, ints, c.pivot.ranges) in
-    let is_degree = same ∙ ap (λ (pivot : Pivot). pivot.degree) c.pivot.view_is in
-    subst (λ (parts : Copied). FindsLeast (ShowsAt parts complex) found) c.look.view_is
-    (subst (λ (i : ℤ). FindsLeast (ShowsBetween complex i inside.columns inside.rows) found) is_degree c.other_line.ensures)
+    let look = c.args.look.now in
+    let is_degree =
+    same ∙ ap (λ (pivot : Pivot). pivot.degree) c.pivot.view_is ∙ ap (λ (parts : Copied). parts.pivot.degree) c.look.view_is in
+    subst (λ (i : ℤ). FindsLeast (ShowsBetween complex i look.columns look.rows) found) is_degree
+    (subst₂
+    (λ (columns rows : List PlacedLine).
+    FindsLeast (ShowsBetween complex (to_z w16 (of_z w16 c.pivot.inside.degree)) columns rows) found)
+    c.columns.ensures c.rows.ensures c.other_line.ensures)

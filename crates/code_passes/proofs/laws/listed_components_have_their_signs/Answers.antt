@@ -4,7 +4,7 @@ use Rattle.std.specs.Ordering.{int_eq}
 use Rattle.std.proofs.lemmas.List.Elements.{recursion_from_All}
 use Rattle.kh_types.specs.Code.{IsCrossing}
 use Rattle.kh_types.specs.Directions.{is_positive, HasNoSingleArcs}
-use Rattle.code_passes.specs.Labels.{bad_label, number_at}
+use Rattle.code_passes.specs.Labels.{bad_label, listed_number}
 use Rattle.code_passes.specs.Passes.{all_labels, crossings_of}
 use Rattle.code_passes.proofs.CrossingPasses.{over_pass}
 use Rattle.code_passes.proofs.DirectedText.{place-below}

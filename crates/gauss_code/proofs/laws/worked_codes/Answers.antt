@@ -7,7 +7,7 @@ pub returns : goal.returns
 unfolding digits
 returns c = record {
   trefoil = refl;
-  turned = refl;
+  turned_labels = refl;
   printed = refl;
   printed_groups = refl;
   printed_empty = refl;

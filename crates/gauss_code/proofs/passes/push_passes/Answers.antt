@@ -1,5 +1,5 @@
 use Rattle.std.proofs.Common.{arith, lit<}
-use Rattle.code_passes.specs.Passes.{turned}
+use Rattle.code_passes.specs.Passes.{turned_labels}
 use Rattle.gauss_code.proofs.PassLemmas.{passes-length, passes-push}
 use Rattle.gauss_code.proofs.passes.push_passes.Goals as goal
 
@@ -7,11 +7,11 @@ use Rattle.gauss_code.proofs.passes.push_passes.Goals as goal
 pub push-requires : goal.push-requires
 push-requires c = (
   lit< tt,
-  omega (arith, passes-length c.args.passes.now.items c.loop-at.passes.items _ (turned c.args.labels.now) c.loop-at.at c.loop-at.invariant),
+  omega (arith, passes-length c.args.passes.now.items c.loop-at.passes.items _ (turned_labels c.args.labels.now) c.loop-at.at c.loop-at.invariant),
 )
 
 -- which comes behind the others
 pub loop-at-preserved : goal.loop-at-preserved
 loop-at-preserved c =
-    passes-push c.args.passes.now.items c.loop-at.passes.items c.push.new.self.items c.pass_at.result _ (turned c.args.labels.now) c.loop-at.at
+    passes-push c.args.passes.now.items c.loop-at.passes.items c.push.new.self.items c.pass_at.result _ (turned_labels c.args.labels.now) c.loop-at.at
     c.loop-at.invariant c.push.ensures.items c.pass_at.ensures

@@ -18,4 +18,5 @@ returns g c =
       taken = c.in_ok-draft.ensures.taken;
       read_out = c.in_ok-draft.ensures.read_out;
       fault = λ is. absurd (cc);
+      quiet = c.in_ok-draft.ensures.quiet;
     })

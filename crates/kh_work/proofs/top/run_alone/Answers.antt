@@ -7,16 +7,16 @@ use Rattle.kh_work.proofs.top.run_alone.Goals as goal
 pub returns-clause-run : goal.returns-clause-run
 returns-clause-run g c =
     IsProgramRun-written c.args.words.now (seen (g.S.Source.left c.args.source.now) (g.S.Source.faults c.args.source.now))
-    (seen (g.S.Source.left c.reply_alone-made.new.source) (g.S.Source.faults c.reply_alone-made.new.source))
+    (seen (g.S.Source.left c.reply_alone-alone.new.source) (g.S.Source.faults c.reply_alone-alone.new.source))
     (seen (g.K.Sink.written c.args.sink.now) (g.K.Sink.faults c.args.sink.now))
     (seen (g.K.Sink.written c.written.new.sink) (g.K.Sink.faults c.written.new.sink))
-    (c.reply_alone-made.new.source ≡ c.args.source.now) (c.written.new.sink ≡ c.args.sink.now) c.reply_alone-made.result c.written.result
-    c.reply_alone-made.ensures c.written.ensures
+    (c.reply_alone-alone.new.source ≡ c.args.source.now) (c.written.new.sink ≡ c.args.sink.now) c.reply_alone-alone.result c.written.result
+    c.reply_alone-alone.ensures c.written.ensures
 
 pub returns-clause-headline : goal.returns-clause-headline
 returns-clause-headline g c =
     headline-run c.args.words.now (seen (g.S.Source.left c.args.source.now) (g.S.Source.faults c.args.source.now))
-    (seen (g.S.Source.left c.reply_alone-made.new.source) (g.S.Source.faults c.reply_alone-made.new.source))
+    (seen (g.S.Source.left c.reply_alone-alone.new.source) (g.S.Source.faults c.reply_alone-alone.new.source))
     (seen (g.K.Sink.written c.args.sink.now) (g.K.Sink.faults c.args.sink.now))
     (seen (g.K.Sink.written c.written.new.sink) (g.K.Sink.faults c.written.new.sink))
-    (c.reply_alone-made.new.source ≡ c.args.source.now) (c.written.new.sink ≡ c.args.sink.now) c.written.result (returns-clause-run g c)
+    (c.reply_alone-alone.new.source ≡ c.args.source.now) (c.written.new.sink ≡ c.args.sink.now) c.written.result (returns-clause-run g c)

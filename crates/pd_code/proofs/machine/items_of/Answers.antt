@@ -20,12 +20,12 @@ loop-token-preserved c = record {
 -- all are taken
 pub returns-in_default-state : goal.returns-in_default-state
 returns-in_default-state c = record {
-  spelled = tt;
+  pd_spelled = tt;
   fault = λ some. LeavesAt-end c.loop-token.state c.loop-token.items.items c.args.text.now c.args.tokens.now c.loop-token.token-index (omega arith) c.loop-token.invariant.ran c.in_default-state.not-Done;
   few = tt;
 }
 
-pub returns-in-Done-clause-spelled : goal.returns-in-Done-clause-spelled
-returns-in-Done-clause-spelled c =
+pub returns-in-Done-clause-pd_spelled : goal.returns-in-Done-clause-pd_spelled
+returns-in-Done-clause-pd_spelled c =
     symbols_of-done c.loop-token.items.items c.args.text.now c.args.tokens.now c.loop-token.token-index (omega arith)
     (rw c.in-Done.is at c.loop-token.invariant.ran)

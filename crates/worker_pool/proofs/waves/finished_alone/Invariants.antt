@@ -1,4 +1,4 @@
-use Rattle.std.proofs.Common.{◌≡◌, take}
+use Rattle.std.proofs.Common.{take}
 use Rattle.worker_pool.specs.Outcomes.{AreBlocksAt, AreDone}
 use Rattle.worker_pool.proofs.waves.finished_alone.Given as goal
 

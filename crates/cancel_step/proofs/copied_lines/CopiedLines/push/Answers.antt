@@ -1,7 +1,7 @@
 use Rattle.std.proofs.Common.{◌≡◌, ℕ, ◌+◌, ◌∙◌, List, [], ◌∷◌, ◌++◌, length, ap, ap₂}
 use Rattle.sparse_block.specs.Changes.{PlacedLine, placed}
 use Rattle.cancel_step.specs.declared.copied_lines.Span.{Span}
-use Rattle.cancel_step.specs.Spans.{lines_in}
+use Rattle.cancel_step.specs.Spans.{spanned_lines}
 use Rattle.cancel_step.proofs.SpanLemmas.{lines_pushed}
 use Rattle.cancel_step.proofs.copied_lines.CopiedLines.push.Goals as goal
 
@@ -15,6 +15,6 @@ returns c =
     let is_end : c.len-end.result ≡ length entries + length more =
     c.len-end.ensures ∙ c.in_ok-extend_from_slice.ensures.len
     ∙ ap (λ (n : ℕ). n + length more) c.self.inside.entries.ok.0 in
-    ap₂ lines_in c.in_ok-push.ensures.items c.in_ok-extend_from_slice.ensures.items
+    ap₂ spanned_lines c.in_ok-push.ensures.items c.in_ok-extend_from_slice.ensures.items
     ∙ lines_pushed spans entries more span c.self.invariant is_start is_end
     ∙ ap (λ (lines : List PlacedLine). lines ++ placed c.args.place more ∷ []) c.self.view_is

@@ -1,4 +1,4 @@
-use Rattle.shared_block.specs.declared.limits.TheConstants.{WORKERS}
+use Rattle.kh_types.specs.declared.limits.TheConstants.{WORKERS}
 use Rattle.commit_core.proofs.Steps.{sound-made}
 use Rattle.commit_core.proofs.machine.Core.new.Goals as goal
 

@@ -1,9 +1,9 @@
 use Rattle.std.proofs.Common.{◌≡◌, length, take}
-use Rattle.commit_core.specs.Rows.{IsRun}
+use Rattle.commit_core.specs.Rows.{IsCoreRun}
 use Rattle.commit_core.proofs.machine.Core.run.Given as goal
 
 abbrev pub invariant-events : goal.invariant-events
 invariant-events g l = record {
-  run : IsRun g.F.PrimeField.P l.fn.self (take l.k l.events) l.answers.items l.self;
+  run : IsCoreRun g.F.PrimeField.P l.fn.self (take l.k l.events) l.answers.items l.self;
   workers : length l.self.workers ≡ length l.fn.self.workers;
 }

@@ -34,12 +34,9 @@ names-preserved c =
     let tail = c.index-names-k.result in
     let has : HasSteps code tail.state (length code.crossings) c.steps.result.now =
     subst (λ (state : ℕ). HasSteps code state (length code.crossings) c.steps.result.now) c.state_of.ensures c.steps.ensures.steps in
-    let bases : c.deref.result.now ≡ map (base_of code (at.i +ℤ pos 1) at.j) (states code) =
-    c.deref.ensures.value ∙ c.in_ok-bases.ensures.bases
-    ∙ ap₂ (λ (i j : ℤ). map (base_of code i j) (states code)) c.next.ensures.i c.next.ensures.j in
-    columns-more c.args.p code at.i at.j c.args.names.now c.names.k tail c.steps.result.now c.deref.result.now c.ranks.result.now
+    columns-more c.args.p code at.i at.j c.args.names.now c.names.k tail c.steps.result.now c.args.bases.now c.ranks.result.now
     c.in_ok-column.field-0.items (entries_in c.names.columns.items) (entries_in c.push.new.self.items) c.requires.prime
-    c.ranks.ensures.code c.requires.names c.names-test.true c.index-names-k.is has bases c.ranks.ensures.ranks c.in_ok-column.ensures
+    c.ranks.ensures.code c.requires.names c.names-test.true c.index-names-k.is has c.requires.bases c.ranks.ensures.ranks c.in_ok-column.ensures
     c.names.invariant
     (ap entries_in c.in_ok-push.ensures.items
     ∙ map_push (λ (line : SmallVec Entry). line.items) c.names.columns.items c.in_ok-column.field-0)

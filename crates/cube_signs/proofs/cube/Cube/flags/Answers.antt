@@ -8,7 +8,7 @@ pub degrees-preserved : goal.degrees-preserved
 degrees-preserved c =
     let code = c.args.self.now in
     flags-more code c.above.result.i c.args.lowest.j c.degrees.flags.items c.push.new.self.items (not (nat_eq c.size.result 0))
-    c.size.result c.degrees.k c.degrees.invariant (c.above.ensures.i ∙ ap (λ (d : ℤ). d +ℤ pos c.degrees.k) c.requires)
+    c.size.result c.degrees.k c.degrees.invariant (c.above.ensures.i ∙ ap (λ (d : ℤ). d +ℤ pos c.degrees.k) c.requires.lowest)
     (c.size.ensures ∙ ap (λ (j : ℤ). length (generators_at code c.above.result.i j)) c.above.ensures.j) refl c.in_ok-push.ensures.items
 
 pub returns : goal.returns

@@ -15,16 +15,16 @@ pub all_columns-requires-clause-high : goal.all_columns-requires-clause-high
 all_columns-requires-clause-high c =
     let span = c.in_ok-span.span in
     let count = length-names c.args.self.now span.least.i span.least.j span.count c.in_ok-names.names.items c.in_ok-names.ensures in
-    omega (arith, ints, ap length c.deref.ensures.value, count, c.in_ok-span.ensures.below)
+    omega (arith, ints, ap length c.deref-2.ensures.value, count, c.in_ok-span.ensures.below)
 
 pub all_columns-requires-clause-names : goal.all_columns-requires-clause-names
 all_columns-requires-clause-names c =
     let code = c.args.self.now in
     let span = c.in_ok-span.span in
     let names = c.in_ok-names.names.items in
-    let count : span.count ≡ length c.deref.result.now =
-    sym (ap length c.deref.ensures.value ∙ length-names code span.least.i span.least.j span.count names c.in_ok-names.ensures) in
-    ap lists_in c.deref.ensures.value ∙ c.in_ok-names.ensures ∙ ap (names_from code span.least.i span.least.j) count
+    let count : span.count ≡ length c.deref-2.result.now =
+    sym (ap length c.deref-2.ensures.value ∙ length-names code span.least.i span.least.j span.count names c.in_ok-names.ensures) in
+    ap lists_in c.deref-2.ensures.value ∙ c.in_ok-names.ensures ∙ ap (names_from code span.least.i span.least.j) count
 
 pub returns : goal.returns
 returns c =
@@ -38,8 +38,8 @@ returns c =
     c.in_ok-span.ensures.count ∙ ap (λ (j : ℤ). length (homological_degrees code j)) at_j in
     let some : 0 < length (homological_degrees code least.j) =
     subst (λ (j : ℤ). 0 < length (homological_degrees code j)) (sym is_j) (block-some code c.args.j c.requires.degree) in
-    block-built c.args.p code c.args.j least.j least.i span.count c.in_ok-names.names.items c.deref.result.now
+    block-built c.args.p code c.args.j least.j least.i span.count c.in_ok-names.names.items c.deref-2.result.now
     (lines_in c.in_ok-columns.columns.items) c.requires.prime c.state_count.ensures.code c.state_count.ensures.size
     (omega (arith, some, count)) c.in_ok-span.ensures.above c.in_ok-span.ensures.below is_j
     (c.in_ok-span.ensures.low ∙ ap (λ (j : ℤ). first_or_zero (homological_degrees code j)) at_j) count c.in_ok-names.ensures
-    c.deref.ensures.value c.in_ok-columns.ensures
+    c.deref-2.ensures.value c.in_ok-columns.ensures

@@ -1,25 +1,31 @@
-use Rattle.std.proofs.Common.{◌≡◌, ◌≤◌, ◌^◌, ◌+◌, ◌∙◌, ap, arith, length, sym}
-use Rattle.circle_smoothing.specs.declared.limits.TheConstants.{GENERATORS}
-use Rattle.cube_signs.specs.Tables.{base_of}
-use Rattle.cube_signs.proofs.GeneratorPlaces.{base-more, base-small, generators_at-below}
-use Rattle.cube_signs.proofs.NameLemmas.{bases-more}
+use Rattle.std.proofs.Common.{◌≡◌, ◌≤◌, ◌∙◌, ap, arith, length, pos, ◌-ℤ◌, to_z, of_z, w32}
+use Rattle.std.proofs.lemmas.Int.{ints}
+use Rattle.kh_types.specs.Directions.{minus_count}
+use Rattle.kh_types.specs.declared.limits.TheConstants.{CROSSINGS}
+use Rattle.cube_signs.proofs.PlaceLemmas.{size-kept, size-none}
 use Rattle.cube_signs.proofs.cube.Cube.size.Goals as goal
+use Rattle.cube_signs.proofs.cube.Cube.size.Goals.{else-ones-ge0-via-then-ones-ge0+else-ones, else-ones-ge0-via-else-ones-ge0}
 
-pub overflow_add-size : goal.overflow_add-size
-overflow_add-size c =
-    let small : base_of c.args.self.now c.args.at.i c.args.at.j (c.states.state + 1) ≤ GENERATORS =
-    base-small c.args.self.now c.args.at.i c.args.at.j (c.states.state + 1)
-    (omega (arith, c.states-test.true, c.state_count-state-end.ensures.count)) c.state_count-state-end.ensures.size in
-    omega (arith, c.states.invariant, small, c.count-size.ensures, base-more c.args.self.now c.args.at.i c.args.at.j c.states.state)
-
-pub states-preserved : goal.states-preserved
-states-preserved c =
-    bases-more c.args.self.now c.args.at.i c.args.at.j c.states.state c.states.size _ c.states.invariant
-    (ap (λ n. c.states.size + n) c.count-size.ensures)
-
-pub returns : goal.returns
-returns c =
+pub returns-then-ones : goal.returns-then-ones
+returns-then-ones c =
     let code = c.args.self.now in
-    let all : c.states.state ≡ 2 ^ length code.crossings =
-    omega (arith, c.states-test.false, c.states.auto.state-end, c.state_count-state-end.ensures.count) in
-    c.states.invariant ∙ ap (base_of code c.args.at.i c.args.at.j) all ∙ sym (ap length (generators_at-below code c.args.at.i c.args.at.j))
+    let are_minus : c.self.inside.minus ≡ minus_count code.crossings = rw (← c.self.view_is) c.self.invariant.are_minus in
+    size-kept code c.args.at.i c.args.at.j _ c.args.sizes.now c.requires
+    (omega (arith, ints, are_minus, c.from.ensures, c.from-2.ensures, c.if-ones-ge0.true, c.if-ones.true))
+    (omega (arith, ints, are_minus, c.from.ensures, c.from-2.ensures, c.if-ones-ge0.true, c.if-ones.true))
+
+pub returns-else-ones-ge0 : goal.returns-else-ones-ge0
+returns-else-ones-ge0 c =
+    let code = c.args.self.now in
+    let are_minus : c.self.inside.minus ≡ minus_count code.crossings = rw (← c.self.view_is) c.self.invariant.are_minus in
+    let few : length code.crossings ≤ CROSSINGS = omega (arith, c.crossing_count.ensures.count, c.crossing_count.ensures.few) in
+    elim c.else-ones-ge0.branch [
+      | else-ones-ge0-via-then-ones-ge0+else-ones w ↦
+          size-none code c.args.at.i c.args.at.j few
+          (λ level within same.
+          omega (arith, ints, are_minus, c.from.ensures, c.from-2.ensures, w.if-ones-ge0.true, w.if-ones.false, within, same))
+      | else-ones-ge0-via-else-ones-ge0 w ↦
+          size-none code c.args.at.i c.args.at.j few
+          (λ level within same.
+          omega (arith, ints, are_minus, c.from.ensures, c.from-2.ensures, w.if-ones-ge0.false, within, same))
+    ]

@@ -5,9 +5,9 @@ use Rattle.kh_types.specs.Code.{Code, IsCrossing}
 use Rattle.kh_types.specs.Directions.{sign_of, HasNoSingleArcs}
 use Rattle.kh_types.proofs.Heads.{HasNoSingleArcs-accepted}
 use Rattle.gauss_code.specs.Listings.{groups_of}
-use Rattle.code_passes.specs.Labels.{number_at}
+use Rattle.code_passes.specs.Labels.{listed_number}
 use Rattle.gauss_code.specs.Faults.{signs_of}
-use Rattle.gauss_code.specs.Reading.{ReadsAs}
+use Rattle.gauss_code.specs.Reading.{ReadsAsGauss}
 use Rattle.code_passes.proofs.TextCrossings.{length-crossings}
 use Rattle.code_passes.proofs.TextSigns.{is_positive-moves}
 use Rattle.code_passes.proofs.SingleArcs.{HasNoSingleArcs-labels}
@@ -15,7 +15,8 @@ use Rattle.gauss_code.proofs.FaultLemmas.{bad_label-none, good-sign_of, sign-goo
 use Rattle.gauss_code.proofs.laws.directed.gauss_codes_have_their_signs.Goals as goal
 
 pub returns-clause-positive : goal.returns-clause-positive
-returns-clause-positive c = λ body signs none moves crossing is. is_positive-moves (groups_of body) signs none moves crossing is
+returns-clause-positive c = λ body signs none moves crossing is.
+    is_positive-moves (groups_of body) signs none moves crossing is
 
 pub returns-clause-many : goal.returns-clause-many
 returns-clause-many c = λ body signs none many.
@@ -23,13 +24,13 @@ returns-clause-many c = λ body signs none many.
     (recursion_from_All (λ (labels : List ℤ). length labels ≢ 1) (groups_of body) many)
 
 -- the signs of a text that has no fault are 1 and -1
-sign-of_text : (text : List ℕ) (code : Code) (reads : ReadsAs text code) → HasNoSingleArcs code.crossings → (crossing : ℕ)
+sign-of_text : (text : List ℕ) (code : Code) (reads : ReadsAsGauss text code) → HasNoSingleArcs code.crossings → (crossing : ℕ)
     → IsCrossing code.crossings crossing
-    → sign_of code.crossings crossing ≡ number_at (signs_of reads.listing) (crossing - 1)
+    → sign_of code.crossings crossing ≡ listed_number (signs_of reads.listing) (crossing - 1)
 sign-of_text text code reads moves crossing is =
     let body = reads.listing.body in
     let signs = signs_of reads.listing in
-    let listed = number_at signs (crossing - 1) in
+    let listed = listed_number signs (crossing - 1) in
     let none = bad_label-none reads.listing reads.places reads.good in
     let here = subst (λ (other : Code). IsCrossing other.crossings crossing) reads.same is in
     let moves_here = subst (λ (other : Code). HasNoSingleArcs other.crossings) reads.same moves in

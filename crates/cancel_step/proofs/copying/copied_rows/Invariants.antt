@@ -1,7 +1,0 @@
-use Rattle.std.proofs.Common.{◌≡◌, map, take}
-use Rattle.sparse_block.specs.Complexes.{row_of}
-use Rattle.cancel_step.specs.Copies.{line_across}
-use Rattle.cancel_step.proofs.copying.copied_rows.Given as goal
-
-abbrev pub invariant-entries : goal.invariant-entries
-invariant-entries g l = l.lines ≡ map (line_across (row_of l.complex.complex l.degree)) (take l.entry-index l.column)

@@ -1,8 +1,0 @@
-use Rattle.std.proofs.Common.{◌≡◌, ◌+◌, min, take}
-use Rattle.std.specs.Str.Parse.{digits_value}
-use Rattle.kh_lex.specs.declared.limits.TheConstants.{NUMBER_LIMIT}
-use Rattle.kh_lex.proofs.piece.size_of.Given as goal
-
--- the number of the digits so far, cut off above the limit
-abbrev pub invariant-loop-digit : goal.invariant-loop-digit
-invariant-loop-digit l = l.size ≡ min (digits_value 10 (take l.digit-index l.digits)) (NUMBER_LIMIT + 1)
