@@ -1,5 +1,5 @@
 -- What an edge of the cube does to circles.
-use Rattle.std.specs.Prelude.{◌≡◌, ◌≢◌, ◌⊎◌, ℕ, ◌+◌, ◌^◌, ◌<◌, List, [], ◌∷◌, Bool, not, nat_eq}
+use Rattle.std.specs.Prelude.{◌≡◌, ◌≢◌, ◌⊎◌, ℕ, ◌+◌, ◌^◌, ◌<◌, [], ◌∷◌, Bool, not, nat_eq}
 use Rattle.std.specs.List.{filter}
 use Rattle.kh_types.specs.Code.{Code, arc_in, place_of, slots_of}
 use Rattle.kh_types.specs.Circles.{circles_of, circle_of, circle_names, circle_count}
