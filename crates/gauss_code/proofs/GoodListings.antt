@@ -19,7 +19,8 @@ use Rattle.gauss_code.specs.Faults.{gauss_fault_if, first_gauss_fault}
 use Rattle.code_passes.specs.ComponentLabels.{entering_label}
 use Rattle.code_passes.proofs.ArcLabels.{IsOriented, entering_label-names, entering_label-once}
 use Rattle.gauss_code.proofs.PrintedTexts.{listing_with}
-use Rattle.code_passes.proofs.Searches.{list_any-map, list_any-none, other_int}
+use Rattle.kh_types.proofs.Integers.{int_eq-other}
+use Rattle.code_passes.proofs.Searches.{list_any-map, list_any-none}
 
 -- the labels of all arcs, and the signs of all crossings
 abbrev pub arc_labels : List (List ℕ) → List ℤ
@@ -49,7 +50,7 @@ good_label crossings oriented at below =
     ∙ list_any-map (int_eq label) (entering_label crossings) (range_with_len 1 at)
     ∙ list_any-none (λ x. int_eq label (entering_label crossings x)) 1 at
     (λ earlier from before.
-    other_int label (entering_label crossings earlier)
+    int_eq-other label (entering_label crossings earlier)
     (λ same.
     let one = entering_label-once crossings oriented arc earlier is (record { positive = from; within = omega (arith, before, below) }) same in
     omega (arith, one, before)))

@@ -16,7 +16,8 @@ use Rattle.code_passes.specs.ComponentLabels.{component_labels, entering_label, 
 use Rattle.code_passes.proofs.ArcLabels.{IsOriented, entering_label-once}
 use Rattle.gauss_code.proofs.Bodies.{HasLabel}
 use Rattle.code_passes.proofs.CutArcs.{Cut, Cut-first_arcs, IsFirst, component-in, end-within, size, size-positive}
-use Rattle.code_passes.proofs.Searches.{find-first, other_int, same_int}
+use Rattle.kh_types.proofs.Integers.{int_eq-other, int_eq-same}
+use Rattle.code_passes.proofs.Searches.{find-first}
 use Rattle.code_passes.proofs.TwoArcComponents.{turned_labels-component}
 
 -- the pass that an arc enters
@@ -156,9 +157,9 @@ pass_of-label crossings oriented arc label is has =
     (find-map (λ pass. int_eq pass.label label) (pass_on crossings) (arcs crossings)
     ∙ ap (λ o. option_map (pass_on crossings) o)
     (find-first (λ x. int_eq (entering_label crossings x) label) 1 (arc_count crossings) arc is.positive (omega (arith, is.within))
-    (same_int (entering_label crossings arc) label has)
+    (int_eq-same (entering_label crossings arc) label has)
     (λ earlier from before.
-    other_int (entering_label crossings earlier) label
+    int_eq-other (entering_label crossings earlier) label
     (λ same.
     let earlier_is : IsArc crossings earlier = record { positive = from; within = omega (arith, before, is.within) } in
     let one = entering_label-once crossings oriented earlier arc earlier_is is (same ∙ sym has) in
