@@ -2,11 +2,11 @@
 """Rules on the list of crates and on the pages, which `tests/program` tries behind its rows.
 
     tests/rules.py           prints what breaks a rule
-    tests/rules.py --write   writes the list of names at the end of docs/DEFINITIONS.md anew
+    tests/rules.py --write   writes the list at the end of docs/DEFINITIONS.md and the lengths in docs/THEOREM.md anew
 
 No chain of crates that stand on one another is longer than seven. Each crate has its line in docs/ARCHITECTURE.md. Every name of a
 definition that a clause of a public function cites is found in docs/DEFINITIONS.md, by hand or in the list at its end, which has each
-name with the first sentence of the comment at its definition.
+name with the first sentence of the comment at its definition. The files that are trusted are as long as docs/THEOREM.md says.
 """
 import os
 import re
@@ -16,7 +16,6 @@ import textwrap
 TOP = os.path.dirname(os.path.dirname(os.path.abspath(__file__)))
 LONGEST = 7
 COLUMNS = 135
-PAGE = os.path.join(TOP, "docs", "DEFINITIONS.md")
 HEADING = "## All names in public contracts"
 
 IMPORT = re.compile(r"ghost use Rattle\.(\w+)\.(specs(?:\.\w+)*)\.\{([^}]*)\}")
@@ -154,6 +153,17 @@ def written_list():
     return "\n".join(lines)
 
 
+def with_lengths(page):
+    """The page with the lengths of the files that its table names."""
+    row = re.compile(r"^(\|[^|]*\| `(crates/[^`]*)` \| )\d+ \|", re.M)
+    return row.sub(lambda it: f"{it.group(1)}{len(read(it.group(2)).splitlines())} |", page)
+
+
+def write(name, text):
+    with open(os.path.join(TOP, "docs", name), "w", encoding="utf-8") as file:
+        file.write(text.rstrip("\n") + "\n")
+
+
 def faults():
     """The name of each rule, and what breaks it, if anything does."""
     crates = stands_on()
@@ -164,6 +174,8 @@ def faults():
     yield "crates.txt has the crates", ", ".join(sorted(there ^ set(crates))) or None
     table = set(re.findall(r"^\| `(\w+)` \|", read("docs", "ARCHITECTURE.md"), re.M))
     yield "ARCHITECTURE.md has the crates", ", ".join(sorted(table ^ set(crates))) or None
+    page = read("docs", "THEOREM.md")
+    yield "THEOREM.md has the lengths of the edge", "`tests/rules.py --write` mends it" if page != with_lengths(page) else None
     page = read("docs", "DEFINITIONS.md")
     missing = [f"{name} of {crate}" for name, crate, _ in cited_names(crates) if not is_read_aloud(name, page)]
     yield "each name in a public contract is in DEFINITIONS.md", ", ".join(missing) or None
@@ -171,9 +183,8 @@ def faults():
 
 def main():
     if sys.argv[1:] == ["--write"]:
-        text = page_by_hand().rstrip("\n") + "\n\n" + written_list()
-        with open(PAGE, "w", encoding="utf-8") as file:
-            file.write(text.rstrip("\n") + "\n")
+        write("DEFINITIONS.md", page_by_hand().rstrip("\n") + "\n\n" + written_list())
+        write("THEOREM.md", with_lengths(read("docs", "THEOREM.md")))
     broken = [f"{name}: {fault}" for name, fault in faults() if fault]
     print("\n".join(broken) or "no rule is broken")
     return 1 if broken else 0

@@ -2,9 +2,8 @@
 use Rattle.std.proofs.Common.{◌≡◌, ◌≢◌, ℕ, zero, suc, inl, inr, ◌+◌, ◌<◌, ◌≤◌, ◌∙◌, ℤ, List, [], ◌∷◌, map, refl, ap, arith, Bool, true, false, ◌||◌}
 use Rattle.std.specs.Prelude.{Some, cond, nat_eq, MatchBool}
 use Rattle.std.specs.List.{find, list_any, range_with_len}
-use Rattle.std.specs.Ordering.{int_eq}
 use Rattle.std.proofs.lemmas.Bool.{cases_Bool}
-use Rattle.std.proofs.lemmas.Bool.Decides.{nat_tests, Decides-int_eq}
+use Rattle.std.proofs.lemmas.Bool.Decides.{nat_tests}
 use Rattle.kh_types.proofs.RangeCounts.{list_any-one}
 
 -- whether two numbers are one

@@ -167,7 +167,7 @@ fn columns_have_their_entries(rt: HostRuntime) -> Result<(), Fail> {
         (3, 0, None),
         (-2, 0, None),
     ] {
-        assert_eq!(rt; column_at(&complex, i, place), entries, "{i} {place}");
+        assert!(rt; column_at(&complex, i, place) == entries);
     }
     Ok(())
 }
@@ -196,7 +196,7 @@ fn rows_have_the_same_entries(rt: HostRuntime) -> Result<(), Fail> {
         (1, 0, None),
         (2, 0, None),
     ] {
-        assert_eq!(rt; row_at(&complex, i, place), entries, "{i} {place}");
+        assert!(rt; row_at(&complex, i, place) == entries);
     }
     Ok(())
 }
@@ -212,7 +212,7 @@ fn entries_are_those_of_the_matrices(rt: HostRuntime) -> Result<(), Fail> {
         (0, 0, [2, 3, 1, 9, 9, 9]),
         (1, 0, [9, 9, 9, 9, 9, 9]),
     ] {
-        assert_eq!(rt; numbers(&complex, i, row), entries, "{i} {row}");
+        assert!(rt; numbers(&complex, i, row) == entries);
     }
     Ok(())
 }
@@ -221,10 +221,7 @@ fn entries_are_those_of_the_matrices(rt: HostRuntime) -> Result<(), Fail> {
 #[test]
 fn degrees_have_their_places(rt: HostRuntime) -> Result<(), Fail> {
     let complex = over_three(rt.alloc())?;
-    assert_eq!(rt;
-        (complex.low(), complex.high(), complex.is_zero()),
-        (-1, 2, false)
-    );
+    assert!(rt; complex.low() == -1 && complex.high() == 2 && !complex.is_zero());
     for (i, places, last) in [
         (-32768, 0, None),
         (-2, 0, None),
@@ -234,12 +231,8 @@ fn degrees_have_their_places(rt: HostRuntime) -> Result<(), Fail> {
         (2, 0, None),
         (32767, 0, None),
     ] {
-        assert_eq!(rt;
-            (complex.places(i), complex.alive(i)),
-            (places, places),
-            "{i}"
-        );
-        assert_eq!(rt; name_at(&complex, i, places.saturating_sub(1)), last, "{i}");
+        assert!(rt; complex.places(i) == places && complex.alive(i) == places);
+        assert!(rt; name_at(&complex, i, places.saturating_sub(1)) == last);
     }
     Ok(())
 }
@@ -247,9 +240,6 @@ fn degrees_have_their_places(rt: HostRuntime) -> Result<(), Fail> {
 #[test]
 fn a_point_is_zero(rt: HostRuntime) -> Result<(), Fail> {
     let complex = point(rt.alloc())?;
-    assert_eq!(rt;
-        (complex.low(), complex.high(), complex.is_zero()),
-        (7, 7, true)
-    );
+    assert!(rt; complex.low() == 7 && complex.high() == 7 && complex.is_zero());
     Ok(())
 }

@@ -19,8 +19,8 @@ use Rattle.gauss_code.specs.Faults.{gauss_fault_if, first_gauss_fault}
 use Rattle.code_passes.specs.ComponentLabels.{entering_label}
 use Rattle.code_passes.proofs.ArcLabels.{IsOriented, entering_label-names, entering_label-once}
 use Rattle.gauss_code.proofs.PrintedTexts.{listing_with}
-use Rattle.kh_types.proofs.Integers.{int_eq-other}
 use Rattle.code_passes.proofs.Searches.{list_any-map, list_any-none}
+use Rattle.kh_types.proofs.Integers.{int_eq-other}
 
 -- the labels of all arcs, and the signs of all crossings
 abbrev pub arc_labels : List (List ℕ) → List ℤ

@@ -16,9 +16,9 @@ use Rattle.code_passes.specs.ComponentLabels.{component_labels, entering_label, 
 use Rattle.code_passes.proofs.ArcLabels.{IsOriented, entering_label-once}
 use Rattle.gauss_code.proofs.Bodies.{HasLabel}
 use Rattle.code_passes.proofs.CutArcs.{Cut, Cut-first_arcs, IsFirst, component-in, end-within, size, size-positive}
-use Rattle.kh_types.proofs.Integers.{int_eq-other, int_eq-same}
 use Rattle.code_passes.proofs.Searches.{find-first}
 use Rattle.code_passes.proofs.TwoArcComponents.{turned_labels-component}
+use Rattle.kh_types.proofs.Integers.{int_eq-other, int_eq-same}
 
 -- the pass that an arc enters
 abbrev pub pass_on : List (List ℕ) → ℕ → Pass

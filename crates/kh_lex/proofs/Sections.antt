@@ -2,7 +2,7 @@
 use Rattle.std.proofs.Common.{◌≡◌, ℕ, suc, ◌+◌, ◌<◌, Bool, true, false, cond, not, List, [], ◌∷◌, length, drop, refl, sym, ◌∙◌, ap, arith}
 use Rattle.std.proofs.lemmas.List.{drop-drop, length-drop}
 use Rattle.std.proofs.lemmas.List.Sums.{take_while-cons}
-use Rattle.kh_lex.specs.Sections.{before_first, first_section, is_other, sections_of}
+use Rattle.kh_lex.specs.Sections.{before_first, first_section, is_unlike, sections_of}
 
 -- the first piece of a text in which something is left, and the others behind the byte that ends it
 pub sections_of-first : (is : ℕ → Bool) (text : List ℕ) → 0 < length text
@@ -21,12 +21,12 @@ sections_of-first is (byte ∷ bytes) some = go (sections_of-first is bytes) (is
         → (b : Bool) → is byte ≡ b → cond b ([] ∷ sections_of is bytes) (before_first byte (sections_of is bytes))
         ≡ first_section is (byte ∷ bytes) ∷ sections_of is (drop (length (first_section is (byte ∷ bytes)) + 1) (byte ∷ bytes))
     go later true e =
-        let first : first_section is (byte ∷ bytes) ≡ [] = take_while-cons (is_other is) byte bytes
+        let first : first_section is (byte ∷ bytes) ≡ [] = take_while-cons (is_unlike is) byte bytes
         ∙ ap (λ c. cond (not c) (byte ∷ first_section is bytes) []) e in
         rw first refl
     go later false e =
         let first : first_section is (byte ∷ bytes) ≡ byte ∷ first_section is bytes
-        = take_while-cons (is_other is) byte bytes ∙ ap (λ c. cond (not c) (byte ∷ first_section is bytes) []) e in
+        = take_while-cons (is_unlike is) byte bytes ∙ ap (λ c. cond (not c) (byte ∷ first_section is bytes) []) e in
         let size : length (byte ∷ first_section is bytes) + 1 ≡ suc (length (first_section is bytes) + 1) = omega arith in
         rw (first, size) (rest bytes later)
 

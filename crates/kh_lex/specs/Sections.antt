@@ -3,12 +3,12 @@ use Rattle.std.specs.Prelude.{ℕ, Bool, not, if◌then◌else◌, List, [], ◌
 use Rattle.std.specs.List.{take_while}
 
 -- a byte is of another sort
-abbrev pub is_other : (ℕ → Bool) → ℕ → Bool
-is_other is byte = not (is byte)
+abbrev pub is_unlike : (ℕ → Bool) → ℕ → Bool
+is_unlike is byte = not (is byte)
 
 -- the bytes of a text before the first of a sort
 abbrev pub first_section : (ℕ → Bool) → List ℕ → List ℕ
-first_section is text = take_while (is_other is) text
+first_section is text = take_while (is_unlike is) text
 
 -- a byte before the first of some sections
 abbrev pub before_first : ℕ → List (List ℕ) → List (List ℕ)

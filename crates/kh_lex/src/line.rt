@@ -3,7 +3,7 @@
 ghost use Rattle.std.specs.Prelude.{◌≡◌, ◌<◌, ◌≤◌, length, drop};
 ghost use Rattle.std.specs.List.{prefix_len};
 ghost use Rattle.kh_lex.specs.Lines.{is_line_feed, lines_of};
-ghost use Rattle.kh_lex.specs.Sections.{first_section, is_other};
+ghost use Rattle.kh_lex.specs.Sections.{first_section, is_unlike};
 
 use crate::piece::rest_from;
 use kh_types::INPUT_BYTES;
@@ -34,7 +34,7 @@ pub fn line_at(text: &[u8], place: usize) -> &[u8]
 
 // The bytes of a text before the first line feed.
 fn line_length(text: &[u8]) -> usize
-    ensures { result ≡ prefix_len (is_other is_line_feed) text.now }
+    ensures { result ≡ prefix_len (is_unlike is_line_feed) text.now }
 {
     text.iter().take_while(|byte| **byte != b'\n').count()
 }

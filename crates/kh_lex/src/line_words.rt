@@ -3,7 +3,7 @@
 ghost use Rattle.std.specs.Prelude.{◌≡◌, ◌<◌, ◌≤◌, ◌++◌, IfErr, IfOk, OnOk, [], ◌∷◌, length, map, drop, filter};
 ghost use Rattle.std.specs.List.{prefix_len};
 ghost use Rattle.kh_lex.specs.LineWords.{has_bytes, is_gap, words_of};
-ghost use Rattle.kh_lex.specs.Sections.{first_section, is_other};
+ghost use Rattle.kh_lex.specs.Sections.{first_section, is_unlike};
 
 use crate::piece::rest_from;
 use kh_types::{INPUT_BYTES, NoMemory};
@@ -47,7 +47,7 @@ fn word_at(line: &[u8], place: usize) -> &[u8]
 
 // The bytes of a line before the first gap.
 fn word_length(line: &[u8]) -> usize
-    ensures { result ≡ prefix_len (is_other is_gap) line.now }
+    ensures { result ≡ prefix_len (is_unlike is_gap) line.now }
 {
     line.iter().take_while(|byte| !is_gap(**byte)).count()
 }

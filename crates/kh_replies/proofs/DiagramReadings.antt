@@ -7,9 +7,10 @@ use Rattle.kh_types.specs.declared.fault.CodeFault.{CodeFault}
 use Rattle.kh_replies.specs.declared.status.Status.{Status}
 use Rattle.kh_replies.specs.declared.status.Status.TheVariants.{CodeRefused, Limit}
 use Rattle.kh_replies.specs.Replies.{Reply}
-use Rattle.kh_replies.specs.Refusals.{fault_refusal}
+use Rattle.kh_replies.specs.Refusals.{IsFaultRefusal}
 use Rattle.kh_replies.specs.Inputs.{input_form, IsCodeRead, IsFaulty, IsDiagramRead}
 use Rattle.kh_replies.specs.DiagramReplies.{IsOutcomeReply, IsDiagramReply}
+use Rattle.kh_replies.proofs.TextFaults.{text-fault, IsFaultRefusal-some, IsFaultRefusal-one}
 use Rattle.kh_replies.proofs.TextReadings.{IsReadAs-some, IsCodeRead-one}
 
 -- codes and diagrams
@@ -18,7 +19,8 @@ IsDiagramRead-code : (bytes : List ℕ) (code : Code) (fault : Option CodeFault)
     → (outcome : Result Code Reply) × IsDiagramRead bytes outcome
 IsDiagramRead-code bytes code None read is_fault = (Ok code, (read, is_fault))
 IsDiagramRead-code bytes code (Some fault) read is_fault =
-    (Err (fault_refusal fault), inr (record { code = code; fault = fault; read = read; breaks = is_fault; line = refl }))
+    let refusal = IsFaultRefusal-some fault (text-fault bytes code fault read is_fault) in
+    (Err refusal.0, inr (record { code = code; fault = fault; read = read; breaks = is_fault; line = refusal.1 }))
 
 IsDiagramRead-outcome : (bytes : List ℕ) (outcome : Result Code Reply) → IsCodeRead bytes outcome
     → (diagram : Result Code Reply) × IsDiagramRead bytes diagram
@@ -42,7 +44,7 @@ IsFaulty-one bytes a b is_a is_b =
     let e : is_a.code ≡ is_b.code = cc in
     let faults : Some is_a.fault ≡ Some is_b.fault = sym is_a.breaks ∙ ap first_fault e ∙ is_b.breaks in
     let f : is_a.fault ≡ is_b.fault = cc in
-    is_a.line ∙ ap fault_refusal f ∙ sym is_b.line
+    IsFaultRefusal-one is_b.fault a b (subst (λ fault. IsFaultRefusal fault a) f is_a.line) is_b.line
 
 refused_reply : (bytes : List ℕ) (a b : Reply) → IsCodeRead bytes (Err a) ⊎ IsFaulty bytes a → IsCodeRead bytes (Err b) ⊎ IsFaulty bytes b
     → a ≡ b

@@ -1,5 +1,6 @@
 pub mod PartLemmas
 pub mod TextReadings
+pub mod TextFaults
 pub mod DiagramReadings
 pub mod JonesLemmas
 pub mod ReplyStatuses

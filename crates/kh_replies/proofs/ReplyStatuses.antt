@@ -17,7 +17,7 @@ use Rattle.kh_replies.specs.declared.input.InputForm.{InputForm}
 use Rattle.kh_replies.specs.declared.input.InputForm.TheVariants as forms
 use Rattle.kh_replies.specs.Statuses.{IsReplyStatus}
 use Rattle.kh_replies.specs.Replies.{Reply}
-use Rattle.kh_replies.specs.Refusals.{fault_refusal, IsPdRefusal, IsGaussRefusal, IsJsonRefusal}
+use Rattle.kh_replies.specs.Refusals.{IsFaultRefusal, IsPdRefusal, IsGaussRefusal, IsJsonRefusal}
 use Rattle.kh_replies.specs.Inputs.{input_form, IsCodeRead, IsDiagramRead, IsReadAs}
 use Rattle.kh_replies.specs.DiagramReplies.{IsOutcomeReply, IsDiagramReply}
 
@@ -48,16 +48,16 @@ json-status (json_stops.Shape crossing slot) reply is = status-of reply _ is tt
 json-status (json_stops.CrossingLimit count) reply is = status-of reply _ is tt
 json-status json_stops.NoMemory reply is = absurd is
 
-fault-status : (fault : CodeFault) → IsReplyStatus (fault_refusal fault).status
-fault-status (faults.ArcRange crossing slot) = tt
-fault-status (faults.ArcTimes arc times) = tt
-fault-status (faults.Interval arc) = tt
-fault-status (faults.Under crossing) = tt
-fault-status (faults.Over crossing) = tt
-fault-status (faults.TwoArc crossing) = tt
-fault-status (faults.Checkerboard arc) = tt
-fault-status (faults.Genus faces wanted) = tt
-fault-status (faults.Components count) = tt
+fault-status : (fault : CodeFault) (reply : Reply) → IsFaultRefusal fault reply → IsReplyStatus reply.status
+fault-status (faults.ArcRange crossing slot) reply is = status-of reply _ is tt
+fault-status (faults.ArcTimes arc times) reply is = status-of reply _ is tt
+fault-status (faults.Interval arc) reply is = status-of reply _ is tt
+fault-status (faults.Under crossing) reply is = status-of reply _ is tt
+fault-status (faults.Over crossing) reply is = status-of reply _ is tt
+fault-status (faults.TwoArc crossing) reply is = status-of reply _ is tt
+fault-status (faults.Checkerboard arc) reply is = status-of reply _ is tt
+fault-status (faults.Genus faces wanted) reply is = status-of reply _ is tt
+fault-status (faults.Components count) reply is = absurd is
 
 read_as-status : (form : InputForm) (bytes : List ℕ) (reply : Reply) → IsReadAs form bytes (Err reply) → IsReplyStatus reply.status
 read_as-status forms.Pd bytes reply read = pd-status read.0 reply read.2
@@ -66,7 +66,7 @@ read_as-status forms.Json bytes reply read = json-status read.0 reply read.2
 
 refusal-status : (bytes : List ℕ) (reply : Reply) → IsDiagramRead bytes (Err reply) → IsReplyStatus reply.status
 refusal-status bytes reply (inl read) = read_as-status (input_form bytes) bytes reply read
-refusal-status bytes reply (inr faulty) = status-of reply (fault_refusal faulty.fault) faulty.line (fault-status faulty.fault)
+refusal-status bytes reply (inr faulty) = fault-status faulty.fault reply faulty.line
 
 outcome-status : (Answers : Code → Reply → Type 0) → ((code : Code) (reply : Reply) → Answers code reply → IsReplyStatus reply.status)
     → (text : List ℕ) (outcome : Result Code Reply) (reply : Reply) → IsDiagramRead text outcome → IsOutcomeReply Answers outcome reply

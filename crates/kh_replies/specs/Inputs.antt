@@ -11,7 +11,7 @@ use Rattle.json_code.specs.Reading as json
 use Rattle.kh_replies.specs.declared.input.InputForm.{InputForm}
 use Rattle.kh_replies.specs.declared.input.InputForm.TheVariants as forms
 use Rattle.kh_replies.specs.Replies.{Reply}
-use Rattle.kh_replies.specs.Refusals.{IsPdRefusal, IsGaussRefusal, IsJsonRefusal, fault_refusal}
+use Rattle.kh_replies.specs.Refusals.{IsPdRefusal, IsGaussRefusal, IsJsonRefusal, IsFaultRefusal}
 
 -- the first byte of an input that is no blank, if there is one
 abbrev pub first_byte : List ℕ → Option ℕ
@@ -60,7 +60,7 @@ pub record IsFaulty (bytes : List ℕ) (reply : Reply) : Type 0 where
   pub fault : CodeFault
   pub read : IsCodeRead bytes (Ok code)
   pub breaks : first_fault code ≡ Some fault
-  pub line : reply ≡ fault_refusal fault
+  pub line : IsFaultRefusal fault reply
 
 -- bytes are the text of the code of a diagram, which breaks no rule, or are refused with a reply
 abbrev pub IsDiagramRead : List ℕ → Result Code Reply → Type 0

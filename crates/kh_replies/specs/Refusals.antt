@@ -1,7 +1,7 @@
 -- The replies that refuse: every line of a refusal or a limit. All of it is this project's rule.
 use Rattle.std.specs.Prelude.{◌≡◌, ℕ, ◌+◌, List, ◌++◌, codes}
 use Rattle.std.specs.Fmt.{decimal}
-use Rattle.kh_types.specs.declared.limits.TheConstants.{CROSSINGS, COMPONENTS, LOOPS}
+use Rattle.kh_types.specs.declared.limits.TheConstants.{CROSSINGS, LOOPS}
 use Rattle.kh_types.specs.declared.fault.CodeFault.{CodeFault}
 use Rattle.kh_types.specs.declared.fault.CodeFault.TheVariants as faults
 use Rattle.pd_code.specs.declared.stop.PdStop.{PdStop}
@@ -88,16 +88,22 @@ IsJsonRefusal (json.Shape crossing slot) reply =
 IsJsonRefusal (json.CrossingLimit count) reply = reply ≡ too_many_crossings count
 IsJsonRefusal json.NoMemory reply = ⊥
 
--- the reply to a code that breaks a rule. The limit on components and loops together is passed by no text: each component of a
--- code that breaks no rule before it has two arcs or more, so a text's crossings and loops have no more than COMPONENTS
-abbrev pub fault_refusal : CodeFault → Reply
-fault_refusal (faults.ArcRange crossing slot) =
-    refused_with_both (codes "arc range at crossing ") crossing (codes " slot ") slot
-fault_refusal (faults.ArcTimes arc times) = refused_with_both (codes "arc ") arc (codes " times ") times
-fault_refusal (faults.Interval arc) = refused_with (codes "interval of arc ") arc
-fault_refusal (faults.Under crossing) = refused_with (codes "under pass at crossing ") crossing
-fault_refusal (faults.Over crossing) = refused_with (codes "over pass at crossing ") crossing
-fault_refusal (faults.TwoArc crossing) = refused_with (codes "two-arc component at crossing ") crossing
-fault_refusal (faults.Checkerboard arc) = refused_with (codes "checkerboard at arc ") arc
-fault_refusal (faults.Genus faces wanted) = refused_with_both (codes "genus faces ") faces (codes " wanted ") wanted
-fault_refusal (faults.Components count) = refused_with_both (codes "components ") count (codes " of ") COMPONENTS
+-- a code is refused for this fault with this reply. The limit on components and loops together is no fault of a text: each component of
+-- a code that breaks no rule before it has two arcs or more, so a text's crossings and loops have no more than COMPONENTS
+abbrev pub IsFaultRefusal : CodeFault → Reply → Type 0
+IsFaultRefusal (faults.ArcRange crossing slot) reply =
+    reply ≡ refused_with_both (codes "arc range at crossing ") crossing (codes " slot ") slot
+IsFaultRefusal (faults.ArcTimes arc times) reply = reply ≡ refused_with_both (codes "arc ") arc (codes " times ") times
+IsFaultRefusal (faults.Interval arc) reply = reply ≡ refused_with (codes "interval of arc ") arc
+IsFaultRefusal (faults.Under crossing) reply = reply ≡ refused_with (codes "under pass at crossing ") crossing
+IsFaultRefusal (faults.Over crossing) reply = reply ≡ refused_with (codes "over pass at crossing ") crossing
+IsFaultRefusal (faults.TwoArc crossing) reply = reply ≡ refused_with (codes "two-arc component at crossing ") crossing
+IsFaultRefusal (faults.Checkerboard arc) reply = reply ≡ refused_with (codes "checkerboard at arc ") arc
+IsFaultRefusal (faults.Genus faces wanted) reply =
+    reply ≡ refused_with_both (codes "genus faces ") faces (codes " wanted ") wanted
+IsFaultRefusal (faults.Components count) reply = ⊥
+
+-- a fault is one that a text can have
+abbrev pub IsTextFault : CodeFault → Type 0
+IsTextFault (faults.Components count) = ⊥
+IsTextFault _ = Unit {0}

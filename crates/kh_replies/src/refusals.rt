@@ -1,14 +1,14 @@
 //! Every line of a refusal or a limit.
 
 ghost use Rattle.std.specs.Prelude.{◌≡◌, IfOk};
-ghost use Rattle.kh_replies.specs.Refusals.{usage, too_many_bytes, too_many_crossings, too_many_loops, too_many_generators, too_many_lines, refused, refused_line, refused_with, refused_with_both, limit_on, IsPdRefusal, IsGaussRefusal, IsJsonRefusal, fault_refusal};
+ghost use Rattle.kh_replies.specs.Refusals.{usage, too_many_bytes, too_many_crossings, too_many_loops, too_many_generators, too_many_lines, refused, refused_line, refused_with, refused_with_both, limit_on, IsPdRefusal, IsGaussRefusal, IsJsonRefusal, IsFaultRefusal, IsTextFault};
 
 use crate::reply::{Reply, fixed_reply, reply_with};
 use crate::status::Status;
 use circle_smoothing::GENERATORS;
 use gauss_code::GaussStop;
 use json_code::JsonStop;
-use kh_types::{COMPONENTS, CROSSINGS, CodeFault, LOOPS, NoMemory};
+use kh_types::{CROSSINGS, CodeFault, LOOPS, NoMemory};
 use pd_code::PdStop;
 use std::alloc::Global;
 use undo_stack::SCRIPT_LINES;
@@ -108,9 +108,10 @@ pub fn json_refusal(alloc: Global, stop: JsonStop) -> Result<Reply, NoMemory>
     }
 }
 
-/// The reply to a code that breaks a rule of acceptance.
+/// The reply to the code of a text, which breaks a rule of acceptance.
 pub fn fault_refusal(alloc: Global, fault: CodeFault) -> Result<Reply, NoMemory>
-    ensures { IfOk result (λ reply. reply ≡ fault_refusal fault) }
+    requires { IsTextFault fault }
+    ensures { IfOk result (λ reply. IsFaultRefusal fault reply) }
 {
     match fault {
         CodeFault::ArcRange { crossing, slot } => {
@@ -147,15 +148,7 @@ pub fn fault_refusal(alloc: Global, fault: CodeFault) -> Result<Reply, NoMemory>
                 wanted.into(),
             )
         }
-        CodeFault::Components { count } => {
-            refused_with_both(
-                alloc,
-                "components ",
-                count.into(),
-                " of ",
-                COMPONENTS as u32,
-            )
-        }
+        CodeFault::Components { .. } => unreachable!(),
     }
 }
 

@@ -100,8 +100,8 @@ field-small_prime p (inr (inr (inl five))) = subst IsField (sym five) field-five
 field-small_prime p (inr (inr (inr seven))) = subst IsField (sym seven) field-seven
 
 -- what is made of a number below a limit is determined by the number
-pub made-same : {X : Type 0} (limit : ℕ) (made : (n : ℕ) → n < limit → X) (x y : ℕ) (x_below : x < limit) (y_below : y < limit)
+pub residue-same : {X : Type 0} (limit : ℕ) (made : (n : ℕ) → n < limit → X) (x y : ℕ) (x_below : x < limit) (y_below : y < limit)
     → x ≡ y → made x x_below ≡ made y y_below
-made-same {X} limit made x y x_below y_below alike =
+residue-same {X} limit made x y x_below y_below alike =
     let P : ℕ → Type 0 = λ n. (below : n < limit) → made x x_below ≡ made n below in
     subst P alike (λ below. ap (made x) (let once : IsProp (x < limit) = hlevel props in once x_below below)) y_below

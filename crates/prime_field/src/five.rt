@@ -2,7 +2,7 @@
 
 ghost use Rattle.std.specs.Prelude.{◌<◌, refl};
 ghost use Rattle.std.proofs.Common.{inl, inr};
-ghost use Rattle.prime_field.specs.SmallFields.{field-five, made-same};
+ghost use Rattle.prime_field.specs.SmallFields.{field-five, residue-same};
 
 use crate::PrimeField;
 
@@ -61,7 +61,7 @@ impl PrimeField for F5 {
 
     ghost below = { λ x. x.below };
 
-    ghost same = { λ x y alike. made-same 5 (λ value below. record { value = value; below = below })
+    ghost same = { λ x y alike. residue-same 5 (λ value below. record { value = value; below = below })
         x.value y.value x.below y.below alike };
 
     ghost equal = { λ x y. refl };

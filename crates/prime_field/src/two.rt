@@ -2,7 +2,7 @@
 
 ghost use Rattle.std.specs.Prelude.{◌<◌, refl};
 ghost use Rattle.std.proofs.Common.{inl};
-ghost use Rattle.prime_field.specs.SmallFields.{field-two, made-same};
+ghost use Rattle.prime_field.specs.SmallFields.{field-two, residue-same};
 
 use crate::PrimeField;
 
@@ -56,7 +56,7 @@ impl PrimeField for F2 {
 
     ghost below = { λ x. x.below };
 
-    ghost same = { λ x y alike. made-same 2 (λ value below. record { value = value; below = below })
+    ghost same = { λ x y alike. residue-same 2 (λ value below. record { value = value; below = below })
         x.value y.value x.below y.below alike };
 
     ghost equal = { λ x y. refl };

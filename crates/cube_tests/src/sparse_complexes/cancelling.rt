@@ -233,21 +233,15 @@ fn are(entries: Option<&[Entry]>, wanted: Pairs) -> bool {
 
 fn check<F: PrimeField>(rt: &impl Abort, complex: &Complex<F>, left: &Left) {
     for (i, place, wanted) in left.columns {
-        assert!(rt;
-            are(column_at(complex, *i, *place), *wanted),
-            "column {i} {place}"
-        );
+        assert!(rt; are(column_at(complex, *i, *place), *wanted));
     }
     for (i, place, wanted) in left.rows {
-        assert!(rt;
-            are(row_at(complex, *i, *place), *wanted),
-            "row {i} {place}"
-        );
+        assert!(rt; are(row_at(complex, *i, *place), *wanted));
     }
     for (i, alive) in left.alive {
         for place in 0..7u32 {
             let wanted = alive.get(place as usize).copied().unwrap_or(false);
-            assert_eq!(rt; complex.is_alive(*i, place), wanted, "place {i} {place}");
+            assert!(rt; complex.is_alive(*i, place) == wanted);
         }
     }
 }
