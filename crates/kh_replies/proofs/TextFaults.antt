@@ -13,9 +13,9 @@ use Rattle.kh_types.proofs.FewComponents.{first_fault-other}
 use Rattle.pd_code.specs.Reading as pd
 use Rattle.gauss_code.specs.Reading as gauss
 use Rattle.gauss_code.specs.Faults as gauss_faults
-use Rattle.gauss_code.specs.Listings.{crossing_count, loop_count}
+use Rattle.gauss_code.specs.Listings.{crossing_count, loop_group_count}
 use Rattle.gauss_code.specs.declared.stop.GaussStop.{GaussStop}
-use Rattle.gauss_code.specs.Codes.{code_of}
+use Rattle.gauss_code.specs.Codes.{listed_code}
 use Rattle.json_code.specs.Reading as json
 use Rattle.kh_replies.specs.declared.input.InputForm.{InputForm}
 use Rattle.kh_replies.specs.declared.input.InputForm.TheVariants as forms
@@ -53,9 +53,9 @@ gauss-small bytes code is =
     let body = is.listing.body in
     let crossings : crossing_count body ≤ CROSSINGS =
     within-limit (crossing_count body) CROSSINGS _ (nat_lt CROSSINGS (crossing_count body)) refl (or-first _ _ is.good) in
-    let loops : loop_count body ≤ LOOPS =
-    within-limit (loop_count body) LOOPS _ (nat_lt LOOPS (loop_count body)) refl (or-first _ _ (or-second _ _ is.good)) in
-    let counted : length (code_of body (gauss_faults.signs_of is.listing)).crossings ≡ crossing_count body =
+    let loops : loop_group_count body ≤ LOOPS =
+    within-limit (loop_group_count body) LOOPS _ (nat_lt LOOPS (loop_group_count body)) refl (or-first _ _ (or-second _ _ is.good)) in
+    let counted : length (listed_code body (gauss_faults.signs_of is.listing)).crossings ≡ crossing_count body =
     length-map-range_with_len _ 0 (crossing_count body) in
     subst IsSmall (sym is.same) (record { crossings = subst (λ (n : ℕ). n ≤ CROSSINGS) (sym counted) crossings; loops = loops })
 
