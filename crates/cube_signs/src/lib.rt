@@ -13,8 +13,6 @@ mod quantum_degrees;
 mod shape;
 mod size;
 mod steps;
-#[cfg(test)]
-mod tests;
 
 pub use blocks::block_columns;
 pub use cube::Cube;

@@ -3,3 +3,9 @@
 
 #[cfg(test)]
 mod homology_tables;
+#[cfg(test)]
+mod blocks;
+#[cfg(test)]
+mod polynomials;
+#[cfg(test)]
+mod states;
