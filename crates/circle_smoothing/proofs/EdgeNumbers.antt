@@ -8,11 +8,11 @@ use Rattle.std.proofs.lemmas.Bool.Decides.{nat_tests}
 use Rattle.kh_types.specs.Acceptance.{accepted}
 use Rattle.kh_types.specs.Bits.{bit}
 use Rattle.kh_types.specs.Classes.{is_least, merged}
-use Rattle.kh_types.specs.Code.{Code, IsArc, IsCrossing, arc_count, place_of}
+use Rattle.kh_types.specs.Code.{Code, IsCrossing, arc_count, place_of}
 use Rattle.kh_types.specs.Circles.{circles_of}
 use Rattle.kh_types.proofs.ClassLemmas.{slice_index-joined}
 use Rattle.kh_types.proofs.Lists.{HasMore-filter_range, filter-range_agree, length-HasMore}
-use Rattle.kh_types.specs.CircleNumbers.{IsName, number_of}
+use Rattle.kh_types.specs.CircleNumbers.{number_of}
 use Rattle.circle_smoothing.specs.Edges.{AreRenumbered, HaveMerged, IsEdge, Renumbers, renumbered}
 use Rattle.kh_types.specs.Edges.{arc_at_slot, state_behind}
 use Rattle.circle_smoothing.specs.declared.change.Edge.{Edge}
