@@ -13,12 +13,12 @@ abbrev pub circle_numbers : Code → ℕ → List ℕ
 circle_numbers code state = 0 ∷ map (circle_number code state) (arcs_and_loops code)
 
 -- contracts see the code of the diagram and the state
-abbrev pub resolution_of : Inside → Resolution
-resolution_of circles = record { code = circles.diagram; state = circles.state }
+abbrev pub resolution_of_circles : Inside → Resolution
+resolution_of_circles circles = record { code = circles.diagram; state = circles.state }
 
 -- the diagram's code is accepted and within the limits; for each arc and loop the number of its circle is kept, and how many
 -- circles there are
-pub record AreNumbered (circles : Inside) : Type 0 where
+pub record AreNumberedCircles (circles : Inside) : Type 0 where
   pub code : IsTrue (accepted circles.diagram)
   pub few : length circles.diagram.crossings ≤ CROSSINGS
   pub numbers : circles.numbers.items ≡ circle_numbers circles.diagram circles.state

@@ -11,7 +11,7 @@ ghost use Rattle.circle_smoothing.specs.GeneratorCounts.{generator_count};
 ghost use Rattle.circle_smoothing.specs.declared.limits.TheConstants.{GENERATORS};
 ghost use Rattle.sparse_block.specs.Inside.{entries_in, lines_in, lists_in};
 ghost use Rattle.cube_signs.specs.Blocks.{block_degrees, named_block};
-ghost use Rattle.cube_signs.specs.Columns.{flags_of, names_from, AreAllColumns, AreColumns};
+ghost use Rattle.cube_signs.specs.Columns.{flags_of, generators_from, AreAllColumns, AreColumns};
 ghost use Rattle.cube_signs.specs.Columns.{AreParts};
 ghost use Rattle.cube_signs.specs.Tables.{own_base, HaveSizes};
 
@@ -115,7 +115,7 @@ impl Cube {
         requires low { neg_ℤ (pos 32) ≤ℤ least.i }
         requires high { (least.i +ℤ pos (length names.now)) ≤ℤ pos 32 }
         requires names { lists_in names.now
-            ≡ names_from self.now least.i least.j (length names.now) }
+            ≡ generators_from self.now least.i least.j (length names.now) }
         ensures { IfOk result (λ columns.
             AreAllColumns p self.now least.i least.j (length names.now) (lines_in columns.items)) }
     {
@@ -137,7 +137,7 @@ impl Cube {
         requires low { neg_ℤ (pos 32) ≤ℤ least.i }
         requires high { (least.i +ℤ pos count) ≤ℤ pos 32 }
         ensures { IfOk result (λ names.
-            lists_in names.items ≡ names_from self.now least.i least.j count) }
+            lists_in names.items ≡ generators_from self.now least.i least.j count) }
     {
         let mut names = Vec::with_capacity(alloc, count)?;
         'degrees: for k in 0..count {
