@@ -13,6 +13,7 @@ use Rattle.circle_smoothing.specs.declared.change.Edge.{Edge}
 use Rattle.sparse_block.specs.declared.entry.Entry.{Entry}
 use Rattle.sparse_block.specs.Entries.{entry_at, value_at, AreEntries}
 use Rattle.sparse_block.specs.Complexes.{sparse_complex, HaveEntries, SquaresToZero}
+use Rattle.cube_signs.specs.declared.limits.TheConstants.{DEGREES}
 use Rattle.cube_signs.specs.Blocks.{named_block}
 use Rattle.cube_signs.specs.Heads.{labels_behind}
 
@@ -78,8 +79,8 @@ flags_of code j = map (λ i. not (is_empty (generators_at code i j))) (from_minu
 -- names and columns, by degree from a least one on, of which the block at the quantum degree j is made
 pub record AreParts (p : ℕ) (code : Code) (j low : ℤ) (names : List (List Generator)) (columns : List (List (List Entry))) : Type 0 where
   pub some : 0 < length names
-  pub start : neg_ℤ (pos 32) ≤ℤ low
-  pub end : (low +ℤ pos (length names)) ≤ℤ pos 32
+  pub start : neg_ℤ (pos DEGREES) ≤ℤ low
+  pub end : (low +ℤ pos (length names)) ≤ℤ pos DEGREES
   pub counts : All (λ degree. length degree < 2 ^ 32) names
   pub sizes : map length columns ≡ map length names
   pub entries : HaveEntries p names columns

@@ -7,6 +7,7 @@ mod cube;
 mod head_labels;
 mod labels;
 pub mod laws;
+mod limits;
 mod names;
 mod places;
 mod quantum_degrees;
