@@ -15,3 +15,6 @@ mod shared_blocks;
 mod sparse_complexes;
 #[cfg(test)]
 mod workers;
+mod blocks;
+mod polynomials;
+mod states;
