@@ -2,6 +2,8 @@
 #![tactic(auto)]
 
 #[cfg(test)]
+mod blocks;
+#[cfg(test)]
 mod cancellations;
 #[cfg(test)]
 mod cores;
@@ -10,11 +12,12 @@ mod homology_tables;
 #[cfg(test)]
 mod locks;
 #[cfg(test)]
+mod polynomials;
+#[cfg(test)]
 mod shared_blocks;
 #[cfg(test)]
 mod sparse_complexes;
 #[cfg(test)]
-mod workers;
-mod blocks;
-mod polynomials;
 mod states;
+#[cfg(test)]
+mod workers;
