@@ -1,4 +1,5 @@
-//! Tests of the cube: what no clause says of circles, blocks, cancellations, workers, tables and polynomials.
+//! Tests of the cube: what no clause says of circles, blocks, cancellations, workers, tables and
+//! polynomials.
 #![tactic(auto)]
 
 #[cfg(test)]
