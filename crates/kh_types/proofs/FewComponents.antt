@@ -1,18 +1,18 @@
 -- A component of a directed code without single arcs has two arcs or more, so that there are at most as many as crossings.
-use Rattle.std.proofs.Common.{◌≡◌, ◌≢◌, ℕ, zero, suc, inl, inr, ◌+◌, ◌*◌, ◌<◌, ◌≤◌, ◌∙◌, List, [], ◌∷◌, length, refl, sym, ap, subst, arith, Bool, true, false, cond}
+use Rattle.std.proofs.Common.{◌≡◌, ◌≢◌, ℕ, zero, suc, inl, inr, ◌+◌, ◌*◌, ◌<◌, ◌≤◌, ◌∙◌, List, [], ◌∷◌, length, refl, ap, arith, Bool, true, false, cond}
 use Rattle.std.specs.Prelude.{Option, Some, None, unwrap_or, nat_eq, nat_lt, slice_index, if◌then◌else◌}
-use Rattle.std.specs.List.{range_with_len, count_by, filter}
+use Rattle.std.specs.List.{range_with_len, count_by}
 use Rattle.std.specs.Option.{option_or}
 use Rattle.std.proofs.lemmas.Bool.{cases_Bool, cases_lt, eqb-true, false_from_ne_true}
 use Rattle.std.proofs.lemmas.Bool.Decides.{nat_tests}
 use Rattle.std.proofs.lemmas.List.{get_or_past}
 use Rattle.std.proofs.lemmas.List.Sums.{length-filter, sum_by-cons}
 use Rattle.kh_types.specs.declared.fault.CodeFault.{CodeFault}
-use Rattle.kh_types.specs.declared.fault.CodeFault.TheVariants.{ArcRange, ArcTimes, Interval, Under, Over, TwoArc, Checkerboard, Genus, Components}
+use Rattle.kh_types.specs.declared.fault.CodeFault.TheVariants.{Components}
 use Rattle.kh_types.specs.declared.limits.TheConstants.{CROSSINGS, LOOPS, COMPONENTS}
 use Rattle.kh_types.specs.Code.{Code, arc_count, arcs, crossing_numbers, IsArc}
 use Rattle.kh_types.specs.Classes.{is_least}
-use Rattle.kh_types.specs.Components.{components_of, component_of, component_count, next}
+use Rattle.kh_types.specs.Components.{components_of, component_of, component_count}
 use Rattle.kh_types.specs.Darts.{dart_count}
 use Rattle.kh_types.specs.Directions.{HasNoSingleArcs}
 use Rattle.kh_types.specs.Accepted.{IsDirected}
@@ -20,7 +20,7 @@ use Rattle.kh_types.specs.Acceptance.{fault_if, first_of, arc_range_at, arc_rang
 use Rattle.kh_types.proofs.AcceptedLemmas.{direction_fault-none}
 use Rattle.kh_types.proofs.CheckerboardLemmas.{choice-from_none}
 use Rattle.kh_types.proofs.Heads.{HasNoSingleArcs-checkerboard}
-use Rattle.kh_types.proofs.NextArcs.{IsNamed-components_of, component}
+use Rattle.kh_types.proofs.NextArcs.{IsNamed-components_of}
 
 -- the first number of a range, counted
 first_of_range : (p : ℕ → Bool) (a n : ℕ)

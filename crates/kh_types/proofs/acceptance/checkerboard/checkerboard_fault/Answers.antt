@@ -1,5 +1,4 @@
-use Rattle.std.proofs.Common.{◌≡◌, ◌+◌, ◌∙◌, List, ℕ, length, refl, sym, ap, subst, arith, true, false}
-use Rattle.std.specs.List.{range_with_len}
+use Rattle.std.proofs.Common.{◌≡◌, ◌+◌, ◌∙◌, List, ℕ, refl, sym, ap, subst, arith, true, false}
 use Rattle.kh_types.specs.Acceptance.{checkerboard_at}
 use Rattle.kh_types.specs.Classes.{joined}
 use Rattle.kh_types.specs.Colouring.{tie_of, contradicts, colours_after}
