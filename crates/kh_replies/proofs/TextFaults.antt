@@ -28,7 +28,7 @@ record IsSmall (code : Code) : Type 0 where
   crossings : length code.crossings ≤ CROSSINGS
   loops : code.loops ≤ LOOPS
 
-pd-small : (bytes : List ℕ) (code : Code) → pd.ReadsAs bytes code → IsSmall code
+pd-small : (bytes : List ℕ) (code : Code) → pd.ReadsAsPd bytes code → IsSmall code
 pd-small bytes code is = subst IsSmall (sym is.same) (record { crossings = is.crossings; loops = is.loops })
 
 json-small : (bytes : List ℕ) (code : Code) → json.ReadsAsJson bytes code → IsSmall code
@@ -43,12 +43,12 @@ or-second : (a b : Option GaussStop) → option_or a b ≡ None → b ≡ None
 or-second None b none = none
 or-second (Some x) b none = let e : Some x ≡ None = none in absurd (cc)
 
-within-limit : (count limit : ℕ) (stop : GaussStop) (above : Bool) → nat_lt limit count ≡ above → gauss_faults.fault_if above stop ≡ None
+within-limit : (count limit : ℕ) (stop : GaussStop) (above : Bool) → nat_lt limit count ≡ above → gauss_faults.gauss_fault_if above stop ≡ None
     → count ≤ limit
 within-limit count limit stop true is none = let e : Some stop ≡ None = none in absurd (cc)
 within-limit count limit stop false is none = grind (arith, common_steps)
 
-gauss-small : (bytes : List ℕ) (code : Code) → gauss.ReadsAs bytes code → IsSmall code
+gauss-small : (bytes : List ℕ) (code : Code) → gauss.ReadsAsGauss bytes code → IsSmall code
 gauss-small bytes code is =
     let body = is.listing.body in
     let crossings : crossing_count body ≤ CROSSINGS =
