@@ -8,6 +8,7 @@ use Rattle.kinks_and_fingers.specs.declared.finger_fault.FingerFault.{FingerFaul
 use Rattle.kinks_and_fingers.specs.declared.finger_fault.FingerFault.TheVariants.{NoArc, Crossings, Loop, SameArc, Genus}
 use Rattle.kinks_and_fingers.specs.FingerAdd.{with_finger}
 
+-- a fault where something holds
 abbrev pub fault_if : Bool → FingerFault → Option FingerFault
 fault_if holds fault = if holds then Some fault else None
 
@@ -40,6 +41,7 @@ abbrev pub finger_genus_fault : List (List ℕ) → Option FingerFault
 finger_genus_fault crossings =
     fault_if (not (nat_eq (face_count crossings) (planar_face_count crossings))) (Genus (face_count crossings) (planar_face_count crossings))
 
+-- the first fault of a finger
 abbrev pub finger_fault : Code → ℕ → Bool → ℕ → Bool → Option FingerFault
 finger_fault code a a_left b b_left =
     option_or (early_fault code a b) (finger_genus_fault (with_finger code a a_left b b_left).crossings)

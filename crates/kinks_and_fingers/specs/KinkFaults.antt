@@ -7,6 +7,7 @@ use Rattle.kinks_and_fingers.specs.KinkAdds.{with_kink}
 use Rattle.kinks_and_fingers.specs.declared.kink_fault.KinkFault.{KinkFault}
 use Rattle.kinks_and_fingers.specs.declared.kink_fault.KinkFault.TheVariants.{NoArc, Crossings, Loop}
 
+-- a fault where something holds
 abbrev pub fault_if : Bool → KinkFault → Option KinkFault
 fault_if holds fault = if holds then Some fault else None
 

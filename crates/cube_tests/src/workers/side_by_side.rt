@@ -1,5 +1,7 @@
 //! Workers side by side.
 
+ghost use Rattle.std.specs.Prelude.{◌≤◌};
+
 use super::diagrams::FIGURE_EIGHT_TURNS;
 use super::gates::HoldFirst;
 use known_links::{FIGURE_EIGHT, diagram_of};

@@ -14,6 +14,7 @@ ghost use Rattle.word_line.specs.Values.{IsFieldSize};
 use circle_smoothing::StateKinds;
 use commit_core::{Answer, Event, run_events};
 use cube_signs::check_kinds;
+use jones_sum::Table;
 use kh_replies::{
     Reply, Status, jones_line, refused_line, reply_made, too_many_generators, too_many_lines,
 };
@@ -64,7 +65,6 @@ fn reply_to_script(
 }
 
 // The lines of the answers, the text of the homology table and the Jones line, which is read from the kinds of the diagram's states.
-#[tactic(auto, unfolding(crate::specs::Schedule::schedule_text, crate::specs::Homology::homology_text))]
 fn schedule_text(
     alloc: Global,
     field: u8,
@@ -117,8 +117,22 @@ fn run_text_over<F: PrimeField>(
 {
     let events = events_of(alloc, script)?;
     let run = run_events::<F>(alloc, diagram, WORKERS, &events)?;
-    let mut text = answer_lines(alloc, script, &run.answers)?;
-    text.extend_from_slice(&print_table(alloc, &run.table)?)?;
+    let text = text_of_run(alloc, script, &run.answers, &run.table)?;
+    Ok(text)
+}
+
+// The lines of answers, and the text of a table.
+fn text_of_run(
+    alloc: Global,
+    script: &[(u32, ScheduleLine)],
+    answers: &[Answer],
+    table: &Table,
+) -> Result<Vec<u8>, NoMemory>
+    ensures { IfOk result (λ text. text.items
+        ≡ answer_lines script.now answers.now ++ table_text table.now) }
+{
+    let mut text = answer_lines(alloc, script, answers)?;
+    text.extend_from_slice(&print_table(alloc, table)?)?;
     Ok(text)
 }
 
