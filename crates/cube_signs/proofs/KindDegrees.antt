@@ -1,5 +1,5 @@
 -- The shapes of the kinds of states give the same quantum degrees as the shapes of all states.
-use Rattle.std.proofs.Common.{◌≡◌, ℕ, ◌+◌, ◌*◌, ◌^◌, ◌<◌, ◌≤◌, ◌∙◌, ℤ, pos, ◌+ℤ◌, ◌-ℤ◌, List, [], ◌∷◌, ◌++◌, map, length, refl, sym, ap, ap₂, arith, Bool, true, false, cond, IsTrue}
+use Rattle.std.proofs.Common.{◌≡◌, ℕ, ◌+◌, ◌^◌, ◌≤◌, ◌∙◌, ℤ, List, [], ◌∷◌, ◌++◌, map, length, refl, sym, ap, ap₂, arith, Bool, true, false, cond, IsTrue}
 use Rattle.std.specs.Prelude.{nat_eq, not, ◌&&◌, ◌||◌}
 use Rattle.std.specs.List.{count_by, filter, list_any, range_with_len}
 use Rattle.std.proofs.Math.Bool.{or-false}
@@ -17,7 +17,7 @@ use Rattle.kh_types.specs.Table.{from_minus}
 use Rattle.kh_types.proofs.AcceptedLemmas.{IsAccepted-is}
 use Rattle.kh_types.proofs.CircleBound.{circle_count-within}
 use Rattle.kh_types.proofs.Ranges.{flat_map-range_more, list_any-below, list_any-found}
-use Rattle.circle_smoothing.specs.Kinds.{kind_circles, kind_count, kind_ones, state_kind}
+use Rattle.circle_smoothing.specs.Kinds.{kind_circles, kind_ones, state_kind}
 use Rattle.circle_smoothing.specs.declared.kinds.TheConstants.{KINDS}
 use Rattle.circle_smoothing.proofs.GeneratorLemmas.{state_kind-below}
 use Rattle.circle_smoothing.proofs.KindLemmas.{kind_circles-kind_of, kind_count-states, kind_ones-kind_of}

@@ -121,8 +121,8 @@ is_label-beside code i j state label other passes =
 
 -- what the tables of a cube say of a state
 pub tables-state : (code : Code) (minus : ℕ) (shapes : List Shape) (rows : List (ArrayVec (Option Edge))) (weights ranks : List ℕ)
-    (state : ℕ) → AreTables code minus shapes rows weights ranks → state < 2 ^ length code.crossings → AtState code state weights
-tables-state code minus shapes rows weights ranks state are below =
+    (levels : List (List ℕ)) (state : ℕ) → AreTables code minus shapes rows weights ranks levels → state < 2 ^ length code.crossings → AtState code state weights
+tables-state code minus shapes rows weights ranks levels state are below =
     let few = are.most state below in
     let power : 2 ^ circle_count code state ≤ 2 ^ are.width = pow_mono few in
     record {
@@ -173,11 +173,11 @@ not-int_eq x y differ = fails (int_eq x y) (Decides-int_eq x y).0
 
 -- the ranks in the tables of a cube
 pub AreRanks-tables : (code : Code) (minus : ℕ) (shapes : List Shape) (rows : List (ArrayVec (Option Edge))) (weights ranks : List ℕ)
-    → AreTables code minus shapes rows weights ranks → AreRanks code ranks
-AreRanks-tables code minus shapes rows weights ranks are =
+    (levels : List (List ℕ)) → AreTables code minus shapes rows weights ranks levels → AreRanks code ranks
+AreRanks-tables code minus shapes rows weights ranks levels are =
     record {
       each = λ i j state label state_below label_below passes.
-          let at = tables-state code minus shapes rows weights ranks state are state_below in
+          let at = tables-state code minus shapes rows weights ranks levels state are state_below in
           ap (λ xs. slice_index xs label) are.are_ranks
           ∙ get_or-map-range_with_len (same_before weights) 0 (length weights) label label 0 (omega (arith, label_below, at.wide))
           (omega arith)
@@ -185,8 +185,8 @@ AreRanks-tables code minus shapes rows weights ranks are =
     }
 
 pub small-ranks : (code : Code) (minus : ℕ) (shapes : List Shape) (rows : List (ArrayVec (Option Edge))) (weights ranks : List ℕ)
-    → AreTables code minus shapes rows weights ranks → All (λ rank. rank < 2 ^ 31) ranks
-small-ranks code minus shapes rows weights ranks are =
+    (levels : List (List ℕ)) → AreTables code minus shapes rows weights ranks levels → All (λ rank. rank < 2 ^ 31) ranks
+small-ranks code minus shapes rows weights ranks levels are =
     subst (λ (ranks : List ℕ). All (λ rank. rank < 2 ^ 31) ranks) (sym are.are_ranks)
     (All-map (λ rank. rank < 2 ^ 31) (same_before weights) (range_with_len 0 (length weights))
     (λ k d within.

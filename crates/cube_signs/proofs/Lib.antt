@@ -5,6 +5,7 @@ pub mod HeadLabels
 pub mod EdgeHeads
 pub mod ShapeLemmas
 pub mod StateLists
+pub mod LevelLemmas
 pub mod LabelRankLemmas
 pub mod StepLemmas
 pub mod HeadBounds

@@ -5,11 +5,11 @@ use Rattle.std.specs.List.{count_by}
 use Rattle.std.proofs.lemmas.List.{append-nil, append_assoc, length-map, map-append}
 use Rattle.kh_types.specs.Circles.{circle_count}
 use Rattle.kh_types.specs.Code.{Code}
-use Rattle.kh_types.specs.Generators.{Generator, generator_of, generators_at}
-use Rattle.kh_types.proofs.Ranges.{filter-range_more, flat_map-range_more}
+use Rattle.kh_types.specs.Generators.{Generator, generator_of}
+use Rattle.kh_types.proofs.Ranges.{filter-range_more}
 use Rattle.cube_signs.specs.LabelRanks.{labels_with}
-use Rattle.cube_signs.specs.Tables.{generators_below, state_generators, AtState, IsWeight}
-use Rattle.cube_signs.proofs.GeneratorPlaces.{generators_at-below, state_generators-labels}
+use Rattle.cube_signs.specs.Tables.{state_generators, AtState, IsWeight}
+use Rattle.cube_signs.proofs.GeneratorPlaces.{state_generators-labels}
 use Rattle.cube_signs.proofs.LabelPlaces.{count_by-take, labels_with-given, state_generators-none}
 
 -- one label more
@@ -66,18 +66,7 @@ count-given code i j state weight circles count weights part at is is_circles is
 pub count-none : (code : Code) (i j : ℤ) (state : ℕ) → IsWeight code i j state None → 0 ≡ length (state_generators code i j state)
 count-none code i j state is = ap length (sym (state_generators-none code i j state is.labels))
 
--- one state more, and all
-pub below-more : (code : Code) (i j : ℤ) (state : ℕ) (made next : List Generator) → made ≡ generators_below code i j state
-    → next ≡ made ++ state_generators code i j state → next ≡ generators_below code i j (state + 1)
-below-more code i j state made next is_made is_next =
-    is_next ∙ ap (λ (xs : List Generator). xs ++ state_generators code i j state) is_made
-    ∙ sym (flat_map-range_more (state_generators code i j) 0 state state (omega arith))
-
-pub below-all : (code : Code) (i j : ℤ) (state : ℕ) (made : List Generator) → state ≡ 2 ^ length code.crossings
-    → made ≡ generators_below code i j state → made ≡ generators_at code i j
-below-all code i j state made all is_made =
-    is_made ∙ ap (generators_below code i j) all ∙ sym (generators_at-below code i j)
-
+-- a state has no more labels than there are weights
 pub wide-enough : (code : Code) (state circles : ℕ) (weights : List ℕ) → AtState code state weights → circles ≡ circle_count code state
     → 2 ^ circles ≤ length weights
 wide-enough code state circles weights at is = omega (arith, at.wide, ap (λ n. 2 ^ n) is)

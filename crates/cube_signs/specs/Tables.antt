@@ -1,6 +1,7 @@
 -- What is looked up for the blocks of a cube, found once for all of them.
-use Rattle.std.specs.Prelude.{◌≡◌, ℕ, ◌^◌, ◌+◌, ◌<◌, ◌≤◌, ℤ, pos, ◌-ℤ◌, List, length, map, slice_index, true, Option, IsTrue}
+use Rattle.std.specs.Prelude.{◌≡◌, ℕ, ◌^◌, ◌+◌, ◌<◌, ◌≤◌, ℤ, pos, ◌-ℤ◌, List, length, map, slice_index, nat_eq, true, Option, IsTrue}
 use Rattle.std.specs.List.{filter, flat_map, range_with_len}
+use Rattle.std.specs.Ordering.{int_eq}
 use Rattle.arrayvec.specs.ArrayVec.{ArrayVec}
 use Rattle.kh_types.specs.declared.limits.TheConstants.{CROSSINGS}
 use Rattle.kh_types.specs.Acceptance.{accepted}
@@ -8,7 +9,7 @@ use Rattle.kh_types.specs.Bits.{ones}
 use Rattle.kh_types.specs.Circles.{circle_count}
 use Rattle.kh_types.specs.Code.{Code}
 use Rattle.kh_types.specs.Directions.{minus_count}
-use Rattle.kh_types.specs.Generators.{Generator, generator_of, generators_of, has_degrees, homological_degree, states}
+use Rattle.kh_types.specs.Generators.{Generator, generator_of, generators_of, has_degrees, homological_degree, one_count, states}
 use Rattle.circle_smoothing.specs.GeneratorCounts.{generator_count}
 use Rattle.circle_smoothing.specs.declared.change.Edge.{Edge}
 use Rattle.circle_smoothing.specs.declared.limits.TheConstants.{GENERATORS}
@@ -38,6 +39,22 @@ own_degree code state = homological_degree code (generator_of state 0)
 abbrev pub own_base : Code → ℤ → ℕ → ℕ
 own_base code j state = base_of code (own_degree code state) j state
 
+-- the states with so many 1-smoothings, ascending
+abbrev pub states_with : Code → ℕ → List ℕ
+states_with code level = filter (λ state. nat_eq (one_count code state) level) (states code)
+
+-- the same for each number of 1-smoothings below one
+abbrev pub levels_below : Code → ℕ → List (List ℕ)
+levels_below code count = map (states_with code) (range_with_len 0 count)
+
+-- the same for each number of 1-smoothings that a state can have
+unfoldable pub all_levels : Code → List (List ℕ)
+all_levels code = levels_below code (CROSSINGS + 1)
+
+-- the states whose generators have the homological degree i, ascending
+abbrev pub states_at : Code → ℤ → List ℕ
+states_at code i = filter (λ state. int_eq (own_degree code state) i) (states code)
+
 -- how many generators of the quantum degree j the states below a number have, by the ones of the states
 pub record HaveSizes (code : Code) (j : ℤ) (count : ℕ) (sizes : List ℕ) : Type 0 where
   pub size : length sizes ≡ CROSSINGS + 1
@@ -45,9 +62,9 @@ pub record HaveSizes (code : Code) (j : ℤ) (count : ℕ) (sizes : List ℕ) : 
       → slice_index sizes level ≡ base_of code (pos level -ℤ pos (minus_count code.crossings)) j count
 
 -- the diagram's code is accepted and within the limits; there are its negative crossings, for each state its shape and the edges out
--- of it, and for each label of as many circles as any state has how many v- it has, and how many labels before it have as many
+-- of it, the states by the number of their 1-smoothings, and for each label of as many circles as any state has how many v- it has, and how many labels before it have as many
 pub record AreTables (code : Code) (minus : ℕ) (shapes : List Shape) (rows : List (ArrayVec (Option Edge))) (weights ranks : List ℕ)
-    : Type 0 where
+    (levels : List (List ℕ)) : Type 0 where
   pub is_code : IsTrue (accepted code)
   pub few : length code.crossings ≤ CROSSINGS
   pub size : generator_count code ≤ GENERATORS
@@ -59,6 +76,7 @@ pub record AreTables (code : Code) (minus : ℕ) (shapes : List Shape) (rows : L
   pub most : (state : ℕ) → state < 2 ^ length code.crossings → circle_count code state ≤ width
   pub are_weights : weights ≡ weights_of width
   pub are_ranks : ranks ≡ ranks_of weights (length weights)
+  pub are_levels : levels ≡ all_levels code
 
 -- a number of labels v-, if any is given, is that of the labels that have the degrees i and j in a state
 pub record IsWeight (code : Code) (i j : ℤ) (state : ℕ) (given : Option ℕ) : Type 0 where

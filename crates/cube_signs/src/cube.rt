@@ -12,6 +12,7 @@ ghost use Rattle.cube_signs.specs.Tables.{AreRanks};
 ghost use Rattle.cube_signs.specs.declared.limits.TheConstants.{PLACES, WIDTH};
 
 use crate::labels::{ranks_of, weights_of};
+use crate::levels::all_levels;
 use crate::quantum_degrees::block_degrees;
 use crate::shape::{Shape, all_circles, all_shapes};
 use crate::steps::{Steps, all_steps};
@@ -34,18 +35,21 @@ pub struct Cube {
     // before it have as many.
     pub(crate) weights: Vec<u8>,
     pub(crate) ranks: Vec<u32>,
+    // For each number of 1-smoothings the states that have as many.
+    pub(crate) levels: Vec<Vec<u32>>,
 }
 
 impl Model for Cube {
     ghost use Rattle.kh_types.specs.Code.{Code};
     ghost use Rattle.cube_signs.specs.Tables.{AreTables};
+    ghost use Rattle.sparse_block.specs.Inside.{lists_in};
 
     ghost Value = { Code };
 
     ghost view = { λ cube. cube.diagram };
 
     ghost invariant = { λ cube. AreTables cube.diagram cube.minus cube.shapes.items cube.rows.items
-        cube.weights.items cube.ranks.items };
+        cube.weights.items cube.ranks.items (lists_in cube.levels.items) };
 }
 
 impl Cube {
@@ -61,6 +65,7 @@ impl Cube {
         let rows = all_steps(alloc, diagram, &circles)?;
         let weights = weights_of(alloc, most_circles(&shapes))?;
         let ranks = ranks_of(alloc, &weights)?;
+        let levels = all_levels(alloc, diagram, &shapes)?;
         Ok(Cube {
             diagram: *diagram,
             minus: diagram.minus(),
@@ -68,6 +73,7 @@ impl Cube {
             rows,
             weights,
             ranks,
+            levels,
         })
     }
 

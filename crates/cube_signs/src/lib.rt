@@ -8,6 +8,7 @@ mod head_labels;
 mod kind_shapes;
 mod labels;
 pub mod laws;
+mod levels;
 mod limits;
 mod names;
 mod places;

@@ -61,9 +61,10 @@ impl Cube {
     pub(crate) fn names(&self, alloc: Global, at: Degrees) -> Result<Vec<Generator>, NoMemory>
         ensures { IfOk result (λ names. names.items ≡ generators_at self.now at.i at.j) }
     {
+        let states = self.states_at(at);
         let mut names = Vec::new(alloc);
-        'states: for state in 0..self.state_count() {
-            self.push_names(&mut names, state, at)?;
+        'states: for k in 0..states.len() {
+            self.push_names(&mut names, states[k], at)?;
         }
         Ok(names)
     }
@@ -72,19 +73,16 @@ impl Cube {
     fn push_names(
         &self,
         names: &mut Vec<Generator>,
-        state: usize,
+        state: u32,
         at: Degrees,
     ) -> Result<(), NoMemory>
-        requires state { state < 2 ^ length self.now.crossings }
-        requires small { state < 2 ^ 32 }
+        requires { state < 2 ^ length self.now.crossings }
         ensures { OnOk result (names.new.items
             ≡ names.old.items ++ state_generators self.now at.i at.j state) }
     {
-        let shape = self.shape(state);
-        match self.weight(state, at) {
-            Some(weight) => {
-                push_labels(names, self.weights(), state as u32, shape.circles, weight)
-            }
+        let shape = self.shape(state as usize);
+        match self.weight(state as usize, at) {
+            Some(weight) => push_labels(names, self.weights(), state, shape.circles, weight),
             None => Ok(()),
         }
     }

@@ -37,4 +37,5 @@ invariant_of-result c =
       are_weights = c.in_ok-weights.ensures;
       are_ranks =
           c.in_ok-ranks.ensures ∙ ap (λ weights. ranks_of weights (length weights)) c.deref-4.ensures.value;
+      are_levels = c.in_ok-levels.ensures;
     }
