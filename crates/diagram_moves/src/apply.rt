@@ -14,14 +14,18 @@ use crate::slide::slide;
 use crate::triangles::Corners;
 use kh_types::Diagram;
 
-/// The diagram after a Reidemeister move, or the least numbered fault. The state sum stays. A finger that is added is the only move
-/// that can leave the sphere, and one between two pieces never does. Source: Reidemeister 1927; the numbers are this project's rule.
-#[tactic(auto, using(crate::proofs::ApplyLemmas::moves_keep_the_state_sum, crate::proofs::ApplyLemmas::moves_leave_the_sphere, crate::proofs::ApplyLemmas::joined_pieces_stay_on_the_sphere))]
+/// The diagram after a Reidemeister move, or the least numbered fault. The state sum stays. Only a
+/// finger that is added can leave the sphere, and one between two pieces never does. Source:
+/// Reidemeister 1927; the numbers of arcs and the order of faults are this project's rule.
+#[tactic(auto, using(crate::proofs::ApplyLemmas::moves_keep_the_state_sum, crate::proofs::ApplyLemmas::moves_leave_the_sphere, crate::proofs::ApplyLemmas::joined_pieces_stay_on_the_sphere,))]
 pub fn apply_move(diagram: &Diagram, change: Move) -> Result<Diagram, MoveFault>
     ensures moved { result ≡ moved diagram.now change }
-    ensures sum { IfOk result (λ new. (exponent : ℤ) → state_sum new exponent ≡ state_sum diagram.now exponent) }
-    ensures genus { (faces wanted : ℕ) → (result ≡ Err (Genus faces wanted)) ↔ LeavesSphere diagram.now change faces wanted }
-    ensures pieces { JoinsPieces diagram.now change → (faces wanted : ℕ) → ¬ (result ≡ Err (Genus faces wanted)) }
+    ensures sum { IfOk result (λ new. (exponent : ℤ)
+        → state_sum new exponent ≡ state_sum diagram.now exponent) }
+    ensures genus { (faces wanted : ℕ) → (result ≡ Err (Genus faces wanted))
+        ↔ LeavesSphere diagram.now change faces wanted }
+    ensures pieces { JoinsPieces diagram.now change
+        → (faces wanted : ℕ) → ¬ (result ≡ Err (Genus faces wanted)) }
 {
     let _crossings = diagram.crossings();
     moved(diagram, change)

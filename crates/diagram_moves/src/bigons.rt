@@ -28,7 +28,8 @@ fn has_bigon_at(diagram: &Diagram, pair: Pair, p: u8) -> bool
     requires second { pair.second < length diagram.now.crossings }
     requires slot { p < 4 }
     ensures { result
-        ≡ list_any (is_bigon_at diagram.now.crossings pair.first pair.second p) (range_with_len 0 4) }
+        ≡ list_any (is_bigon_at diagram.now.crossings pair.first pair.second p)
+        (range_with_len 0 4) }
 {
     let zero = is_bigon_at(diagram, pair, p, 0);
     let one = is_bigon_at(diagram, pair, p, 1);

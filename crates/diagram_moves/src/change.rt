@@ -7,10 +7,11 @@ pub enum Side {
     Right,
 }
 
-/// A Reidemeister move at a place of a diagram. Arcs and crossings are numbered from 1. Source: Reidemeister 1927.
+/// A Reidemeister move at a place of a diagram. Arcs and crossings are numbered from 1.
+/// Source: Reidemeister 1927.
 #[derive(Clone, Copy, Debug, PartialEq, Eq)]
 pub enum Move {
-    /// A kink is put on an arc, whose first pass is under or over, and whose crossing is positive or negative.
+    /// A kink is put on an arc; its first pass is under or over, its crossing positive or negative.
     KinkAdd {
         arc: u8,
         under_first: bool,

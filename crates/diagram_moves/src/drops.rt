@@ -98,7 +98,8 @@ fn stays(gone: Pair, place: u8) -> bool
 
 // Each arc's class of arcs that are joined straight through, by its least arc.
 fn straight_names(diagram: &Diagram, gone: Pair) -> ArrayVec<u8, CLASS_MEMBERS>
-    ensures { result.items ≡ straight_names diagram.now.crossings (is_of_two gone.first gone.second) }
+    ensures { result.items
+        ≡ straight_names diagram.now.crossings (is_of_two gone.first gone.second) }
 {
     let count = 2 * usize::from(diagram.count()) + 1;
     classes_of(count, &straight_pairs(diagram, gone))
@@ -107,7 +108,8 @@ fn straight_names(diagram: &Diagram, gone: Pair) -> ArrayVec<u8, CLASS_MEMBERS>
 // The passes of the two crossings.
 #[tactic(auto, using(crate::proofs::DropLemmas::straight_more))]
 fn straight_pairs(diagram: &Diagram, gone: Pair) -> ArrayVec<(u8, u8), ARCS>
-    ensures { result.items ≡ straight_pairs diagram.now.crossings (is_of_two gone.first gone.second) }
+    ensures { result.items
+        ≡ straight_pairs diagram.now.crossings (is_of_two gone.first gone.second) }
 {
     let mut pairs = ArrayVec::new();
     'places: for place in 0..diagram.count() {
@@ -118,7 +120,8 @@ fn straight_pairs(diagram: &Diagram, gone: Pair) -> ArrayVec<(u8, u8), ARCS>
 
 fn push_passes(pairs: &mut ArrayVec<(u8, u8), ARCS>, is_gone: bool, slots: Crossing)
     requires { length pairs.old.items + 2 ≤ ARCS }
-    ensures passes { pairs.new.items ≡ pairs.old.items ++ (if is_gone then passes_of slots else []) }
+    ensures passes { pairs.new.items
+        ≡ pairs.old.items ++ (if is_gone then passes_of slots else []) }
     ensures size { length pairs.new.items ≤ length pairs.old.items + 2 }
 {
     if is_gone {
@@ -138,7 +141,8 @@ fn slots_at(diagram: &Diagram, place: u8) -> Crossing
 // The crossings that stay, under the names of the classes of their arcs.
 #[tactic(auto, using(crate::proofs::DropLemmas::kept_more))]
 fn kept_crossings(diagram: &Diagram, names: &[u8], gone: Pair) -> ArrayVec<Crossing, CROSSINGS>
-    ensures { result.items ≡ kept_to diagram.now.crossings names.now gone.first gone.second (length diagram.now.crossings) }
+    ensures { result.items ≡ kept_to diagram.now.crossings names.now gone.first gone.second
+        (length diagram.now.crossings) }
 {
     let mut crossings = ArrayVec::new();
     'places: for place in 0..diagram.count() {
@@ -153,7 +157,8 @@ fn kept_crossings(diagram: &Diagram, names: &[u8], gone: Pair) -> ArrayVec<Cross
 
 fn push_crossing(crossings: &mut ArrayVec<Crossing, CROSSINGS>, stays: bool, slots: Crossing)
     requires { length crossings.old.items < CROSSINGS }
-    ensures crossings { crossings.new.items ≡ crossings.old.items ++ (if stays then slots ∷ [] else []) }
+    ensures crossings { crossings.new.items
+        ≡ crossings.old.items ++ (if stays then slots ∷ [] else []) }
     ensures size { length crossings.new.items ≤ length crossings.old.items + 1 }
 {
     if stays {
@@ -176,7 +181,8 @@ fn renamed(names: &[u8], slots: Crossing) -> Crossing
 // Their signs.
 #[tactic(auto, using(crate::proofs::DropLemmas::signs_more))]
 fn kept_signs(diagram: &Diagram, gone: Pair) -> ArrayVec<bool, CROSSINGS>
-    ensures { result.items ≡ signs_to diagram.now.crossings gone.first gone.second (length diagram.now.crossings) }
+    ensures { result.items
+        ≡ signs_to diagram.now.crossings gone.first gone.second (length diagram.now.crossings) }
 {
     let mut signs = ArrayVec::new();
     'places: for place in 0..diagram.count() {

@@ -1,6 +1,7 @@
 //! What keeps a move from being made.
 
-/// The least numbered fault of a move; the faults stand in their order. Source: this project's rule.
+/// The least numbered fault of a move; the faults stand in their order. Source: this project's
+/// rule.
 #[derive(Clone, Copy, Debug, PartialEq, Eq)]
 pub enum MoveFault {
     /// The first named arc that is no arc and no loop.
@@ -21,6 +22,6 @@ pub enum MoveFault {
     NoTriangle { first: u8, second: u8, third: u8 },
     /// In each triangle of the three crossings each strand goes over one and under one.
     Heights,
-    /// The code that results has so many faces, and a drawing on the sphere would have another number.
+    /// The number of faces of the code that results, where a drawing on the sphere has another.
     Genus { faces: u8, wanted: u8 },
 }

@@ -35,7 +35,7 @@ pub(crate) fn finger_place_fault(diagram: &Diagram, over: u8, under: u8) -> Opti
 }
 
 /// The first fault of a finger that is dropped.
-#[tactic(auto, using(crate::proofs::FaultLemmas::first_is_crossing, crate::proofs::FaultLemmas::second_is_crossing))]
+#[tactic(auto, using(crate::proofs::FaultLemmas::first_is_crossing, crate::proofs::FaultLemmas::second_is_crossing,))]
 pub(crate) fn finger_drop_fault(diagram: &Diagram, first: u8, second: u8) -> Option<MoveFault>
     ensures { result ≡ finger_drop_fault diagram.now first second }
 {
@@ -59,7 +59,8 @@ pub(crate) fn slide_fault(diagram: &Diagram, corners: Corners) -> Option<MoveFau
 // The first of three crossings that there is not.
 fn no_corner(diagram: &Diagram, corners: Corners) -> Option<MoveFault>
     ensures { result ≡ option_or (no_crossing diagram.now corners.first)
-        (option_or (no_crossing diagram.now corners.second) (no_crossing diagram.now corners.third)) }
+        (option_or (no_crossing diagram.now corners.second)
+        (no_crossing diagram.now corners.third)) }
 {
     let later = no_crossing(diagram, corners.second).or(no_crossing(diagram, corners.third));
     no_crossing(diagram, corners.first).or(later)

@@ -42,7 +42,8 @@ pub(crate) fn is_left(side: Side) -> bool
 #[tactic(auto, using(crate::proofs::AddLemmas::fingers_are_taken))]
 pub(crate) fn add_finger(diagram: &Diagram, finger: Finger) -> Result<Diagram, MoveFault>
     ensures { result
-        ≡ answered (finger_add_fault diagram.now finger.over finger.over_left finger.under finger.under_left)
+        ≡ answered
+        (finger_add_fault diagram.now finger.over finger.over_left finger.under finger.under_left)
         (with_finger diagram.now finger.over finger.over_left finger.under finger.under_left) }
 {
     match finger_place_fault(diagram, finger.over, finger.under) {
@@ -56,8 +57,8 @@ pub(crate) fn add_finger(diagram: &Diagram, finger: Finger) -> Result<Diagram, M
 fn with_finger(diagram: &Diagram, finger: Finger) -> Result<Diagram, MoveFault>
     requires { AreTakenArcs diagram.now finger.over finger.under }
     ensures { result
-        ≡ answered (wrong_genus
-        (with_finger diagram.now finger.over finger.over_left finger.under finger.under_left).crossings)
+        ≡ answered (wrong_genus (with_finger diagram.now finger.over finger.over_left
+        finger.under finger.under_left).crossings)
         (with_finger diagram.now finger.over finger.over_left finger.under finger.under_left) }
 {
     let _crossings = diagram.crossings();
@@ -70,7 +71,8 @@ fn with_finger(diagram: &Diagram, finger: Finger) -> Result<Diagram, MoveFault>
 
 fn code_with_finger(diagram: &Diagram, finger: Finger) -> RawCode
     requires { AreTakenArcs diagram.now finger.over finger.under }
-    ensures { result ≡ with_finger diagram.now finger.over finger.over_left finger.under finger.under_left }
+    ensures { result
+        ≡ with_finger diagram.now finger.over finger.over_left finger.under finger.under_left }
 {
     let mut crossings = moved_crossings(diagram, finger);
     let pass = Passing {
@@ -87,8 +89,8 @@ fn code_with_finger(diagram: &Diagram, finger: Finger) -> RawCode
     }
 }
 
-// The two new crossings: the over arc goes on from a number, the under arc from another; the first crossing is positive or
-// negative, and the under arc passes it first or second.
+// The two new crossings: the over arc goes on from a number, the under arc from another; the first
+// crossing is positive or negative, and the under arc passes it first or second.
 #[derive(Clone, Copy)]
 struct Passing {
     over: u8,
@@ -98,10 +100,14 @@ struct Passing {
 }
 
 // The old crossings on the new arcs.
-#[tactic(auto, using(crate::proofs::AddLemmas::fingered_more, crate::proofs::AddLemmas::length_fingered))]
+#[tactic(auto, using(
+    crate::proofs::AddLemmas::fingered_more,
+    crate::proofs::AddLemmas::length_fingered,
+))]
 fn moved_crossings(diagram: &Diagram, finger: Finger) -> ArrayVec<Crossing, CROSSINGS>
     requires { AreTakenArcs diagram.now finger.over finger.under }
-    ensures crossings { result.items ≡ moved_crossings diagram.now.crossings finger.over finger.under }
+    ensures crossings { result.items
+        ≡ moved_crossings diagram.now.crossings finger.over finger.under }
     ensures count { length result.items ≡ length diagram.now.crossings }
 {
     let mut crossings = ArrayVec::new();
@@ -208,7 +214,8 @@ fn second_crossing(pass: Passing) -> Crossing
     )
 }
 
-// The crossing of an under pass and an over pass, each given by the arcs from which and to which it goes.
+// The crossing of an under pass and an over pass, each given by the arcs from which and to which
+// it goes.
 fn crossing_with(is_positive: bool, under: (u8, u8), over: (u8, u8)) -> Crossing
     ensures { result ≡ crossing_with is_positive under.0 under.1 over.0 over.1 }
 {

@@ -60,7 +60,7 @@ fn code_with_kink(diagram: &Diagram, kink: Kink) -> RawCode
 }
 
 // The old crossings on the new arcs.
-#[tactic(auto, using(crate::proofs::AddLemmas::kinked_more, crate::proofs::AddLemmas::length_kinked))]
+#[tactic(auto, using(crate::proofs::AddLemmas::kinked_more, crate::proofs::AddLemmas::length_kinked,))]
 fn moved_crossings(diagram: &Diagram, arc: u8) -> ArrayVec<Crossing, CROSSINGS>
     requires { IsTakenArc diagram.now arc }
     ensures crossings { result.items ≡ moved_crossings arc diagram.now.crossings }
@@ -102,7 +102,8 @@ fn moved_name(diagram: &Diagram, arc: u8, is_positive: bool, place: u8, slot: u8
     requires few { length diagram.now.crossings ≤ CROSSINGS }
     requires place { place < length diagram.now.crossings }
     requires slot { slot < 4 }
-    ensures { result ≡ kinked_name arc (enters is_positive slot) (arc_of diagram.now.crossings (dart_with (place + 1) slot)) }
+    ensures { result ≡ kinked_name arc (enters is_positive slot)
+        (arc_of diagram.now.crossings (dart_with (place + 1) slot)) }
 {
     let dart = Dart {
         crossing: place + 1,

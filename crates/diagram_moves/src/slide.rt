@@ -76,7 +76,8 @@ fn slid_parts(diagram: &Diagram, triangle: Triangle) -> Parts
 
 #[tactic(auto, using(kh_types::proofs::Ranges::range_steps))]
 fn signs(diagram: &Diagram) -> ArrayVec<bool, CROSSINGS>
-    ensures { result.items ≡ map (positive_at diagram.now.crossings) (range_with_len 0 (length diagram.now.crossings)) }
+    ensures { result.items ≡ map (positive_at diagram.now.crossings)
+        (range_with_len 0 (length diagram.now.crossings)) }
 {
     let mut signs = ArrayVec::new();
     'places: for place in 0..diagram.count() {
@@ -150,7 +151,8 @@ fn source(triangle: Triangle, dart: u8) -> u8
     }
 }
 
-// The dart whose arc comes some slots on from a corner of the triangle, whose face goes on to one dart and comes from another.
+// The dart whose arc comes some slots on from a corner of the triangle, whose face goes on to one
+// dart and comes from another.
 fn corner(next: u8, last: u8, steps: u8) -> u8
     requires { steps < 4 }
     ensures { result ≡ slice_index (corner next last) steps }

@@ -58,7 +58,8 @@ pub(crate) fn slide_slot(diagram: &Diagram, corners: Corners) -> Option<u8>
 pub(crate) fn taken_slot(diagram: &Diagram, corners: Corners) -> u8
     requires { IsCrossing diagram.now.crossings corners.first }
     ensures slot { result
-        ≡ unwrap_or (slide_slot diagram.now.crossings corners.first corners.second corners.third) 0 }
+        ≡ unwrap_or
+        (slide_slot diagram.now.crossings corners.first corners.second corners.third) 0 }
     ensures below { result < 4 }
 {
     match slide_slot(diagram, corners) {
@@ -108,7 +109,8 @@ fn all_of(first: bool, second: bool, third: bool) -> bool
 fn are_apart(corners: Corners) -> bool
     ensures { result
         ≡ (not (nat_eq corners.first corners.second)
-        && (not (nat_eq corners.first corners.third) && not (nat_eq corners.second corners.third))) }
+        && (not (nat_eq corners.first corners.third)
+        && not (nat_eq corners.second corners.third))) }
 {
     let later = corners.first != corners.third && corners.second != corners.third;
     corners.first != corners.second && later
