@@ -2,11 +2,13 @@
 """Rules on the list of crates and on the pages, which `tests/program` tries behind its rows.
 
     tests/rules.py           prints what breaks a rule
-    tests/rules.py --write   writes the list at the end of docs/DEFINITIONS.md and the lengths in docs/THEOREM.md anew
+    tests/rules.py --write   writes anew what follows from the sources: the list at the end of docs/DEFINITIONS.md, the lengths in
+                             docs/THEOREM.md, and what crates stand on in docs/ARCHITECTURE.md
 
-No chain of crates that stand on one another is longer than seven. Each crate has its line in docs/ARCHITECTURE.md. Every name of a
-definition that a clause of a public function cites is found in docs/DEFINITIONS.md, by hand or in the list at its end, which has each
-name with the first sentence of the comment at its definition. The files that are trusted are as long as docs/THEOREM.md says.
+No chain of crates that stand on one another is longer than seven. Each crate has its line in docs/ARCHITECTURE.md, with those that it
+stands on. Every name of a definition that a clause of a public function cites is found in docs/DEFINITIONS.md, by hand or in the list
+at its end, which has each name with the first sentence of the comment at its definition. The files that are trusted are as long as
+docs/THEOREM.md says.
 """
 import os
 import re
@@ -29,11 +31,16 @@ def read(*path):
         return file.read()
 
 
-def stands_on():
-    """Each crate of crates.txt, with those of them that it stands on."""
+def libraries():
+    """Each crate of crates.txt, with all that it stands on."""
     lines = (line.split("#")[0] for line in read("crates.txt").splitlines())
     named = [line.partition(":") for line in lines if ":" in line]
-    below = {head.split()[0]: rest.split() for head, _, rest in named}
+    return {head.split()[0]: rest.split() for head, _, rest in named}
+
+
+def stands_on():
+    """Each crate of crates.txt, with those of them that it stands on."""
+    below = libraries()
     return {name: [it for it in rest if it in below] for name, rest in below.items()}
 
 
@@ -159,6 +166,18 @@ def with_lengths(page):
     return row.sub(lambda it: f"{it.group(1)}{len(read(it.group(2)).splitlines())} |", page)
 
 
+def with_libraries(page):
+    """The page with what each crate of its table stands on, but the crates of tests, which stand on what they test."""
+    known = libraries()
+
+    def row(it):
+        if it.group(2) not in known or "test" in it.group(3):
+            return it.group(0)
+        return f"{it.group(1)}{', '.join(f'`{name}`' for name in known[it.group(2)])} |".replace("|  |", "| |")
+
+    return re.sub(r"^(\| `(\w+)` \|.*\| )([^|]*)\|$", row, page, flags=re.M)
+
+
 def write(name, text):
     with open(os.path.join(TOP, "docs", name), "w", encoding="utf-8") as file:
         file.write(text.rstrip("\n") + "\n")
@@ -172,8 +191,10 @@ def faults():
     folders = sorted(os.listdir(os.path.join(TOP, "crates")))
     there = {it for it in folders if os.path.isdir(os.path.join(TOP, "crates", it, "src"))}
     yield "crates.txt has the crates", ", ".join(sorted(there ^ set(crates))) or None
-    table = set(re.findall(r"^\| `(\w+)` \|", read("docs", "ARCHITECTURE.md"), re.M))
+    page = read("docs", "ARCHITECTURE.md")
+    table = set(re.findall(r"^\| `(\w+)` \|", page, re.M))
     yield "ARCHITECTURE.md has the crates", ", ".join(sorted(table ^ set(crates))) or None
+    yield "ARCHITECTURE.md says what they stand on", "`tests/rules.py --write` mends it" if page != with_libraries(page) else None
     page = read("docs", "THEOREM.md")
     yield "THEOREM.md has the lengths of the edge", "`tests/rules.py --write` mends it" if page != with_lengths(page) else None
     page = read("docs", "DEFINITIONS.md")
@@ -185,6 +206,7 @@ def main():
     if sys.argv[1:] == ["--write"]:
         write("DEFINITIONS.md", page_by_hand().rstrip("\n") + "\n\n" + written_list())
         write("THEOREM.md", with_lengths(read("docs", "THEOREM.md")))
+        write("ARCHITECTURE.md", with_libraries(read("docs", "ARCHITECTURE.md")))
     broken = [f"{name}: {fault}" for name, fault in faults() if fault]
     print("\n".join(broken) or "no rule is broken")
     return 1 if broken else 0

@@ -4,6 +4,7 @@ use Rattle.std.specs.List.{count_by, list_any, range_with_len}
 use Rattle.kh_types.specs.Code.{Code}
 use Rattle.braid_maker.specs.Words.{touches, closed_crossings}
 
+-- the letter at a place
 abbrev pub letter_at : List ℤ → ℕ → ℤ
 letter_at letters place = get_or letters place (pos 0)
 

@@ -35,9 +35,11 @@ named_parts strands n left is_over loops = record {
   loops = loops;
 }
 
+-- how many strands pass no crossing
 abbrev pub straight_count : ℕ → List ℤ → ℕ
 straight_count strands letters = count_by (is_straight letters) (range_with_len 1 strands)
 
+-- the crossings of the closed braid of some letters on some strands, under the names of their arcs, with directions and loops
 abbrev pub closure_parts : ℕ → List ℤ → Parts
 closure_parts strands letters =
     named_parts strands (length letters) (left_of letters) (passes_over letters) (straight_count strands letters)

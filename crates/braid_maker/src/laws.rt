@@ -1,4 +1,4 @@
-//! Laws.
+//! What closed braids are as codes, and how many generators those of numbers have.
 
 ghost use Rattle.std.specs.Prelude.{◌≡◌, ◌<◌, ◌≤◌, ◌+◌, ◌*◌, ◌^◌, ℕ, ℤ, List, Bool, [], ◌∷◌, pos, neg_ℤ, codes, length, true, IsTrue};
 ghost use Rattle.kh_types.specs.declared.limits.TheConstants.{COMPONENTS};
@@ -16,7 +16,7 @@ ghost use Rattle.braid_maker.specs.Words.{closed_crossings};
 ghost use Rattle.braid_maker.specs.Braids.{braid_crossings, braid_code};
 ghost use Rattle.braid_maker.specs.Closures.{closure, code_of_number, letters_of, closure_parts, AreLetters, IsRenumbered};
 
-/// Worked.
+/// Closures worked out: how many pieces, faces and loops, the trefoil, the figure eight knot, and the number 0.
 pub fn worked()
     ensures pieces { piece_count (braid_crossings (pos 1 ∷ pos 1 ∷ neg_ℤ (pos 3) ∷ pos 3 ∷ [])) ≡ 2 }
     ensures faces { face_count (braid_crossings (pos 1 ∷ pos 1 ∷ neg_ℤ (pos 3) ∷ pos 3 ∷ [])) ≡ 8 }
@@ -35,7 +35,7 @@ pub fn worked()
     ensures bench_crossings { length (code_of_number 0).crossings ≡ 10 }
 {}
 
-/// The diagram of the number 0.
+/// How many generators the diagram of the number 0 has.
 pub fn zero()
     ensures { generator_count (code_of_number 0) ≡ 118104 }
 {}

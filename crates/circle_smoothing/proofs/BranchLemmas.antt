@@ -1,5 +1,5 @@
 -- States on a branch: how many are counted at a place, and what is counted where the branch parts in two.
-use Rattle.std.proofs.Common.{◌≡◌, ◌≢◌, ℕ, zero, suc, ◌+◌, ◌-◌, ◌*◌, ◌/◌, ◌%◌, ◌^◌, ◌<◌, ◌≤◌, ◌∙◌, List, [], ◌∷◌, ◌++◌, map, length, get_or, ap, ap₂, sym, subst, refl, arith, Bool, true, false, cond, inl, inr, eq-eqb}
+use Rattle.std.proofs.Common.{◌≡◌, ℕ, zero, suc, ◌+◌, ◌-◌, ◌*◌, ◌/◌, ◌%◌, ◌^◌, ◌<◌, ◌≤◌, ◌∙◌, List, [], ◌∷◌, ◌++◌, map, length, get_or, ap, ap₂, sym, subst, refl, arith, Bool, true, false, cond, inl, inr, eq-eqb}
 use Rattle.std.proofs.lemmas.Bool.{ne_eqb}
 use Rattle.std.specs.Prelude.{nat_eq, slice_index}
 use Rattle.std.specs.List.{count_by, enumerate_from, flat_map, fold, range_with_len, sum_by}
@@ -7,7 +7,6 @@ use Rattle.std.proofs.Math.ListN.{set}
 use Rattle.std.proofs.Math.Nat.{div-div-eq-div-mul, two-pow-succ}
 use Rattle.std.proofs.Math.Path.{fun_ext}
 use Rattle.std.proofs.lemmas.Bool.{cases_eq}
-use Rattle.std.proofs.lemmas.Bool.Decides.{nat_tests}
 use Rattle.std.proofs.lemmas.List.{get_or-set_same, get_or-set_other}
 use Rattle.std.proofs.lemmas.List.FromFn.{fill_by_all, length-range_with_len}
 use Rattle.std.proofs.lemmas.List.Sums.{count_by-le-length, fold-append, sum_by-cons}
@@ -17,7 +16,7 @@ use Rattle.kh_types.specs.Circles.{smoothing_of, smoothings_of}
 use Rattle.kh_types.specs.Classes.{class_count, joined}
 use Rattle.kh_types.proofs.Ranges.{count_by-range_more}
 use Rattle.kh_types.specs.Code.{arc_in}
-use Rattle.circle_smoothing.specs.Branches.{HasArcsBelow, HaveArcsBelow, IsBranch, LeavesCrossings, branch_count, count_place, joins_of, place_on_branch}
+use Rattle.circle_smoothing.specs.Branches.{HasArcsBelow, HaveArcsBelow, LeavesCrossings, branch_count, count_place, place_on_branch}
 use Rattle.circle_smoothing.specs.declared.branches.Branch.{Branch}
 use Rattle.circle_smoothing.specs.declared.branches.TheConstants.{MEMBERS}
 

@@ -1,5 +1,5 @@
 -- The number of generators, state by state and kind by kind.
-use Rattle.std.proofs.Common.{◌≡◌, ℕ, zero, suc, ◌+◌, ◌*◌, ◌/◌, ◌%◌, ◌^◌, ◌<◌, ◌≤◌, ◌∙◌, List, [], ◌∷◌, ap, ap₂, sym, refl, length, arith, Bool, cond, inl, inr, eq-eqb}
+use Rattle.std.proofs.Common.{◌≡◌, ℕ, zero, suc, ◌+◌, ◌*◌, ◌^◌, ◌<◌, ◌≤◌, ◌∙◌, List, [], ◌∷◌, ap, ap₂, sym, refl, length, arith, Bool, cond, inl, inr, eq-eqb}
 use Rattle.std.specs.Prelude.{nat_eq}
 use Rattle.std.specs.List.{count_by, range_with_len, sum_by}
 use Rattle.std.proofs.Math.Nat.{mul-le-mul_right}
@@ -10,7 +10,6 @@ use Rattle.std.proofs.lemmas.List.{length-map}
 use Rattle.std.proofs.lemmas.List.Concat.{length-flat_map}
 use Rattle.std.proofs.lemmas.List.FromFn.{length-range_with_len}
 use Rattle.std.proofs.lemmas.List.Sums.{sum_by-cons}
-use Rattle.std.proofs.lemmas.Nat.{pow-add}
 use Rattle.kh_types.specs.Accepted.{IsAccepted}
 use Rattle.kh_types.specs.Circles.{circle_count}
 use Rattle.kh_types.specs.Code.{Code}
@@ -20,7 +19,7 @@ use Rattle.kh_types.proofs.CircleBound.{circle_count-within}
 use Rattle.kh_types.proofs.QuantumDegrees.{one_count-le}
 use Rattle.kh_types.proofs.Ranges.{sum_by-range_more}
 use Rattle.circle_smoothing.specs.GeneratorCounts.{generator_count, kind_generators, label_count}
-use Rattle.circle_smoothing.specs.Kinds.{kind_circles, kind_count, kind_of, kind_ones, state_kind}
+use Rattle.circle_smoothing.specs.Kinds.{kind_circles, state_kind}
 use Rattle.circle_smoothing.specs.declared.kinds.TheConstants.{KINDS}
 use Rattle.circle_smoothing.proofs.KindLemmas.{kind_circles-kind_of, kind_count-states}
 

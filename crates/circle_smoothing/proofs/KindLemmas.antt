@@ -1,11 +1,10 @@
 -- Kinds of states: what a walk over the branches has counted, and sums over states by their kinds.
-use Rattle.std.proofs.Common.{◌≡◌, ◌≢◌, ℕ, zero, suc, ◌+◌, ◌-◌, ◌*◌, ◌/◌, ◌%◌, ◌^◌, ◌<◌, ◌≤◌, ◌∙◌, List, [], ◌∷◌, ◌++◌, length, get_or, ap, ap₂, sym, subst, refl, arith, Bool, true, false, cond, inl, inr, eq-eqb}
+use Rattle.std.proofs.Common.{◌≡◌, ℕ, zero, suc, ◌+◌, ◌-◌, ◌*◌, ◌/◌, ◌%◌, ◌^◌, ◌<◌, ◌≤◌, ◌∙◌, List, [], ◌∷◌, length, get_or, ap, ap₂, sym, subst, refl, arith, Bool, true, false, cond, inl, inr, eq-eqb}
 use Rattle.std.specs.Prelude.{nat_eq, ◌&&◌, slice_index, replicate, IsTrue}
-use Rattle.std.specs.List.{count_by, enumerate_from, flat_map, fold, range_with_len, sum_by}
+use Rattle.std.specs.List.{count_by, enumerate_from, flat_map, range_with_len}
 use Rattle.std.proofs.Math.Path.{fun_ext}
 use Rattle.std.proofs.Math.Pow.{pow_mono}
 use Rattle.std.proofs.lemmas.Bool.{cases_eq, eqb-true, false≢true, ne_eqb}
-use Rattle.std.proofs.lemmas.Bool.Decides.{nat_tests}
 use Rattle.std.proofs.lemmas.List.{length-append}
 use Rattle.std.proofs.lemmas.List.FromFn.{length-range_with_len}
 use Rattle.std.proofs.lemmas.List.Sums.{count_by-le-length, length-filter, sum_by-cons}
@@ -15,14 +14,14 @@ use Rattle.kh_types.specs.Accepted.{IsAccepted}
 use Rattle.kh_types.proofs.AcceptedLemmas.{IsAccepted-is}
 use Rattle.kh_types.specs.Bits.{bit, ones}
 use Rattle.kh_types.specs.Circles.{circle_count, circles_of, smoothing_of, smoothings_of}
-use Rattle.kh_types.specs.Classes.{class_count, classes_of, is_least, joined}
+use Rattle.kh_types.specs.Classes.{class_count, classes_of, is_least}
 use Rattle.kh_types.specs.Code.{Code, arc_count, arc_in, arcs_and_loops}
 use Rattle.kh_types.specs.Generators.{one_count, states}
 use Rattle.kh_types.specs.declared.limits.TheConstants.{CIRCLES, CROSSINGS}
 use Rattle.kh_types.proofs.CircleBound.{ArcsBelow-slots, circle_count-within, smoothings_of-below}
 use Rattle.kh_types.proofs.ClassCounts.{class_count-append, class_count-circles, class_count-wider}
 use Rattle.kh_types.proofs.QuantumDegrees.{one_count-le}
-use Rattle.circle_smoothing.specs.Branches.{HaveArcsBelow, branch_count, count_place, joins_of, place_on_branch}
+use Rattle.circle_smoothing.specs.Branches.{HaveArcsBelow, branch_count, count_place, joins_of}
 use Rattle.circle_smoothing.specs.Kinds.{AreKinds, code_of_kinds, is_of_kind, kind_circles, kind_count, kind_of, kind_ones, name_count, state_kind, state_place}
 use Rattle.circle_smoothing.specs.declared.branches.TheConstants.{COUNTS, JOINS, MEMBERS}
 use Rattle.circle_smoothing.specs.declared.kinds.StateKinds.TheInside.{Inside}

@@ -1,5 +1,5 @@
 -- Branches of the states: the smoothings of the first crossings are chosen, and what they join is known.
-use Rattle.std.specs.Prelude.{◌≡◌, ℕ, ◌+◌, ◌-◌, ◌*◌, ◌^◌, ◌<◌, ◌≤◌, List, length, map, nat_eq}
+use Rattle.std.specs.Prelude.{◌≡◌, ℕ, ◌+◌, ◌-◌, ◌*◌, ◌^◌, ◌<◌, ◌≤◌, List, length, nat_eq}
 use Rattle.std.specs.List.{AllByRecursion, count_by, fold, range_with_len}
 use Rattle.kh_types.specs.declared.limits.TheConstants.{CROSSINGS}
 use Rattle.kh_types.specs.Bits.{ones}

@@ -1,5 +1,5 @@
 -- Kinds of states: by how many crossings have their 1-smoothing, and by how many circles there are.
-use Rattle.std.specs.Prelude.{◌≡◌, ℕ, ◌+◌, ◌-◌, ◌*◌, ◌/◌, ◌%◌, ◌<◌, ◌≤◌, List, length, nat_eq, Bool, ◌&&◌, slice_index, IsTrue}
+use Rattle.std.specs.Prelude.{◌≡◌, ℕ, ◌+◌, ◌-◌, ◌*◌, ◌/◌, ◌%◌, ◌<◌, ◌≤◌, length, nat_eq, Bool, ◌&&◌, slice_index, IsTrue}
 use Rattle.std.specs.List.{count_by}
 use Rattle.kh_types.specs.Acceptance.{accepted}
 use Rattle.kh_types.specs.Circles.{circle_count}

@@ -18,7 +18,7 @@ resolution_of_circles circles = record { code = circles.diagram; state = circles
 
 -- the diagram's code is accepted and within the limits; for each arc and loop the number of its circle is kept, and how many
 -- circles there are
-pub record AreNumbered (circles : Inside) : Type 0 where
+pub record AreNumberedCircles (circles : Inside) : Type 0 where
   pub code : IsTrue (accepted circles.diagram)
   pub few : length circles.diagram.crossings ≤ CROSSINGS
   pub numbers : circles.numbers.items ≡ circle_numbers circles.diagram circles.state

@@ -12,8 +12,6 @@ mod numbered;
 mod numbering;
 mod prepared;
 mod tables;
-#[cfg(test)]
-mod tests;
 mod triangle;
 mod walk;
 

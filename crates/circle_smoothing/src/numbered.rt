@@ -30,11 +30,11 @@ impl Model for Circles {
 
     ghost Value = { Resolution };
 
-    ghost use Rattle.circle_smoothing.specs.Numbered.{resolution_of_circles, AreNumbered};
+    ghost use Rattle.circle_smoothing.specs.Numbered.{resolution_of_circles, AreNumberedCircles};
 
     ghost view = { resolution_of_circles };
 
-    ghost invariant = { AreNumbered };
+    ghost invariant = { AreNumberedCircles };
 }
 
 impl Circles {

@@ -96,8 +96,8 @@ pub fn all_events_have_a_run()
         × IsCoreRun p (opening_state code workers) events made after }
 {}
 
-/// The turns that a worker takes at a block under a lock are those of the core, whichever worker and
-/// block it is and whatever the others hold. A look that fits the history is the core's look at the
+/// The turns that a worker takes at a block under a lock are those of the core, whichever worker
+/// and block it is and whatever the others hold. A look that fits the history is the core's look at the
 /// block with this history, and where nothing is left to do under the lock the core answers that
 /// the block is zero. A commit of a look at the history as it is now is taken, and one of a look at
 /// another length is stale, with both lengths.

@@ -5,7 +5,8 @@ ghost use Rattle.circle_smoothing.specs.GeneratorCounts.{generator_count};
 ghost use Rattle.circle_smoothing.specs.declared.limits.TheConstants.{GENERATORS};
 ghost use Rattle.kh_types.specs.declared.limits.TheConstants.{WORKERS};
 ghost use Rattle.commit_core.specs.Rows.{Commits, Forgets, ComesTo, LooksAt};
-ghost use Rattle.commit_core.specs.States.{IsHeldOf, held_by, opening_state, with_held, event_worker};
+ghost use Rattle.commit_core.specs.States.{IsHeldOf, event_worker, held_by, opening_state};
+ghost use Rattle.commit_core.specs.States.{with_held};
 
 use crate::building::nothing_held;
 use crate::held_look::HeldLook;

@@ -24,8 +24,8 @@ pub struct Run {
     pub table: Table,
 }
 
-/// Carries out events on the blocks of a diagram, with so many workers; then each block is cancelled
-/// to zero, which gives the table.
+/// Carries out events on the blocks of a diagram, with so many workers; then each block is
+/// cancelled to zero, which gives the table.
 pub fn run_events<F: PrimeField>(
     alloc: Global,
     diagram: &Diagram,

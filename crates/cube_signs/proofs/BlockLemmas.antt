@@ -15,7 +15,7 @@ use Rattle.circle_smoothing.proofs.KeptNumbers.{count-within}
 use Rattle.sparse_block.specs.declared.entry.Entry.{Entry}
 use Rattle.sparse_block.specs.Inside.{lists_in}
 use Rattle.sparse_block.proofs.LineLemmas.{list-lists_in}
-use Rattle.cube_signs.specs.Columns.{column_to, names_from, AreAllColumns, AreColumns, IsColumn}
+use Rattle.cube_signs.specs.Columns.{column_to, generators_from, AreAllColumns, AreColumns, IsColumn}
 use Rattle.cube_signs.specs.Steps.{HasSteps}
 use Rattle.cube_signs.specs.Tables.{own_base, AreRanks}
 use Rattle.cube_signs.proofs.ColumnHeads.{AreAround, IsColumn-entries}
@@ -83,7 +83,7 @@ columns-none p code i j made none =
 
 -- one degree more
 pub names-at : (code : Code) (low j : ℤ) (count k : ℕ) (names : List (Vec Generator)) (degree : Vec Generator)
-    → lists_in names ≡ names_from code low j count → k < count → k < length names → degree ≡ get_or names k degree
+    → lists_in names ≡ generators_from code low j count → k < count → k < length names → degree ≡ get_or names k degree
     → degree.items ≡ generators_at code (low +ℤ pos k) j
 names-at code low j count k names degree are below within is =
     sym (list-lists_in names k degree within is) ∙ ap (λ (xs : List (List Generator)). slice_index_or xs k []) are
@@ -107,8 +107,8 @@ all_columns-more p code low i j other k names columns made next are is_i is_j is
     })
 
 pub all_names-more : (code : Code) (low i j other : ℤ) (k : ℕ) (names : List Generator) (made next : List (List Generator))
-    → made ≡ names_from code low j k → i ≡ low +ℤ pos k → other ≡ j → names ≡ generators_at code i other
-    → next ≡ made ++ names ∷ [] → next ≡ names_from code low j (k + 1)
+    → made ≡ generators_from code low j k → i ≡ low +ℤ pos k → other ≡ j → names ≡ generators_at code i other
+    → next ≡ made ++ names ∷ [] → next ≡ generators_from code low j (k + 1)
 all_names-more code low i j other k names made next is_made is_i is_j is is_next =
     images-more (λ n. generators_at code (low +ℤ pos n) j) made next names k is_made
     (is ∙ ap₂ (generators_at code) is_i is_j) is_next

@@ -21,7 +21,7 @@ use Rattle.circle_smoothing.specs.declared.change.Edge.{Edge}
 use Rattle.kh_types.proofs.EdgeBits.{set-within}
 use Rattle.sparse_block.specs.declared.entry.Entry.{Entry}
 use Rattle.sparse_block.proofs.AscendingLemmas.{Ascend, ascend-earlier, entries-from_ascend}
-use Rattle.cube_signs.specs.Columns.{column_to, entries_at, head_entry, sign_at, step_entries, IsColumn}
+use Rattle.cube_signs.specs.Columns.{column_to, edge_entries, head_entry, sign_at, step_entries, IsColumn}
 use Rattle.cube_signs.specs.Heads.{labels_behind}
 use Rattle.cube_signs.specs.Steps.{HasSteps, IsStep}
 use Rattle.cube_signs.specs.Tables.{base_of, own_base, own_degree}
@@ -209,13 +209,13 @@ step-has p code i j tail steps bases ranks around place label below (Some change
 column-ascend : (p : ℕ) (code : Code) (i j : ℤ) (tail : Generator) (steps : List (Option Edge)) (bases ranks : List ℕ)
     → AreAround p code i j tail steps bases ranks → (count place : ℕ) → place + count ≡ length code.crossings
     → Ascend p (base_of code (i +ℤ pos 1) j (tail.state + 2 ^ place)) (length (generators_at code (i +ℤ pos 1) j))
-    (flat_map (entries_at p steps bases ranks tail) (range_with_len place count))
-unfolding entries_at
+    (flat_map (edge_entries p steps bases ranks tail) (range_with_len place count))
+unfolding edge_entries
 column-ascend p code i j tail steps bases ranks around zero place all = tt
 column-ascend p code i j tail steps bases ranks around (suc count) place all =
     let next = i +ℤ pos 1 in
     let step = slice_index_or steps place None in
-    let rest = flat_map (entries_at p steps bases ranks tail) (range_with_len (place + 1) count) in
+    let rest = flat_map (edge_entries p steps bases ranks tail) (range_with_len (place + 1) count) in
     let later = column-ascend p code i j tail steps bases ranks around count (place + 1) (omega (arith, all)) in
     joined step (around.of_steps.each place (omega (arith, all))) rest later
   where
@@ -248,7 +248,7 @@ column-ascend p code i j tail steps bases ranks around (suc count) place all =
 pub IsColumn-entries : (p : ℕ) (code : Code) (i j : ℤ) (tail : Generator) (steps : List (Option Edge)) (bases ranks : List ℕ)
     → AreAround p code i j tail steps bases ranks
     → IsColumn p code i j tail (column_to p steps bases ranks tail (length code.crossings))
-unfolding entries_at
+unfolding edge_entries
 IsColumn-entries p code i j tail steps bases ranks around =
     let n = length code.crossings in
     let next = i +ℤ pos 1 in
@@ -256,7 +256,7 @@ IsColumn-entries p code i j tail steps bases ranks around =
     let d = generator_of 0 0 in
     let entries = column_to p steps bases ranks tail n in
     let right : All (IsRight p code i j tail) entries =
-    All-flat_map-range (IsRight p code i j tail) (entries_at p steps bases ranks tail) 0 n
+    All-flat_map-range (IsRight p code i j tail) (edge_entries p steps bases ranks tail) 0 n
     (λ place from below.
     step-right p code i j tail steps bases ranks around place (omega (arith, below)) (slice_index_or steps place None)
     (around.of_steps.each place (omega (arith, below)))) in
@@ -285,7 +285,7 @@ IsColumn-entries p code i j tail steps bases ranks around =
           let there : place_from code next j (tail.state + 2 ^ place) at.label ≡ row =
           ap (λ s. place_from code next j s at.label) (sym behind) ∙ sym at.is in
           subst (Contains (map (λ (e : Entry). e.place) entries)) there
-          (Contains-images (λ (e : Entry). e.place) (entries_at p steps bases ranks tail) n place
+          (Contains-images (λ (e : Entry). e.place) (edge_entries p steps bases ranks tail) n place
           (place_from code next j (tail.state + 2 ^ place) at.label) below
           (step-has p code i j tail steps bases ranks around place at.label below (slice_index_or steps place None)
           (around.of_steps.each place below) step.2 small goes_there)));

@@ -1,19 +1,15 @@
 -- The steps of the loops over the generators of two degrees.
-use Rattle.std.proofs.Common.{◌≡◌, ℕ, ◌+◌, ◌^◌, ◌<◌, ◌≤◌, ◌∙◌, ℤ, List, [], ◌∷◌, ◌++◌, length, get_or, map, take, subst, sym, ap, arith, Bool, cond, None, Some, true, false, refl}
+use Rattle.std.proofs.Common.{◌≡◌, ℕ, ◌+◌, ◌^◌, ◌≤◌, ◌∙◌, ℤ, List, [], ◌∷◌, ◌++◌, length, map, take, sym, ap, arith, Bool, cond, None, Some, true, false, refl}
 use Rattle.std.specs.Prelude.{nat_eq, slice_index}
-use Rattle.std.specs.List.{All, count_by}
+use Rattle.std.specs.List.{count_by}
 use Rattle.std.proofs.lemmas.List.{append-nil, append_assoc, length-map, map-append}
-use Rattle.std.proofs.lemmas.List.Elements.{All-map}
-use Rattle.std.proofs.lemmas.List.FromFn.{get_or-range_with_len, length-range_with_len}
 use Rattle.kh_types.specs.Circles.{circle_count}
 use Rattle.kh_types.specs.Code.{Code}
-use Rattle.kh_types.specs.Generators.{Generator, generator_of, generators_at, states}
+use Rattle.kh_types.specs.Generators.{Generator, generator_of, generators_at}
 use Rattle.kh_types.proofs.Ranges.{filter-range_more, flat_map-range_more}
-use Rattle.circle_smoothing.specs.GeneratorCounts.{generator_count}
-use Rattle.circle_smoothing.specs.declared.limits.TheConstants.{GENERATORS}
 use Rattle.cube_signs.specs.LabelRanks.{labels_with}
-use Rattle.cube_signs.specs.Tables.{base_of, generators_below, state_generators, AtState, IsWeight}
-use Rattle.cube_signs.proofs.GeneratorPlaces.{base-more, base-small, generators_at-below, state_generators-labels}
+use Rattle.cube_signs.specs.Tables.{generators_below, state_generators, AtState, IsWeight}
+use Rattle.cube_signs.proofs.GeneratorPlaces.{generators_at-below, state_generators-labels}
 use Rattle.cube_signs.proofs.LabelPlaces.{count_by-take, labels_with-given, state_generators-none}
 
 -- one label more

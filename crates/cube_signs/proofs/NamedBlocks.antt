@@ -31,7 +31,7 @@ use Rattle.sparse_block.proofs.BuildLemmas.{sizes-all_alive}
 use Rattle.sparse_block.proofs.DegreeLemmas.{length-at}
 use Rattle.kh_types.specs.declared.limits.TheConstants.{EXPONENT}
 use Rattle.cube_signs.specs.Blocks.{block_degrees, has_block, named_block}
-use Rattle.cube_signs.specs.Columns.{names_from, AreAllColumns, AreColumns, AreParts}
+use Rattle.cube_signs.specs.Columns.{generators_from, AreAllColumns, AreColumns, AreParts}
 use Rattle.cube_squares.proofs.BlockComplexes.{product_entry-block}
 use Rattle.cube_squares.proofs.BlockDegrees.{cube_degree, degree-at, degree-found, first_degree}
 use Rattle.cube_signs.proofs.GeneratorPlaces.{length-generators_at}
@@ -115,7 +115,7 @@ named_of low degrees names = record { complex = record { low = low; degrees = de
 pub AreParts-columns : (p : ℕ) (code : Code) (j low : ℤ) (count : ℕ) (names : List (List Generator)) (columns : List (List (List Entry)))
     → 1 < p → IsTrue (accepted code) → generator_count code ≤ GENERATORS → 0 < count → neg_ℤ (pos 32) ≤ℤ low → (low +ℤ pos count) ≤ℤ pos 32
     → low ≡ first_or_zero (homological_degrees code j)
-    → count ≡ length (homological_degrees code j) → names ≡ names_from code low j count → AreAllColumns p code low j count columns
+    → count ≡ length (homological_degrees code j) → names ≡ generators_from code low j count → AreAllColumns p code low j count columns
     → AreParts p code j low names columns
 AreParts-columns p code j low count names columns prime is_code size some above below is_low is_count is_names are =
     record {
@@ -222,7 +222,7 @@ pub block-built : (p : ℕ) (code : Code) (j other low : ℤ) (count : ℕ) (nam
     (columns : List (List (List Entry))) → 1 < p → IsTrue (accepted code) → generator_count code ≤ GENERATORS → 0 < count
     → neg_ℤ (pos 32) ≤ℤ low → (low +ℤ pos count) ≤ℤ pos 32 → other ≡ j
     → low ≡ first_or_zero (homological_degrees code other) → count ≡ length (homological_degrees code other)
-    → lists_in names ≡ names_from code low other count → slice ≡ names → AreAllColumns p code low other (length slice) columns
+    → lists_in names ≡ generators_from code low other count → slice ≡ names → AreAllColumns p code low other (length slice) columns
     → AreParts p code j low (lists_in names) columns
 block-built p code j other low count names slice columns prime is_code size some above below is_j is_low is_count is_names is_slice are =
     let long : length slice ≡ count =
@@ -233,7 +233,7 @@ block-built p code j other low count names slice columns prime is_code size some
     subst (λ (j : ℤ). AreParts p code j low (lists_in names) columns) is_j
     (AreParts-columns p code other low count (lists_in names) columns prime is_code size some above below is_low is_count is_names all)
 
-pub length-names : (code : Code) (low j : ℤ) (count : ℕ) (names : List (Vec Generator)) → lists_in names ≡ names_from code low j count
+pub length-names : (code : Code) (low j : ℤ) (count : ℕ) (names : List (Vec Generator)) → lists_in names ≡ generators_from code low j count
     → length names ≡ count
 length-names code low j count names is =
     sym (length-map names (λ (v : Vec Generator). v.items)) ∙ ap length is

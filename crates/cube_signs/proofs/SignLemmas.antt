@@ -8,7 +8,7 @@ use Rattle.kh_types.proofs.BitLemmas.{ones-more}
 use Rattle.kh_types.proofs.Ranges.{flat_map-range_more}
 use Rattle.circle_smoothing.specs.declared.change.Edge.{Edge}
 use Rattle.sparse_block.specs.declared.entry.Entry.{Entry}
-use Rattle.cube_signs.specs.Columns.{column_to, entries_at, sign_at, step_entries}
+use Rattle.cube_signs.specs.Columns.{column_to, edge_entries, sign_at, step_entries}
 
 -- -1 to a power, modulo p
 abbrev sign_of : ℕ → ℕ → ℕ
@@ -39,8 +39,8 @@ pub column-more : (p : ℕ) (steps : List (Option Edge)) (bases ranks : List ℕ
     → made ≡ column_to p steps bases ranks tail place → sign ≡ sign_at p tail.state place
     → next ≡ made ++ step_entries sign bases ranks tail place (slice_index_or steps place None)
     → next ≡ column_to p steps bases ranks tail (place + 1)
-unfolding entries_at
+unfolding edge_entries
 column-more p steps bases ranks tail place sign made next is_made is_sign is_next =
     is_next ∙ ap (λ (xs : List Entry). xs ++ step_entries sign bases ranks tail place (slice_index_or steps place None)) is_made
     ∙ ap (λ s. column_to p steps bases ranks tail place ++ step_entries s bases ranks tail place (slice_index_or steps place None)) is_sign
-    ∙ sym (flat_map-range_more (entries_at p steps bases ranks tail) 0 place place (omega arith))
+    ∙ sym (flat_map-range_more (edge_entries p steps bases ranks tail) 0 place place (omega arith))

@@ -13,6 +13,7 @@ use Rattle.circle_smoothing.specs.declared.change.Edge.{Edge}
 use Rattle.sparse_block.specs.declared.entry.Entry.{Entry}
 use Rattle.sparse_block.specs.Entries.{entry_at, value_at, AreEntries}
 use Rattle.sparse_block.specs.Complexes.{sparse_complex, HaveEntries, SquaresToZero}
+use Rattle.cube_signs.specs.declared.limits.TheConstants.{DEGREES}
 use Rattle.cube_signs.specs.Blocks.{named_block}
 use Rattle.cube_signs.specs.Heads.{labels_behind}
 
@@ -33,13 +34,13 @@ step_entries sign bases ranks tail place (Some change) =
     map (head_entry (slice_index bases (tail.state + 2 ^ place)) ranks sign) (labels_behind change tail.label)
 
 -- the same, of the edges in a list
-unfoldable pub entries_at : ℕ → List (Option Edge) → List ℕ → List ℕ → Generator → ℕ → List Entry
-entries_at p steps bases ranks tail place =
+unfoldable pub edge_entries : ℕ → List (Option Edge) → List ℕ → List ℕ → Generator → ℕ → List Entry
+edge_entries p steps bases ranks tail place =
     step_entries (sign_at p tail.state place) bases ranks tail place (slice_index_or steps place None)
 
 -- the entries along all edges before a place
 abbrev pub column_to : ℕ → List (Option Edge) → List ℕ → List ℕ → Generator → ℕ → List Entry
-column_to p steps bases ranks tail count = flat_map (entries_at p steps bases ranks tail) (range_with_len 0 count)
+column_to p steps bases ranks tail count = flat_map (edge_entries p steps bases ranks tail) (range_with_len 0 count)
 
 -- the numbers of circles that edges name are small
 abbrev pub IsSmall : Option Edge → Type 0
@@ -68,8 +69,8 @@ pub record AreAllColumns (p : ℕ) (code : Code) (low j : ℤ) (count : ℕ) (co
       → AreColumns p code (low +ℤ pos k) j (length (generators_at code (low +ℤ pos k) j)) (slice_index_or columns k [])
 
 -- the generators of the degrees from a least one on
-abbrev pub names_from : Code → ℤ → ℤ → ℕ → List (List Generator)
-names_from code low j count = map (λ k. generators_at code (low +ℤ pos k) j) (range_with_len 0 count)
+abbrev pub generators_from : Code → ℤ → ℤ → ℕ → List (List Generator)
+generators_from code low j count = map (λ k. generators_at code (low +ℤ pos k) j) (range_with_len 0 count)
 
 -- whether each homological degree that there can be has a generator of the quantum degree j
 unfoldable pub flags_of : Code → ℤ → List Bool
@@ -78,8 +79,8 @@ flags_of code j = map (λ i. not (is_empty (generators_at code i j))) (from_minu
 -- names and columns, by degree from a least one on, of which the block at the quantum degree j is made
 pub record AreParts (p : ℕ) (code : Code) (j low : ℤ) (names : List (List Generator)) (columns : List (List (List Entry))) : Type 0 where
   pub some : 0 < length names
-  pub start : neg_ℤ (pos 32) ≤ℤ low
-  pub end : (low +ℤ pos (length names)) ≤ℤ pos 32
+  pub start : neg_ℤ (pos DEGREES) ≤ℤ low
+  pub end : (low +ℤ pos (length names)) ≤ℤ pos DEGREES
   pub counts : All (λ degree. length degree < 2 ^ 32) names
   pub sizes : map length columns ≡ map length names
   pub entries : HaveEntries p names columns

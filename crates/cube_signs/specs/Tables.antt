@@ -12,6 +12,7 @@ use Rattle.kh_types.specs.Generators.{Generator, generator_of, generators_of, ha
 use Rattle.circle_smoothing.specs.GeneratorCounts.{generator_count}
 use Rattle.circle_smoothing.specs.declared.change.Edge.{Edge}
 use Rattle.circle_smoothing.specs.declared.limits.TheConstants.{GENERATORS}
+use Rattle.cube_signs.specs.declared.limits.TheConstants.{WIDTH}
 use Rattle.cube_signs.specs.LabelRanks.{ranks_of, weights_of}
 use Rattle.cube_signs.specs.Shapes.{is_given, shape_of}
 use Rattle.cube_signs.specs.Steps.{steps_in, HaveSteps}
@@ -54,7 +55,7 @@ pub record AreTables (code : Code) (minus : ℕ) (shapes : List Shape) (rows : L
   pub are_shapes : shapes ≡ map (shape_of code) (states code)
   pub are_steps : HaveSteps code (2 ^ length code.crossings) (steps_in rows)
   pub width : ℕ
-  pub narrow : width ≤ 22
+  pub narrow : width ≤ WIDTH
   pub most : (state : ℕ) → state < 2 ^ length code.crossings → circle_count code state ≤ width
   pub are_weights : weights ≡ weights_of width
   pub are_ranks : ranks ≡ ranks_of weights (length weights)

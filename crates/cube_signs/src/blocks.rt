@@ -11,9 +11,10 @@ ghost use Rattle.circle_smoothing.specs.GeneratorCounts.{generator_count};
 ghost use Rattle.circle_smoothing.specs.declared.limits.TheConstants.{GENERATORS};
 ghost use Rattle.sparse_block.specs.Inside.{entries_in, lines_in, lists_in};
 ghost use Rattle.cube_signs.specs.Blocks.{block_degrees, named_block};
-ghost use Rattle.cube_signs.specs.Columns.{flags_of, names_from, AreAllColumns, AreColumns};
+ghost use Rattle.cube_signs.specs.Columns.{flags_of, generators_from, AreAllColumns, AreColumns};
 ghost use Rattle.cube_signs.specs.Columns.{AreParts};
 ghost use Rattle.cube_signs.specs.Tables.{own_base, HaveSizes};
+ghost use Rattle.cube_signs.specs.declared.limits.TheConstants.{DEGREES, PLACES};
 
 use crate::columns::{Column, Heads, column};
 use crate::cube::Cube;
@@ -83,7 +84,7 @@ impl Cube {
     ) -> Result<Vec<Column>, NoMemory>
         requires prime { 1 < p }
         requires bases { bases.now ≡ map (own_base self.now at.j) (states self.now) }
-        requires small { All (λ base. base < 2 ^ 31) bases.now }
+        requires small { All (λ base. base < PLACES) bases.now }
         requires names { names.now ≡ generators_at self.now at.i at.j }
         ensures { IfOk result (λ columns.
             AreColumns p self.now at.i at.j (length names.now) (entries_in columns.items)) }
@@ -111,11 +112,11 @@ impl Cube {
     ) -> Result<Vec<Vec<Column>>, NoMemory>
         requires prime { 1 < p }
         requires bases { bases.now ≡ map (own_base self.now least.j) (states self.now) }
-        requires small { All (λ base. base < 2 ^ 31) bases.now }
-        requires low { neg_ℤ (pos 32) ≤ℤ least.i }
-        requires high { (least.i +ℤ pos (length names.now)) ≤ℤ pos 32 }
+        requires small { All (λ base. base < PLACES) bases.now }
+        requires low { neg_ℤ (pos DEGREES) ≤ℤ least.i }
+        requires high { (least.i +ℤ pos (length names.now)) ≤ℤ pos DEGREES }
         requires names { lists_in names.now
-            ≡ names_from self.now least.i least.j (length names.now) }
+            ≡ generators_from self.now least.i least.j (length names.now) }
         ensures { IfOk result (λ columns.
             AreAllColumns p self.now least.i least.j (length names.now) (lines_in columns.items)) }
     {
@@ -134,10 +135,10 @@ impl Cube {
         least: Degrees,
         count: usize,
     ) -> Result<Vec<Vec<Generator>>, NoMemory>
-        requires low { neg_ℤ (pos 32) ≤ℤ least.i }
-        requires high { (least.i +ℤ pos count) ≤ℤ pos 32 }
+        requires low { neg_ℤ (pos DEGREES) ≤ℤ least.i }
+        requires high { (least.i +ℤ pos count) ≤ℤ pos DEGREES }
         ensures { IfOk result (λ names.
-            lists_in names.items ≡ names_from self.now least.i least.j count) }
+            lists_in names.items ≡ generators_from self.now least.i least.j count) }
     {
         let mut names = Vec::with_capacity(alloc, count)?;
         'degrees: for k in 0..count {
@@ -158,8 +159,8 @@ impl Cube {
         ensures quantum { IfOk result (λ span. span.least.j ≡ lowest.j) }
         ensures count { IfOk result (λ span.
             span.count ≡ length (homological_degrees self.now lowest.j)) }
-        ensures above { IfOk result (λ span. neg_ℤ (pos 32) ≤ℤ span.least.i) }
-        ensures below { IfOk result (λ span. (span.least.i +ℤ pos span.count) ≤ℤ pos 32) }
+        ensures above { IfOk result (λ span. neg_ℤ (pos DEGREES) ≤ℤ span.least.i) }
+        ensures below { IfOk result (λ span. (span.least.i +ℤ pos span.count) ≤ℤ pos DEGREES) }
     {
         // (the number of crossings is small)
         let _ = self.crossing_count();

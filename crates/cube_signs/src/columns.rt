@@ -5,6 +5,7 @@ ghost use Rattle.std.specs.Prelude.{IfOk, OnOk, All};
 ghost use Rattle.kh_types.specs.declared.limits.TheConstants.{CIRCLES, CROSSINGS};
 ghost use Rattle.cube_signs.specs.Columns.{column_to, head_entry, sign_at, step_entries};
 ghost use Rattle.cube_signs.specs.Columns.{AreSmall, IsSmall};
+ghost use Rattle.cube_signs.specs.declared.limits.TheConstants.{PLACES};
 
 use crate::head_labels::labels_behind;
 use crate::steps::state_behind;
@@ -45,8 +46,8 @@ pub fn column(
     requires count { length steps.now ≤ CROSSINGS }
     requires steps { AreSmall steps.now }
     requires label { tail.label < 2 ^ CIRCLES }
-    requires bases { All (λ base. base < 2 ^ 31) heads.bases.now }
-    requires ranks { All (λ rank. rank < 2 ^ 31) heads.ranks.now }
+    requires bases { All (λ base. base < PLACES) heads.bases.now }
+    requires ranks { All (λ rank. rank < PLACES) heads.ranks.now }
     ensures { IfOk result (λ column. column.items
         ≡ column_to p steps.now heads.entry.bases.now heads.entry.ranks.now tail
         (length steps.now)) }
@@ -85,8 +86,8 @@ fn push_step(
     requires place { out.place < CROSSINGS }
     requires step { IsSmall step }
     requires label { out.tail.label < 2 ^ CIRCLES }
-    requires bases { All (λ base. base < 2 ^ 31) heads.bases.now }
-    requires ranks { All (λ rank. rank < 2 ^ 31) heads.ranks.now }
+    requires bases { All (λ base. base < PLACES) heads.bases.now }
+    requires ranks { All (λ rank. rank < PLACES) heads.ranks.now }
     ensures { OnOk result (column.new.items ≡ column.old.items
         ++ step_entries out.sign heads.entry.bases.now heads.entry.ranks.now out.tail out.place
         step) }
@@ -110,8 +111,8 @@ fn push_heads(
     sign: u8,
     labels: &[u64],
 ) -> Result<(), NoMemory>
-    requires base { base < 2 ^ 31 }
-    requires ranks { All (λ rank. rank < 2 ^ 31) ranks.now }
+    requires base { base < PLACES }
+    requires ranks { All (λ rank. rank < PLACES) ranks.now }
     ensures { OnOk result (column.new.items
         ≡ column.old.items ++ map (head_entry base ranks.now sign) labels.now) }
 {
@@ -124,9 +125,9 @@ fn push_heads(
 
 /// The number at a place, and 0 past the end.
 fn number_at(numbers: &[u32], place: usize) -> u32
-    requires { All (λ x. x < 2 ^ 31) numbers.now }
+    requires { All (λ x. x < PLACES) numbers.now }
     ensures number { result ≡ slice_index numbers.now place }
-    ensures small { result < 2 ^ 31 }
+    ensures small { result < PLACES }
 {
     numbers.get(place).copied().unwrap_or(0)
 }

@@ -9,6 +9,7 @@ ghost use Rattle.cube_signs.specs.Blocks.{block_degrees};
 ghost use Rattle.cube_signs.specs.Columns.{AreSmall};
 ghost use Rattle.cube_signs.specs.Steps.{HasSteps};
 ghost use Rattle.cube_signs.specs.Tables.{AreRanks};
+ghost use Rattle.cube_signs.specs.declared.limits.TheConstants.{PLACES, WIDTH};
 
 use crate::labels::{ranks_of, weights_of};
 use crate::quantum_degrees::degrees;
@@ -90,7 +91,7 @@ impl Cube {
     /// For each label, how many labels before it have as many v-.
     pub(crate) fn ranks(&self) -> &[u32]
         ensures ranks { AreRanks self.now result.now }
-        ensures small { All (λ rank. rank < 2 ^ 31) result.now }
+        ensures small { All (λ rank. rank < PLACES) result.now }
         ensures code { IsTrue (accepted self.now) }
         ensures few { length self.now.crossings ≤ CROSSINGS }
     {
@@ -108,9 +109,9 @@ impl Cube {
 /// The most circles of a state.
 #[tactic(auto, using(crate::proofs::TableLemmas::most))]
 fn most_circles(shapes: &[Shape]) -> u8
-    requires { All (λ shape. shape.circles ≤ 22) shapes.now }
+    requires { All (λ shape. shape.circles ≤ WIDTH) shapes.now }
     ensures most { All (λ shape. shape.circles ≤ result) shapes.now }
-    ensures few { result ≤ 22 }
+    ensures few { result ≤ WIDTH }
 {
     let mut most = 0;
     'states: for state in 0..shapes.len() {

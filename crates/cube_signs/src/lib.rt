@@ -7,14 +7,13 @@ mod cube;
 mod head_labels;
 mod labels;
 pub mod laws;
+mod limits;
 mod names;
 mod places;
 mod quantum_degrees;
 mod shape;
 mod size;
 mod steps;
-#[cfg(test)]
-mod tests;
 
 pub use blocks::block_columns;
 pub use cube::Cube;

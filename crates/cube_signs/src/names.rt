@@ -14,6 +14,7 @@ ghost use Rattle.circle_smoothing.specs.declared.limits.TheConstants.{GENERATORS
 ghost use Rattle.cube_signs.specs.LabelRanks.{labels_with};
 ghost use Rattle.cube_signs.specs.Shapes.{shape_of};
 ghost use Rattle.cube_signs.specs.Tables.{base_of, state_generators, AtState, IsWeight};
+ghost use Rattle.cube_signs.specs.declared.limits.TheConstants.{DEGREES, WIDTH};
 
 use crate::cube::Cube;
 use crate::shape::Shape;
@@ -31,8 +32,8 @@ pub struct Degrees {
 impl Degrees {
     /// The homological degree that is a distance above, and the same quantum degree.
     pub fn above(self, distance: usize) -> Degrees
-        requires low { neg_ℤ (pos 32) ≤ℤ self.i }
-        requires high { (self.i +ℤ pos distance) ≤ℤ pos 32 }
+        requires low { neg_ℤ (pos DEGREES) ≤ℤ self.i }
+        requires high { (self.i +ℤ pos distance) ≤ℤ pos DEGREES }
         ensures i { result.i ≡ self.i +ℤ pos distance }
         ensures j { result.j ≡ self.j }
     {
@@ -44,7 +45,7 @@ impl Degrees {
 
     /// The next homological degree, and the same quantum degree.
     pub fn next(self) -> Degrees
-        requires { self.i ≤ℤ pos 32 }
+        requires { self.i ≤ℤ pos DEGREES }
         ensures i { result.i ≡ self.i +ℤ pos 1 }
         ensures j { result.j ≡ self.j }
     {
@@ -136,7 +137,7 @@ impl Cube {
     pub(crate) fn shape(&self, state: usize) -> Shape
         requires { state < 2 ^ length self.now.crossings }
         ensures shape { result ≡ shape_of self.now state }
-        ensures few { result.circles ≤ 22 }
+        ensures few { result.circles ≤ WIDTH }
     {
         self.shapes[state]
     }
@@ -150,7 +151,7 @@ fn push_labels(
     circles: u8,
     weight: u16,
 ) -> Result<(), NoMemory>
-    requires circles { circles < 32 }
+    requires circles { circles ≤ WIDTH }
     requires weights { 2 ^ circles ≤ length weights.now }
     ensures { OnOk result (names.new.items ≡ names.old.items
         ++ map (generator_of state) (labels_with weights.now weight (2 ^ circles))) }
@@ -178,7 +179,7 @@ fn push_name(
 
 /// The weights of the labels of some circles.
 fn first_labels(weights: &[u8], circles: u8) -> &[u8]
-    requires circles { circles < 32 }
+    requires circles { circles ≤ WIDTH }
     requires weights { 2 ^ circles ≤ length weights.now }
     ensures { result.now ≡ take (2 ^ circles) weights.now }
 {

@@ -5,6 +5,7 @@ ghost use Rattle.std.specs.Prelude.{◌≡◌, ◌^◌, ◌<◌, length, map, �
 ghost use Rattle.kh_types.specs.Generators.{generators_at, one_count, states};
 ghost use Rattle.kh_types.specs.declared.limits.TheConstants.{CROSSINGS};
 ghost use Rattle.cube_signs.specs.Tables.{own_base, own_degree, HaveSizes};
+ghost use Rattle.cube_signs.specs.declared.limits.TheConstants.{PLACES};
 
 use crate::cube::Cube;
 use crate::names::Degrees;
@@ -27,7 +28,7 @@ impl Cube {
     pub(crate) fn places(&self, alloc: Global, j: i16) -> Result<Places, NoMemory>
         ensures bases { IfOk result (λ places.
             places.bases.items ≡ map (own_base self.now j) (states self.now)) }
-        ensures small { IfOk result (λ places. All (λ base. base < 2 ^ 31) places.bases.items) }
+        ensures small { IfOk result (λ places. All (λ base. base < PLACES) places.bases.items) }
         ensures sizes { IfOk result (λ places.
             HaveSizes self.now j (2 ^ length self.now.crossings) places.sizes) }
     {

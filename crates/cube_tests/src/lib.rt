@@ -1,6 +1,9 @@
-//! Tests of the cube: what no clause says of circles, blocks, cancellations, workers, tables and polynomials.
+//! Tests of the cube: what no clause says of circles, blocks, cancellations, workers, tables and
+//! polynomials.
 #![tactic(auto)]
 
+#[cfg(test)]
+mod blocks;
 #[cfg(test)]
 mod cancellations;
 #[cfg(test)]
@@ -10,8 +13,12 @@ mod homology_tables;
 #[cfg(test)]
 mod locks;
 #[cfg(test)]
+mod polynomials;
+#[cfg(test)]
 mod shared_blocks;
 #[cfg(test)]
 mod sparse_complexes;
+#[cfg(test)]
+mod states;
 #[cfg(test)]
 mod workers;

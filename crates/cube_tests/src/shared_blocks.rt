@@ -9,8 +9,8 @@ use std::alloc::Global;
 use std::process::Abort;
 use std::test::Fail;
 
-/// The blocks of a link over a field, ascending: the quantum degree, how many turns the block takes,
-/// and the sum of its homology dimensions.
+/// The blocks of a link over a field, ascending: the quantum degree, how many turns the block
+/// takes, and the sum of its homology dimensions.
 struct Worked {
     crossings: &'static [[u8; 4]],
     field: u8,

@@ -1,5 +1,5 @@
 -- Sums over states, kind by kind.
-use Rattle.std.proofs.Common.{◌≡◌, ℕ, zero, suc, ◌+◌, ◌*◌, ◌%◌, ◌^◌, ◌<◌, ◌≤◌, ◌∙◌, List, [], ◌∷◌, ◌++◌, map, length, get_or, take, ap, sym, refl, arith, ℤ, pos, ◌+ℤ◌, ◌*ℤ◌, Bool, cond, inl, inr, eq-eqb}
+use Rattle.std.proofs.Common.{◌≡◌, ℕ, zero, suc, ◌+◌, ◌*◌, ◌^◌, ◌<◌, ◌≤◌, ◌∙◌, List, [], ◌∷◌, ◌++◌, map, length, get_or, take, ap, sym, refl, arith, ℤ, pos, ◌+ℤ◌, ◌*ℤ◌, Bool, cond, inl, inr, eq-eqb}
 use Rattle.std.specs.Prelude.{nat_eq, replicate, unsigned_abs}
 use Rattle.std.specs.List.{count_by, enumerate_from, range_with_len, sum}
 use Rattle.std.proofs.Math.IntN.{suc_ℤ-*ℤ, zero-*ℤ, +ℤ_assoc}

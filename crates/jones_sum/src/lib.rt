@@ -10,8 +10,6 @@ pub mod laws;
 mod row;
 mod table;
 mod terms;
-#[cfg(test)]
-mod tests;
 
 pub use characteristic::euler;
 pub use finding::{jones, state_sum};

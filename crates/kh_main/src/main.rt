@@ -7,7 +7,7 @@ mod words;
 
 ghost use Rattle.std.specs.Prelude.{◌≡◌};
 ghost use Rattle.std.specs.Process.{exit_status};
-ghost use Rattle.kh_work.specs.Statuses.{status_number};
+ghost use Rattle.kh_replies.specs.Statuses.{status_number};
 
 use kh_io::{StdSink, StdSource};
 use kh_work::{Status, run};

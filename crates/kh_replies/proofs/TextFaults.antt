@@ -13,9 +13,9 @@ use Rattle.kh_types.proofs.FewComponents.{first_fault-other}
 use Rattle.pd_code.specs.Reading as pd
 use Rattle.gauss_code.specs.Reading as gauss
 use Rattle.gauss_code.specs.Faults as gauss_faults
-use Rattle.gauss_code.specs.Listings.{crossing_count, loop_count}
+use Rattle.gauss_code.specs.Listings.{crossing_count, loop_group_count}
 use Rattle.gauss_code.specs.declared.stop.GaussStop.{GaussStop}
-use Rattle.gauss_code.specs.Codes.{code_of}
+use Rattle.gauss_code.specs.Codes.{listed_code}
 use Rattle.json_code.specs.Reading as json
 use Rattle.kh_replies.specs.declared.input.InputForm.{InputForm}
 use Rattle.kh_replies.specs.declared.input.InputForm.TheVariants as forms
@@ -28,7 +28,7 @@ record IsSmall (code : Code) : Type 0 where
   crossings : length code.crossings ≤ CROSSINGS
   loops : code.loops ≤ LOOPS
 
-pd-small : (bytes : List ℕ) (code : Code) → pd.ReadsAs bytes code → IsSmall code
+pd-small : (bytes : List ℕ) (code : Code) → pd.ReadsAsPd bytes code → IsSmall code
 pd-small bytes code is = subst IsSmall (sym is.same) (record { crossings = is.crossings; loops = is.loops })
 
 json-small : (bytes : List ℕ) (code : Code) → json.ReadsAsJson bytes code → IsSmall code
@@ -43,19 +43,19 @@ or-second : (a b : Option GaussStop) → option_or a b ≡ None → b ≡ None
 or-second None b none = none
 or-second (Some x) b none = let e : Some x ≡ None = none in absurd (cc)
 
-within-limit : (count limit : ℕ) (stop : GaussStop) (above : Bool) → nat_lt limit count ≡ above → gauss_faults.fault_if above stop ≡ None
+within-limit : (count limit : ℕ) (stop : GaussStop) (above : Bool) → nat_lt limit count ≡ above → gauss_faults.gauss_fault_if above stop ≡ None
     → count ≤ limit
 within-limit count limit stop true is none = let e : Some stop ≡ None = none in absurd (cc)
 within-limit count limit stop false is none = grind (arith, common_steps)
 
-gauss-small : (bytes : List ℕ) (code : Code) → gauss.ReadsAs bytes code → IsSmall code
+gauss-small : (bytes : List ℕ) (code : Code) → gauss.ReadsAsGauss bytes code → IsSmall code
 gauss-small bytes code is =
     let body = is.listing.body in
     let crossings : crossing_count body ≤ CROSSINGS =
     within-limit (crossing_count body) CROSSINGS _ (nat_lt CROSSINGS (crossing_count body)) refl (or-first _ _ is.good) in
-    let loops : loop_count body ≤ LOOPS =
-    within-limit (loop_count body) LOOPS _ (nat_lt LOOPS (loop_count body)) refl (or-first _ _ (or-second _ _ is.good)) in
-    let counted : length (code_of body (gauss_faults.signs_of is.listing)).crossings ≡ crossing_count body =
+    let loops : loop_group_count body ≤ LOOPS =
+    within-limit (loop_group_count body) LOOPS _ (nat_lt LOOPS (loop_group_count body)) refl (or-first _ _ (or-second _ _ is.good)) in
+    let counted : length (listed_code body (gauss_faults.signs_of is.listing)).crossings ≡ crossing_count body =
     length-map-range_with_len _ 0 (crossing_count body) in
     subst IsSmall (sym is.same) (record { crossings = subst (λ (n : ℕ). n ≤ CROSSINGS) (sym counted) crossings; loops = loops })
 

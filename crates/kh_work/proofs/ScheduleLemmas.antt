@@ -1,5 +1,5 @@
 -- The events of a schedule that is read are of workers that there are.
-use Rattle.std.proofs.Common.{◌≡◌, ℕ, ◌≤◌, List, All, slice_index_or, sym, subst}
+use Rattle.std.proofs.Common.{◌≡◌, ℕ, ◌≤◌, ◌∙◌, ◌++◌, List, All, slice_index_or, ap, sym, subst}
 use Rattle.std.proofs.lemmas.List.Elements.{All-map}
 use Rattle.kh_types.specs.declared.limits.TheConstants.{WORKERS}
 use Rattle.undo_stack.specs.Schedule.{HasWorker}
@@ -7,7 +7,9 @@ use Rattle.undo_stack.specs.declared.schedule.ScheduleLine.{ScheduleLine}
 use Rattle.undo_stack.specs.declared.schedule.ScheduleLine.TheVariants as lines
 use Rattle.commit_core.specs.States.{event_worker}
 use Rattle.commit_core.specs.declared.event.Event.{Event}
-use Rattle.kh_work.specs.Schedule.{event_of, events_of}
+use Rattle.kh_types.specs.Table.{Table, table_text}
+use Rattle.commit_core.specs.declared.answer.Answer.{Answer}
+use Rattle.kh_work.specs.Schedule.{answer_lines, event_of, events_of}
 
 -- the worker of an event is one that there is
 abbrev IsOfWorker : Event → Type 0
@@ -24,3 +26,10 @@ events_of-workers script events are all =
     subst (All IsOfWorker) (sym are)
     (All-map IsOfWorker (λ line. event_of line.1) script
     (λ k d below. HasWorker-event (slice_index_or script k d) (all k d below)))
+
+-- the text of a run is that of its answers and its table, given what these are
+pub run_text-is : (script : List (ℕ × ScheduleLine)) (answers found wanted : List Answer) (made homology : Table) (text : List ℕ)
+    → answers ≡ found → found ≡ wanted → made ≡ homology → text ≡ answer_lines script answers ++ table_text made
+    → text ≡ answer_lines script wanted ++ table_text homology
+run_text-is script answers found wanted made homology text first second same is =
+    is ∙ ap (λ xs. answer_lines script xs ++ table_text made) (first ∙ second) ∙ ap (λ t. answer_lines script wanted ++ table_text t) same

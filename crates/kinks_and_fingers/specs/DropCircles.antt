@@ -30,19 +30,21 @@ strand_circle_count bound strands state =
     count_by (λ name. is_least (classes_of bound (smoothings_of strands.crossings state)) name && stands_in strands.crossings name)
     (range_with_len 0 bound) + strands.loops
 
--- how many of the crossings are positive, and how many are not
+-- how many of the crossings are positive
 abbrev pub strand_plus : Strands → ℕ
 strand_plus strands = count_by (λ (is_positive : Bool). is_positive) strands.signs
 
+-- how many of them are not
 abbrev pub strand_minus : Strands → ℕ
 strand_minus strands = length strands.crossings - strand_plus strands
 
--- what a state adds to the state sum, and the state sum, of crossings over names below a bound
+-- what a state adds to the state sum of crossings over names below a bound
 abbrev pub strand_term : ℕ → Strands → ℤ → ℕ → ℤ
 strand_term bound strands exponent state =
     term_of (strand_plus strands) (strand_minus strands) exponent (ones (length strands.crossings) state)
     (strand_circle_count bound strands state)
 
+-- that state sum
 abbrev pub strand_sum : ℕ → Strands → ℤ → ℤ
 strand_sum bound strands exponent =
     int_sum (map (strand_term bound strands exponent) (range_with_len 0 (2 ^ length strands.crossings)))

@@ -31,10 +31,12 @@ renamed_slots names slots =
 abbrev pub kept_places : List (List ℕ) → (ℕ → Bool) → List ℕ
 kept_places crossings gone = filter (λ place. not (gone place)) (range_with_len 0 (length crossings))
 
+-- these crossings, with each arc under the name of its class
 abbrev pub kept_crossings : List (List ℕ) → (ℕ → Bool) → List (List ℕ)
 kept_crossings crossings gone =
     map (λ place. renamed_slots (straight_names crossings gone) (slots_at crossings place)) (kept_places crossings gone)
 
+-- whether each of these crossings is positive
 abbrev pub kept_signs : List (List ℕ) → (ℕ → Bool) → List Bool
 kept_signs crossings gone = map (positive_at crossings) (kept_places crossings gone)
 
@@ -49,6 +51,7 @@ abbrev pub is_ring : List (List ℕ) → (ℕ → Bool) → ℕ → Bool
 is_ring crossings gone arc =
     is_least (straight_names crossings gone) arc && not (stands_in (kept_crossings crossings gone) arc)
 
+-- how many rings there are
 abbrev pub ring_count : List (List ℕ) → (ℕ → Bool) → ℕ
 ring_count crossings gone = count_by (is_ring crossings gone) (arcs crossings)
 
@@ -68,6 +71,7 @@ after slot = (slot + 1) % 4
 abbrev pub is_kink_at : List ℕ → ℕ → Bool
 is_kink_at slots slot = nat_eq (arc_in slots slot) (arc_in slots (after slot))
 
+-- so for some slot
 abbrev pub is_kink : List ℕ → Bool
 is_kink slots = list_any (is_kink_at slots) (range_with_len 0 4)
 
@@ -81,6 +85,7 @@ is_bigon_at crossings first second p q =
     nat_eq (partner_at crossings (4 * first + p)) (4 * second + after q)
     && (nat_eq (partner_at crossings (4 * second + q)) (4 * first + after p) && nat_eq ((p + q) % 2) 1)
 
+-- two crossings that differ meet in a bigon from some slots
 abbrev pub is_bigon : List (List ℕ) → ℕ → ℕ → Bool
 is_bigon crossings first second =
     not (nat_eq first second)

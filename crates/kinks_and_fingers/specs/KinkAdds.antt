@@ -13,6 +13,7 @@ raised a arc = if nat_lt a arc then arc + 2 else arc
 abbrev pub kinked_name : ℕ → Bool → ℕ → ℕ
 kinked_name a is_head arc = if nat_eq arc a && is_head then a + 2 else raised a arc
 
+-- the numbers at all slots of an old crossing after that
 abbrev pub kinked_slots : ℕ → Bool → List ℕ → List ℕ
 kinked_slots a is_positive slots =
     kinked_name a (enters is_positive 0) (arc_in slots 0) ∷ kinked_name a (enters is_positive 1) (arc_in slots 1)

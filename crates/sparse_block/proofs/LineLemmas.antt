@@ -71,18 +71,5 @@ lines-lines_in degrees k degree within is_degree =
     get_or-map (λ (degree : Vec (SmallVec Entry)). entries_in degree.items) degrees k degree [] within
     ∙ ap (λ (degree : Vec (SmallVec Entry)). entries_in degree.items) (sym is_degree)
 
-pub length-lines : (degrees : List (Vec (SmallVec Entry))) (k place : ℕ) (degree : Vec (SmallVec Entry)) → k < length degrees
-    → degree ≡ get_or degrees k degree → place < length (slice_index_or (lines_in degrees) k []) → place < length degree.items
-length-lines degrees k place degree within is_degree place_within =
-    omega (arith, place_within, ap length (lines-lines_in degrees k degree within is_degree), length-map degree.items items)
-
-pub line-lines_in : (degrees : List (Vec (SmallVec Entry))) (k place : ℕ) (degree : Vec (SmallVec Entry)) (line : SmallVec Entry)
-    → k < length degrees → degree ≡ get_or degrees k degree → place < length degree.items
-    → line ≡ get_or degree.items place line
-    → line.items ≡ slice_index_or (slice_index_or (lines_in degrees) k []) place []
-line-lines_in degrees k place degree line within is_degree place_within is_line =
-    sym (line-entries_in degree.items place line place_within is_line)
-    ∙ ap (λ (lines : List (List Entry)). slice_index_or lines place []) (sym (lines-lines_in degrees k degree within is_degree))
-
 pub within-names : {X : Type 0} (vectors : List (Vec X)) (k : ℕ) → k < length (lists_in vectors) → k < length vectors
 within-names {X} vectors k within = omega (arith, within, length-map vectors (λ (vector : Vec X). vector.items))

@@ -9,12 +9,12 @@ use Rattle.table_text.specs.declared.stop.TableStop.TheVariants.{Text, NoMemory}
 use Rattle.table_text.specs.declared.version.Version.{Version}
 use Rattle.table_text.specs.Lines.{first_line}
 use Rattle.table_text.specs.Reading.{IsTableText, HasWrongTableLine, IsTableReading}
-use Rattle.table_text.specs.Versions.{IsTableIn, lines_of}
+use Rattle.table_text.specs.Versions.{IsTableIn, table_lines}
 use Rattle.table_text.specs.Words.{IsReadingIn}
 use Rattle.table_text.proofs.Decisions.{decided-field, decided-next}
 use Rattle.table_text.proofs.LineLemmas.{first_line-some, length-first_line-le}
 use Rattle.table_text.proofs.RowOrder.{table_of, IsTableIn-none, IsTableIn-push}
-use Rattle.table_text.proofs.TableLines.{HasWrongLineIn-first, HasWrongLineIn-next, so_far-first, so_far-next, lines_of-injective, wrong-once, wrong-text}
+use Rattle.table_text.proofs.TableLines.{HasWrongLineIn-first, HasWrongLineIn-next, so_far-first, so_far-next, table_lines-injective, wrong-once, wrong-text}
 use Rattle.table_text.proofs.VersionTexts.{Cut-text, Cut-reading, Cut-lines, shifted}
 
 -- one reading of lines
@@ -22,7 +22,7 @@ use Rattle.table_text.proofs.VersionTexts.{Cut-text, Cut-reading, Cut-lines, shi
 IsReadingIn-one : (version : Version) (text : List ℕ) (a b : Result Table TableStop) → IsReadingIn version text a
     → IsReadingIn version text b → a ≡ b
 IsReadingIn-one version text (Ok table) (Ok other) is other_is =
-    ap Ok (lines_of-injective table other is.0.table other_is.0.table (sym is.1 ∙ other_is.1))
+    ap Ok (table_lines-injective table other is.0.table other_is.0.table (sym is.1 ∙ other_is.1))
 IsReadingIn-one version text (Ok table) (Err (Text place)) is wrong = absurd (wrong-text version text place (table, is.0, is.1) wrong)
 IsReadingIn-one version text (Err (Text place)) (Ok table) wrong is = absurd (wrong-text version text place (table, is.0, is.1) wrong)
 IsReadingIn-one version text (Err (Text place)) (Err (Text other)) wrong again = elim (cases_lt place other) [
@@ -39,7 +39,7 @@ IsReadingIn-one version text (Err (Text place)) (Err NoMemory) is b_is = absurd 
 -- some reading of lines, one by one
 
 reading_from : (fuel : ℕ) (version : Version) (text : List ℕ) (field : ℕ) (rows : List Row) (place : ℕ)
-    → IsTableIn version (table_of field rows) → place ≤ length text → take place text ≡ lines_of (table_of field rows)
+    → IsTableIn version (table_of field rows) → place ≤ length text → take place text ≡ table_lines (table_of field rows)
     → length text ≤ place + fuel → (reading : Result Table TableStop) × IsReadingIn version text reading
 reading_from zero version text field rows place is within so_far near =
     (Ok (table_of field rows), (is, sym (take_all place text (omega (arith, near))) ∙ so_far))

@@ -10,17 +10,17 @@ use Rattle.std.proofs.Math.Seq.{take-add, take-append_seam, drop-length, take-le
 use Rattle.kh_types.specs.Table.{Row, Table, row_text}
 use Rattle.jones_sum.specs.Tables.{IsRow, IsTable}
 use Rattle.table_text.specs.Lines.{first_line, field_text}
-use Rattle.table_text.specs.Versions.{IsTableIn, lines_of}
-use Rattle.table_text.specs.Words.{AreLines, HasWrongLineIn, IsFieldIn, IsNextRow}
+use Rattle.table_text.specs.Versions.{IsTableIn, table_lines}
+use Rattle.table_text.specs.Words.{AreTableLines, HasWrongLineIn, IsFieldIn, IsNextRow}
 use Rattle.table_text.specs.declared.version.Version.{Version}
 use Rattle.table_text.proofs.LineLemmas.{first_line-first_line, first_line-drop, first_line-some}
 use Rattle.table_text.proofs.LineTexts.{IsLine, IsLine-field, IsLine-row, field_text-injective, row_text-injective}
 use Rattle.table_text.proofs.RowOrder.{table_of, IsTableIn-none, IsTableIn-push, CanFollow-front}
 
 -- the lines of a table with a row more
-pub lines_of-push : (field : ℕ) (rows : List Row) (row : Row)
-    → lines_of (table_of field (rows ++ row ∷ [])) ≡ lines_of (table_of field rows) ++ row_text row
-lines_of-push field rows row =
+pub table_lines-push : (field : ℕ) (rows : List Row) (row : Row)
+    → table_lines (table_of field (rows ++ row ∷ [])) ≡ table_lines (table_of field rows) ++ row_text row
+table_lines-push field rows row =
     let lines : List ℕ = flat_map row_text rows in
     let more : flat_map row_text (rows ++ row ∷ []) ≡ lines ++ row_text row =
     flat_map-append row_text rows (row ∷ []) ∙ ap (λ (bytes : List ℕ). lines ++ bytes) (append-nil (row_text row)) in
@@ -59,7 +59,7 @@ pub record Continues (front table : Table) (rest : List ℕ) : Type 0 where
   pub rest_is : rest ≡ flat_map row_text more
 
 pub Continues-lines : (front table : Table) (rest : List ℕ) → IsTable front → IsTable table
-    → lines_of table ≡ lines_of front ++ rest → Continues front table rest
+    → table_lines table ≡ table_lines front ++ rest → Continues front table rest
 Continues-lines front table rest front_is is same =
     let lines : List ℕ = flat_map row_text front.rows in
     let split = split_lines (field_text table.field) (field_text front.field) (flat_map row_text table.rows) (lines ++ rest)
@@ -76,7 +76,7 @@ Continues-lines front table rest front_is is same =
 -- a line that is wrong
 
 no_table-next : (version : Version) (table : Table) (line : List ℕ) → IsTable table → 0 < length line → first_line line ≡ line
-    → IsNextRow version table.rows line None → AreLines version (lines_of table ++ line) → ⊥
+    → IsNextRow version table.rows line None → AreTableLines version (table_lines table ++ line) → ⊥
 no_table-next version table line is some once none (other, other_is, same) =
     let continues = Continues-lines table other line is other_is.table (sym same) in
     go continues.more continues.table_is continues.rest_is
@@ -88,7 +88,7 @@ no_table-next version table line is some once none (other, other_is, same) =
         none row can (sym once ∙ ap first_line begins ∙ IsLine-row row can.within.row (flat_map row_text more))
 
 pub HasWrongLineIn-next : (version : Version) (text : List ℕ) (table : Table) (place : ℕ) → IsTableIn version table
-    → take place text ≡ lines_of table → place < length text → IsNextRow version table.rows (first_line (drop place text)) None
+    → take place text ≡ table_lines table → place < length text → IsNextRow version table.rows (first_line (drop place text)) None
     → HasWrongLineIn version text place
 HasWrongLineIn-next version text table place is so_far below none =
     let rest = drop place text in
@@ -98,7 +98,7 @@ HasWrongLineIn-next version text table place is so_far below none =
       before = inr (table, is, so_far);
       line = λ known.
           no_table-next version table (first_line rest) is.table (first_line-some rest some) (first_line-first_line rest) none
-          (subst (λ (front : List ℕ). AreLines version (front ++ first_line rest)) so_far known);
+          (subst (λ (front : List ℕ). AreTableLines version (front ++ first_line rest)) so_far known);
     }
 
 pub HasWrongLineIn-first : (version : Version) (text : List ℕ) → IsFieldIn (first_line text) None → HasWrongLineIn version text 0
@@ -120,27 +120,27 @@ take-first_line text =
     let line = first_line text in
     ap (take (length line)) (sym (first_line-drop text)) ∙ take-append_seam line (drop (length line) text)
 
-field_alone : (field : ℕ) → field_text field ≡ lines_of (table_of field [])
+field_alone : (field : ℕ) → field_text field ≡ table_lines (table_of field [])
 field_alone field = sym (append-nil (field_text field))
 
 pub so_far-first : (text : List ℕ) (field : ℕ) → first_line text ≡ field_text field
-    → take (length (first_line text)) text ≡ lines_of (table_of field [])
+    → take (length (first_line text)) text ≡ table_lines (table_of field [])
 so_far-first text field is = take-first_line text ∙ is ∙ field_alone field
 
 pub so_far-next : (text : List ℕ) (field : ℕ) (rows : List Row) (row : Row) (place : ℕ)
-    → take place text ≡ lines_of (table_of field rows) → first_line (drop place text) ≡ row_text row
-    → take (place + length (first_line (drop place text))) text ≡ lines_of (table_of field (rows ++ row ∷ []))
+    → take place text ≡ table_lines (table_of field rows) → first_line (drop place text) ≡ row_text row
+    → take (place + length (first_line (drop place text))) text ≡ table_lines (table_of field (rows ++ row ∷ []))
 so_far-next text field rows row place so_far is =
     let size = length (first_line (drop place text)) in
     take-add place size text ∙ ap (λ (bytes : List ℕ). bytes ++ take size (drop place text)) so_far
-    ∙ ap (λ (bytes : List ℕ). lines_of (table_of field rows) ++ bytes) (take-first_line (drop place text) ∙ is)
-    ∙ sym (lines_of-push field rows row)
+    ∙ ap (λ (bytes : List ℕ). table_lines (table_of field rows) ++ bytes) (take-first_line (drop place text) ∙ is)
+    ∙ sym (table_lines-push field rows row)
 
 -- in the lines of a table none is wrong, whatever stands behind them
 
 right-line : (version : Version) (text : List ℕ) (table : Table) (place : ℕ) (rest : List ℕ) → IsTableIn version table
-    → text ≡ lines_of table → place < length text → (take place text ≡ []) ⊎ AreLines version (take place text)
-    → AreLines version (take place text ++ first_line (drop place text ++ rest))
+    → text ≡ table_lines table → place < length text → (take place text ≡ []) ⊎ AreTableLines version (take place text)
+    → AreTableLines version (take place text ++ first_line (drop place text ++ rest))
 right-line version text table place rest is same below (inl none) =
     let lines : List ℕ = flat_map row_text table.rows in
     let whole : drop place text ≡ field_text table.field ++ lines =
@@ -158,7 +158,7 @@ right-line version text table place rest is same below (inr (front, front_is, fr
     go continues.more continues.table_is continues.rest_is
   where
     go : (more : List Row) → table ≡ table_of front.field (front.rows ++ more) → drop place text ≡ flat_map row_text more
-        → AreLines version (take place text ++ first_line (drop place text ++ rest))
+        → AreTableLines version (take place text ++ first_line (drop place text ++ rest))
     go [] table_is empty = absurd (omega (arith, ap length empty, length-drop place text, below))
     go (row ∷ more) table_is begins =
         let can = CanFollow-front version front.field front.rows more row (subst (IsTableIn version) table_is is) in
@@ -166,13 +166,13 @@ right-line version text table place rest is same below (inr (front, front_is, fr
           table_of front.field (front.rows ++ row ∷ []),
           IsTableIn-push version front.field front.rows row front_is can,
           ap (λ (bytes : List ℕ). bytes ++ first_line (drop place text ++ rest)) front_same
-              ∙ ap (λ (bytes : List ℕ). lines_of front ++ first_line (bytes ++ rest)) begins
-              ∙ ap (λ (bytes : List ℕ). lines_of front ++ bytes)
+              ∙ ap (λ (bytes : List ℕ). table_lines front ++ first_line (bytes ++ rest)) begins
+              ∙ ap (λ (bytes : List ℕ). table_lines front ++ bytes)
               (ap first_line (append_assoc (row_text row) lines rest) ∙ IsLine-row row can.within.row (lines ++ rest))
-              ∙ sym (lines_of-push front.field front.rows row),
+              ∙ sym (table_lines-push front.field front.rows row),
         )
 
-pub wrong-inside : (version : Version) (text : List ℕ) (place next : ℕ) → next ≤ length text → place < next → AreLines version (take next text)
+pub wrong-inside : (version : Version) (text : List ℕ) (place next : ℕ) → next ≤ length text → place < next → AreTableLines version (take next text)
     → HasWrongLineIn version text place → ⊥
 wrong-inside version text place next within less (table, is, same) wrong =
     let front = take next text in
@@ -185,22 +185,22 @@ wrong-inside version text place next within less (table, is, same) wrong =
     let after : drop place text ≡ drop place front ++ behind =
     ap (drop place) parts ∙ drop-append-le place front behind (omega (arith, below)) in
     let right = right-line version front table place behind is same below
-    (subst (λ (bytes : List ℕ). (bytes ≡ []) ⊎ AreLines version bytes) before wrong.before) in
+    (subst (λ (bytes : List ℕ). (bytes ≡ []) ⊎ AreTableLines version bytes) before wrong.before) in
     wrong.line
-    (subst (λ (bytes : List ℕ). AreLines version (bytes ++ first_line (drop place text))) (sym before)
-    (subst (λ (bytes : List ℕ). AreLines version (take place front ++ first_line bytes)) (sym after) right))
+    (subst (λ (bytes : List ℕ). AreTableLines version (bytes ++ first_line (drop place text))) (sym before)
+    (subst (λ (bytes : List ℕ). AreTableLines version (take place front ++ first_line bytes)) (sym after) right))
 
-pub wrong-text : (version : Version) (text : List ℕ) (place : ℕ) → AreLines version text → HasWrongLineIn version text place → ⊥
+pub wrong-text : (version : Version) (text : List ℕ) (place : ℕ) → AreTableLines version text → HasWrongLineIn version text place → ⊥
 wrong-text version text place known wrong = elim (cases_lt place (length text)) [
   | inl below ↦
-      wrong-inside version text place (length text) (omega arith) below (subst (AreLines version) (sym (take-length text)) known) wrong
+      wrong-inside version text place (length text) (omega arith) below (subst (AreTableLines version) (sym (take-length text)) known) wrong
   | inr past ↦
       let end : place ≡ length text = omega (arith, past, wrong.within) in
       let whole : take place text ++ first_line (drop place text) ≡ text =
       ap (λ n. take n text ++ first_line (drop n text)) end
       ∙ ap (λ (bytes : List ℕ). bytes ++ first_line (drop (length text) text)) (take-length text)
       ∙ ap (λ (bytes : List ℕ). text ++ first_line bytes) (drop-length text) ∙ append-nil text in
-      wrong.line (subst (AreLines version) (sym whole) known)
+      wrong.line (subst (AreTableLines version) (sym whole) known)
 ]
 
 pub wrong-once : (version : Version) (text : List ℕ) (place next : ℕ) → place < next → HasWrongLineIn version text place → HasWrongLineIn version text next → ⊥
@@ -211,9 +211,9 @@ wrong-once version text place next less wrong again = elim again.before [
 
 -- lines are those of one table
 
-pub lines_of-injective : (table other : Table) → IsTable table → IsTable other → lines_of table ≡ lines_of other → table ≡ other
-lines_of-injective table other is other_is same =
-    let continues = Continues-lines other table [] other_is is (same ∙ sym (append-nil (lines_of other))) in
+pub table_lines-injective : (table other : Table) → IsTable table → IsTable other → table_lines table ≡ table_lines other → table ≡ other
+table_lines-injective table other is other_is same =
+    let continues = Continues-lines other table [] other_is is (same ∙ sym (append-nil (table_lines other))) in
     go continues.more continues.table_is continues.rest_is
   where
     go : (more : List Row) → table ≡ table_of other.field (other.rows ++ more) → [] ≡ flat_map row_text more → table ≡ other

@@ -9,7 +9,7 @@ use Rattle.kh_types.specs.declared.limits.TheConstants.{EXPONENT}
 use Rattle.kh_types.specs.Table.{from_minus}
 use Rattle.kh_types.specs.StateSum.{Term, term_text, terms, terms_text, polynomial_text}
 use Rattle.kh_types.proofs.Ranges.{map_from_zero}
-use Rattle.table_text.specs.Terms.{line_of, text_at}
+use Rattle.table_text.specs.Terms.{jones_line_of, text_at}
 
 -- the texts of the terms of the exponents from -EXPONENT on, as many as a count says
 unfoldable pub text_to : (ℤ → ℤ) → ℕ → List ℕ
@@ -57,9 +57,9 @@ unfolding text_to
 text_to-terms polynomial = sym (shown_text polynomial (from_minus EXPONENT))
 
 -- the line of terms
-line_of-all : (all : List Term) → line_of (flat_map term_text all) ≡ codes "jones" ++ (terms_text all ++ codes "\n")
-line_of-all [] = refl
-line_of-all (term ∷ all) = refl
+jones_line_of-all : (all : List Term) → jones_line_of (flat_map term_text all) ≡ codes "jones" ++ (terms_text all ++ codes "\n")
+jones_line_of-all [] = refl
+jones_line_of-all (term ∷ all) = refl
 
-pub line_of-terms : (polynomial : ℤ → ℤ) → line_of (flat_map term_text (terms polynomial)) ≡ polynomial_text polynomial
-line_of-terms polynomial = line_of-all (terms polynomial)
+pub jones_line_of-terms : (polynomial : ℤ → ℤ) → jones_line_of (flat_map term_text (terms polynomial)) ≡ polynomial_text polynomial
+jones_line_of-terms polynomial = jones_line_of-all (terms polynomial)

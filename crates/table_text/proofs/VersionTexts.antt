@@ -14,8 +14,8 @@ use Rattle.table_text.specs.declared.version.Version.{Version}
 use Rattle.table_text.specs.declared.version.Version.TheVariants.{First, Second}
 use Rattle.table_text.specs.Lines.{first_line}
 use Rattle.table_text.specs.Reading.{Writes, HasWrongTableLine, IsTableReading}
-use Rattle.table_text.specs.Versions.{IsTableIn, lines_of, version_line}
-use Rattle.table_text.specs.Words.{AreLines, HasWrongLineIn, IsReadingIn}
+use Rattle.table_text.specs.Versions.{IsTableIn, table_lines, version_line}
+use Rattle.table_text.specs.Words.{AreTableLines, HasWrongLineIn, IsReadingIn}
 use Rattle.table_text.proofs.LineLemmas.{first_line-first_line, first_line-drop}
 
 -- the lines of a text behind the line of its version
@@ -66,7 +66,7 @@ shifted Second (Err (Text place)) = Err (Text (8 + place))
 shifted Second (Err NoMemory) = Err NoMemory
 
 -- the two beginnings differ
-other_beginning : (table : Table) (one other : List ℕ) → lines_of table ++ one ≡ version_line ++ other → ⊥
+other_beginning : (table : Table) (one other : List ℕ) → table_lines table ++ one ≡ version_line ++ other → ⊥
 other_beginning table one other same =
     let first : 102 ≡ 116 = ap (λ (bytes : List ℕ). get_or bytes 0 0) same in omega (arith, first)
 
@@ -82,7 +82,7 @@ begins_second text place rest is =
 
 -- version 1
 
-first-line : (text : List ℕ) (place : ℕ) → first_line text ≢ version_line → (take place text ≡ []) ⊎ AreLines First (take place text)
+first-line : (text : List ℕ) (place : ℕ) → first_line text ≢ version_line → (take place text ≡ []) ⊎ AreTableLines First (take place text)
     → (rest : List ℕ) → take place text ++ first_line (drop place text) ≡ version_line ++ rest → ⊥
 first-line text place other (inl none) rest is =
     let whole : drop place text ≡ text =
@@ -106,7 +106,7 @@ first-wrong text place other wrong = record {
   where
     refuted : (table : Table) (version : Version) → Writes (take place text ++ first_line (drop place text)) table version → ⊥
     refuted table First is = wrong.line (table, is.table, is.same)
-    refuted table Second is = first-line text place other wrong.before (lines_of table) is.same
+    refuted table Second is = first-line text place other wrong.before (table_lines table) is.same
 
 wrong-first : (text : List ℕ) (place : ℕ) → first_line text ≢ version_line → HasWrongTableLine text place → HasWrongLineIn First text place
 wrong-first text place other wrong = record {
@@ -119,9 +119,9 @@ wrong-first text place other wrong = record {
   line = λ known. wrong.line (known.0, (First, record { table = known.1; same = known.2 }));
 }
   where
-    lines : (table : Table) (version : Version) → Writes (take place text) table version → AreLines First (take place text)
+    lines : (table : Table) (version : Version) → Writes (take place text) table version → AreTableLines First (take place text)
     lines table First is = (table, is.table, is.same)
-    lines table Second is = absurd (other (begins_second text place (lines_of table) is.same))
+    lines table Second is = absurd (other (begins_second text place (table_lines table) is.same))
 
 -- version 2
 
@@ -141,10 +141,10 @@ line-second place lines =
 
 -- a text of version 2 has its lines behind that of the version
 writes-second : (lines : List ℕ) (table : Table) (version : Version) → Writes (version_line ++ lines) table version
-    → IsTableIn Second table × (lines ≡ lines_of table)
+    → IsTableIn Second table × (lines ≡ table_lines table)
 writes-second lines table First is =
-    absurd (other_beginning table [] lines (append-nil (lines_of table) ∙ sym is.same))
-writes-second lines table Second is = (is.table, append_cancel_left version_line lines (lines_of table) is.same)
+    absurd (other_beginning table [] lines (append-nil (table_lines table) ∙ sym is.same))
+writes-second lines table Second is = (is.table, append_cancel_left version_line lines (table_lines table) is.same)
 
 second-wrong : (lines : List ℕ) (place : ℕ) → HasWrongLineIn Second lines place → HasWrongTableLine (version_line ++ lines) (8 + place)
 second-wrong lines place wrong = record {
@@ -179,7 +179,7 @@ wrong-behind lines place wrong =
         absurd (other_beginning table (drop place (version_line ++ lines)) lines
         (sym (ap (λ (bytes : List ℕ). bytes ++ drop place (version_line ++ lines)) is.same)
         ∙ take-append-drop place (version_line ++ lines)))
-    behind table Second is size = omega (arith, size, ap length is.same, length-append version_line (lines_of table))
+    behind table Second is size = omega (arith, size, ap length is.same, length-append version_line (table_lines table))
 
 wrong-second : (lines : List ℕ) (place : ℕ) → HasWrongTableLine (version_line ++ lines) (8 + place) → HasWrongLineIn Second lines place
 wrong-second lines place wrong = record {
@@ -220,7 +220,7 @@ pub Cut-lines : (version : Version) (text lines : List ℕ) → Cut version text
     → (inner : Result Table TableStop) × IsReadingIn version lines inner × (reading ≡ shifted version inner)
 Cut-lines First text lines cut (Ok table) is = (Ok table, first_lines is.0 is.1, refl)
   where
-    first_lines : (version : Version) → Writes text table version → IsTableIn First table × (lines ≡ lines_of table)
+    first_lines : (version : Version) → Writes text table version → IsTableIn First table × (lines ≡ table_lines table)
     first_lines First writes = (writes.table, sym cut.0 ∙ writes.same)
     first_lines Second writes = absurd (cut.1 (ap first_line writes.same))
 Cut-lines First text lines cut (Err (Text place)) is =
@@ -240,7 +240,7 @@ Cut-lines Second text lines cut (Err NoMemory) is = absurd is
 
 -- how what is read prints
 
-pub table_text-lines : (table : Table) → table_text table ≡ version_line ++ lines_of table
+pub table_text-lines : (table : Table) → table_text table ≡ version_line ++ table_lines table
 table_text-lines table = simp append_assoc
 
 pub IsTableIn-second : (table : Table) → IsTable table → IsTableIn Second table
@@ -265,6 +265,6 @@ prints-first text table is other =
     let lines = Cut-lines First text text (refl, other) (Ok table) is in
     table_text-lines table ∙ ap (λ (bytes : List ℕ). version_line ++ bytes) (go lines.0 lines.1 lines.2)
   where
-    go : (inner : Result Table TableStop) → IsReadingIn First text inner → Ok table ≡ inner → lines_of table ≡ text
-    go (Ok found) found_is same = let e : table ≡ found = cc in ap lines_of e ∙ sym found_is.1
+    go : (inner : Result Table TableStop) → IsReadingIn First text inner → Ok table ≡ inner → table_lines table ≡ text
+    go (Ok found) found_is same = let e : table ≡ found = cc in ap table_lines e ∙ sym found_is.1
     go (Err stop) found_is same = cc

@@ -10,6 +10,6 @@ text_at polynomial exponent =
     else term_text (record { coefficient = polynomial exponent; exponent = exponent })
 
 -- the Jones line with the texts of all terms, and 0 where there are none
-abbrev pub line_of : List ℕ → List ℕ
-line_of [] = codes "jones 0\n"
-line_of (byte ∷ more) = codes "jones" ++ ((byte ∷ more) ++ codes "\n")
+abbrev pub jones_line_of : List ℕ → List ℕ
+jones_line_of [] = codes "jones 0\n"
+jones_line_of (byte ∷ more) = codes "jones" ++ ((byte ∷ more) ++ codes "\n")

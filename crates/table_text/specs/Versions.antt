@@ -35,10 +35,10 @@ pub record IsTableIn (version : Version) (homology : Table) : Type 0 where
   pub rows : All (IsRowIn version) homology.rows
 
 -- the lines of a table: that of its field, then those of its rows
-abbrev pub lines_of : Table → List ℕ
-lines_of homology = field_text homology.field ++ flat_map row_text homology.rows
+abbrev pub table_lines : Table → List ℕ
+table_lines homology = field_text homology.field ++ flat_map row_text homology.rows
 
 -- the text of a table in a version: its lines, in version 2 behind the line of the version
 abbrev pub version_text : Version → Table → List ℕ
-version_text First homology = lines_of homology
-version_text Second homology = version_line ++ lines_of homology
+version_text First homology = table_lines homology
+version_text Second homology = version_line ++ table_lines homology

@@ -5,7 +5,7 @@ use Rattle.prime_field.specs.Residues.{IsSmallPrime}
 use Rattle.kh_types.specs.Table.{Row, Table, row_text}
 use Rattle.jones_sum.specs.Tables.{IsBefore}
 use Rattle.table_text.specs.Lines.{field_text, first_line}
-use Rattle.table_text.specs.Versions.{IsRowIn, IsTableIn, lines_of}
+use Rattle.table_text.specs.Versions.{IsRowIn, IsTableIn, table_lines}
 use Rattle.table_text.specs.declared.stop.TableStop.{TableStop}
 use Rattle.table_text.specs.declared.stop.TableStop.TheVariants.{Text, NoMemory}
 use Rattle.table_text.specs.declared.version.Version.{Version}
@@ -38,17 +38,17 @@ IsNextRow version rows line (Some row) = CanFollow version rows row × (line ≡
 IsNextRow version rows line None = (row : Row) → CanFollow version rows row → line ≡ row_text row → ⊥
 
 -- lines are those of a table that can be written in a version
-abbrev pub AreLines : Version → List ℕ → Type 0
-AreLines version lines = (table : Table) × IsTableIn version table × (lines ≡ lines_of table)
+abbrev pub AreTableLines : Version → List ℕ → Type 0
+AreTableLines version lines = (table : Table) × IsTableIn version table × (lines ≡ table_lines table)
 
 -- the first wrong one of lines, behind the line of the version, begins at a place
 pub record HasWrongLineIn (version : Version) (lines : List ℕ) (place : ℕ) : Type 0 where
   pub within : place ≤ length lines
-  pub before : (take place lines ≡ []) ⊎ AreLines version (take place lines)
-  pub line : ¬ AreLines version (take place lines ++ first_line (drop place lines))
+  pub before : (take place lines ≡ []) ⊎ AreTableLines version (take place lines)
+  pub line : ¬ AreTableLines version (take place lines ++ first_line (drop place lines))
 
 -- what the reading of lines comes to, behind the line of the version
 abbrev pub IsReadingIn : Version → List ℕ → Result Table TableStop → Type 0
-IsReadingIn version lines (Ok table) = IsTableIn version table × (lines ≡ lines_of table)
+IsReadingIn version lines (Ok table) = IsTableIn version table × (lines ≡ table_lines table)
 IsReadingIn version lines (Err (Text place)) = HasWrongLineIn version lines place
 IsReadingIn version lines (Err NoMemory) = ⊥

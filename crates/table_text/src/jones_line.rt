@@ -6,7 +6,7 @@ ghost use Rattle.kh_types.specs.declared.limits.TheConstants.{EXPONENT};
 ghost use Rattle.kh_types.specs.StateSum.{polynomial_text, term_text, terms};
 ghost use Rattle.kh_types.specs.Table.{IsWithin};
 ghost use Rattle.jones_sum.specs.Coefficients.{coefficient_in};
-ghost use Rattle.table_text.specs.Terms.{line_of, text_at};
+ghost use Rattle.table_text.specs.Terms.{jones_line_of, text_at};
 
 use jones_sum::{COEFFICIENTS, Laurent, exponent_at};
 use kh_types::NoMemory;
@@ -19,13 +19,13 @@ pub fn print_jones(alloc: Global, polynomial: &Laurent) -> Result<Vec<u8>, NoMem
         text.items ≡ polynomial_text (coefficient_in polynomial.now)) }
 {
     let terms = terms_of(alloc, polynomial)?;
-    let line = line_of(alloc, terms.as_str())?;
+    let line = jones_line_of(alloc, terms.as_str())?;
     Ok(line.into_bytes())
 }
 
 /// The line with the texts of all terms.
-fn line_of(alloc: Global, terms: &str) -> Result<String, NoMemory>
-    ensures { IfOk result (λ line. string_bytes line ≡ line_of terms.now) }
+fn jones_line_of(alloc: Global, terms: &str) -> Result<String, NoMemory>
+    ensures { IfOk result (λ line. string_bytes line ≡ jones_line_of terms.now) }
 {
     if terms.is_empty() {
         Ok(format!(in alloc; "jones 0\n")?)

@@ -9,26 +9,26 @@ use Rattle.kh_lex.specs.Numerals.{numeral_of, signed_numeral_of}
 use Rattle.undo_stack.specs.Steps.{script_reading}
 
 -- the worker that a word names
-abbrev pub named_worker : List ℕ → Option ℕ
-named_worker word =
+abbrev pub worker_named : List ℕ → Option ℕ
+worker_named word =
     option_and_then (λ worker. if nat_le 1 worker && nat_le worker WORKERS then Some worker else None) (numeral_of 2 word)
 
 -- the block that a word names
-abbrev pub named_block : List ℕ → Option ℤ
-named_block word = signed_numeral_of 3 word
+abbrev pub block_named : List ℕ → Option ℤ
+block_named word = signed_numeral_of 3 word
 
 -- the line of a name and two words
 abbrev pub line_of_three : List ℕ → List ℕ → List ℕ → Option ScheduleLine
 line_of_three name first second =
     if bytes_eq name (codes "look")
-    then option_and_then (λ worker. option_map (Look worker) (named_block second)) (named_worker first)
+    then option_and_then (λ worker. option_map (Look worker) (block_named second)) (worker_named first)
     else None
 
 -- the line of a name and one word
 abbrev pub line_of_two : List ℕ → List ℕ → Option ScheduleLine
 line_of_two name first =
-    if bytes_eq name (codes "commit") then option_map Commit (named_worker first)
-    else if bytes_eq name (codes "forget") then option_map Forget (named_worker first)
+    if bytes_eq name (codes "commit") then option_map Commit (worker_named first)
+    else if bytes_eq name (codes "forget") then option_map Forget (worker_named first)
     else None
 
 -- the line of a schedule that words spell, if they spell one

@@ -2,7 +2,7 @@
 
 ghost use Rattle.std.specs.Prelude.{◌≡◌, ◌≢◌, ◌≤◌, All, Err, IfOk, length};
 ghost use Rattle.undo_stack.specs.Schedule.{HasWorker, IsSchedule};
-ghost use Rattle.undo_stack.specs.ScheduleSteps.{line_of_three, line_of_two, named_block, named_worker, schedule_line_of};
+ghost use Rattle.undo_stack.specs.ScheduleSteps.{line_of_three, line_of_two, block_named, worker_named, schedule_line_of};
 
 use crate::command::Command;
 use crate::limits::SCRIPT_LINES;
@@ -77,7 +77,7 @@ fn line_of_two(name: &[u8], first: &[u8]) -> Option<ScheduleLine>
 
 // The worker that a word names.
 fn worker_of(word: &[u8]) -> Option<u32>
-    ensures { result ≡ named_worker word.now }
+    ensures { result ≡ worker_named word.now }
 {
     let worker = number_of(word, 2)?;
     if 1 <= worker && worker <= WORKERS {
@@ -89,7 +89,7 @@ fn worker_of(word: &[u8]) -> Option<u32>
 
 // The block that a word names.
 fn block_of(word: &[u8]) -> Option<i16>
-    ensures { result ≡ named_block word.now }
+    ensures { result ≡ block_named word.now }
 {
     let block = signed_number_of(word, 3)?;
     Some(block as i16)

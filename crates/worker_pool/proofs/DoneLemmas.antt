@@ -10,7 +10,7 @@ use Rattle.cube_signs.specs.Blocks.{block_degrees}
 use Rattle.shared_block.specs.BlockHistories.{BlockHistory, block_with}
 use Rattle.shared_block.specs.AllBlocks.{AreBlocksOf, IsFinished, opening_blocks}
 use Rattle.shared_block.proofs.AllBlocks.{AreBlocksOf-opening}
-use Rattle.version_lock.proofs.Prefixes.{prefix_length}
+use Rattle.kh_types.proofs.Prefixes.{prefix_length}
 use Rattle.worker_pool.specs.Outcomes.{AreBlocksAt, AreDegreesOf, AreDone, HasCommitted, origin_of}
 use Rattle.worker_pool.proofs.BlockLemmas.{blocks_stay}
 use Rattle.worker_pool.proofs.Zips.{zip_push}

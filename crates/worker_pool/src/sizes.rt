@@ -56,8 +56,8 @@ fn add_states(sizes: &mut [u64], kinds: &StateKinds, lift: i32, ones: usize)
     }
 }
 
-/// Adds the generators of so many states with so many circles each, whose greatest quantum degree is
-/// so far above that of the first block.
+/// Adds the generators of so many states with so many circles each, whose greatest quantum degree
+/// is so far above that of the first block.
 fn add_kind(sizes: &mut [u64], states: u64, circles: usize, top: i64)
     requires circles { circles ≤ CIRCLES }
     requires low { neg_ℤ (pos (2 ^ 40)) ≤ℤ top }

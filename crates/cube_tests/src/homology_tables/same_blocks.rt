@@ -118,7 +118,7 @@ fn has_plain_blocks<F: PrimeField>(
         };
         found = found.saturating_add(same_places(rt, alloc, pair)?);
     }
-    assert_eq!(rt; found, generators);
+    assert_eq!(rt; u128::from(found), generators);
     Ok(())
 }
 

@@ -13,6 +13,7 @@ ghost use Rattle.word_line.specs.Values.{IsFieldSize};
 
 use commit_core::{Answer, Event, run_events};
 use cube_signs::check_size;
+use jones_sum::Table;
 use kh_replies::{
     Reply, Status, jones_line, refused_line, reply_made, too_many_generators, too_many_lines,
 };
@@ -115,8 +116,22 @@ fn run_text_over<F: PrimeField>(
 {
     let events = events_of(alloc, script)?;
     let run = run_events::<F>(alloc, diagram, WORKERS, &events)?;
-    let mut text = answer_lines(alloc, script, &run.answers)?;
-    text.extend_from_slice(&print_table(alloc, &run.table)?)?;
+    let text = text_of_run(alloc, script, &run.answers, &run.table)?;
+    Ok(text)
+}
+
+// The lines of answers, and the text of a table.
+fn text_of_run(
+    alloc: Global,
+    script: &[(u32, ScheduleLine)],
+    answers: &[Answer],
+    table: &Table,
+) -> Result<Vec<u8>, NoMemory>
+    ensures { IfOk result (λ text. text.items
+        ≡ answer_lines script.now answers.now ++ table_text table.now) }
+{
+    let mut text = answer_lines(alloc, script, answers)?;
+    text.extend_from_slice(&print_table(alloc, table)?)?;
     Ok(text)
 }
 

@@ -1,4 +1,4 @@
-use Rattle.std.proofs.Common.{◌≡◌, ◌+◌, ◌^◌, ℕ, List, [], length, ap, arith}
+use Rattle.std.proofs.Common.{◌≡◌, ◌+◌, ℕ, List, [], length, ap, arith}
 use Rattle.std.proofs.lemmas.List.{nil_from_length}
 use Rattle.circle_smoothing.specs.Branches.{branch_count}
 use Rattle.circle_smoothing.specs.declared.branches.TheConstants.{MEMBERS}

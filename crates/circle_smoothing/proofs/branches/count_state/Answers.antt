@@ -1,4 +1,4 @@
-use Rattle.std.proofs.Common.{◌≡◌, ◌+◌, ◌*◌, ◌<◌, length, arith}
+use Rattle.std.proofs.Common.{◌+◌, ◌*◌, arith}
 use Rattle.circle_smoothing.proofs.BranchLemmas.{counted-end}
 use Rattle.circle_smoothing.proofs.branches.count_state.Goals as goal
 

@@ -1,7 +1,5 @@
-use Rattle.std.proofs.Common.{◌≡◌, ◌<◌, ◌∙◌, ℕ, List, get_or, ap, sym, subst, arith}
-use Rattle.std.specs.List.{fold}
-use Rattle.kh_types.specs.Classes.{IsNamed, class_count, joined}
-use Rattle.kh_types.specs.Circles.{smoothing_of}
+use Rattle.std.proofs.Common.{ℕ, List, get_or, ap, sym, subst, arith}
+use Rattle.kh_types.specs.Classes.{IsNamed, class_count}
 use Rattle.kh_types.proofs.JoinedClasses.{IsNamed-joined}
 use Rattle.circle_smoothing.specs.declared.branches.TheConstants.{MEMBERS}
 use Rattle.circle_smoothing.proofs.BranchLemmas.{pair-below, fold-smoothing}

@@ -1,8 +1,7 @@
-use Rattle.std.proofs.Common.{◌≡◌, ◌≤◌, ◌∙◌, length, ap, subst, arith, IsTrue}
+use Rattle.std.proofs.Common.{◌≡◌, length, ap, subst, arith, IsTrue}
 use Rattle.kh_types.specs.Acceptance.{accepted}
 use Rattle.kh_types.specs.Accepted.{IsAccepted}
 use Rattle.kh_types.specs.Code.{Code}
-use Rattle.kh_types.specs.declared.limits.TheConstants.{CROSSINGS}
 use Rattle.kh_types.proofs.AcceptedLemmas.{IsAccepted-is}
 use Rattle.jones_sum.proofs.KindLemmas.{counted_sum-state_sum, sum-counts}
 use Rattle.jones_sum.proofs.kinds.state_counts.Goals as goal

@@ -3,7 +3,7 @@ use Rattle.std.specs.Prelude.{Option, None, Some}
 use Rattle.std.proofs.lemmas.List.{length-drop}
 use Rattle.kh_types.specs.Table.{Row}
 use Rattle.table_text.specs.Lines.{first_line}
-use Rattle.table_text.specs.Versions.{IsTableIn, lines_of}
+use Rattle.table_text.specs.Versions.{IsTableIn, table_lines}
 use Rattle.table_text.specs.Words.{IsFieldIn, IsNextRow}
 use Rattle.table_text.specs.declared.version.Version.{Version}
 use Rattle.table_text.proofs.LineLemmas.{length-first_line-le}
@@ -24,7 +24,7 @@ lines-init c =
     record {
       within = omega (arith, size, length-first_line-le text);
       so_far = ap (λ (n : ℕ). take n text) size ∙ so_far-first text field is
-          ∙ ap (λ (rows : List Row). lines_of (table_of field rows)) (sym c.new-rows.ensures.items);
+          ∙ ap (λ (rows : List Row). table_lines (table_of field rows)) (sym c.new-rows.ensures.items);
       table = subst (λ (rows : List Row). IsTableIn c.args.version (table_of field rows)) (sym c.new-rows.ensures.items)
           (IsTableIn-none c.args.version field c.in-Some.ensures.0);
     }
@@ -62,7 +62,7 @@ lines-preserved c =
       within = omega (arith, size, length-first_line-le (drop place text), length-drop place text, c.lines.invariant.within);
       so_far = ap (λ (n : ℕ). take (place + n) text) size
           ∙ so_far-next text field rows row place c.lines.invariant.so_far next.1
-          ∙ ap (λ (rs : List Row). lines_of (table_of field rs)) (sym c.in_ok-push.ensures.items);
+          ∙ ap (λ (rs : List Row). table_lines (table_of field rs)) (sym c.in_ok-push.ensures.items);
       table = subst (λ (rs : List Row). IsTableIn c.args.version (table_of field rs)) (sym c.in_ok-push.ensures.items)
           (IsTableIn-push c.args.version field rows row c.lines.invariant.table next.0);
     }

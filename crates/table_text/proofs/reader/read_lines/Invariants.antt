@@ -1,5 +1,5 @@
 use Rattle.std.proofs.Common.{◌≡◌, ◌≤◌, ◌-◌, length, take}
-use Rattle.table_text.specs.Versions.{IsTableIn, lines_of}
+use Rattle.table_text.specs.Versions.{IsTableIn, table_lines}
 use Rattle.table_text.proofs.RowOrder.{table_of}
 use Rattle.table_text.proofs.reader.read_lines.Given as goal
 
@@ -8,7 +8,7 @@ abbrev pub invariant-lines : goal.invariant-lines
 invariant-lines l =
     record {
       within : l.place ≤ length l.text;
-      so_far : take l.place l.text ≡ lines_of (table_of l.field l.rows.items);
+      so_far : take l.place l.text ≡ table_lines (table_of l.field l.rows.items);
       table : IsTableIn l.version (table_of l.field l.rows.items);
     }
 

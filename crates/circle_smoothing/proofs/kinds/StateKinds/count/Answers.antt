@@ -1,4 +1,4 @@
-use Rattle.std.proofs.Common.{◌≡◌, ◌+◌, ◌-◌, ◌*◌, ◌∙◌, ap, arith}
+use Rattle.std.proofs.Common.{arith}
 use Rattle.kh_types.proofs.AcceptedLemmas.{IsAccepted-is}
 use Rattle.circle_smoothing.proofs.KindLemmas.{kind_count-kept, kind_count-le, kind_count-nothing}
 use Rattle.circle_smoothing.proofs.kinds.StateKinds.count.Goals as goal

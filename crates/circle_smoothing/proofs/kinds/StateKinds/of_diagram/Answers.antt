@@ -1,5 +1,5 @@
-use Rattle.std.proofs.Common.{◌≡◌, ◌^◌, ◌≤◌, List, ℕ, length, ap, sym, arith}
-use Rattle.std.specs.Prelude.{replicate, slice_index}
+use Rattle.std.proofs.Common.{◌^◌, ◌≤◌, length, arith}
+use Rattle.std.specs.Prelude.{replicate}
 use Rattle.std.proofs.Math.Pow.{pow_mono}
 use Rattle.kh_types.specs.declared.limits.TheConstants.{CROSSINGS}
 use Rattle.kh_types.proofs.AcceptedLemmas.{IsAccepted-is}

@@ -1,12 +1,10 @@
-use Rattle.std.proofs.Common.{◌≡◌, ◌∙◌, ℕ, ℤ, pos, ◌+ℤ◌, length, arith, ap, ap₂, map, subst}
+use Rattle.std.proofs.Common.{◌≡◌, ◌∙◌, ℕ, length, arith, ap, subst}
 use Rattle.std.proofs.lemmas.List.{map_push}
 use Rattle.smallvec.specs.SmallVec.{SmallVec}
-use Rattle.kh_types.specs.Generators.{states}
 use Rattle.sparse_block.specs.declared.entry.Entry.{Entry}
 use Rattle.sparse_block.specs.Inside.{entries_in}
 use Rattle.cube_signs.specs.Columns.{AreColumns}
 use Rattle.cube_signs.specs.Steps.{HasSteps}
-use Rattle.cube_signs.specs.Tables.{base_of}
 use Rattle.cube_signs.proofs.BlockLemmas.{IsTail-at, columns-more, columns-none, label-small}
 use Rattle.cube_signs.proofs.cube.Cube.columns.Goals as goal
 

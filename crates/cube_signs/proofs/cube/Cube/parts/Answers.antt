@@ -2,7 +2,7 @@ use Rattle.std.proofs.Common.{◌≡◌, ◌∙◌, ◌<◌, ℤ, length, ap, su
 use Rattle.std.proofs.lemmas.Int.{ints, to_z-of_z}
 use Rattle.kh_types.specs.History.{first_or_zero, homological_degrees}
 use Rattle.sparse_block.specs.Inside.{lines_in, lists_in}
-use Rattle.cube_signs.specs.Columns.{names_from}
+use Rattle.cube_signs.specs.Columns.{generators_from}
 use Rattle.cube_signs.proofs.NamedBlocks.{block-built, block-some, length-names}
 use Rattle.cube_signs.proofs.cube.Cube.parts.Goals as goal
 
@@ -24,7 +24,7 @@ all_columns-requires-clause-names c =
     let names = c.in_ok-names.names.items in
     let count : span.count ≡ length c.deref-2.result.now =
     sym (ap length c.deref-2.ensures.value ∙ length-names code span.least.i span.least.j span.count names c.in_ok-names.ensures) in
-    ap lists_in c.deref-2.ensures.value ∙ c.in_ok-names.ensures ∙ ap (names_from code span.least.i span.least.j) count
+    ap lists_in c.deref-2.ensures.value ∙ c.in_ok-names.ensures ∙ ap (generators_from code span.least.i span.least.j) count
 
 pub returns : goal.returns
 returns c =

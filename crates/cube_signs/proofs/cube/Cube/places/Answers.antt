@@ -1,4 +1,4 @@
-use Rattle.std.proofs.Common.{◌≡◌, ◌∙◌, ◌^◌, ◌<◌, ◌≤◌, ◌+◌, ℤ, get_or, length, map, ap, ap₂, sym, arith, w16, to_z, of_z}
+use Rattle.std.proofs.Common.{◌≡◌, ◌∙◌, ◌^◌, ◌<◌, ◌≤◌, ◌+◌, ℤ, get_or, length, map, ap, ap₂, arith, w16, to_z, of_z}
 use Rattle.std.specs.List.{range_with_len}
 use Rattle.circle_smoothing.specs.declared.limits.TheConstants.{GENERATORS}
 use Rattle.cube_signs.specs.Tables.{own_base, own_degree, state_generators}

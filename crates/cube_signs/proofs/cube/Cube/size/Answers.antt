@@ -1,4 +1,4 @@
-use Rattle.std.proofs.Common.{◌≡◌, ◌≤◌, ◌∙◌, ap, arith, length, pos, ◌-ℤ◌, to_z, of_z, w32}
+use Rattle.std.proofs.Common.{◌≡◌, ◌≤◌, arith, length}
 use Rattle.std.proofs.lemmas.Int.{ints}
 use Rattle.kh_types.specs.Directions.{minus_count}
 use Rattle.kh_types.specs.declared.limits.TheConstants.{CROSSINGS}

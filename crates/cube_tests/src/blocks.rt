@@ -2,16 +2,15 @@
 
 ghost use Rattle.std.specs.Prelude.{◌≡◌};
 
-use crate::{Cube, Generator, SizeLimit, block_columns, block_degrees, check_size};
-use arrayvec::ArrayVec;
-use kh_types::{Crossing, Diagram, NoMemory, RawCode};
+use circle_smoothing::StateKinds;
+use cube_signs::{Cube, Generator, SizeLimit, block_columns, block_degrees, check_kinds, check_size};
+use kh_types::{Diagram, NoMemory};
+use known_links::{TREFOIL, diagram_of};
 use prime_field::{F2, F3, F5, F7, PrimeField};
 use sparse_block::Complex;
 use std::alloc::Global;
 use std::process::Abort;
 use std::test::Fail;
-
-const TREFOIL: &[[u8; 4]] = &[[1, 4, 2, 5], [3, 6, 4, 1], [5, 2, 6, 3]];
 
 /// The generators of a homological degree, each by its state and its label, and the entries of
 /// their columns: the place of each, and whether the sign is -1.
@@ -60,7 +59,7 @@ const DEGREES: &[Degree] = &[
 
 #[test]
 fn the_trefoil_has_this_block(rt: HostRuntime) -> Result<(), Fail> {
-    let diagram = diagram_of(TREFOIL)?;
+    let diagram = diagram_of(TREFOIL, 0)?;
     has_block::<F2>(&rt, rt.alloc(), &diagram)?;
     has_block::<F3>(&rt, rt.alloc(), &diagram)?;
     has_block::<F5>(&rt, rt.alloc(), &diagram)?;
@@ -143,14 +142,14 @@ fn first_places<F: PrimeField>(alloc: Global, diagram: &Diagram) -> Result<Vec<u
 
 #[test]
 fn a_cube_has_all_blocks_of_the_trefoil(rt: HostRuntime) -> Result<(), Fail> {
-    let places = first_places::<F2>(rt.alloc(), &diagram_of(TREFOIL)?)?;
+    let places = first_places::<F2>(rt.alloc(), &diagram_of(TREFOIL, 0)?)?;
     assert_eq!(rt; places.as_slice(), [1, 3, 3, 1, 1].as_slice());
     Ok(())
 }
 
 #[test]
 fn the_trefoil_has_these_quantum_degrees(rt: HostRuntime) -> Result<(), Fail> {
-    let degrees = block_degrees(rt.alloc(), &diagram_of(TREFOIL)?)?;
+    let degrees = block_degrees(rt.alloc(), &diagram_of(TREFOIL, 0)?)?;
     assert_eq!(rt; degrees.as_slice(), [-9, -7, -5, -3, -1].as_slice());
     Ok(())
 }
@@ -163,21 +162,10 @@ fn twenty_curls_have_too_many_generators(rt: HostRuntime) -> Result<(), Fail> {
         crossings[k] = [arc, arc, arc + 1, arc + 1];
     }
     let generators = 3_656_158_440_062_976;
-    assert_eq!(rt;
-        check_size(&diagram_of(&crossings)?),
-        Err(SizeLimit { generators })
-    );
-    assert_eq!(rt; check_size(&diagram_of(TREFOIL)?), Ok(30));
+    let diagram = diagram_of(&crossings, 0)?;
+    let kinds = StateKinds::of_diagram(&diagram);
+    assert!(rt; check_size(&diagram) == Err(SizeLimit { generators }));
+    assert!(rt; check_kinds(&kinds) == Err(SizeLimit { generators }));
+    assert!(rt; check_size(&diagram_of(TREFOIL, 0)?) == Ok(30));
     Ok(())
-}
-
-fn diagram_of(arcs: &[[u8; 4]]) -> Result<Diagram, Fail> {
-    let mut crossings = ArrayVec::new();
-    for slots in arcs {
-        let _ = crossings.try_push(Crossing(*slots));
-    }
-    Ok(Diagram::try_new(&RawCode {
-        crossings,
-        loops: 0,
-    })?)
 }

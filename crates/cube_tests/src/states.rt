@@ -2,9 +2,9 @@
 
 ghost use Rattle.std.specs.Prelude.{◌≡◌};
 
-use crate::{Circles, Edge, circles, edge, generator_count};
-use arrayvec::ArrayVec;
-use kh_types::{Crossing, Diagram, RawCode, bit};
+use circle_smoothing::{Circles, Edge, StateKinds, circles, edge, generator_count};
+use kh_types::{Diagram, bit};
+use known_links::diagram_of;
 use std::process::Abort;
 use std::test::Fail;
 
@@ -198,10 +198,35 @@ fn edge_at(diagram: &Diagram, state: u32, crossing: u8) -> Option<Edge> {
     }
 }
 
-fn diagram_of(arcs: &[[u8; 4]], loops: u8) -> Result<Diagram, Fail> {
-    let mut crossings = ArrayVec::new();
-    for slots in arcs {
-        let _ = crossings.try_push(Crossing(*slots));
+/// A curl apart has two circles or one; so with n of them C(n, r) states have r ones, and 2n - r
+/// circles, and there are 6^n generators, by arithmetic.
+#[test]
+fn curls_apart_have_these_kinds(rt: HostRuntime) -> Result<(), Fail> {
+    has_curls(&rt, 16, [1, 16, 12870, 1], 2_821_109_907_456)?;
+    has_curls(&rt, 17, [1, 17, 24310, 1], 16_926_659_444_736)?;
+    has_curls(&rt, 20, [1, 20, 125_970, 1], 3_656_158_440_062_976)?;
+    Ok(())
+}
+
+// So many curls have so many states with none, one, eight and all ones, and so many generators.
+fn has_curls(
+    rt: &impl Abort,
+    count: usize,
+    wanted: [u32; 4],
+    generators: u128,
+) -> Result<(), Fail> {
+    let mut arcs = [[0u8; 4]; 20];
+    for k in 0..20 {
+        let arc = 2 * k as u8 + 1;
+        arcs[k] = [arc, arc, arc + 1, arc + 1];
     }
-    Ok(Diagram::try_new(&RawCode { crossings, loops })?)
+    let kinds = StateKinds::of_diagram(&diagram_of(&arcs[..count.min(20)], 0)?);
+    for place in 0..4usize {
+        let ones = [0, 1, 8, count][place];
+        let circles = count.saturating_mul(2).saturating_sub(ones);
+        assert!(rt; kinds.count(ones, circles) == wanted[place]);
+        assert!(rt; kinds.count(ones, circles.saturating_add(1)) == 0);
+    }
+    assert!(rt; kinds.generator_count() == generators);
+    Ok(())
 }
