@@ -14,6 +14,8 @@ mod gauss_texts;
 #[cfg(test)]
 mod json_texts;
 #[cfg(test)]
+mod moves;
+#[cfg(test)]
 mod pd_texts;
 #[cfg(test)]
 mod plain_acceptance;
