@@ -4,6 +4,8 @@
 #[cfg(test)]
 mod acceptance;
 #[cfg(test)]
+mod braids;
+#[cfg(test)]
 mod components;
 #[cfg(test)]
 mod faces;
@@ -11,6 +13,8 @@ mod faces;
 mod gauss_texts;
 #[cfg(test)]
 mod json_texts;
+#[cfg(test)]
+mod moves;
 #[cfg(test)]
 mod pd_texts;
 #[cfg(test)]

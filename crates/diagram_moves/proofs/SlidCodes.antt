@@ -168,6 +168,16 @@ plus-slid crossings =
     (ap (λ a. count_by (is_positive crossings) (range_with_len a (length crossings))) (sym e)
     ∙ count-later (is_positive crossings) 0 (length crossings))
 
+pub HasTwoEnds-slid : (code : Code) (x y z : ℕ) → IsTrue (accepted code) → IsTriangle code.crossings x y z
+    → HasTwoEnds (slid_strands code x y z).crossings (slid_strands code x y z).signs
+HasTwoEnds-slid code x y z is triangle =
+    let old_twice = HasArcsTwice-accepted code is in
+    let sides = HasSides-triangle code.crossings x y z old_twice triangle in
+    let new = slid code.crossings x y z in
+    let size = length-slid code.crossings x y z in
+    HasTwoEnds-arcs new (is_positive code.crossings) (slid_strands code x y z).signs (HasArcsTwice-slid code.crossings x y z old_twice sides)
+    (HasHeadsAndTails-slid code x y z is sides) (λ place below. signs-slid code.crossings place (omega (arith, below, size)))
+
 pub IsKept-slid : (code : Code) (x y z : ℕ) → IsTrue (accepted code) → IsTriangle code.crossings x y z → has_heights x y z ≡ true
     → IsKept code (numbered (slid_strands code x y z)) (λ place. place) (length code.crossings)
 IsKept-slid code x y z is triangle heights =

@@ -1,8 +1,9 @@
 -- What a move leaves, and the code that it becomes.
-use Rattle.std.specs.Prelude.{◌≡◌, ℕ, ◌*◌, ◌<◌, List, length}
+use Rattle.std.specs.Prelude.{◌≡◌, ℕ, ◌*◌, ◌<◌, IsTrue, List, length}
 use Rattle.kh_types.specs.Code.{Code}
 use Rattle.kinks_and_fingers.specs.Strands.{Strands, dart_name, HasTwoEnds, IsPlanarBy}
-use Rattle.orient_arcs.specs.Parts.{Parts}
+use Rattle.kh_types.specs.Acceptance.{accepted}
+use Rattle.orient_arcs.specs.Parts.{ArePaired, Parts}
 use Rattle.orient_arcs.specs.Renumbered.{renumber}
 
 -- crossings over names, as what is renumbered
@@ -24,3 +25,8 @@ pub record IsJoinable (bound : ℕ) (strands : Strands) : Type 0 where
   pub partner : ℕ → ℕ
   pub planar : IsPlanarBy strands.crossings partner
   pub names : AreNamesBelow bound strands.crossings
+
+-- crossings over names whose arcs have a head and a tail each, and whose code is accepted
+pub record AreReady (parts : Parts) : Type 0 where
+  pub paired : ArePaired parts
+  pub accepted_code : IsTrue (accepted (renumber parts))

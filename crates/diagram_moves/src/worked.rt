@@ -1,13 +1,17 @@
 //! Drops and slides of worked diagrams, numbered.
 
-ghost use Rattle.std.specs.Prelude.{◌≡◌, ◌∷◌, [], true};
+ghost use Rattle.std.specs.Prelude.{◌≡◌, ◌∷◌, [], true, Ok, Err};
 ghost use Rattle.kh_types.specs.Acceptance.{accepted};
-ghost use Rattle.kh_types.specs.WorkedCodes.{curl, over_circle, slots_with, two_curls, without_loops};
+ghost use Rattle.kh_types.specs.WorkedCodes.{curl, over_circle, slots_with, trefoil, two_curls, without_loops};
 ghost use Rattle.kinks_and_fingers.specs.DropComponents.{strand_component_count};
 ghost use Rattle.kinks_and_fingers.specs.Drops.{without_finger, without_kink};
 ghost use Rattle.kinks_and_fingers.specs.WorkedDrops.{curl_fingered, curl_kinked};
 ghost use Rattle.diagram_moves.specs.Joinable.{numbered};
 ghost use Rattle.diagram_moves.specs.Kept.{slid_strands};
+ghost use Rattle.diagram_moves.specs.Moved.{moved};
+ghost use Rattle.diagram_moves.specs.declared.change.Move.TheVariants.{FingerAdd, FingerDrop, KinkAdd, KinkDrop, Slide};
+ghost use Rattle.diagram_moves.specs.declared.change.Side.TheVariants.{Left, Right};
+ghost use Rattle.diagram_moves.specs.declared.fault.MoveFault.TheVariants.{Genus, Heights, NoArc, NoBigon, NoCrossing, NoKink, NoTriangle, OnLoop, SameArc};
 
 /// Worked drops and a slide.
 pub fn worked_joins()
@@ -22,4 +26,26 @@ pub fn worked_joins()
         ≡ slots_with 2 6 3 5 ∷ slots_with 3 6 4 5 ∷ slots_with 1 1 2 4 ∷ [] }
     ensures circle_accepted { accepted (numbered (slid_strands (without_loops (slots_with 1 6 2 5 ∷ slots_with 4 6 1 5 ∷ slots_with 2 4 3 3 ∷ [])) 1 4 8))
         ≡ true }
+{}
+
+/// What moves of a curl leave, and what refuses moves, in the order of the faults.
+#[tactic(auto, unfolding(crate::specs::Moved::moved))]
+pub fn worked_moves()
+    ensures kink { moved curl (KinkAdd 1 true true)
+        ≡ Ok (without_loops (slots_with 3 1 4 4 ∷ slots_with 1 3 2 2 ∷ [])) }
+    ensures finger { moved curl (FingerAdd 1 Left 2 Right)
+        ≡ Ok (without_loops (slots_with 3 1 4 6 ∷ slots_with 4 1 5 2 ∷ slots_with 5 3 6 2 ∷ [])) }
+    ensures across { moved curl (FingerAdd 1 Left 2 Left) ≡ Err (Genus 3 5) }
+    ensures nothing { moved curl (KinkAdd 0 true true) ≡ Err (NoArc 0) }
+    ensures above { moved curl (KinkAdd 3 true true) ≡ Err (NoArc 3) }
+    ensures a_loop { moved (record curl { loops = 1 }) (KinkAdd 3 true true) ≡ Err (OnLoop 3) }
+    ensures past_loop { moved (record curl { loops = 1 }) (KinkAdd 4 true true) ≡ Err (NoArc 4) }
+    ensures two_loops { moved (record curl { loops = 1 }) (FingerAdd 3 Left 3 Left) ≡ Err (OnLoop 3) }
+    ensures same { moved curl (FingerAdd 2 Left 2 Right) ≡ Err (SameArc 2) }
+    ensures dropped { moved curl (KinkDrop 1) ≡ Ok (record { crossings = []; loops = 1 }) }
+    ensures no_kink { moved trefoil (KinkDrop 1) ≡ Err (NoKink 1) }
+    ensures no_crossing { moved trefoil (KinkDrop 4) ≡ Err (NoCrossing 4) }
+    ensures no_bigon { moved curl (FingerDrop 1 1) ≡ Err (NoBigon 1 1) }
+    ensures no_triangle { moved trefoil (Slide 1 2 2) ≡ Err (NoTriangle 1 2 2) }
+    ensures heights { moved trefoil (Slide 1 2 3) ≡ Err Heights }
 {}

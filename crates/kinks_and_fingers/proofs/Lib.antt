@@ -14,7 +14,6 @@ pub mod FingerPlanar
 pub mod GluedSums
 pub mod GluedCircles
 pub mod GluedCodes
-pub mod FingerAnswers
 pub mod Steps
 pub mod Relabelled
 pub mod MoreCrossings
@@ -49,5 +48,3 @@ pub mod KinkFaces
 pub mod KinkedCircles
 pub mod KinkTerms
 pub mod KinkWith
-pub mod KinkAnswers
-pub mod KinkBody

@@ -1,7 +1,6 @@
 pub mod FingerAdd
 pub mod Fingers
 pub mod FingerCodes
-pub mod FingerFaults
 pub mod Strands
 pub mod Insertions
 pub mod DropCircles
@@ -12,5 +11,3 @@ pub mod Dropping
 pub mod KinkAdds
 pub mod WorkedDrops
 pub mod KinkCodes
-pub mod KinkFaults
-pub mod KinkBody

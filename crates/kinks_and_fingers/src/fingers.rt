@@ -1,6 +1,6 @@
 //! What a finger keeps.
 
-ghost use Rattle.std.specs.Prelude.{◌≡◌, ◌≢◌, ◌↔◌, ℕ, ◌+◌, ◌≤◌, ℤ, Bool, IsTrue, not, length, None, Ok};
+ghost use Rattle.std.specs.Prelude.{◌≡◌, ◌≢◌, ◌↔◌, ℕ, ◌+◌, ℤ, Bool, IsTrue, not, length};
 ghost use Rattle.kh_types.specs.Code.{Code, IsArc};
 ghost use Rattle.kh_types.specs.Components.{component_count};
 ghost use Rattle.kh_types.specs.Faces.{face_count, planar_face_count};
@@ -10,8 +10,6 @@ ghost use Rattle.kh_types.specs.Directions.{is_positive, plus_count, minus_count
 ghost use Rattle.kh_types.specs.Code.{IsCrossing};
 ghost use Rattle.kinks_and_fingers.specs.FingerAdd.{with_finger, differ, AreOfOneFace, AreOfTwoPieces};
 ghost use Rattle.kh_types.specs.StateSum.{state_sum};
-ghost use Rattle.kh_types.specs.declared.limits.TheConstants.{CROSSINGS};
-ghost use Rattle.kinks_and_fingers.specs.FingerFaults.{early_fault, finger_added};
 ghost use Rattle.kinks_and_fingers.specs.FingerCodes.{IsWithFinger};
 
 /// A finger of an arc of an accepted code over another arc, on any sides: the code that results is directed and has as many
@@ -62,20 +60,4 @@ pub fn fingers_are_planar()
         → IsArc code.crossings a → IsArc code.crossings b → AreOfTwoPieces code.crossings a b
         → face_count (with_finger code a a_left b b_left).crossings
         ≡ planar_face_count (with_finger code a a_left b b_left).crossings }
-{}
-
-/// No fault but that of the faces comes exactly where the two are different arcs and there is room. What the move answers is accepted
-/// and has the state sum of the diagram before. Between arcs of two pieces it answers where no early fault comes.
-pub fn fingers_answer_accepted_codes()
-    ensures early { (code : Code) (a b : ℕ) → (early_fault code a b ≡ None)
-        ↔ (IsArc code.crossings a × IsArc code.crossings b × (a ≢ b)
-        × (length code.crossings + 2 ≤ CROSSINGS)) }
-    ensures accepted { (code new : Code) (a b : ℕ) (a_left b_left : Bool) → IsTrue (accepted code)
-        → finger_added code a a_left b b_left ≡ Ok new → IsTrue (accepted new) }
-    ensures state_sum { (code new : Code) (a b : ℕ) (a_left b_left : Bool) → IsTrue (accepted code)
-        → finger_added code a a_left b b_left ≡ Ok new → (exponent : ℤ)
-        → state_sum new exponent ≡ state_sum code exponent }
-    ensures two_pieces { (code : Code) (a b : ℕ) (a_left b_left : Bool) → IsTrue (accepted code)
-        → early_fault code a b ≡ None → AreOfTwoPieces code.crossings a b
-        → finger_added code a a_left b b_left ≡ Ok (with_finger code a a_left b b_left) }
 {}

@@ -1,7 +1,7 @@
 //! What a kink keeps.
 
-ghost use Rattle.std.specs.Prelude.{◌≡◌, ◌≢◌, ◌↔◌, ℕ, ◌+◌, ◌≤◌, ◌<◌, ℤ, Bool, true, false, IsTrue, length, None, Ok, Err};
-ghost use Rattle.kh_types.specs.Code.{Code, IsArc, IsCrossing, arc_count, slots_of};
+ghost use Rattle.std.specs.Prelude.{◌≡◌, ◌≢◌, ℕ, ◌+◌, ℤ, Bool, IsTrue, length};
+ghost use Rattle.kh_types.specs.Code.{Code, IsArc, IsCrossing, slots_of};
 ghost use Rattle.kh_types.specs.Darts.{IsDart, arc_of};
 ghost use Rattle.kh_types.specs.declared.dart.Dart.{Dart};
 ghost use Rattle.kh_types.specs.Components.{component_count, next};
@@ -10,11 +10,8 @@ ghost use Rattle.kh_types.specs.Acceptance.{accepted};
 ghost use Rattle.kh_types.specs.Accepted.{IsDirected};
 ghost use Rattle.kh_types.specs.Directions.{head_of, is_positive as sign, minus_count, plus_count, tail_of};
 ghost use Rattle.kh_types.specs.StateSum.{state_sum};
-ghost use Rattle.kh_types.specs.declared.limits.TheConstants.{CROSSINGS};
 ghost use Rattle.kinks_and_fingers.specs.KinkAdds.{kink_crossing, raised, with_kink};
 ghost use Rattle.kinks_and_fingers.specs.KinkCodes.{IsWithKink, one_where};
-ghost use Rattle.kinks_and_fingers.specs.KinkFaults.{kink_fault, kink_added};
-ghost use Rattle.kinks_and_fingers.specs.declared.kink_fault.KinkFault.TheVariants.{NoArc, Crossings, Loop};
 
 /// A kink of any kind on an arc of an accepted code: the code that results is directed, has as many components and one crossing more,
 /// has n + 2k faces, and is accepted.
@@ -61,25 +58,4 @@ pub fn kinks_keep_signs()
         → plus_count (with_kink is_over is_positive a code).crossings ≡ plus_count code.crossings + one_where is_positive }
     ensures state_sum { (code : Code) (a : ℕ) (is_over is_positive : Bool) → IsTrue (accepted code) → IsArc code.crossings a
         → (exponent : ℤ) → state_sum (with_kink is_over is_positive a code) exponent ≡ state_sum code exponent }
-{}
-
-/// What the move answers: the number is no arc and no loop; it is one, and there is no room for a crossing more; there is, and it is a
-/// loop; or it is an arc, and the code with the kink is answered, which is accepted, and has the state sum of the diagram before.
-pub fn kinks_answer_accepted_codes()
-    ensures no_arc { (code : Code) (a : ℕ) (is_over is_positive : Bool)
-        → (kink_added code a is_over is_positive ≡ Err (NoArc a))
-        ↔ (¬ ((1 ≤ a) × (a ≤ arc_count code.crossings + code.loops))) }
-    ensures crossings { (code : Code) (a : ℕ) (is_over is_positive : Bool)
-        → (kink_added code a is_over is_positive ≡ Err (Crossings (length code.crossings + 1)))
-        ↔ ((1 ≤ a) × (a ≤ arc_count code.crossings + code.loops) × (CROSSINGS < length code.crossings + 1)) }
-    ensures a_loop { (code : Code) (a : ℕ) (is_over is_positive : Bool)
-        → (kink_added code a is_over is_positive ≡ Err (Loop a))
-        ↔ ((length code.crossings + 1 ≤ CROSSINGS) × (arc_count code.crossings < a) × (a ≤ arc_count code.crossings + code.loops)) }
-    ensures answered { (code new : Code) (a : ℕ) (is_over is_positive : Bool)
-        → (kink_added code a is_over is_positive ≡ Ok new)
-        ↔ (IsArc code.crossings a × (length code.crossings + 1 ≤ CROSSINGS) × (with_kink is_over is_positive a code ≡ new)) }
-    ensures accepted { (code new : Code) (a : ℕ) (is_over is_positive : Bool) → IsTrue (accepted code)
-        → kink_added code a is_over is_positive ≡ Ok new → IsTrue (accepted new) × (length new.crossings ≤ CROSSINGS) }
-    ensures state_sum { (code new : Code) (a : ℕ) (is_over is_positive : Bool) → IsTrue (accepted code)
-        → kink_added code a is_over is_positive ≡ Ok new → (exponent : ℤ) → state_sum new exponent ≡ state_sum code exponent }
 {}

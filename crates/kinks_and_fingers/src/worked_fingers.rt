@@ -1,13 +1,11 @@
 //! Fingers on known diagrams.
 
-ghost use Rattle.std.specs.Prelude.{◌≡◌, Ok, Err, Some, None, [], ◌∷◌, true, false};
+ghost use Rattle.std.specs.Prelude.{◌≡◌, Some, None, [], ◌∷◌, true, false};
 ghost use Rattle.kh_types.specs.declared.fault.CodeFault.TheVariants.{Checkerboard, Genus};
 ghost use Rattle.kh_types.specs.WorkedCodes.{without_loops, slots_with, curl, two_curls, trefoil, over_circle};
 ghost use Rattle.kh_types.specs.Acceptance.{first_fault, accepted, direction_fault, genus_fault};
 ghost use Rattle.kh_types.specs.Directions.{plus_count, minus_count};
 ghost use Rattle.kh_types.specs.StateSum.{state_sum, polynomial_text};
-ghost use Rattle.kinks_and_fingers.specs.declared.finger_fault.FingerFault.TheVariants.{NoArc, Loop, SameArc, Genus as FingerGenus};
-ghost use Rattle.kinks_and_fingers.specs.FingerFaults.{finger_added};
 ghost use Rattle.kinks_and_fingers.specs.FingerAdd.{with_finger, AreOfOneFace, AreOfTwoPieces};
 
 /// A finger of the one half of a curl over the other, on the outer sides; across itself, where the code has too few faces; between
@@ -27,16 +25,8 @@ pub fn known_fingers()
     ensures three_minus { minus_count (with_finger trefoil 1 true 3 true).crossings ≡ 4 }
 {}
 
-/// What the move answers on a curl, and its faults in their order. The two sides of the first case are in one face; two curls that
-/// lie apart are two pieces.
-pub fn known_answers()
-    ensures outside { finger_added curl 1 true 2 false
-        ≡ Ok (without_loops (slots_with 3 1 4 6 ∷ slots_with 4 1 5 2 ∷ slots_with 5 3 6 2 ∷ [])) }
-    ensures across { finger_added curl 1 true 2 true ≡ Err (FingerGenus 3 5) }
-    ensures nothing { finger_added curl 0 true 0 true ≡ Err (NoArc 0) }
-    ensures second_nothing { finger_added curl 1 true 3 true ≡ Err (NoArc 3) }
-    ensures a_loop { finger_added (record curl { loops = 1 }) 3 true 3 true ≡ Err (Loop 3) }
-    ensures same { finger_added curl 2 true 2 false ≡ Err (SameArc 2) }
+/// The two sides of the first case are in one face; two curls that lie apart are two pieces.
+pub fn known_sides()
     ensures one_face { AreOfOneFace curl.crossings 1 true 2 false }
     ensures two_pieces { AreOfTwoPieces two_curls.crossings 1 3 }
     ensures kept { polynomial_text (state_sum (with_finger curl 1 true 2 false)) ≡ polynomial_text (state_sum curl) }

@@ -1,0 +1,94 @@
+-- Kinks and fingers as they are added.
+use Rattle.std.proofs.Common.{◌≡◌, ◌≢◌, ℕ, ◌+◌, ◌≤◌, ◌∙◌, ℤ, List, [], ◌∷◌, ◌++◌, length, arith, Bool, IsTrue}
+use Rattle.std.specs.Prelude.{None}
+use Rattle.std.specs.Option.{option_or}
+use Rattle.std.specs.List.{range_with_len}
+use Rattle.std.proofs.lemmas.List.{length-map}
+use Rattle.std.proofs.lemmas.List.FromFn.{length-range_with_len, map-range_with_len_more}
+use Rattle.kh_types.specs.Acceptance.{accepted}
+use Rattle.kh_types.specs.Code.{Code, arc_count}
+use Rattle.kh_types.specs.Faces.{face_count, planar_face_count}
+use Rattle.kh_types.specs.declared.limits.TheConstants.{CROSSINGS}
+use Rattle.gluing.specs.Codes.{name_count}
+use Rattle.kh_types.specs.StateSum.{state_sum}
+use Rattle.kinks_and_fingers.proofs.FingerWith.{placed_at, lowered_to, IsWithFinger-fingered}
+use Rattle.kinks_and_fingers.proofs.GluedCodes.{state_sum-finger}
+use Rattle.kinks_and_fingers.specs.FingerAdd.{moved_slots, with_finger, differ, opened, fingered}
+use Rattle.kinks_and_fingers.specs.KinkAdds.{with_kink}
+use Rattle.kinks_and_fingers.proofs.FingerAccepted.{accepted-fingered, AreFingerable-accepted}
+use Rattle.kinks_and_fingers.proofs.KinkFaces.{accepted-kinked}
+use Rattle.diagram_moves.specs.AddSteps.{IsTakenArc, AreTakenArcs, kinked_there, kinked_to, fingered_to}
+use Rattle.diagram_moves.specs.MoveFaults.{kink_add_fault, finger_place_fault, no_arc, crossing_limit, on_loop, same_arc, wrong_genus}
+use Rattle.diagram_moves.specs.declared.fault.MoveFault.TheVariants.{NoArc, CrossingLimit, OnLoop, SameArc, Genus}
+use Rattle.diagram_moves.proofs.FaultLemmas.{both-none, none-above, none-apart, none-same, none-within}
+
+pub kinked_more : (crossings : List (List ℕ)) (a k : ℕ)
+    → kinked_to crossings a (k + 1) ≡ kinked_to crossings a k ++ kinked_there crossings a k ∷ []
+kinked_more crossings a k = map-range_with_len_more (kinked_there crossings a) 0 k k (omega arith)
+
+pub length_kinked : (crossings : List (List ℕ)) (a k : ℕ) → length (kinked_to crossings a k) ≡ k
+length_kinked crossings a k = length-map (range_with_len 0 k) (kinked_there crossings a) ∙ length-range_with_len 0 k
+
+pub fingered_more : (crossings : List (List ℕ)) (a b k : ℕ)
+    → fingered_to crossings a b (k + 1) ≡ fingered_to crossings a b k ++ moved_slots crossings a b (k + 1) ∷ []
+fingered_more crossings a b k = map-range_with_len_more (moved_slots crossings a b) 1 k (k + 1) (omega arith)
+
+pub length_fingered : (crossings : List (List ℕ)) (a b k : ℕ) → length (fingered_to crossings a b k) ≡ k
+length_fingered crossings a b k = length-map (range_with_len 1 k) (moved_slots crossings a b) ∙ length-range_with_len 1 k
+
+pub accepted_kinked : (code : Code) (a : ℕ) (over positive : Bool) → IsTrue (accepted code) → IsTakenArc code a
+    → IsTrue (accepted (with_kink over positive a code))
+accepted_kinked code a over positive holds taken = accepted-kinked code a over positive holds taken.is_arc
+
+pub kinks_are_taken : (code : Code) (a : ℕ) → kink_add_fault code a ≡ None → IsTakenArc code a
+kinks_are_taken code a none =
+    let first = both-none (no_arc code a) (option_or (crossing_limit code 1) (on_loop code a)) none in
+    let second = both-none (crossing_limit code 1) (on_loop code a) first.1 in
+    record {
+      is_arc = record {
+        positive = (none-within a (arc_count code.crossings + code.loops) (NoArc a) first.0).0;
+        within = none-above (arc_count code.crossings) a (OnLoop a) second.1;
+      };
+      room = none-above CROSSINGS (length code.crossings + 1) (CrossingLimit (length code.crossings + 1)) second.0;
+    }
+
+pub fingers_are_taken : (code : Code) (a b : ℕ) → finger_place_fault code a b ≡ None → AreTakenArcs code a b
+fingers_are_taken code a b none =
+    let last = same_arc a b in
+    let fourth = option_or (on_loop code b) last in
+    let third = option_or (on_loop code a) fourth in
+    let second = option_or (crossing_limit code 2) third in
+    let from_a = both-none (no_arc code a) (option_or (no_arc code b) second) none in
+    let from_b = both-none (no_arc code b) second from_a.1 in
+    let from_room = both-none (crossing_limit code 2) third from_b.1 in
+    let from_loop = both-none (on_loop code a) fourth from_room.1 in
+    let from_other = both-none (on_loop code b) last from_loop.1 in
+    record {
+      over_arc = record {
+        positive = (none-within a (arc_count code.crossings + code.loops) (NoArc a) from_a.0).0;
+        within = none-above (arc_count code.crossings) a (OnLoop a) from_loop.0;
+      };
+      under_arc = record {
+        positive = (none-within b (arc_count code.crossings + code.loops) (NoArc b) from_b.0).0;
+        within = none-above (arc_count code.crossings) b (OnLoop b) from_other.0;
+      };
+      apart = none-apart a b (SameArc a) from_other.1;
+      room = none-above CROSSINGS (length code.crossings + 2) (CrossingLimit (length code.crossings + 2)) from_room.0;
+    }
+
+pub fingers_on_the_sphere_are_accepted : (code : Code) (a b : ℕ) (a_left b_left : Bool) → IsTrue (accepted code)
+    → AreTakenArcs code a b → wrong_genus (with_finger code a a_left b b_left).crossings ≡ None
+    → IsTrue (accepted (with_finger code a a_left b b_left))
+fingers_on_the_sphere_are_accepted code a b a_left b_left holds taken none =
+    let made = with_finger code a a_left b b_left in
+    (accepted-fingered code a b b_left (differ a_left b_left) holds taken.over_arc taken.under_arc taken.apart).0
+    (none-same (face_count made.crossings) (planar_face_count made.crossings)
+    (Genus (face_count made.crossings) (planar_face_count made.crossings)) none)
+
+pub sum-fingered : (code : Code) (a b : ℕ) (a_left b_left : Bool) → IsTrue (accepted code) → AreTakenArcs code a b → (exponent : ℤ)
+    → state_sum (with_finger code a a_left b b_left) exponent ≡ state_sum code exponent
+sum-fingered code a b a_left b_left holds taken exponent =
+    let can = AreFingerable-accepted code a b holds taken.over_arc taken.under_arc taken.apart in
+    state_sum-finger b_left (differ a_left b_left) code (fingered code a b b_left (differ a_left b_left))
+    (placed_at (opened a b a) (opened a b b) (name_count code + 4)) (lowered_to a b (name_count code + 4))
+    (IsWithFinger-fingered code a b b_left (differ a_left b_left) can) exponent

@@ -1,0 +1,59 @@
+-- What it says that no fault comes.
+use Rattle.std.proofs.Common.{◌≡◌, ◌≢◌, ℕ, ◌+◌, ◌≤◌, length, refl, arith, Bool, not, ◌||◌}
+use Rattle.std.specs.Prelude.{nat_eq, nat_lt, Option, Some, None, true, false}
+use Rattle.std.specs.Option.{option_or}
+use Rattle.std.proofs.lemmas.Bool.Decides.{nat_tests}
+use Rattle.diagram_moves.specs.declared.fault.MoveFault.{MoveFault}
+use Rattle.kh_types.specs.Code.{Code, IsCrossing}
+use Rattle.diagram_moves.specs.MoveFaults.{no_crossing, refused_where}
+use Rattle.diagram_moves.specs.declared.fault.MoveFault.TheVariants.{NoCrossing, Genus}
+
+pub both-none : (x y : Option MoveFault) → option_or x y ≡ None → (x ≡ None) × (y ≡ None)
+both-none None y none = (refl, none)
+both-none (Some x) y none = absurd (cc)
+
+pub none-false : (b : Bool) (fault : MoveFault) → refused_where b fault ≡ None → b ≡ false
+none-false false fault none = refl
+none-false true fault none = absurd (cc)
+
+pub none-not : (b : Bool) (fault : MoveFault) → refused_where (not b) fault ≡ None → b ≡ true
+none-not true fault none = refl
+none-not false fault none = absurd (cc)
+
+pub none-within : (x most : ℕ) (fault : MoveFault) → refused_where (nat_eq x 0 || nat_lt most x) fault ≡ None → (1 ≤ x) × (x ≤ most)
+none-within x most fault none = grind (arith, nat_tests)
+
+pub none-above : (most count : ℕ) (fault : MoveFault) → refused_where (nat_lt most count) fault ≡ None → count ≤ most
+none-above most count fault none = grind (arith, nat_tests)
+
+pub none-apart : (x y : ℕ) (fault : MoveFault) → refused_where (nat_eq x y) fault ≡ None → x ≢ y
+none-apart x y fault none = grind (arith, nat_tests)
+
+pub none-same : (x y : ℕ) (fault : MoveFault) → refused_where (not (nat_eq x y)) fault ≡ None → x ≡ y
+none-same x y fault none = grind (arith, nat_tests)
+
+pub is_crossing : (code : Code) (c : ℕ) → no_crossing code c ≡ None → IsCrossing code.crossings c
+is_crossing code c none =
+    let within = none-within c (length code.crossings) (NoCrossing c) none in record { positive = within.0; within = within.1 }
+
+pub first_is_crossing : (code : Code) (c : ℕ) (later : Option MoveFault) → option_or (no_crossing code c) later ≡ None
+    → IsCrossing code.crossings c
+first_is_crossing code c later none = is_crossing code c (both-none (no_crossing code c) later none).0
+
+pub second_is_crossing : (code : Code) (c d : ℕ) → option_or (no_crossing code c) (no_crossing code d) ≡ None
+    → IsCrossing code.crossings d
+second_is_crossing code c d none = is_crossing code d (both-none (no_crossing code c) (no_crossing code d) none).1
+
+-- tests that name other faults than that of the faces, and their order
+
+pub other-fault : (b : Bool) (fault : MoveFault) (faces wanted : ℕ) → ¬ (fault ≡ Genus faces wanted)
+    → ¬ (refused_where b fault ≡ Some (Genus faces wanted))
+other-fault true fault faces wanted other same = other (some-same fault (Genus faces wanted) same)
+  where
+    some-same : (x y : MoveFault) → (let one : Option MoveFault = Some x in let two : Option MoveFault = Some y in one ≡ two) → x ≡ y
+    some-same x y same = cc
+other-fault false fault faces wanted other same = absurd (cc)
+
+pub neither-fault : (x y : Option MoveFault) (fault : MoveFault) → ¬ (x ≡ Some fault) → ¬ (y ≡ Some fault) → ¬ (option_or x y ≡ Some fault)
+neither-fault None y fault no_x no_y same = no_y same
+neither-fault (Some x) y fault no_x no_y same = no_x same

@@ -1,0 +1,35 @@
+-- A slide, crossing by crossing.
+use Rattle.std.specs.Prelude.{ℕ, ◌+◌, ◌*◌, ◌<◌, List, map, unwrap_or}
+use Rattle.std.specs.List.{range_with_len}
+use Rattle.kh_types.specs.Code.{Code, IsCrossing}
+use Rattle.kh_types.specs.Darts.{dart_count}
+use Rattle.kinks_and_fingers.specs.Strands.{Strands}
+use Rattle.slides.specs.Slid.{arc_there, slid_crossing, source}
+use Rattle.slides.specs.Triangles.{dart_at_slot, slide_slot, step}
+use Rattle.diagram_moves.specs.Joinable.{AreReady, parts_in}
+use Rattle.diagram_moves.specs.Kept.{slid_strands}
+
+-- the first so many crossings after the slide
+abbrev pub slid_to : List (List ℕ) → ℕ → ℕ → ℕ → ℕ → List (List ℕ)
+slid_to crossings x y z count = map (slid_crossing crossings x y z) (range_with_len 0 count)
+
+-- three darts of a code
+pub record AreDarts (crossings : List (List ℕ)) (x y z : ℕ) : Type 0 where
+  pub first : x < dart_count crossings
+  pub second : y < dart_count crossings
+  pub third : z < dart_count crossings
+
+-- the arc at a slot of the crossing at a place after the slide
+abbrev pub slid_arc : List (List ℕ) → ℕ → ℕ → ℕ → ℕ → ℕ → ℕ
+slid_arc crossings x y z place slot = arc_there crossings (source x y z (4 * place + slot))
+
+-- the crossings after a slide at the triangle of a slot of a crossing
+abbrev pub slid_strands_at : Code → ℕ → ℕ → Strands
+slid_strands_at code crossing slot =
+    let x = dart_at_slot crossing slot in
+    slid_strands code x (step code.crossings x) (step code.crossings (step code.crossings x))
+
+-- a slide can be made at three crossings, and what it leaves can be numbered
+pub record IsSlidable (code : Code) (first second third : ℕ) : Type 0 where
+  pub crossing : IsCrossing code.crossings first
+  pub ready : AreReady (parts_in (slid_strands_at code first (unwrap_or (slide_slot code.crossings first second third) 0)))
