@@ -49,3 +49,15 @@ pub fn worked_moves()
     ensures no_triangle { moved trefoil (Slide 1 2 2) ≡ Err (NoTriangle 1 2 2) }
     ensures heights { moved trefoil (Slide 1 2 3) ≡ Err Heights }
 {}
+
+/// A kink and a finger that are added and dropped, and a slide that is made twice at the same three
+/// crossings, give the diagram back.
+#[tactic(auto, unfolding(crate::specs::Moved::moved))]
+pub fn worked_moves_are_taken_back()
+    ensures kink { moved (without_loops (slots_with 3 1 4 4 ∷ slots_with 1 3 2 2 ∷ [])) (KinkDrop 2) ≡ Ok curl }
+    ensures finger { moved curl_fingered (FingerDrop 2 3) ≡ Ok curl }
+    ensures slide { moved (without_loops (slots_with 5 2 6 1 ∷ slots_with 3 3 4 2 ∷ slots_with 4 5 1 6 ∷ [])) (Slide 1 2 3)
+        ≡ Ok (without_loops (slots_with 6 3 5 2 ∷ slots_with 4 2 1 1 ∷ slots_with 3 6 4 5 ∷ [])) }
+    ensures back { moved (without_loops (slots_with 6 3 5 2 ∷ slots_with 4 2 1 1 ∷ slots_with 3 6 4 5 ∷ [])) (Slide 1 2 3)
+        ≡ Ok (without_loops (slots_with 5 2 6 1 ∷ slots_with 3 3 4 2 ∷ slots_with 4 5 1 6 ∷ [])) }
+{}
