@@ -9,13 +9,21 @@ use Rattle.circle_smoothing.specs.GeneratorCounts.{generator_count}
 use Rattle.orient_arcs.proofs.Bridge.{IsDirected-renumbered}
 use Rattle.orient_arcs.proofs.AlikeCrossings.{AreAlike-renumbered}
 use Rattle.braid_maker.specs.Braids.{passes_over, left_of}
-use Rattle.braid_maker.specs.Closures.{AreLetters, IsRenumbered, closure, closure_parts, code_of_number, letters_of, straight_count}
-use Rattle.orient_arcs.specs.Parts.{ArePaired}
+use Rattle.braid_maker.specs.Closures.{AreLetters, closure, closure_parts, code_of_number, letters_of, straight_count}
+use Rattle.orient_arcs.specs.Parts.{ArePaired, Parts}
+use Rattle.orient_arcs.specs.Renumbered.{renumber}
+use Rattle.orient_arcs.specs.Alike.{AreAlike}
+use Rattle.kh_types.specs.Accepted.{IsDirected}
 use Rattle.braid_maker.proofs.AlikeCodes.{IsCheckerboard-alike_braid, face_count-alike_braid}
 use Rattle.braid_maker.proofs.CircleJoins.{IsBraidCode, generator_count-braid}
 use Rattle.braid_maker.proofs.ComponentJoins.{component_count-braid}
 use Rattle.braid_maker.proofs.Names.{AreAlike-named, AreAlike-then}
 use Rattle.braid_maker.proofs.Paired.{ArePaired-named}
+
+-- what renumbering gives of parts: a directed code that is alike to them
+pub record IsRenumbered (parts : Parts) : Type 0 where
+  pub directed : IsDirected (renumber parts).crossings
+  pub alike : AreAlike parts.crossings (renumber parts).crossings
 
 pub ArePaired-closure : (strands : ℕ) (letters : List ℤ) → ArePaired (closure_parts strands letters)
 ArePaired-closure strands letters =

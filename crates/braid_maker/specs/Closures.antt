@@ -1,9 +1,7 @@
 -- The code of a closed braid.
 use Rattle.std.specs.Prelude.{ℕ, zero, suc, ◌+◌, ◌/◌, ◌%◌, ◌<◌, ◌≤◌, ℤ, pos, neg_ℤ, List, [], ◌∷◌, length, map, nat_eq, Bool, ◌&&◌, unwrap_or, if◌then◌else◌}
 use Rattle.std.specs.List.{count_by, find, list_any, range_with_len}
-use Rattle.kh_types.specs.Accepted.{IsDirected}
 use Rattle.kh_types.specs.Code.{Code}
-use Rattle.orient_arcs.specs.Alike.{AreAlike}
 use Rattle.braid_maker.specs.Words.{arc_above, closed_crossings, crossing_of, last_below, touches}
 use Rattle.braid_maker.specs.Braids.{passes_over, is_straight, left_of}
 use Rattle.orient_arcs.specs.Parts.{Parts}
@@ -66,8 +64,3 @@ code_of_number number = closure 3 (letters_of 10 number)
 -- letters of a braid on some strands: each has two neighbouring positions among them
 abbrev pub AreLetters : ℕ → List ℤ → Type 0
 AreLetters strands letters = (place : ℕ) → place < length letters → (1 ≤ left_of letters place) × (left_of letters place < strands)
-
--- what renumbering gives of parts: a directed code that is alike to them
-pub record IsRenumbered (parts : Parts) : Type 0 where
-  pub directed : IsDirected (renumber parts).crossings
-  pub alike : AreAlike parts.crossings (renumber parts).crossings

@@ -5,20 +5,22 @@ ghost use Rattle.kh_types.specs.declared.limits.TheConstants.{COMPONENTS};
 ghost use Rattle.kh_types.specs.Checkerboard.{IsCheckerboard};
 ghost use Rattle.kh_types.specs.Darts.{HasArcsTwice};
 ghost use Rattle.orient_arcs.specs.Alike.{AreAlike};
-ghost use Rattle.orient_arcs.specs.Parts.{ArePaired};
 ghost use Rattle.kh_types.specs.Acceptance.{accepted, first_fault, checkerboard_fault, genus_fault, arc_times_fault};
 ghost use Rattle.kh_types.specs.Faces.{face_count, piece_count, planar_face_count};
 ghost use Rattle.kh_types.specs.Components.{component_count};
 ghost use Rattle.kh_types.specs.StateSum.{state_sum, polynomial_text};
 ghost use Rattle.kh_types.specs.WorkedCodes.{slots_with, one_loop, curl, over_circle, hopf_link};
 ghost use Rattle.circle_smoothing.specs.GeneratorCounts.{generator_count};
+ghost use Rattle.circle_smoothing.specs.declared.limits.TheConstants.{GENERATORS};
+ghost use Rattle.braid_maker.specs.declared.limits.TheConstants.{LETTERS, NUMBERS, STRANDS};
 ghost use Rattle.braid_maker.specs.Words.{closed_crossings};
 ghost use Rattle.braid_maker.specs.Braids.{braid_crossings, braid_code};
-ghost use Rattle.braid_maker.specs.Closures.{closure, code_of_number, letters_of, closure_parts, AreLetters, IsRenumbered};
+ghost use Rattle.braid_maker.specs.Closures.{closure, code_of_number, letters_of, AreLetters};
 
 /// Closures worked out: how many pieces, faces and loops, the trefoil, the figure eight knot, and the number 0.
-pub fn worked()
-    ensures pieces { piece_count (braid_crossings (pos 1 ∷ pos 1 ∷ neg_ℤ (pos 3) ∷ pos 3 ∷ [])) ≡ 2 }
+pub fn known_closures()
+    ensures pieces { piece_count (braid_crossings (pos 1 ∷ pos 1 ∷ neg_ℤ (pos 3) ∷ pos 3 ∷ []))
+        ≡ 2 }
     ensures faces { face_count (braid_crossings (pos 1 ∷ pos 1 ∷ neg_ℤ (pos 3) ∷ pos 3 ∷ [])) ≡ 8 }
     ensures loops { (braid_code 6 (pos 1 ∷ pos 1 ∷ neg_ℤ (pos 3) ∷ pos 3 ∷ [])).loops ≡ 2 }
     ensures alone { closure 1 [] ≡ one_loop }
@@ -26,17 +28,20 @@ pub fn worked()
       crossings = slots_with 3 2 4 1 ∷ slots_with 4 2 3 1 ∷ [];
       loops = 0;
     } }
-    ensures trefoil { (closure 2 (pos 1 ∷ pos 1 ∷ pos 1 ∷ [])).crossings ≡ slots_with 4 2 5 1 ∷ slots_with 2 6 3 5 ∷ slots_with 6 4 1 3 ∷ [] }
+    ensures trefoil { (closure 2 (pos 1 ∷ pos 1 ∷ pos 1 ∷ [])).crossings
+        ≡ slots_with 4 2 5 1 ∷ slots_with 2 6 3 5 ∷ slots_with 6 4 1 3 ∷ [] }
     ensures accepted { accepted (closure 2 (pos 1 ∷ pos 1 ∷ pos 1 ∷ [])) ≡ true }
-    ensures eight { polynomial_text (state_sum (closure 3 (pos 1 ∷ neg_ℤ (pos 2) ∷ pos 1 ∷ neg_ℤ (pos 2) ∷ []))) ≡ codes "jones 1*q^-5 1*q^5\n" }
-    ensures trefoil_jones { polynomial_text (state_sum (closure 2 (pos 1 ∷ pos 1 ∷ pos 1 ∷ []))) ≡ codes "jones 1*q^1 1*q^3 1*q^5 -1*q^9\n" }
+    ensures eight { polynomial_text (state_sum (closure 3
+        (pos 1 ∷ neg_ℤ (pos 2) ∷ pos 1 ∷ neg_ℤ (pos 2) ∷ []))) ≡ codes "jones 1*q^-5 1*q^5\n" }
+    ensures trefoil_jones { polynomial_text (state_sum (closure 2 (pos 1 ∷ pos 1 ∷ pos 1 ∷ [])))
+        ≡ codes "jones 1*q^1 1*q^3 1*q^5 -1*q^9\n" }
     ensures number { letters_of 3 27 ≡ neg_ℤ (pos 2) ∷ pos 2 ∷ neg_ℤ (pos 1) ∷ [] }
     ensures bench_loops { (code_of_number 0).loops ≡ 1 }
     ensures bench_crossings { length (code_of_number 0).crossings ≡ 10 }
 {}
 
 /// How many generators the diagram of the number 0 has.
-pub fn zero()
+pub fn generators_of_the_first_number()
     ensures { generator_count (code_of_number 0) ≡ 118104 }
 {}
 
@@ -55,32 +60,29 @@ pub fn closed_braids_are_planar()
         → face_count others ≡ planar_face_count others }
 {}
 
-/// Closures are accepted, where renumbering gives a directed code that is alike to its parts, which the
-/// parts of a closure allow.
+/// The closure of each braid is accepted. Its components and loops are at most as many as its strands,
+/// and it has at most 2^strands times 3^letters generators.
 pub fn closures_are_accepted()
-    ensures paired { (strands : ℕ) (letters : List ℤ) → ArePaired (closure_parts strands letters) }
-    ensures accepted { (strands : ℕ) (letters : List ℤ) → AreLetters strands letters → strands ≤ COMPONENTS
-        → IsRenumbered (closure_parts strands letters) → IsTrue (accepted (closure strands letters)) }
+    ensures accepted { (strands : ℕ) (letters : List ℤ) → AreLetters strands letters
+        → strands ≤ COMPONENTS → IsTrue (accepted (closure strands letters)) }
     ensures components { (strands : ℕ) (letters : List ℤ) → AreLetters strands letters
-        → IsRenumbered (closure_parts strands letters)
-        → component_count (closure strands letters).crossings + (closure strands letters).loops ≤ strands }
+        → component_count (closure strands letters).crossings
+        + (closure strands letters).loops ≤ strands }
     ensures generators { (strands : ℕ) (letters : List ℤ) → AreLetters strands letters
-        → IsRenumbered (closure_parts strands letters)
         → generator_count (closure strands letters) ≤ 2 ^ strands * 3 ^ length letters }
 {}
 
-/// So are the codes of all numbers, and they have few generators.
+/// The code of each number is accepted, and its generators are within the limit.
 pub fn numbers_give_small_diagrams()
-    ensures accepted { (number : ℕ) → IsRenumbered (closure_parts 3 (letters_of 10 number))
-        → IsTrue (accepted (code_of_number number)) }
-    ensures generators { (number : ℕ) → IsRenumbered (closure_parts 3 (letters_of 10 number))
-        → generator_count (code_of_number number) ≤ 472392 }
+    ensures accepted { (number : ℕ) → IsTrue (accepted (code_of_number number)) }
+    ensures few { (number : ℕ) → generator_count (code_of_number number) ≤ 472392 }
+    ensures within { (number : ℕ) → generator_count (code_of_number number) ≤ GENERATORS }
 {}
 
-/// The closure of each braid is accepted, and so is the code of each number, which has few generators.
-pub fn all_closures_are_accepted()
-    ensures closures { (strands : ℕ) (letters : List ℤ) → AreLetters strands letters → strands ≤ COMPONENTS
-        → IsTrue (accepted (closure strands letters)) }
-    ensures numbers { (number : ℕ) → IsTrue (accepted (code_of_number number)) }
-    ensures generators { (number : ℕ) → generator_count (code_of_number number) ≤ 472392 }
+/// The limits: as many diagrams have a number as there are lists of ten letters on three strands.
+pub fn limits()
+    ensures strands { STRANDS ≡ 8 }
+    ensures letters { LETTERS ≡ 16 }
+    ensures numbers { NUMBERS ≡ 1048576 }
+    ensures digits { NUMBERS ≡ 4 ^ 10 }
 {}

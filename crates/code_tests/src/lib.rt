@@ -4,6 +4,8 @@
 #[cfg(test)]
 mod acceptance;
 #[cfg(test)]
+mod braids;
+#[cfg(test)]
 mod components;
 #[cfg(test)]
 mod faces;

@@ -1,3 +1,4 @@
+pub mod KindDegrees
 pub mod LabelBits
 pub mod HeadBits
 pub mod HeadLabels

@@ -22,7 +22,7 @@ use Rattle.kh_types.specs.Table.{from_minus}
 use Rattle.kh_types.proofs.BitLemmas.{ones-more}
 use Rattle.kh_types.proofs.QuantumDegrees.{ones-le}
 use Rattle.kh_types.proofs.Ranges.{list_any-below, list_any-below_none, list_any-found}
-use Rattle.cube_signs.specs.Blocks.{block_degrees, has_block}
+use Rattle.cube_signs.specs.Blocks.{has_block}
 use Rattle.cube_signs.specs.Shapes.{degrees_of, degrees_to, gives_degree, has_degree, have_degree, is_given, shape_of}
 use Rattle.cube_signs.specs.declared.shape.Shape.{Shape}
 
@@ -41,11 +41,11 @@ same-passes false true forth back = back refl
 same-passes false false forth back = refl
 
 -- searches in images and in lists put together
-list_any-map : {X Y : Type 0} (p : Y → Bool) (f : X → Y) (xs : List X) → list_any p (map f xs) ≡ list_any (λ x. p (f x)) xs
+pub list_any-map : {X Y : Type 0} (p : Y → Bool) (f : X → Y) (xs : List X) → list_any p (map f xs) ≡ list_any (λ x. p (f x)) xs
 list_any-map p f [] = refl
 list_any-map p f (x ∷ xs) = ap (λ b. p (f x) || b) (list_any-map p f xs)
 
-list_any-flat_map : {X Y : Type 0} (p : Y → Bool) (f : X → List Y) (xs : List X)
+pub list_any-flat_map : {X Y : Type 0} (p : Y → Bool) (f : X → List Y) (xs : List X)
     → list_any p (flat_map f xs) ≡ list_any (λ x. list_any p (f x)) xs
 list_any-flat_map p f [] = refl
 list_any-flat_map p f (x ∷ xs) =
@@ -163,13 +163,4 @@ unfolding degrees_of
 degrees_to-all most shapes made place is_most is_place is_made =
     is_made ∙ ap (degrees_to most shapes) is_place ∙ ap (λ (n : ℕ). filter (have_degree shapes) (from_minus n)) is_most
 
-pub degrees-states : (code : Code) (shapes : List Shape) (made : List ℤ) → shapes ≡ map (shape_of code) (states code)
-    → made ≡ degrees_of shapes → made ≡ block_degrees code
-unfolding degrees_of block_degrees
-degrees-states code shapes made is is_made =
-    is_made ∙ ap (λ (s : List Shape). filter (have_degree s) (from_minus EXPONENT)) is
-    ∙ ap (λ (p : ℤ → Bool). filter p (from_minus EXPONENT)) (fun_ext (have_degree-states code))
-
 pub ruleset degree_steps = (degrees_to-more, degrees_to-all)
-
-pub ruleset block_degree_steps = (degrees-states)

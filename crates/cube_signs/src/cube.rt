@@ -12,7 +12,7 @@ ghost use Rattle.cube_signs.specs.Tables.{AreRanks};
 ghost use Rattle.cube_signs.specs.declared.limits.TheConstants.{PLACES, WIDTH};
 
 use crate::labels::{ranks_of, weights_of};
-use crate::quantum_degrees::degrees;
+use crate::quantum_degrees::block_degrees;
 use crate::shape::{Shape, all_circles, all_shapes};
 use crate::steps::{Steps, all_steps};
 use circle_smoothing::Edge;
@@ -102,7 +102,7 @@ impl Cube {
     pub fn block_degrees(&self, alloc: Global) -> Result<Vec<i16>, NoMemory>
         ensures { IfOk result (λ degrees. degrees.items ≡ block_degrees self.now) }
     {
-        degrees(alloc, &self.shapes)
+        block_degrees(alloc, &self.diagram)
     }
 }
 

@@ -5,6 +5,7 @@ mod blocks;
 mod columns;
 mod cube;
 mod head_labels;
+mod kind_shapes;
 mod labels;
 pub mod laws;
 mod limits;
@@ -17,6 +18,6 @@ mod steps;
 
 pub use blocks::block_columns;
 pub use cube::Cube;
-pub use quantum_degrees::block_degrees;
+pub use quantum_degrees::{block_degrees, kind_degrees};
 pub use size::{SizeLimit, check_kinds, check_size};
 pub use sparse_block::Generator;

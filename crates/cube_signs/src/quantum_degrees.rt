@@ -4,23 +4,30 @@ ghost use Rattle.std.specs.Prelude.{◌≡◌, ◌++◌, ◌∷◌, [], if◌the
 ghost use Rattle.cube_signs.specs.Blocks.{block_degrees};
 ghost use Rattle.cube_signs.specs.Shapes.{degrees_of, have_degree};
 
-use crate::shape::{Shape, all_circles, all_shapes};
+use crate::kind_shapes::kind_shapes;
+use crate::shape::Shape;
+use circle_smoothing::StateKinds;
 use kh_types::{Diagram, EXPONENT, NoMemory};
 use std::alloc::Global;
 
 /// The quantum degrees that have a generator, ascending.
-#[tactic(auto, using(crate::proofs::ShapeLemmas::block_degree_steps))]
 pub fn block_degrees(alloc: Global, diagram: &Diagram) -> Result<Vec<i16>, NoMemory>
     ensures { IfOk result (λ degrees. degrees.items ≡ block_degrees diagram.now) }
 {
-    let circles = all_circles(alloc, diagram)?;
-    let shapes = all_shapes(alloc, diagram, &circles)?;
+    kind_degrees(alloc, &StateKinds::of_diagram(diagram))
+}
+
+/// The same, given the kinds of the diagram's states.
+pub fn kind_degrees(alloc: Global, kinds: &StateKinds) -> Result<Vec<i16>, NoMemory>
+    ensures { IfOk result (λ degrees. degrees.items ≡ block_degrees kinds.now) }
+{
+    let shapes = kind_shapes(alloc, kinds)?;
     degrees(alloc, &shapes)
 }
 
-/// The quantum degrees that have a generator, given the shapes of all states.
+/// The quantum degrees that have a generator, given the shapes that states have.
 #[tactic(auto, using(crate::proofs::ShapeLemmas::degree_steps))]
-pub(crate) fn degrees(alloc: Global, shapes: &[Shape]) -> Result<Vec<i16>, NoMemory>
+fn degrees(alloc: Global, shapes: &[Shape]) -> Result<Vec<i16>, NoMemory>
     ensures { IfOk result (λ made. made.items ≡ degrees_of shapes.now) }
 {
     let mut made = Vec::new(alloc);

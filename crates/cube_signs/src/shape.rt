@@ -72,10 +72,7 @@ pub fn all_shapes(
     ensures { IfOk result (λ shapes.
         shapes.items ≡ map (shape_of diagram.now) (states diagram.now)) }
 {
-    let signs = Signs {
-        plus: diagram.plus(),
-        minus: diagram.minus(),
-    };
+    let signs = Signs::of_diagram(diagram);
     let mut shapes = Vec::with_capacity(alloc, circles.len())?;
     'states: for state in 0..circles.len() {
         shapes.push(shape_of(diagram, signs, &circles[state], state))?;
@@ -85,9 +82,22 @@ pub fn all_shapes(
 
 /// How many crossings have either sign.
 #[derive(Clone, Copy)]
-struct Signs {
-    plus: u8,
-    minus: u8,
+pub(crate) struct Signs {
+    pub(crate) plus: u8,
+    pub(crate) minus: u8,
+}
+
+impl Signs {
+    /// The signs of a diagram.
+    pub(crate) fn of_diagram(diagram: &Diagram) -> Signs
+        ensures plus { result.plus ≡ plus_count diagram.now.crossings }
+        ensures minus { result.minus ≡ minus_count diagram.now.crossings }
+    {
+        Signs {
+            plus: diagram.plus(),
+            minus: diagram.minus(),
+        }
+    }
 }
 
 /// The shape of a state, given its circles.
@@ -107,7 +117,7 @@ fn shape_of(diagram: &Diagram, signs: Signs, circles: &Circles, state: usize) ->
 }
 
 /// The quantum degree of the generator of a state with v+ on each circle.
-fn top(circles: u8, ones: u8, signs: Signs) -> i16
+pub(crate) fn top(circles: u8, ones: u8, signs: Signs) -> i16
     ensures { result ≡ pos circles +ℤ (pos (ones + signs.plus) -ℤ pos (2 * signs.minus)) }
 {
     i16::from(circles) + i16::from(ones) + i16::from(signs.plus) - 2 * i16::from(signs.minus)

@@ -5,7 +5,8 @@ ghost use Rattle.kh_replies.specs.Jones.{jones_line, jones_reply};
 
 use crate::reply::{Reply, reply_made};
 use crate::status::Status;
-use jones_sum::jones;
+use circle_smoothing::StateKinds;
+use jones_sum::state_sum;
 use kh_types::{Diagram, NoMemory};
 use std::alloc::Global;
 use table_text::print_jones;
@@ -14,13 +15,16 @@ use table_text::print_jones;
 pub fn reply_to_jones(alloc: Global, diagram: &Diagram) -> Result<Reply, NoMemory>
     ensures { IfOk result (λ reply. reply ≡ jones_reply diagram.now) }
 {
-    Ok(reply_made(Status::Done, jones_line(alloc, diagram)?))
+    Ok(reply_made(
+        Status::Done,
+        jones_line(alloc, &StateKinds::of_diagram(diagram))?,
+    ))
 }
 
-/// The text of this line, with its line feed.
-pub fn jones_line(alloc: Global, diagram: &Diagram) -> Result<Vec<u8>, NoMemory>
-    ensures { IfOk result (λ text. text.items ≡ jones_line diagram.now) }
+/// The text of this line, with its line feed, given the kinds of the diagram's states.
+pub fn jones_line(alloc: Global, kinds: &StateKinds) -> Result<Vec<u8>, NoMemory>
+    ensures { IfOk result (λ text. text.items ≡ jones_line kinds.now) }
 {
-    let line = print_jones(alloc, &jones(diagram))?;
+    let line = print_jones(alloc, &state_sum(kinds))?;
     Ok(line)
 }

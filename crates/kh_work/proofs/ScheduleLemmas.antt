@@ -1,5 +1,6 @@
 -- The events of a schedule that is read are of workers that there are.
-use Rattle.std.proofs.Common.{◌≡◌, ℕ, ◌≤◌, ◌∙◌, ◌++◌, List, All, slice_index_or, ap, sym, subst}
+use Rattle.std.proofs.Common.{◌≡◌, ℕ, ◌≤◌, ◌∙◌, ◌++◌, List, All, slice_index_or, ap, ap₂, sym, subst}
+use Rattle.std.proofs.lemmas.List.{append_assoc}
 use Rattle.std.proofs.lemmas.List.Elements.{All-map}
 use Rattle.kh_types.specs.declared.limits.TheConstants.{WORKERS}
 use Rattle.undo_stack.specs.Schedule.{HasWorker}
@@ -7,9 +8,13 @@ use Rattle.undo_stack.specs.declared.schedule.ScheduleLine.{ScheduleLine}
 use Rattle.undo_stack.specs.declared.schedule.ScheduleLine.TheVariants as lines
 use Rattle.commit_core.specs.States.{event_worker}
 use Rattle.commit_core.specs.declared.event.Event.{Event}
-use Rattle.kh_types.specs.Table.{Table, table_text}
+use Rattle.kh_types.specs.Code.{Code}
+use Rattle.kh_types.specs.Table.{Table, table, table_text}
 use Rattle.commit_core.specs.declared.answer.Answer.{Answer}
-use Rattle.kh_work.specs.Schedule.{answer_lines, event_of, events_of}
+use Rattle.commit_core.specs.Answering.{answers}
+use Rattle.kh_replies.specs.Jones.{jones_line}
+use Rattle.kh_work.specs.Homology.{homology_text}
+use Rattle.kh_work.specs.Schedule.{answer_lines, event_of, events_of, schedule_text}
 
 -- the worker of an event is one that there is
 abbrev IsOfWorker : Event → Type 0
@@ -33,3 +38,16 @@ pub run_text-is : (script : List (ℕ × ScheduleLine)) (answers found wanted : 
     → text ≡ answer_lines script wanted ++ table_text homology
 run_text-is script answers found wanted made homology text first second same is =
     is ∙ ap (λ xs. answer_lines script xs ++ table_text made) (first ∙ second) ∙ ap (λ t. answer_lines script wanted ++ table_text t) same
+
+-- that of a schedule is the text of its run with the Jones line behind it
+pub schedule_text-is : (field : ℕ) (code run : Code) (script : List (ℕ × ScheduleLine)) (text line next : List ℕ) → run ≡ code
+    → text ≡ answer_lines script (answers field run WORKERS (events_of script)) ++ table_text (table field run)
+    → line ≡ jones_line code → next ≡ text ++ line → next ≡ schedule_text field code script
+unfolding schedule_text homology_text
+schedule_text-is field code run script text line next same is_text is_line is_next =
+    is_next
+    ∙ ap₂ (λ (xs ys : List ℕ). xs ++ ys)
+    (is_text
+    ∙ ap (λ (c : Code). answer_lines script (answers field c WORKERS (events_of script)) ++ table_text (table field c)) same)
+    is_line
+    ∙ append_assoc (answer_lines script (answers field code WORKERS (events_of script))) (table_text (table field code)) (jones_line code)

@@ -21,9 +21,9 @@ pub fn completed_alone(alloc: Global, draft: Draft) -> Result<Reply, NoMemory>
 {
     match draft {
         Draft::Made(reply) => Ok(reply),
-        Draft::Table { field, diagram, .. } => {
-            let table = table_alone(alloc, field, &diagram)?;
-            reply_with_table(alloc, &diagram, &table)
+        Draft::Table { field, kinds, .. } => {
+            let table = table_alone(alloc, field, &kinds)?;
+            reply_with_table(alloc, &kinds, &table)
         }
     }
 }
@@ -44,10 +44,10 @@ pub fn completed_by<R: Threads + Wait + Sync, G: Gate + Sync>(
         Draft::Table {
             field,
             workers,
-            diagram,
+            kinds,
         } => {
-            let table = table_by(rt, alloc, field, workers, &diagram, gate)?;
-            reply_with_table(alloc, &diagram, &table)
+            let table = table_by(rt, alloc, field, workers, &kinds, gate)?;
+            reply_with_table(alloc, &kinds, &table)
         }
     }
 }

@@ -6,63 +6,64 @@ ghost use Rattle.circle_smoothing.specs.declared.limits.TheConstants.{GENERATORS
 ghost use Rattle.kh_types.specs.Table.{table};
 ghost use Rattle.word_line.specs.Values.{AreWorkers, IsFieldSize};
 
+use circle_smoothing::StateKinds;
 use jones_sum::Table;
-use kh_types::{Diagram, NoMemory};
+use kh_types::NoMemory;
 use prime_field::{F2, F3, F5, F7, PrimeField};
 use std::alloc::Global;
 use std::sync::Wait;
 use std::thread::Threads;
-use worker_pool::{Gate, PoolStop, cancel_all, cancel_alone};
+use worker_pool::{Gate, PoolStop, cancel_kinds, cancel_kinds_alone};
 
-/// The homology table of a diagram over the field of so many elements, made on the caller's thread.
-pub fn table_alone(alloc: Global, field: u8, diagram: &Diagram) -> Result<Table, NoMemory>
-    requires size { generator_count diagram.now ≤ GENERATORS }
+/// The homology table of a diagram over the field of so many elements, made on the caller's thread, given the kinds of the diagram's states.
+pub fn table_alone(alloc: Global, field: u8, kinds: &StateKinds) -> Result<Table, NoMemory>
+    requires size { generator_count kinds.now ≤ GENERATORS }
     requires field { IsFieldSize field }
-    ensures { IfOk result (λ made. made ≡ table field diagram.now) }
+    ensures { IfOk result (λ made. made ≡ table field kinds.now) }
 {
     match field {
-        2 => table_alone_over::<F2>(alloc, diagram),
-        3 => table_alone_over::<F3>(alloc, diagram),
-        5 => table_alone_over::<F5>(alloc, diagram),
-        7 => table_alone_over::<F7>(alloc, diagram),
+        2 => table_alone_over::<F2>(alloc, kinds),
+        3 => table_alone_over::<F3>(alloc, kinds),
+        5 => table_alone_over::<F5>(alloc, kinds),
+        7 => table_alone_over::<F7>(alloc, kinds),
         _ => unreachable!(),
     }
 }
 
-fn table_alone_over<F: PrimeField>(alloc: Global, diagram: &Diagram) -> Result<Table, NoMemory>
-    requires { generator_count diagram.now ≤ GENERATORS }
-    ensures { IfOk result (λ made. made ≡ table F.P diagram.now) }
+fn table_alone_over<F: PrimeField>(alloc: Global, kinds: &StateKinds) -> Result<Table, NoMemory>
+    requires { generator_count kinds.now ≤ GENERATORS }
+    ensures { IfOk result (λ made. made ≡ table F.P kinds.now) }
 {
-    match cancel_alone::<F>(alloc, diagram) {
+    match cancel_kinds_alone::<F>(alloc, kinds) {
         Ok(cancelled) => Ok(cancelled.table),
         Err(PoolStop::NoMemory) => Err(NoMemory),
         Err(PoolStop::SizeLimit { .. }) => unreachable!(),
     }
 }
 
-/// The homology table of a diagram over the field of so many elements, made by so many workers. They call a gate in each of their turns, and one
+/// The same, made by so many workers. They call a gate in each of their turns, and one
 /// worker works on the caller's thread, without a gate.
 pub fn table_by<R: Threads + Wait + Sync, G: Gate + Sync>(
     rt: &R,
     alloc: Global,
     field: u8,
     workers: u32,
-    diagram: &Diagram,
+    kinds: &StateKinds,
     gate: &G,
 ) -> Result<Table, NoMemory>
-    requires size { generator_count diagram.now ≤ GENERATORS }
+    requires size { generator_count kinds.now ≤ GENERATORS }
     requires workers { AreWorkers workers }
     requires field { IsFieldSize field }
-    ensures { IfOk result (λ made. made ≡ table field diagram.now) }
+    ensures { IfOk result (λ made. made ≡ table field kinds.now) }
 {
     if workers == 1 {
-        return table_alone(alloc, field, diagram);
+        return table_alone(alloc, field, kinds);
     }
     match field {
-        2 => table_by_over::<R, F2, G>(rt, alloc, workers, diagram, gate),
-        3 => table_by_over::<R, F3, G>(rt, alloc, workers, diagram, gate),
-        5 => table_by_over::<R, F5, G>(rt, alloc, workers, diagram, gate),
-        7 => table_by_over::<R, F7, G>(rt, alloc, workers, diagram, gate),
+        2 => table_by_over::<R, F2, G>(rt, alloc, workers, kinds, gate),
+        3 => table_by_over::<R, F3, G>(rt, alloc, workers, kinds, gate),
+        5 => table_by_over::<R, F5, G>(rt, alloc, workers, kinds, gate),
+        7 => table_by_over::<R, F7, G>(rt, alloc, workers, kinds, gate),
         _ => unreachable!(),
     }
 }
@@ -71,14 +72,14 @@ fn table_by_over<R: Threads + Wait + Sync, F: PrimeField + Send + Sync, G: Gate 
     rt: &R,
     alloc: Global,
     workers: u32,
-    diagram: &Diagram,
+    kinds: &StateKinds,
     gate: &G,
 ) -> Result<Table, NoMemory>
-    requires size { generator_count diagram.now ≤ GENERATORS }
+    requires size { generator_count kinds.now ≤ GENERATORS }
     requires workers { AreWorkers workers }
-    ensures { IfOk result (λ made. made ≡ table F.P diagram.now) }
+    ensures { IfOk result (λ made. made ≡ table F.P kinds.now) }
 {
-    match cancel_all::<R, F, G>(rt, alloc, diagram, workers, gate) {
+    match cancel_kinds::<R, F, G>(rt, alloc, kinds, workers, gate) {
         Ok(cancelled) => Ok(cancelled.table),
         Err(PoolStop::NoMemory) => Err(NoMemory),
         Err(PoolStop::SizeLimit { .. }) => unreachable!(),

@@ -16,7 +16,8 @@ use crate::finished::Finished;
 use crate::gate::Gate;
 use crate::outcome::{Cancelled, PoolStop};
 use crate::waves::{finished_alone, finished_in_waves};
-use cube_signs::{Cube, check_size};
+use circle_smoothing::StateKinds;
+use cube_signs::{Cube, check_kinds, kind_degrees};
 use kh_types::{Diagram, NoMemory};
 use prime_field::PrimeField;
 use shared_block::laws::block_laws;
@@ -26,7 +27,6 @@ use std::sync::Wait;
 use std::thread::Threads;
 
 /// Cancels all blocks of a diagram to zero, one after another on the caller's thread.
-#[tactic(auto, using(crate::proofs::DoneLemmas::degrees_all))]
 pub fn cancel_alone<F: PrimeField>(
     alloc: Global,
     diagram: &Diagram,
@@ -40,11 +40,28 @@ pub fn cancel_alone<F: PrimeField>(
     ensures committed { IfOk result (λ made.
         AllZip HasCommitted made.blocks.items made.committed.items) }
 {
-    check_size(diagram)?;
-    let cube = Cube::new(alloc, diagram)?;
-    let degrees = cube.block_degrees(alloc)?;
+    cancel_kinds_alone(alloc, &StateKinds::of_diagram(diagram))
+}
+
+/// The same, given the kinds of the diagram's states.
+pub fn cancel_kinds_alone<F: PrimeField>(
+    alloc: Global,
+    kinds: &StateKinds,
+) -> Result<Cancelled<F>, PoolStop>
+    ensures limit { IsSizeLimit result ↔ (GENERATORS < generator_count kinds.now) }
+    ensures count { TellsCount (generator_count kinds.now) result }
+    ensures table { IfOk result (λ made. made.table ≡ table F.P kinds.now) }
+    ensures blocks { IfOk result (λ made. AreBlocksOf kinds.now made.blocks.items) }
+    ensures zero { IfOk result (λ made. All (IsFinished F.P) made.blocks.items) }
+    ensures legal { IfOk result (λ made. All (HasLegalHistory F.P) made.blocks.items) }
+    ensures committed { IfOk result (λ made.
+        AllZip HasCommitted made.blocks.items made.committed.items) }
+{
+    check_kinds(kinds)?;
+    let cube = Cube::new(alloc, kinds.diagram())?;
+    let degrees = kind_degrees(alloc, kinds)?;
     let done = finished_alone(alloc, &cube, &degrees)?;
-    Ok(with_table(alloc, diagram, done)?)
+    Ok(with_table(alloc, cube.diagram(), done)?)
 }
 
 /// Cancels all blocks of a diagram to zero, by so many workers that share them. With one worker the
@@ -66,14 +83,35 @@ pub fn cancel_all<R: Threads + Wait + Sync, F: PrimeField + Send + Sync, G: Gate
     ensures committed { IfOk result (λ made.
         AllZip HasCommitted made.blocks.items made.committed.items) }
 {
+    cancel_kinds(rt, alloc, &StateKinds::of_diagram(diagram), workers, gate)
+}
+
+/// The same, given the kinds of the diagram's states.
+pub fn cancel_kinds<R: Threads + Wait + Sync, F: PrimeField + Send + Sync, G: Gate + Sync>(
+    rt: &R,
+    alloc: Global,
+    kinds: &StateKinds,
+    workers: u32,
+    gate: &G,
+) -> Result<Cancelled<F>, PoolStop>
+    requires workers { (1 ≤ workers) × (workers ≤ WORKERS) }
+    ensures limit { IsSizeLimit result ↔ (GENERATORS < generator_count kinds.now) }
+    ensures count { TellsCount (generator_count kinds.now) result }
+    ensures table { IfOk result (λ made. made.table ≡ table F.P kinds.now) }
+    ensures blocks { IfOk result (λ made. AreBlocksOf kinds.now made.blocks.items) }
+    ensures zero { IfOk result (λ made. All (IsFinished F.P) made.blocks.items) }
+    ensures legal { IfOk result (λ made. All (HasLegalHistory F.P) made.blocks.items) }
+    ensures committed { IfOk result (λ made.
+        AllZip HasCommitted made.blocks.items made.committed.items) }
+{
     if workers == 1 {
-        return cancel_alone(alloc, diagram);
+        return cancel_kinds_alone(alloc, kinds);
     }
-    let generators = check_size(diagram)?;
-    let cube = Cube::new(alloc, diagram)?;
-    let degrees = cube.block_degrees(alloc)?;
-    let done = finished_in_waves(rt, alloc, &cube, &degrees, generators, workers, gate)?;
-    Ok(with_table(alloc, diagram, done)?)
+    check_kinds(kinds)?;
+    let cube = Cube::new(alloc, kinds.diagram())?;
+    let degrees = kind_degrees(alloc, kinds)?;
+    let done = finished_in_waves(rt, alloc, &cube, &degrees, kinds, workers, gate)?;
+    Ok(with_table(alloc, cube.diagram(), done)?)
 }
 
 /// What blocks come to once they are cancelled to zero, with the table.

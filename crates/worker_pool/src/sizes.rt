@@ -12,7 +12,7 @@ use std::alloc::Global;
 /// one before it.
 pub(crate) fn block_sizes(
     alloc: Global,
-    diagram: &Diagram,
+    kinds: &StateKinds,
     degrees: &[i16],
 ) -> Result<Vec<u64>, NoMemory>
     ensures { IfOk result (λ sizes. length sizes.items ≡ length degrees.now) }
@@ -21,10 +21,9 @@ pub(crate) fn block_sizes(
     let Some(first) = degrees.first() else {
         return Ok(sizes);
     };
-    let lift = lift(diagram, *first);
-    let kinds = StateKinds::of_diagram(diagram);
+    let lift = lift(kinds.diagram(), *first);
     'ones: for ones in 0..CROSSINGS + 1 {
-        add_states(&mut sizes, &kinds, lift, ones);
+        add_states(&mut sizes, kinds, lift, ones);
     }
     Ok(sizes)
 }

@@ -13,6 +13,7 @@ use crate::gate::Gate;
 use crate::rows::{Pool, opened, take_last};
 use crate::sharing::{Course, work_rows};
 use crate::sizes::{block_sizes, no_sizes};
+use circle_smoothing::StateKinds;
 use cube_signs::Cube;
 use kh_types::NoMemory;
 use prime_field::PrimeField;
@@ -43,8 +44,8 @@ pub(crate) fn finished_alone<F: PrimeField>(
     Ok(done)
 }
 
-/// The blocks at some quantum degrees, cancelled to zero by workers in waves. The number of all
-/// generators says whether one wave will do.
+/// The blocks at some quantum degrees, cancelled to zero by workers in waves. The kinds of the
+/// states say how large the blocks are, which no clause rests on.
 pub(crate) fn finished_in_waves<
     R: Threads + Wait + Sync,
     F: PrimeField + Send + Sync,
@@ -54,7 +55,7 @@ pub(crate) fn finished_in_waves<
     alloc: Global,
     cube: &Cube,
     degrees: &[i16],
-    generators: u128,
+    kinds: &StateKinds,
     workers: u32,
     gate: &G,
 ) -> Result<Finished<F>, NoMemory>
@@ -63,7 +64,7 @@ pub(crate) fn finished_in_waves<
     ensures blocks { IfOk result (λ done. AreBlocksAt cube.now degrees.now done.blocks.items) }
     ensures done { IfOk result (λ done. AreDone F.P done.blocks.items done.committed.items) }
 {
-    let sizes = sizes_of(alloc, cube, degrees, generators)?;
+    let sizes = sizes_of(alloc, degrees, kinds)?;
     let mut done = Finished::new(alloc, degrees.len())?;
     let mut from = 0;
     'waves: while from < degrees.len() {
@@ -84,18 +85,13 @@ pub(crate) fn finished_in_waves<
 
 /// How many generators the blocks at some quantum degrees have, or 0 for each where one wave will
 /// do.
-fn sizes_of(
-    alloc: Global,
-    cube: &Cube,
-    degrees: &[i16],
-    generators: u128,
-) -> Result<Vec<u64>, NoMemory>
+fn sizes_of(alloc: Global, degrees: &[i16], kinds: &StateKinds) -> Result<Vec<u64>, NoMemory>
     ensures { IfOk result (λ sizes. length sizes.items ≡ length degrees.now) }
 {
-    if generators <= u128::from(WAVE) {
+    if kinds.generator_count() <= u128::from(WAVE) {
         no_sizes(alloc, degrees.len())
     } else {
-        block_sizes(alloc, cube.diagram(), degrees)
+        block_sizes(alloc, kinds, degrees)
     }
 }
 

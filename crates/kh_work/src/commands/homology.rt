@@ -10,7 +10,8 @@ ghost use Rattle.kh_replies.specs.Replies.{reply_of};
 ghost use Rattle.kh_replies.specs.declared.status.Status.{Status};
 
 use crate::draft::Draft;
-use cube_signs::check_size;
+use circle_smoothing::StateKinds;
+use cube_signs::check_kinds;
 use jones_sum::Table;
 use kh_replies::{Reply, Status, jones_line, reply_made, too_many_generators};
 use kh_types::{Diagram, NoMemory};
@@ -29,22 +30,23 @@ pub fn draft_of_homology(
     ensures reply { IfOk result (λ draft. reply_in draft ≡ homology_reply field diagram.now) }
     ensures ready { IfOk result IsReady }
 {
-    match check_size(diagram) {
+    let kinds = StateKinds::of_diagram(diagram);
+    match check_kinds(&kinds) {
         Ok(_) => Ok(Draft::Table {
             field,
             workers,
-            diagram: *diagram,
+            kinds,
         }),
         Err(limit) => Ok(Draft::Made(too_many_generators(alloc, limit.generators)?)),
     }
 }
 
-/// The text of a homology table of a diagram, and the Jones line behind it.
-pub fn reply_with_table(alloc: Global, diagram: &Diagram, table: &Table) -> Result<Reply, NoMemory>
+/// The text of a homology table of a diagram, and the Jones line behind it, which is read from the kinds of the diagram's states.
+pub fn reply_with_table(alloc: Global, kinds: &StateKinds, table: &Table) -> Result<Reply, NoMemory>
     ensures { IfOk result (λ reply. reply
-        ≡ reply_of Status.Done (table_text table.now ++ jones_line diagram.now)) }
+        ≡ reply_of Status.Done (table_text table.now ++ jones_line kinds.now)) }
 {
     let mut text = print_table(alloc, table)?;
-    text.extend_from_slice(&jones_line(alloc, diagram)?)?;
+    text.extend_from_slice(&jones_line(alloc, kinds)?)?;
     Ok(reply_made(Status::Done, text))
 }

@@ -11,8 +11,9 @@ ghost use Rattle.kh_types.specs.declared.limits.TheConstants.{WORKERS};
 ghost use Rattle.undo_stack.specs.Schedule.{HasWorker};
 ghost use Rattle.word_line.specs.Values.{IsFieldSize};
 
+use circle_smoothing::StateKinds;
 use commit_core::{Answer, Event, run_events};
-use cube_signs::check_size;
+use cube_signs::check_kinds;
 use jones_sum::Table;
 use kh_replies::{
     Reply, Status, jones_line, refused_line, reply_made, too_many_generators, too_many_lines,
@@ -53,30 +54,30 @@ fn reply_to_script(
     requires field { IsFieldSize field }
     ensures { IfOk result (λ reply. reply ≡ schedule_reply field diagram.now script.now) }
 {
-    match check_size(diagram) {
+    let kinds = StateKinds::of_diagram(diagram);
+    match check_kinds(&kinds) {
         Ok(_) => {
-            let text = schedule_text(alloc, field, diagram, script)?;
+            let text = schedule_text(alloc, field, &kinds, script)?;
             Ok(reply_made(Status::Done, text))
         }
         Err(limit) => too_many_generators(alloc, limit.generators),
     }
 }
 
-// The lines of the answers, the text of the homology table and the Jones line.
-#[tactic(auto, unfolding(crate::specs::Schedule::schedule_text, crate::specs::Homology::homology_text))]
+// The lines of the answers, the text of the homology table and the Jones line, which is read from the kinds of the diagram's states.
 fn schedule_text(
     alloc: Global,
     field: u8,
-    diagram: &Diagram,
+    kinds: &StateKinds,
     script: &[(u32, ScheduleLine)],
 ) -> Result<Vec<u8>, NoMemory>
-    requires size { generator_count diagram.now ≤ GENERATORS }
+    requires size { generator_count kinds.now ≤ GENERATORS }
     requires workers { All HasWorker script.now }
     requires field { IsFieldSize field }
-    ensures { IfOk result (λ text. text.items ≡ schedule_text field diagram.now script.now) }
+    ensures { IfOk result (λ text. text.items ≡ schedule_text field kinds.now script.now) }
 {
-    let mut text = run_text(alloc, field, diagram, script)?;
-    text.extend_from_slice(&jones_line(alloc, diagram)?)?;
+    let mut text = run_text(alloc, field, kinds.diagram(), script)?;
+    text.extend_from_slice(&jones_line(alloc, kinds)?)?;
     Ok(text)
 }
 

@@ -1,4 +1,4 @@
-use Rattle.std.proofs.Common.{◌≡◌, arith}
+use Rattle.std.proofs.Common.{arith}
 use Rattle.braid_maker.proofs.NamedParts.{parts-are}
 use Rattle.braid_maker.proofs.closing.closure_parts.Goals as goal
 

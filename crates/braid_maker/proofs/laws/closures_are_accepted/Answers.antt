@@ -1,10 +1,9 @@
-use Rattle.braid_maker.proofs.Accepted.{ArePaired-closure, accepted-closure, components-closure, generators-closure}
+use Rattle.braid_maker.proofs.Accepted.{IsRenumbered-closure, closure-is_accepted, components-closure, generators-closure}
 use Rattle.braid_maker.proofs.laws.closures_are_accepted.Goals as goal
 
 pub returns : goal.returns
 returns c = record {
-  paired = ArePaired-closure;
-  accepted = accepted-closure;
-  components = components-closure;
-  generators = generators-closure;
+  accepted = closure-is_accepted;
+  components = λ strands letters are. components-closure strands letters are (IsRenumbered-closure strands letters);
+  generators = λ strands letters are. generators-closure strands letters are (IsRenumbered-closure strands letters);
 }

@@ -1,4 +1,4 @@
-use Rattle.std.proofs.Common.{◌≡◌, refl, arith, subst, sym, List, ℤ}
+use Rattle.std.proofs.Common.{refl, arith, subst, sym, List, ℤ}
 use Rattle.braid_maker.specs.Closures.{AreLetters}
 use Rattle.braid_maker.proofs.Accepted.{AreLetters-number}
 use Rattle.braid_maker.proofs.Digits.{first-more, first-all}

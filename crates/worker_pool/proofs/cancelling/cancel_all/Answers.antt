@@ -1,7 +1,11 @@
-use Rattle.std.proofs.Common.{◌∙◌}
-use Rattle.worker_pool.proofs.DoneLemmas.{degrees_all}
+use Rattle.std.proofs.Common.{◌↔◌, ◌<◌, subst}
+use Rattle.kh_types.specs.Code.{Code}
+use Rattle.circle_smoothing.specs.GeneratorCounts.{generator_count}
+use Rattle.circle_smoothing.specs.declared.limits.TheConstants.{GENERATORS}
+use Rattle.worker_pool.specs.Outcomes.{IsSizeLimit}
 use Rattle.worker_pool.proofs.cancelling.cancel_all.Goals as goal
 
-pub finished_in_waves-requires-clause-degrees : goal.finished_in_waves-requires-clause-degrees
-finished_in_waves-requires-clause-degrees g c κs within =
-    degrees_all c.in_ok-cube.cube c.deref.result.now (c.deref.ensures.value ∙ c.in_ok-degrees.ensures)
+pub returns-clause-limit : goal.returns-clause-limit
+returns-clause-limit g c =
+    subst (λ (code : Code). IsSizeLimit c.cancel_kinds.result ↔ (GENERATORS < generator_count code)) c.of_diagram.ensures
+    c.cancel_kinds.ensures.limit

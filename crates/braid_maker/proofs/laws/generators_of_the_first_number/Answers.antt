@@ -1,5 +1,5 @@
 use Rattle.std.proofs.Common.{refl}
-use Rattle.braid_maker.proofs.laws.zero.Goals as goal
+use Rattle.braid_maker.proofs.laws.generators_of_the_first_number.Goals as goal
 
 pub returns : goal.returns
 returns c = refl

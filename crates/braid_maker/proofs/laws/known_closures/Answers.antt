@@ -1,7 +1,7 @@
 use Rattle.std.proofs.Common.{refl}
 use Rattle.std.specs.Fmt.{digits}
 use Rattle.kh_types.specs.Acceptance.{first_fault, accepted}
-use Rattle.braid_maker.proofs.laws.worked.Goals as goal
+use Rattle.braid_maker.proofs.laws.known_closures.Goals as goal
 
 pub returns : goal.returns
 unfolding digits first_fault accepted

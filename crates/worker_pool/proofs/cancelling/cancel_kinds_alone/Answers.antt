@@ -1,0 +1,9 @@
+use Rattle.std.proofs.Common.{◌∙◌, ap, sym}
+use Rattle.cube_signs.specs.Blocks.{block_degrees}
+use Rattle.worker_pool.proofs.DoneLemmas.{degrees_all}
+use Rattle.worker_pool.proofs.cancelling.cancel_kinds_alone.Goals as goal
+
+pub finished_alone-requires : goal.finished_alone-requires
+finished_alone-requires g c =
+    degrees_all c.in_ok-cube.cube c.deref.result.now
+    (c.deref.ensures.value ∙ c.in_ok-degrees.ensures ∙ ap block_degrees (sym (c.in_ok-cube.ensures ∙ c.diagram.ensures)))
