@@ -202,10 +202,7 @@ const MOVED: &[(&[[u8; 4]], &[[u8; 4]])] = &[
         &[[5, 2, 6, 1], [3, 3, 4, 2], [4, 5, 1, 6]],
         &[[6, 3, 5, 2], [4, 2, 1, 1], [3, 6, 4, 5]],
     ),
-    (
-        &[[1, 1, 2, 2]],
-        &[[3, 1, 4, 6], [4, 1, 5, 2], [5, 3, 6, 2]],
-    ),
+    (&[[1, 1, 2, 2]], &[[3, 1, 4, 6], [4, 1, 5, 2], [5, 3, 6, 2]]),
 ];
 
 #[test]
@@ -242,7 +239,7 @@ fn plain_text(alloc: Global, field: u8, diagram: &Diagram) -> Result<String, NoM
 
 /// The lines of a table, as the plain cube writes them.
 fn text_of(alloc: Global, table: &Table) -> Result<String, NoMemory> {
-    let mut text = format!(in alloc; "field {}\n", table.field())?;
+    let mut text = format!(in alloc; "table 2\nfield {}\n", table.field())?;
     for row in table.rows() {
         let (j, i, dim) = (row.j, row.i, row.dim);
         text.push_str(format!(in alloc; "j {j} i {i} dim {dim}\n")?.as_str())?;
