@@ -3,7 +3,9 @@
 ghost use Rattle.std.specs.Prelude.{◌≡◌};
 
 use circle_smoothing::StateKinds;
-use cube_signs::{Cube, Generator, SizeLimit, block_columns, block_degrees, check_kinds, check_size};
+use cube_signs::{
+    Cube, Generator, SizeLimit, block_columns, block_degrees, check_kinds, check_size,
+};
 use kh_types::{Diagram, NoMemory};
 use known_links::{TREFOIL, diagram_of};
 use prime_field::{F2, F3, F5, F7, PrimeField};

@@ -196,6 +196,27 @@ fn small_diagrams_have_the_tables_of_the_plain_cube(rt: HostRuntime) -> Result<(
     Ok(())
 }
 
+/// Diagrams before and after a move: a slide, and a finger of one half of a curl over the other.
+const MOVED: &[(&[[u8; 4]], &[[u8; 4]])] = &[
+    (
+        &[[5, 2, 6, 1], [3, 3, 4, 2], [4, 5, 1, 6]],
+        &[[6, 3, 5, 2], [4, 2, 1, 1], [3, 6, 4, 5]],
+    ),
+    (&[[1, 1, 2, 2]], &[[3, 1, 4, 6], [4, 1, 5, 2], [5, 3, 6, 2]]),
+];
+
+#[test]
+fn moves_keep_the_tables(rt: HostRuntime) -> Result<(), Fail> {
+    for (before, after) in MOVED {
+        for field in [2, 3] {
+            let table = table_over(rt.alloc(), field, &diagram_of(before, 0)?)?;
+            let moved = table_over(rt.alloc(), field, &diagram_of(after, 0)?)?;
+            assert!(rt; table.rows() == moved.rows());
+        }
+    }
+    Ok(())
+}
+
 fn table_over(alloc: Global, field: u8, diagram: &Diagram) -> Result<Table, Fail> {
     check_size(diagram)?;
     let table = match field {
@@ -218,7 +239,7 @@ fn plain_text(alloc: Global, field: u8, diagram: &Diagram) -> Result<String, NoM
 
 /// The lines of a table, as the plain cube writes them.
 fn text_of(alloc: Global, table: &Table) -> Result<String, NoMemory> {
-    let mut text = format!(in alloc; "field {}\n", table.field())?;
+    let mut text = format!(in alloc; "table 2\nfield {}\n", table.field())?;
     for row in table.rows() {
         let (j, i, dim) = (row.j, row.i, row.dim);
         text.push_str(format!(in alloc; "j {j} i {i} dim {dim}\n")?.as_str())?;

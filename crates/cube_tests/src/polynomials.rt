@@ -208,7 +208,9 @@ const LARGE: &[Large] = &[
             [12, 13, 1, 34],
         ],
         lowest: -16,
-        coefficients: &[1, -7, 21, -41, 65, -85, 91, -77, 46, 1, -44, 78, -91, 85, -65, 41, -21, 7, -1],
+        coefficients: &[
+            1, -7, 21, -41, 65, -85, 91, -77, 46, 1, -44, 78, -91, 85, -65, 41, -21, 7, -1,
+        ],
     },
     Large {
         name: "the closed braid of 4 strands 1 -2 3 1 -2 3 1 -2 3 1 -2 3 1 -2 3 1 -2 3",
@@ -233,7 +235,10 @@ const LARGE: &[Large] = &[
             [10, 29, 11, 28],
         ],
         lowest: -8,
-        coefficients: &[1, -10, 43, -103, 174, -231, 245, -202, 113, 6, -126, 209, -238, 215, -154, 96, -50, 21, -6, 1],
+        coefficients: &[
+            1, -10, 43, -103, 174, -231, 245, -202, 113, 6, -126, 209, -238, 215, -154, 96, -50,
+            21, -6, 1,
+        ],
     },
     Large {
         name: "the closed braid of 3 strands 1 2 1 2 1 2 1 2 1 2 1 2 1 2 1 2 1 2 1",
@@ -286,7 +291,10 @@ const LARGE: &[Large] = &[
             [14, 27, 15, 28],
         ],
         lowest: -21,
-        coefficients: &[1, -9, 35, -85, 160, -252, 333, -375, 350, -249, 92, 92, -249, 350, -375, 333, -252, 160, -85, 35, -9, 1],
+        coefficients: &[
+            1, -9, 35, -85, 160, -252, 333, -375, 350, -249, 92, 92, -249, 350, -375, 333, -252,
+            160, -85, 35, -9, 1,
+        ],
     },
 ];
 
@@ -354,7 +362,10 @@ fn has_coefficients(rt: &impl Abort, polynomial: &Laurent, link: &Large) {
         let listed = if above < 0 || above % 2 != 0 {
             0
         } else {
-            link.coefficients.get(above as usize / 2).copied().unwrap_or(0)
+            link.coefficients
+                .get(above as usize / 2)
+                .copied()
+                .unwrap_or(0)
         };
         assert!(rt; polynomial.coefficient(exponent) == listed);
     }

@@ -5,6 +5,7 @@ use Rattle.std.specs.Option.{option_or}
 use Rattle.std.proofs.lemmas.Bool.Decides.{nat_tests}
 use Rattle.kh_types.specs.Acceptance.{accepted}
 use Rattle.kh_types.specs.Code.{Code, arc_count, place_of}
+use Rattle.kh_types.specs.Components.{component_count}
 use Rattle.kh_types.specs.Faces.{face_count, planar_face_count}
 use Rattle.kh_types.specs.StateSum.{state_sum}
 use Rattle.kh_types.specs.declared.limits.TheConstants.{CROSSINGS}
@@ -12,6 +13,8 @@ use Rattle.kinks_and_fingers.specs.Drops.{is_bigon, is_kink, without_finger, wit
 use Rattle.kinks_and_fingers.specs.FingerAdd.{with_finger, differ}
 use Rattle.kinks_and_fingers.specs.KinkAdds.{with_kink}
 use Rattle.kinks_and_fingers.specs.Strands.{slots_at}
+use Rattle.kinks_and_fingers.proofs.FingerAccepted.{AreFingerable-accepted, component_count-fingered}
+use Rattle.kinks_and_fingers.proofs.KinkSizes.{IsKinkable-accepted, component_count-kinked}
 use Rattle.kinks_and_fingers.proofs.FingerPlanar.{planar-two_pieces}
 use Rattle.kinks_and_fingers.proofs.KinkWith.{state_sum-kinked}
 use Rattle.slides.specs.Triangles.{has_triangle, slide_slot}
@@ -20,11 +23,12 @@ use Rattle.diagram_moves.specs.declared.change.Move.TheVariants.{KinkAdd, KinkDr
 use Rattle.diagram_moves.specs.declared.fault.MoveFault.{MoveFault}
 use Rattle.diagram_moves.specs.declared.fault.MoveFault.TheVariants.{NoArc, NoCrossing, CrossingLimit, OnLoop, SameArc, NoKink, NoBigon, NoTriangle, Heights, Genus}
 use Rattle.diagram_moves.specs.Joinable.{numbered}
+use Rattle.diagram_moves.specs.Kept.{HasComponents}
 use Rattle.diagram_moves.specs.Moved.{answered, is_left, moved, slid_at, HasWrongFaces, JoinsPieces, LeavesSphere}
 use Rattle.diagram_moves.specs.MoveFaults.{no_arc, no_crossing, crossing_limit, on_loop, same_arc, no_kink, no_bigon, no_triangle, no_heights, wrong_genus, refused_where, kink_add_fault, kink_drop_fault, finger_place_fault, finger_add_fault, finger_drop_fault, slide_fault}
 use Rattle.diagram_moves.proofs.AddLemmas.{fingers_are_taken, kinks_are_taken, sum-fingered}
-use Rattle.diagram_moves.proofs.DropLemmas.{finger-dropped, kink-dropped}
-use Rattle.diagram_moves.proofs.SlideLemmas.{sum-slid_at}
+use Rattle.diagram_moves.proofs.DropLemmas.{components-finger_dropped, components-kink_dropped, finger-dropped, kink-dropped}
+use Rattle.diagram_moves.proofs.SlideLemmas.{components-slid_at, sum-slid_at}
 use Rattle.diagram_moves.proofs.FaultLemmas.{both-none, neither-fault, other-fault}
 
 -- what holds of the code where no fault comes holds of the answer
@@ -60,6 +64,35 @@ moves_keep_the_state_sum code (FingerDrop first second) holds =
 moves_keep_the_state_sum code (Slide first second third) holds =
     answered-keeps (HasSum code) (slide_fault code first second third) (slid_at code first second third)
     (λ none exponent. sum-slid_at code first second third holds none exponent)
+
+pub moves_keep_components : (code : Code) (change : Move) → IsTrue (accepted code)
+    → IfOk (moved code change) (λ new. component_count new.crossings + new.loops ≡ component_count code.crossings + code.loops)
+unfolding moved
+moves_keep_components code (KinkAdd arc under_first positive) holds =
+    answered-keeps (HasComponents code) (kink_add_fault code arc) (with_kink (not under_first) positive arc code)
+    (λ none.
+    let can = IsKinkable-accepted code arc holds (kinks_are_taken code arc none).is_arc in
+    ap (λ (k : ℕ). k + code.loops) (component_count-kinked code.crossings arc (not under_first) positive can))
+moves_keep_components code (KinkDrop crossing) holds =
+    answered-keeps (HasComponents code) (kink_drop_fault code crossing) (numbered (without_kink code (place_of crossing)))
+    (components-kink_dropped code crossing holds)
+moves_keep_components code (FingerAdd over over_side under under_side) holds =
+    answered-keeps (HasComponents code) (finger_add_fault code over (is_left over_side) under (is_left under_side))
+    (with_finger code over (is_left over_side) under (is_left under_side))
+    (λ none.
+    let places = both-none (finger_place_fault code over under)
+    (wrong_genus (with_finger code over (is_left over_side) under (is_left under_side)).crossings) none in
+    let taken = fingers_are_taken code over under places.0 in
+    let can = AreFingerable-accepted code over under holds taken.over_arc taken.under_arc taken.apart in
+    ap (λ (k : ℕ). k + code.loops)
+    (component_count-fingered code.crossings over under (is_left under_side) (differ (is_left over_side) (is_left under_side)) can))
+moves_keep_components code (FingerDrop first second) holds =
+    answered-keeps (HasComponents code) (finger_drop_fault code first second)
+    (numbered (without_finger code (place_of first) (place_of second)))
+    (components-finger_dropped code first second holds)
+moves_keep_components code (Slide first second third) holds =
+    answered-keeps (HasComponents code) (slide_fault code first second third) (slid_at code first second third)
+    (components-slid_at code first second third holds)
 
 -- the answer is a fault exactly where the fault comes
 answered-fault : (found : Option MoveFault) (code : Code) (fault : MoveFault) → (answered found code ≡ Err fault) ↔ (found ≡ Some fault)

@@ -17,6 +17,7 @@ use Rattle.kinks_and_fingers.specs.Strands.{Strands, slots_at}
 use Rattle.kinks_and_fingers.proofs.Sound.{HasBigonAt-found, HasKinkAt-found, IsSound-finger, IsSound-kink}
 use Rattle.diagram_moves.specs.DropSteps.{is_ring_in, kept_to, passes_there, renamed_there, signs_to, stays, straight_to}
 use Rattle.diagram_moves.specs.Joinable.{AreReady, numbered, parts_in}
+use Rattle.diagram_moves.specs.Kept.{HasComponents}
 use Rattle.diagram_moves.specs.MoveFaults.{finger_drop_fault, kink_drop_fault, no_bigon, no_crossing, no_kink}
 use Rattle.diagram_moves.specs.declared.fault.MoveFault.TheVariants.{NoBigon, NoCrossing, NoKink}
 use Rattle.diagram_moves.proofs.DroppedCodes.{IsKept-finger, IsKept-kink}
@@ -154,3 +155,14 @@ dropped_is code first second names seen seen_again crossings seen_crossings sign
     ∙ ap (λ (ss : List Bool). parts_made (kept_crossings code.crossings (is_of_two first second)) ss (loops + rings)) signs_are
     ∙ ap (λ (l : ℕ). parts_made (kept_crossings code.crossings (is_of_two first second)) (kept_signs code.crossings (is_of_two first second)) l)
     (ap₂ (λ (a b : ℕ). a + b) loops_are ring_number)
+
+pub components-kink_dropped : (code : Code) (crossing : ℕ) → IsTrue (accepted code) → kink_drop_fault code crossing ≡ None
+    → HasComponents code (numbered (without_kink code (place_of crossing)))
+components-kink_dropped code crossing holds none =
+    let found = kink-found code crossing none in (IsKept-kink code (place_of crossing) found.0 holds found.1).components
+
+pub components-finger_dropped : (code : Code) (first second : ℕ) → IsTrue (accepted code) → finger_drop_fault code first second ≡ None
+    → HasComponents code (numbered (without_finger code (place_of first) (place_of second)))
+components-finger_dropped code first second holds none =
+    let found = bigon-found code first second none in
+    (IsKept-finger code (place_of first) (place_of second) found.0 found.1 holds found.2).components

@@ -8,7 +8,7 @@ use Rattle.kh_types.specs.StateSum.{state_sum}
 use Rattle.slides.specs.Triangles.{IsTriangle, dart_at_slot, has_heights, slide_slot, step}
 use Rattle.slides.proofs.FoundTriangles.{IsTriangle-slot, has_heights-slot}
 use Rattle.diagram_moves.specs.Joinable.{AreReady, parts_in}
-use Rattle.diagram_moves.specs.Kept.{slid_strands}
+use Rattle.diagram_moves.specs.Kept.{HasComponents, slid_strands}
 use Rattle.diagram_moves.specs.SlideSteps.{IsSlidable, slid_arc, slid_strands_at}
 use Rattle.slides.specs.Slid.{slid_crossing}
 use Rattle.diagram_moves.specs.Moved.{slid_at, slid_from}
@@ -96,3 +96,16 @@ strands_at code crossing slot x y z x_is y_is z_is =
     ap (λ (k : ℕ). slid_strands code k y z) x_is
     ∙ ap (λ (k : ℕ). slid_strands code (dart_at_slot crossing slot) k z) y_at
     ∙ ap (λ (k : ℕ). slid_strands code (dart_at_slot crossing slot) (step code.crossings (dart_at_slot crossing slot)) k) z_at
+
+pub components-slid_at : (code : Code) (first second third : ℕ) → IsTrue (accepted code) → slide_fault code first second third ≡ None
+    → HasComponents code (slid_at code first second third)
+components-slid_at code first second third holds none =
+    let can = IsPlaced-none code first second third none in
+    let x = dart_at_slot first can.slot in
+    let y = step code.crossings x in
+    let z = step code.crossings y in
+    let triangle =
+    IsTriangle-slot code.crossings first second third can.slot can.first_crossing can.second_crossing can.third_crossing can.found in
+    let heights = has_heights-slot code.crossings first second third can.slot can.found in
+    subst (λ (o : Option ℕ). HasComponents code (slid_from code first (unwrap_or o 0))) (sym can.found)
+    ((IsKept-slid code x y z holds triangle heights).components)

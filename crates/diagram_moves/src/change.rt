@@ -3,7 +3,9 @@
 /// A side of an arc, seen along its direction.
 #[derive(Clone, Copy, Debug, PartialEq, Eq)]
 pub enum Side {
+    /// The side at the left hand.
     Left,
+    /// The side at the right hand.
     Right,
 }
 

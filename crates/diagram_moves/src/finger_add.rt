@@ -100,10 +100,7 @@ struct Passing {
 }
 
 // The old crossings on the new arcs.
-#[tactic(auto, using(
-    crate::proofs::AddLemmas::fingered_more,
-    crate::proofs::AddLemmas::length_fingered,
-))]
+#[tactic(auto, using(crate::proofs::AddLemmas::fingered_more, crate::proofs::AddLemmas::length_fingered,))]
 fn moved_crossings(diagram: &Diagram, finger: Finger) -> ArrayVec<Crossing, CROSSINGS>
     requires { AreTakenArcs diagram.now finger.over finger.under }
     ensures crossings { result.items

@@ -15,20 +15,25 @@ ghost use Rattle.diagram_moves.specs.Joinable.{IsJoinable, numbered, parts_in};
 
 /// Crossings whose arcs have a head and a tail each are paired, as renumbering asks.
 pub fn strands_with_two_ends_are_paired()
-    ensures { (strands : Strands) → HasTwoEnds strands.crossings strands.signs → ArePaired (parts_in strands) }
+    ensures { (strands : Strands) → HasTwoEnds strands.crossings strands.signs
+        → ArePaired (parts_in strands) }
 {}
 
-/// Crossings over any names, whose arcs have a head and a tail each and which are on the sphere, become an accepted code where their
-/// components and loops are few enough. It has their components, their signs, the circles of each of their states and their state sum.
-/// At none of them is the over pass a component of one arc.
+/// Crossings over any names, whose arcs have a head and a tail each and which are on the sphere,
+/// become an accepted code where their components and loops are few enough. It has their
+/// components, their signs, the circles of each of their states and their state sum. At none of
+/// them is the over pass a component of one arc.
 pub fn planar_strands_become_accepted_codes()
     ensures accepted { (bound : ℕ) (strands : Strands) → IsJoinable bound strands
         → strand_component_count bound strands ≤ COMPONENTS → IsTrue (accepted (numbered strands)) }
     ensures components { (bound : ℕ) (strands : Strands) → IsJoinable bound strands
-        → component_count (numbered strands).crossings + (numbered strands).loops ≡ strand_component_count bound strands }
-    ensures over { (bound : ℕ) (strands : Strands) → IsJoinable bound strands → (place : ℕ) → place < length strands.crossings
+        → component_count (numbered strands).crossings + (numbered strands).loops
+        ≡ strand_component_count bound strands }
+    ensures over { (bound : ℕ) (strands : Strands) → IsJoinable bound strands → (place : ℕ)
+        → place < length strands.crossings
         → name_at strands.crossings place 1 ≢ name_at strands.crossings place 3 }
-    ensures signs { (bound : ℕ) (strands : Strands) → IsJoinable bound strands → (place : ℕ) → place < length strands.crossings
+    ensures signs { (bound : ℕ) (strands : Strands) → IsJoinable bound strands → (place : ℕ)
+        → place < length strands.crossings
         → is_positive (numbered strands).crossings (place + 1) ≡ sign_at strands.signs place }
     ensures circles { (bound : ℕ) (strands : Strands) → IsJoinable bound strands → (state : ℕ)
         → circle_count (numbered strands) state ≡ strand_circle_count bound strands state }

@@ -1,32 +1,50 @@
-//! What drops and slides keep, once their arcs are numbered.
+//! What moves keep.
 
-ghost use Rattle.std.specs.Prelude.{◌≡◌, ◌-◌, ◌+◌, ℕ, true, IsTrue, length};
+ghost use Rattle.std.specs.Prelude.{◌≡◌, ◌-◌, ◌+◌, ℕ, true, IfOk, IsTrue, length};
 ghost use Rattle.kh_types.specs.Acceptance.{accepted};
 ghost use Rattle.kh_types.specs.Code.{Code};
+ghost use Rattle.kh_types.specs.Components.{component_count};
 ghost use Rattle.kinks_and_fingers.specs.Drops.{without_finger, without_kink};
 ghost use Rattle.kinks_and_fingers.specs.Dropping.{HasBigonAt, HasKinkAt};
 ghost use Rattle.kinks_and_fingers.specs.Pulls.{early, late};
 ghost use Rattle.slides.specs.Triangles.{IsTriangle, has_heights};
 ghost use Rattle.diagram_moves.specs.Joinable.{numbered};
 ghost use Rattle.diagram_moves.specs.Kept.{IsKept, slid_strands};
+ghost use Rattle.diagram_moves.specs.Moved.{moved};
+ghost use Rattle.diagram_moves.specs.declared.change.Move.{Move};
 
-/// Where a crossing with a kink is dropped from an accepted code, the renumbered code is accepted, and keeps components and loops
-/// together, the signs of the crossings that stay, and the state sum.
+/// Where a crossing with a kink is dropped from an accepted code, the renumbered code is accepted,
+/// and keeps components and loops together, the signs of the crossings that stay, and the state
+/// sum.
 pub fn kinks_are_dropped()
     ensures { (code : Code) (c p : ℕ) → IsTrue (accepted code) → HasKinkAt code.crossings c p
-        → IsKept code (numbered (without_kink code c)) (early c (length code.crossings - 1)) (length code.crossings - 1) }
+        → IsKept code (numbered (without_kink code c)) (early c (length code.crossings - 1))
+        (length code.crossings - 1) }
 {}
 
 /// So where two crossings that meet in a bigon are dropped.
 pub fn fingers_are_dropped()
-    ensures { (code : Code) (c d p q : ℕ) → IsTrue (accepted code) → HasBigonAt code.crossings c d p q
+    ensures { (code : Code) (c d p q : ℕ) → IsTrue (accepted code)
+        → HasBigonAt code.crossings c d p q
         → IsKept code (numbered (without_finger code c d))
         (λ i. early c (length code.crossings - 2 + 1)
-        (early (late c (length code.crossings - 2 + 1) d) (length code.crossings - 2) i)) (length code.crossings - 2) }
+        (early (late c (length code.crossings - 2 + 1) d) (length code.crossings - 2) i)) (length
+        code.crossings - 2) }
 {}
 
-/// And so after a slide at a triangle whose slots do not have one parity: each crossing keeps its place and its sign.
+/// And so after a slide at a triangle whose slots do not have one parity: each crossing keeps its
+/// place and its sign.
 pub fn slides_are_made()
-    ensures { (code : Code) (x y z : ℕ) → IsTrue (accepted code) → IsTriangle code.crossings x y z → has_heights x y z ≡ true
-        → IsKept code (numbered (slid_strands code x y z)) (λ place. place) (length code.crossings) }
+    ensures { (code : Code) (x y z : ℕ) → IsTrue (accepted code)
+        → IsTriangle code.crossings x y z → has_heights x y z ≡ true
+        → IsKept code (numbered (slid_strands code x y z)) (λ place. place) (length
+        code.crossings) }
+{}
+
+/// Components and loops together stay under every move.
+#[tactic(auto, using(crate::proofs::ApplyLemmas::moves_keep_components))]
+pub fn moves_keep_components()
+    ensures { (code : Code) (change : Move) → IsTrue (accepted code) → IfOk (moved code change)
+        (λ new. component_count new.crossings + new.loops
+        ≡ component_count code.crossings + code.loops) }
 {}

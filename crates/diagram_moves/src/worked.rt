@@ -16,15 +16,19 @@ ghost use Rattle.diagram_moves.specs.declared.fault.MoveFault.TheVariants.{Genus
 /// Worked drops and a slide.
 pub fn worked_joins()
     ensures curl { numbered (without_kink curl 0) ≡ record { crossings = []; loops = 1 } }
-    ensures over { numbered (without_finger over_circle 0 1) ≡ record { crossings = []; loops = 2 } }
+    ensures over { numbered (without_finger over_circle 0 1)
+        ≡ record { crossings = []; loops = 2 } }
     ensures kinked { numbered (without_kink curl_kinked 1) ≡ curl }
-    ensures fingered { (numbered (without_finger curl_fingered 0 1)).crossings ≡ slots_with 2 2 1 1 ∷ [] }
+    ensures fingered { (numbered (without_finger curl_fingered 0 1)).crossings
+        ≡ slots_with 2 2 1 1 ∷ [] }
     ensures components { strand_component_count 7 (without_finger curl_fingered 0 1) ≡ 1 }
     ensures two { (numbered (without_kink two_curls 0)).loops ≡ 1 }
     // The over circle's arcs, 5 and 6, exchange their numbers.
-    ensures circle { (numbered (slid_strands (without_loops (slots_with 1 6 2 5 ∷ slots_with 4 6 1 5 ∷ slots_with 2 4 3 3 ∷ [])) 1 4 8)).crossings
+    ensures circle { (numbered (slid_strands (without_loops (slots_with 1 6 2 5
+        ∷ slots_with 4 6 1 5 ∷ slots_with 2 4 3 3 ∷ [])) 1 4 8)).crossings
         ≡ slots_with 2 6 3 5 ∷ slots_with 3 6 4 5 ∷ slots_with 1 1 2 4 ∷ [] }
-    ensures circle_accepted { accepted (numbered (slid_strands (without_loops (slots_with 1 6 2 5 ∷ slots_with 4 6 1 5 ∷ slots_with 2 4 3 3 ∷ [])) 1 4 8))
+    ensures circle_accepted { accepted (numbered (slid_strands (without_loops (slots_with 1 6 2 5
+        ∷ slots_with 4 6 1 5 ∷ slots_with 2 4 3 3 ∷ [])) 1 4 8))
         ≡ true }
 {}
 
@@ -40,7 +44,8 @@ pub fn worked_moves()
     ensures above { moved curl (KinkAdd 3 true true) ≡ Err (NoArc 3) }
     ensures a_loop { moved (record curl { loops = 1 }) (KinkAdd 3 true true) ≡ Err (OnLoop 3) }
     ensures past_loop { moved (record curl { loops = 1 }) (KinkAdd 4 true true) ≡ Err (NoArc 4) }
-    ensures two_loops { moved (record curl { loops = 1 }) (FingerAdd 3 Left 3 Left) ≡ Err (OnLoop 3) }
+    ensures two_loops { moved (record curl { loops = 1 }) (FingerAdd 3 Left 3 Left)
+        ≡ Err (OnLoop 3) }
     ensures same { moved curl (FingerAdd 2 Left 2 Right) ≡ Err (SameArc 2) }
     ensures dropped { moved curl (KinkDrop 1) ≡ Ok (record { crossings = []; loops = 1 }) }
     ensures no_kink { moved trefoil (KinkDrop 1) ≡ Err (NoKink 1) }
@@ -48,4 +53,19 @@ pub fn worked_moves()
     ensures no_bigon { moved curl (FingerDrop 1 1) ≡ Err (NoBigon 1 1) }
     ensures no_triangle { moved trefoil (Slide 1 2 2) ≡ Err (NoTriangle 1 2 2) }
     ensures heights { moved trefoil (Slide 1 2 3) ≡ Err Heights }
+{}
+
+/// A kink and a finger that are added and dropped, and a slide that is made twice at the same three
+/// crossings, give the diagram back.
+#[tactic(auto, unfolding(crate::specs::Moved::moved))]
+pub fn worked_moves_are_taken_back()
+    ensures kink { moved (without_loops (slots_with 3 1 4 4 ∷ slots_with 1 3 2 2
+        ∷ [])) (KinkDrop 2) ≡ Ok curl }
+    ensures finger { moved curl_fingered (FingerDrop 2 3) ≡ Ok curl }
+    ensures slide { moved (without_loops (slots_with 5 2 6 1 ∷ slots_with 3 3 4 2
+        ∷ slots_with 4 5 1 6 ∷ [])) (Slide 1 2 3)
+        ≡ Ok (without_loops (slots_with 6 3 5 2 ∷ slots_with 4 2 1 1 ∷ slots_with 3 6 4 5 ∷ [])) }
+    ensures back { moved (without_loops (slots_with 6 3 5 2 ∷ slots_with 4 2 1 1
+        ∷ slots_with 3 6 4 5 ∷ [])) (Slide 1 2 3)
+        ≡ Ok (without_loops (slots_with 5 2 6 1 ∷ slots_with 3 3 4 2 ∷ slots_with 4 5 1 6 ∷ [])) }
 {}

@@ -21,42 +21,58 @@ ghost use Rattle.kinks_and_fingers.specs.Drops.{dropped, kept_places, straight_p
 ghost use Rattle.gluing.specs.Glue.{renamed};
 ghost use Rattle.kinks_and_fingers.specs.Pulls.{early};
 
-/// Pairs under the names of classes have as many classes as the pairs together with what joins these classes, but for the numbers that
-/// name no class. So a state of the crossings that stay has as many circles as there are classes of the straight pairs and of the
-/// smoothings of those that stay, in the arcs before.
+/// Pairs under the names of classes have as many classes as the pairs together with what joins
+/// these classes, but for the numbers that name no class. So a state of the crossings that stay has
+/// as many circles as there are classes of the straight pairs and of the smoothings of those that
+/// stay, in the arcs before.
 pub fn dropped_crossings_leave_circles()
-    ensures contracted { (n : ℕ) (straight pairs : List (ℕ × ℕ)) → AreBelow n straight → AreBelow n pairs
-        → class_count (classes_of n (renamed (slice_index (classes_of n straight)) pairs)) + class_count (classes_of n straight)
+    ensures contracted { (n : ℕ) (straight pairs : List (ℕ × ℕ)) → AreBelow n straight
+        → AreBelow n pairs
+        → class_count (classes_of n (renamed (slice_index (classes_of n straight)) pairs)) +
+        class_count (classes_of n straight)
         ≡ class_count (classes_of n (straight ++ pairs)) + n }
-    ensures dropped { (code : Code) (gone : ℕ → Bool) (kept : ℕ → ℕ) (k state new : ℕ) → HasArcsTwice code.crossings
+    ensures dropped { (code : Code) (gone : ℕ → Bool) (kept : ℕ → ℕ) (k state new : ℕ)
+        → HasArcsTwice code.crossings
         → kept_places code.crossings gone ≡ map kept (range_with_len 0 k)
         → ((i : ℕ) → i < k → kept i < length code.crossings)
         → ((i : ℕ) → i < k → bit new i ≡ bit state (kept i))
         → strand_circle_count (arc_count code.crossings + 1) (dropped code gone) new + 1
         ≡ class_count (classes_of (arc_count code.crossings + 1)
-        (straight_pairs code.crossings gone ++ outer_pairs code.crossings gone state)) + code.loops }
+        (straight_pairs code.crossings gone ++ outer_pairs code.crossings gone state)) +
+        code.loops }
 {}
 
-/// A state that goes through a kink has as many circles as the same state without the kink, and a state that closes it has one more.
+/// A state that goes through a kink has as many circles as the same state without the kink, and a
+/// state that closes it has one more.
 pub fn kinks_close_or_go_through()
-    ensures through { (code : Code) (c p k state new : ℕ) → IsTrue (accepted code) → HasKinkAt code.crossings c p
-        → length code.crossings ≡ k + 1 → ((i : ℕ) → i < k → bit new i ≡ bit state (early c k i)) → bit state c ≡ through_at p
-        → circle_count code state ≡ strand_circle_count (arc_count code.crossings + 1) (without_kink code c) new }
-    ensures closing { (code : Code) (c p k state new : ℕ) → IsTrue (accepted code) → HasKinkAt code.crossings c p
-        → length code.crossings ≡ k + 1 → ((i : ℕ) → i < k → bit new i ≡ bit state (early c k i)) → bit state c ≡ closing_at p
-        → circle_count code state ≡ strand_circle_count (arc_count code.crossings + 1) (without_kink code c) new + 1 }
+    ensures through { (code : Code) (c p k state new : ℕ) → IsTrue (accepted code)
+        → HasKinkAt code.crossings c p
+        → length code.crossings ≡ k + 1 → ((i : ℕ) → i < k
+        → bit new i ≡ bit state (early c k i)) → bit state c ≡ through_at p
+        → circle_count code state
+        ≡ strand_circle_count (arc_count code.crossings + 1) (without_kink code c) new }
+    ensures closing { (code : Code) (c p k state new : ℕ) → IsTrue (accepted code)
+        → HasKinkAt code.crossings c p
+        → length code.crossings ≡ k + 1 → ((i : ℕ) → i < k
+        → bit new i ≡ bit state (early c k i)) → bit state c ≡ closing_at p
+        → circle_count code state
+        ≡ strand_circle_count (arc_count code.crossings + 1) (without_kink code c) new + 1 }
 {}
 
 /// Dropping a crossing with a kink keeps the state sum.
 pub fn dropped_kinks_keep_the_state_sum()
-    ensures { (code : Code) (c p : ℕ) → IsTrue (accepted code) → HasKinkAt code.crossings c p → (exponent : ℤ)
-        → strand_sum (arc_count code.crossings + 1) (without_kink code c) exponent ≡ state_sum code exponent }
+    ensures { (code : Code) (c p : ℕ) → IsTrue (accepted code) → HasKinkAt code.crossings c p
+        → (exponent : ℤ)
+        → strand_sum (arc_count code.crossings + 1) (without_kink code c) exponent
+        ≡ state_sum code exponent }
 {}
 
 /// Dropping two crossings that meet in a bigon keeps the state sum.
 pub fn dropped_bigons_keep_the_state_sum()
-    ensures { (code : Code) (c d p q : ℕ) → IsTrue (accepted code) → HasBigonAt code.crossings c d p q → (exponent : ℤ)
-        → strand_sum (arc_count code.crossings + 1) (without_finger code c d) exponent ≡ state_sum code exponent }
+    ensures { (code : Code) (c d p q : ℕ) → IsTrue (accepted code)
+        → HasBigonAt code.crossings c d p q → (exponent : ℤ)
+        → strand_sum (arc_count code.crossings + 1) (without_finger code c d) exponent
+        ≡ state_sum code exponent }
 {}
 
 /// Components and loops together stay where crossings are dropped, whichever they are.
@@ -73,10 +89,13 @@ pub fn worked_sums()
     ensures curl { terms (strand_sum 3 (without_kink curl 0)) ≡ terms (state_sum curl) }
     ensures kinked { terms (strand_sum 5 (without_kink curl_kinked 1)) ≡ terms (state_sum curl) }
     ensures two { terms (strand_sum 5 (without_kink two_curls 0)) ≡ terms (state_sum two_curls) }
-    ensures over { terms (strand_sum 5 (without_finger over_circle 0 1)) ≡ terms (state_sum over_circle) }
-    ensures fingered { terms (strand_sum 7 (without_finger curl_fingered 0 1)) ≡ terms (state_sum curl_fingered) }
+    ensures over { terms (strand_sum 5 (without_finger over_circle 0 1))
+        ≡ terms (state_sum over_circle) }
+    ensures fingered { terms (strand_sum 7 (without_finger curl_fingered 0 1))
+        ≡ terms (state_sum curl_fingered) }
     ensures under_plus { terms (state_sum (with_kink false true 2 curl)) ≡ terms (state_sum curl) }
-    ensures under_minus { terms (state_sum (with_kink false false 2 curl)) ≡ terms (state_sum curl) }
+    ensures under_minus { terms (state_sum (with_kink false false 2 curl))
+        ≡ terms (state_sum curl) }
     ensures over_plus { terms (state_sum (with_kink true true 1 curl)) ≡ terms (state_sum curl) }
     ensures over_minus { terms (state_sum (with_kink true false 1 curl)) ≡ terms (state_sum curl) }
     ensures trefoil_accepted { accepted (with_kink true false 3 trefoil) ≡ true }

@@ -8,8 +8,8 @@ ghost use Rattle.kinks_and_fingers.specs.Dropping.{HasBigonAt, HasKinkAt, IsSoun
 ghost use Rattle.kinks_and_fingers.specs.Strands.{slots_at};
 ghost use Rattle.kinks_and_fingers.specs.WorkedDrops.{curl_fingered, curl_kinked};
 
-/// Where a crossing with a kink is dropped from an accepted code, each arc that is left has one head and one tail, there is a
-/// checkerboard choice, and there are as many faces as on the sphere.
+/// Where a crossing with a kink is dropped from an accepted code, each arc that is left has one
+/// head and one tail, there is a checkerboard choice, and there are as many faces as on the sphere.
 pub fn kinks_are_dropped()
     ensures found { (crossings : List (List ℕ)) (c : ℕ) → c < length crossings
         → is_kink (slots_at crossings c) ≡ true → (p : ℕ) × HasKinkAt crossings c p }
@@ -20,9 +20,11 @@ pub fn kinks_are_dropped()
 
 /// So where two crossings that meet in a bigon are dropped.
 pub fn bigons_are_dropped()
-    ensures found { (crossings : List (List ℕ)) (c d : ℕ) → c < length crossings → d < length crossings
+    ensures found { (crossings : List (List ℕ)) (c d : ℕ) → c < length crossings
+        → d < length crossings
         → is_bigon crossings c d ≡ true → (p : ℕ) × (q : ℕ) × HasBigonAt crossings c d p q }
-    ensures sound { (code : Code) (c d p q : ℕ) → IsTrue (accepted code) → HasBigonAt code.crossings c d p q
+    ensures sound { (code : Code) (c d p q : ℕ) → IsTrue (accepted code)
+        → HasBigonAt code.crossings c d p q
         → IsSound (without_finger code c d) }
     ensures worked { HasBigonAt curl_fingered.crossings 0 1 1 0 }
 {}

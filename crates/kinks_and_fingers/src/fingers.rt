@@ -12,15 +12,16 @@ ghost use Rattle.kinks_and_fingers.specs.FingerAdd.{with_finger, differ, AreOfOn
 ghost use Rattle.kh_types.specs.StateSum.{state_sum};
 ghost use Rattle.kinks_and_fingers.specs.FingerCodes.{IsWithFinger};
 
-/// A finger of an arc of an accepted code over another arc, on any sides: the code that results is directed and has as many
-/// components, and it is accepted exactly where it has n + 2k faces.
+/// A finger of an arc of an accepted code over another arc, on any sides: the code that results is
+/// directed and has as many components, and it is accepted exactly where it has n + 2k faces.
 pub fn fingers_are_accepted_where_they_are_planar()
     ensures directed { (code : Code) (a b : ℕ) (a_left b_left : Bool) → IsTrue (accepted code)
         → IsArc code.crossings a → IsArc code.crossings b → a ≢ b
         → IsDirected (with_finger code a a_left b b_left).crossings }
     ensures components { (code : Code) (a b : ℕ) (a_left b_left : Bool) → IsTrue (accepted code)
         → IsArc code.crossings a → IsArc code.crossings b → a ≢ b
-        → component_count (with_finger code a a_left b b_left).crossings ≡ component_count code.crossings }
+        → component_count (with_finger code a a_left b b_left).crossings
+        ≡ component_count code.crossings }
     ensures accepted { (code : Code) (a b : ℕ) (a_left b_left : Bool) → IsTrue (accepted code)
         → IsArc code.crossings a → IsArc code.crossings b → a ≢ b
         → (face_count (with_finger code a a_left b b_left).crossings
@@ -28,28 +29,34 @@ pub fn fingers_are_accepted_where_they_are_planar()
         ↔ IsTrue (accepted (with_finger code a a_left b b_left)) }
 {}
 
-/// The old crossings keep their signs, and the two new ones have opposite signs; the code with the finger meets what the law on state
-/// sums asks, and has the state sum of the code without it.
+/// The old crossings keep their signs, and the two new ones have opposite signs; the code with the
+/// finger meets what the law on state sums asks, and has the state sum of the code without it.
 pub fn fingers_keep_signs()
     ensures old { (code : Code) (a b crossing : ℕ) (a_left b_left : Bool) → IsTrue (accepted code)
-        → IsArc code.crossings a → IsArc code.crossings b → a ≢ b → IsCrossing code.crossings crossing
-        → is_positive (with_finger code a a_left b b_left).crossings crossing ≡ is_positive code.crossings crossing }
+        → IsArc code.crossings a → IsArc code.crossings b → a ≢ b
+        → IsCrossing code.crossings crossing
+        → is_positive (with_finger code a a_left b b_left).crossings crossing
+        ≡ is_positive code.crossings crossing }
     ensures first { (code : Code) (a b : ℕ) (a_left b_left : Bool) → IsTrue (accepted code)
         → IsArc code.crossings a → IsArc code.crossings b → a ≢ b
-        → is_positive (with_finger code a a_left b b_left).crossings (length code.crossings + 1) ≡ b_left }
+        → is_positive (with_finger code a a_left b b_left).crossings (length code.crossings + 1)
+        ≡ b_left }
     ensures second { (code : Code) (a b : ℕ) (a_left b_left : Bool) → IsTrue (accepted code)
         → IsArc code.crossings a → IsArc code.crossings b → a ≢ b
-        → is_positive (with_finger code a a_left b b_left).crossings (length code.crossings + 2) ≡ not b_left }
+        → is_positive (with_finger code a a_left b b_left).crossings (length code.crossings + 2)
+        ≡ not b_left }
     ensures meets { (code : Code) (a b : ℕ) (a_left b_left : Bool) → IsTrue (accepted code)
         → IsArc code.crossings a → IsArc code.crossings b → a ≢ b
         → (arcs : ℕ → ℕ) × (low : ℕ → ℕ)
-        × IsWithFinger b_left (differ a_left b_left) code (with_finger code a a_left b b_left) arcs low }
+        × IsWithFinger b_left (differ a_left b_left) code (with_finger code a a_left b b_left)
+        arcs low }
     ensures state_sum { (code : Code) (a b : ℕ) (a_left b_left : Bool) → IsTrue (accepted code)
         → IsArc code.crossings a → IsArc code.crossings b → a ≢ b → (exponent : ℤ)
         → state_sum (with_finger code a a_left b b_left) exponent ≡ state_sum code exponent }
 {}
 
-/// Where the named sides of the two arcs are in one face, or the two arcs in two pieces, the code with the finger has n + 2k faces.
+/// Where the named sides of the two arcs are in one face, or the two arcs in two pieces, the code
+/// with the finger has n + 2k faces.
 pub fn fingers_are_planar()
     ensures one_face { (code : Code) (a b : ℕ) (a_left b_left : Bool) → IsTrue (accepted code)
         → IsArc code.crossings a → IsArc code.crossings b → a ≢ b

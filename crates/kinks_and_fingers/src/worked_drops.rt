@@ -11,11 +11,23 @@ ghost use Rattle.kinks_and_fingers.specs.WorkedDrops.{curl_kinked, curl_fingered
 /// Worked drops.
 pub fn worked_drops()
     ensures curl { without_kink curl 0 ≡ record { crossings = []; signs = []; loops = 1 } }
-    ensures over_circle { without_finger over_circle 0 1 ≡ record { crossings = []; signs = []; loops = 2 } }
+    ensures over_circle { without_finger over_circle 0 1
+        ≡ record { crossings = []; signs = []; loops = 2 } }
     ensures over_bigon { is_bigon over_circle.crossings 0 1 ≡ true }
-    ensures one_of_two { without_kink two_curls 0 ≡ record { crossings = slots_with 3 3 4 4 ∷ []; signs = true ∷ []; loops = 1 } }
-    ensures kinked { without_kink curl_kinked 1 ≡ record { crossings = slots_with 1 1 4 4 ∷ []; signs = true ∷ []; loops = 0 } }
-    ensures fingered { without_finger curl_fingered 0 1 ≡ record { crossings = slots_with 3 3 1 1 ∷ []; signs = true ∷ []; loops = 0 } }
+    ensures one_of_two { without_kink two_curls 0 ≡ record {
+      crossings = slots_with 3 3 4 4
+          ∷ [];
+      signs = true ∷ [];
+      loops = 1;
+    } }
+    ensures kinked { without_kink curl_kinked 1 ≡ record {
+      crossings = slots_with 1 1 4 4
+          ∷ [];
+      signs = true ∷ [];
+      loops = 0;
+    } }
+    ensures fingered { without_finger curl_fingered 0 1
+        ≡ record { crossings = slots_with 3 3 1 1 ∷ []; signs = true ∷ []; loops = 0 } }
     ensures kink { is_kink (slots_at curl_kinked.crossings 1) ≡ true }
     ensures bigon { is_bigon curl_fingered.crossings 0 1 ≡ true }
     ensures no_bigon { is_bigon trefoil.crossings 0 1 ≡ false }
@@ -25,6 +37,7 @@ pub fn worked_drops()
 /// Worked kinks.
 pub fn worked_kinks()
     ensures first { with_kink false true 1 curl ≡ curl_kinked }
-    ensures second { (with_kink false true 2 curl).crossings ≡ slots_with 1 1 2 4 ∷ slots_with 2 4 3 3 ∷ [] }
+    ensures second { (with_kink false true 2 curl).crossings ≡ slots_with 1 1 2 4
+        ∷ slots_with 2 4 3 3 ∷ [] }
     ensures accepted { accepted (with_kink false true 2 curl) ≡ true }
 {}

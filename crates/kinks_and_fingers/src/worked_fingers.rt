@@ -8,8 +8,9 @@ ghost use Rattle.kh_types.specs.Directions.{plus_count, minus_count};
 ghost use Rattle.kh_types.specs.StateSum.{state_sum, polynomial_text};
 ghost use Rattle.kinks_and_fingers.specs.FingerAdd.{with_finger, AreOfOneFace, AreOfTwoPieces};
 
-/// A finger of the one half of a curl over the other, on the outer sides; across itself, where the code has too few faces; between
-/// two pieces; of a circle of two arcs over its other half; and on the trefoil.
+/// A finger of the one half of a curl over the other, on the outer sides; across itself, where the
+/// code has too few faces; between two pieces; of a circle of two arcs over its other half; and on
+/// the trefoil.
 pub fn known_fingers()
     ensures outside { with_finger curl 1 true 2 false
         ≡ without_loops (slots_with 3 1 4 6 ∷ slots_with 4 1 5 2 ∷ slots_with 5 3 6 2 ∷ []) }
@@ -29,5 +30,6 @@ pub fn known_fingers()
 pub fn known_sides()
     ensures one_face { AreOfOneFace curl.crossings 1 true 2 false }
     ensures two_pieces { AreOfTwoPieces two_curls.crossings 1 3 }
-    ensures kept { polynomial_text (state_sum (with_finger curl 1 true 2 false)) ≡ polynomial_text (state_sum curl) }
+    ensures kept { polynomial_text (state_sum (with_finger curl 1 true 2 false))
+        ≡ polynomial_text (state_sum curl) }
 {}

@@ -9,28 +9,40 @@ ghost use Rattle.slides.specs.Slid.{slid};
 /// Three slides at which outer arcs are one, and the trefoil, whose triangles are alternating.
 pub fn worked_slides()
     // Three kinks: each crossing's two outer ends are one arc.
-    ensures kinks_accepted { accepted (without_loops (slots_with 6 2 1 1 ∷ slots_with 5 4 6 5 ∷ slots_with 2 4 3 3 ∷ [])) ≡ true }
-    ensures kinks_slot { slide_slot (slots_with 6 2 1 1 ∷ slots_with 5 4 6 5 ∷ slots_with 2 4 3 3 ∷ []) 1 2 3 ≡ Some 0 }
+    ensures kinks_accepted { accepted (without_loops (slots_with 6 2 1 1 ∷ slots_with 5 4 6 5
+        ∷ slots_with 2 4 3 3 ∷ [])) ≡ true }
+    ensures kinks_slot { slide_slot (slots_with 6 2 1 1 ∷ slots_with 5 4 6 5
+        ∷ slots_with 2 4 3 3 ∷ []) 1 2 3 ≡ Some 0 }
     ensures kinks { slid (slots_with 6 2 1 1 ∷ slots_with 5 4 6 5 ∷ slots_with 2 4 3 3 ∷ []) 0 5 8
         ≡ slots_with 5 3 6 2 ∷ slots_with 6 3 1 4 ∷ slots_with 1 5 2 4 ∷ [] }
     // A component of two arcs that is over at both its crossings.
-    ensures over_accepted { accepted (without_loops (slots_with 4 2 1 1 ∷ slots_with 3 6 4 5 ∷ slots_with 2 6 3 5 ∷ [])) ≡ true }
-    ensures over_slot { slide_slot (slots_with 4 2 1 1 ∷ slots_with 3 6 4 5 ∷ slots_with 2 6 3 5 ∷ []) 1 2 3 ≡ Some 0 }
+    ensures over_accepted { accepted (without_loops (slots_with 4 2 1 1 ∷ slots_with 3 6 4 5
+        ∷ slots_with 2 6 3 5 ∷ [])) ≡ true }
+    ensures over_slot { slide_slot (slots_with 4 2 1 1 ∷ slots_with 3 6 4 5 ∷ slots_with 2 6 3 5
+        ∷ []) 1 2 3 ≡ Some 0 }
     ensures over { slid (slots_with 4 2 1 1 ∷ slots_with 3 6 4 5 ∷ slots_with 2 6 3 5 ∷ []) 0 5 8
         ≡ slots_with 3 3 4 2 ∷ slots_with 4 5 1 6 ∷ slots_with 1 5 2 6 ∷ [] }
     // Four crossings, of which the triangle has the first, the second and the fourth.
-    ensures four_accepted { accepted (without_loops (slots_with 6 8 1 7 ∷ slots_with 1 2 2 3 ∷ slots_with 5 5 6 4 ∷ slots_with 3 8 4 7 ∷ []))
+    ensures four_accepted { accepted (without_loops (slots_with 6 8 1 7 ∷ slots_with 1 2 2 3
+        ∷ slots_with 5 5 6 4 ∷ slots_with 3 8 4 7 ∷ []))
         ≡ true }
-    ensures four_slot { slide_slot (slots_with 6 8 1 7 ∷ slots_with 1 2 2 3 ∷ slots_with 5 5 6 4 ∷ slots_with 3 8 4 7 ∷ []) 1 2 4 ≡ Some 2 }
-    ensures four { slid (slots_with 6 8 1 7 ∷ slots_with 1 2 2 3 ∷ slots_with 5 5 6 4 ∷ slots_with 3 8 4 7 ∷ []) 2 7 15
+    ensures four_slot { slide_slot (slots_with 6 8 1 7 ∷ slots_with 1 2 2 3 ∷ slots_with 5 5 6 4
+        ∷ slots_with 3 8 4 7 ∷ []) 1 2 4 ≡ Some 2 }
+    ensures four { slid (slots_with 6 8 1 7 ∷ slots_with 1 2 2 3 ∷ slots_with 5 5 6 4
+        ∷ slots_with 3 8 4 7 ∷ []) 2 7 15
         ≡ slots_with 1 7 2 8 ∷ slots_with 6 3 1 4 ∷ slots_with 5 5 6 4 ∷ slots_with 2 7 3 8 ∷ [] }
-    // The papers' rows 9 and 28; the second before the two arcs of the over circle, 5 and 6, exchange their numbers.
-    ensures knot_accepted { accepted (without_loops (slots_with 5 2 6 1 ∷ slots_with 3 3 4 2 ∷ slots_with 4 5 1 6 ∷ [])) ≡ true }
-    ensures knot_slot { slide_slot (slots_with 5 2 6 1 ∷ slots_with 3 3 4 2 ∷ slots_with 4 5 1 6 ∷ []) 1 2 3 ≡ Some 1 }
+    // The papers' rows 9 and 28; the second before the two arcs of the over circle, 5 and 6,
+    // exchange their numbers.
+    ensures knot_accepted { accepted (without_loops (slots_with 5 2 6 1 ∷ slots_with 3 3 4 2
+        ∷ slots_with 4 5 1 6 ∷ [])) ≡ true }
+    ensures knot_slot { slide_slot (slots_with 5 2 6 1 ∷ slots_with 3 3 4 2 ∷ slots_with 4 5 1 6
+        ∷ []) 1 2 3 ≡ Some 1 }
     ensures knot { slid (slots_with 5 2 6 1 ∷ slots_with 3 3 4 2 ∷ slots_with 4 5 1 6 ∷ []) 1 6 11
         ≡ slots_with 6 3 5 2 ∷ slots_with 4 2 1 1 ∷ slots_with 3 6 4 5 ∷ [] }
-    ensures circle_accepted { accepted (without_loops (slots_with 1 6 2 5 ∷ slots_with 4 6 1 5 ∷ slots_with 2 4 3 3 ∷ [])) ≡ true }
-    ensures circle_slot { slide_slot (slots_with 1 6 2 5 ∷ slots_with 4 6 1 5 ∷ slots_with 2 4 3 3 ∷ []) 1 2 3 ≡ Some 1 }
+    ensures circle_accepted { accepted (without_loops (slots_with 1 6 2 5 ∷ slots_with 4 6 1 5
+        ∷ slots_with 2 4 3 3 ∷ [])) ≡ true }
+    ensures circle_slot { slide_slot (slots_with 1 6 2 5 ∷ slots_with 4 6 1 5
+        ∷ slots_with 2 4 3 3 ∷ []) 1 2 3 ≡ Some 1 }
     ensures circle { slid (slots_with 1 6 2 5 ∷ slots_with 4 6 1 5 ∷ slots_with 2 4 3 3 ∷ []) 1 4 8
         ≡ slots_with 2 5 3 6 ∷ slots_with 3 5 4 6 ∷ slots_with 1 1 2 4 ∷ [] }
     // Row 29: the trefoil has two triangles, and each has slots of one parity.
