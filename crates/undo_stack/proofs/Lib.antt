@@ -7,3 +7,5 @@ pub mod HistorySteps
 pub mod MoveLemmas
 pub mod HistoryLemmas
 pub mod EditRuns
+mod EditLines
+pub mod EditReadings

@@ -4,4 +4,6 @@ pub mod Steps
 pub mod ScheduleSteps
 pub mod Histories
 pub mod EditRuns
+pub mod EditScript
+pub mod EditSteps
 pub mod Sums

@@ -2,8 +2,10 @@
 #![tactic(auto)]
 
 mod command;
+mod edit_laws;
 mod edit_line;
 mod edit_run;
+mod edit_words;
 mod editor;
 mod history_laws;
 mod laws;
@@ -13,7 +15,8 @@ mod schedule;
 mod script;
 mod stop;
 
-pub use edit_line::EditLine;
+pub use edit_laws::{each_edit_has_one_reading, limits_of_edits, worked_edits};
+pub use edit_line::{EditLine, read_edit};
 pub use edit_run::{EditFault, EditStop, carry_out, run_lines};
 pub use editor::{Editor, NothingToRedo, NothingToUndo};
 pub use history_laws::{
