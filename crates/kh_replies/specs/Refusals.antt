@@ -11,7 +11,6 @@ use Rattle.gauss_code.specs.declared.stop.GaussStop.TheVariants as gauss
 use Rattle.json_code.specs.declared.stop.JsonStop.{JsonStop}
 use Rattle.json_code.specs.declared.stop.JsonStop.TheVariants as json
 use Rattle.circle_smoothing.specs.declared.limits.TheConstants.{GENERATORS}
-use Rattle.undo_stack.specs.declared.limits.TheConstants.{SCRIPT_LINES}
 use Rattle.kh_replies.specs.declared.status.Status.TheVariants.{CodeRefused, Usage, Limit}
 use Rattle.kh_replies.specs.Replies.{Reply, reply_of}
 
@@ -53,9 +52,9 @@ too_many_loops count = limit_on (codes "loops") count LOOPS
 abbrev pub too_many_generators : ℕ → Reply
 too_many_generators count = limit_on (codes "generators") count GENERATORS
 
--- a script has more lines than a script may have
-abbrev pub too_many_lines : ℕ → Reply
-too_many_lines count = limit_on (codes "lines") count SCRIPT_LINES
+-- a script has more lines than a limit
+abbrev pub too_many_lines : ℕ → ℕ → Reply
+too_many_lines count limit = limit_on (codes "lines") count limit
 
 -- a script has a line that has words and is no command, and this is the number of the first
 abbrev pub refused_line : ℕ → Reply

@@ -164,7 +164,8 @@ headed : (name verb first second : List ℕ) (more : List (List ℕ)) (read : Op
     → cond (bytes_eq name first && bytes_eq verb second) read None ≡ Some line → SpellsEdit (name ∷ verb ∷ more) line
 headed name verb first second more read line spells same = go (bytes_eq name first && bytes_eq verb second) refl same
   where
-    go : (b : Bool) → (bytes_eq name first && bytes_eq verb second) ≡ b → cond b read None ≡ Some line → SpellsEdit (name ∷ verb ∷ more) line
+    go : (b : Bool) → (bytes_eq name first && bytes_eq verb second) ≡ b → cond b read None ≡ Some line
+        → SpellsEdit (name ∷ verb ∷ more) line
     go true is so =
         let both = and_parts (bytes_eq name first) (bytes_eq verb second) is in
         subst (λ words. SpellsEdit words line)

@@ -49,7 +49,8 @@ module _ (P : Code → Type 0) where
   EachOf-change (Err fault) history each holds = tt
 
   EachOf-undone_by : (r : Option Code) (history : History) → EachOf P history → IfSome r P
-      → IfSome (option_map (λ last. history_of (take (length history.past - 1) history.past) last (history.diagram ∷ history.future)) r) (EachOf P)
+      → IfSome (option_map (λ last. history_of (take (length history.past - 1) history.past) last (history.diagram ∷ history.future)) r)
+      (EachOf P)
   EachOf-undone_by None history each holds = tt
   EachOf-undone_by (Some last) history each holds = record {
     past = All-take P (length history.past - 1) history.past each.past;

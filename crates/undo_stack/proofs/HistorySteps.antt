@@ -12,12 +12,16 @@ pub undone-push : (past : List Code) (last diagram : Code) (future : List Code)
     → undone (history_of (past ++ last ∷ []) diagram future) ≡ Some (history_of past last (diagram ∷ future))
 undone-push past last diagram future =
     let less : length (past ++ last ∷ []) - 1 ≡ length past = omega (arith, length-append past (last ∷ [])) in
-    rw (slice_get-end past last (length (past ++ last ∷ []) - 1) less, take_at past (last ∷ []) (length (past ++ last ∷ []) - 1) (sym less)) refl
+    rw
+    (slice_get-end past last (length (past ++ last ∷ []) - 1) less, take_at past (last ∷ []) (length (past ++ last ∷ []) - 1) (sym less))
+    refl
 
 redone-undone_of : (past : List Code) (diagram : Code) (future : List Code) (b : History)
     → undone (history_of past diagram future) ≡ Some b → redone b ≡ Some (history_of past diagram future)
 redone-undone_of past diagram future b is = elim (none_or_last past) [
-  | inl none ↦ let no : undone (history_of [] diagram future) ≡ Some b = ap (λ p. undone (history_of p diagram future)) (sym none) ∙ is in absurd cc
+  | inl none ↦
+      let no : undone (history_of [] diagram future) ≡ Some b =
+      ap (λ p. undone (history_of p diagram future)) (sym none) ∙ is in absurd cc
   | inr found ↦
       let same : Some (history_of found.0 found.1 (diagram ∷ future)) ≡ Some b =
       sym (undone-push found.0 found.1 diagram future) ∙ ap (λ p. undone (history_of p diagram future)) (sym found.2) ∙ is in

@@ -36,7 +36,8 @@ moves_are_accepted code (KinkAdd arc under_first positive) holds =
     (λ none. accepted_kinked code arc (not under_first) positive holds (kinks_are_taken code arc none))
 moves_are_accepted code (KinkDrop crossing) holds =
     answered-accepted (kink_drop_fault code crossing) (numbered (without_kink code (place_of crossing)))
-    (λ none. subst (λ s. IsAccepted (numbered s)) (without_one code (place_of crossing)) (kinks_are_ready code crossing holds none).accepted_code)
+    (λ none.
+    subst (λ s. IsAccepted (numbered s)) (without_one code (place_of crossing)) (kinks_are_ready code crossing holds none).accepted_code)
 moves_are_accepted code (FingerAdd over over_side under under_side) holds =
     answered-accepted (finger_add_fault code over (is_left over_side) under (is_left under_side))
     (with_finger code over (is_left over_side) under (is_left under_side))

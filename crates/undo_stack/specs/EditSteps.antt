@@ -38,7 +38,8 @@ lone_line name = told_by name (codes "undo") Undo (codes "redo") Redo
 -- the line of a kink that is added
 abbrev pub kink_line : List ℕ → List ℕ → List ℕ → Option EditLine
 kink_line a pass sign =
-    option_and_then (λ arc. option_and_then (λ under. option_map (λ plus. Change (KinkAdd arc under plus)) (sign_named sign)) (pass_named pass))
+    option_and_then (λ arc. option_and_then (λ under. option_map (λ plus. Change (KinkAdd arc under plus)) (sign_named sign))
+    (pass_named pass))
     (place_named a)
 
 -- of a crossing with a kink that is dropped

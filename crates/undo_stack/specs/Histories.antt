@@ -30,7 +30,8 @@ after_change (Err _) history = history
 -- the last of the past is the diagram, and the one before is the first of the future; without a past nothing can be undone
 abbrev pub undone : History → Option History
 undone history =
-    option_map (λ last. history_of (take (length history.past - 1) history.past) last (history.diagram ∷ history.future)) (last_item history.past)
+    option_map (λ last. history_of (take (length history.past - 1) history.past) last (history.diagram ∷ history.future))
+    (last_item history.past)
 
 -- the first of the future is the diagram, and the one before is the last of the past; without a future nothing can be redone
 abbrev pub redone : History → Option History

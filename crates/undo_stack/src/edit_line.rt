@@ -43,8 +43,8 @@ impl Command for EditLine {
 }
 
 /// Reads the text of an edit: lines of the forms `r1 add A under plus` (or `over`, or `minus`),
-/// `r1 drop C`, `r2 add A left B right` (each side `left` or `right`; A passes over), `r2 drop C D`,
-/// `r3 C D E`, `undo` and `redo`, and lines without words, which do nothing. This project's rule.
+/// `r1 drop C`, `r2 add A left B right` (or other sides; A passes over), `r2 drop C D`, `r3 C D E`,
+/// `undo` and `redo`, and lines without words, which do nothing. This project's rule.
 pub fn read_edit(alloc: Global, text: &[u8]) -> Result<Script<EditLine>, ScriptStop>
     requires { length text.now ≤ INPUT_BYTES }
     ensures reads { result ≢ Err ScriptStop.NoMemory → IsEdit text.now result }
