@@ -14,7 +14,7 @@ pub record EditOutcome : Type 0 where
   pub count : ℕ
   pub fault : Option EditFault
 
--- these three
+-- the outcome of these three
 abbrev pub edit_outcome : History → ℕ → Option EditFault → EditOutcome
 edit_outcome history count fault = record { history = history; count = count; fault = fault }
 
