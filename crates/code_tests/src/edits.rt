@@ -17,6 +17,7 @@ const ADD: Move = Move::KinkAdd {
     under_first: true,
     positive: true,
 };
+
 const DROP: Move = Move::KinkDrop { crossing: 2 };
 
 /// Three hundred changes, of which the last 256 are undone and redone.
@@ -98,8 +99,14 @@ fn reads_each_form_of_an_edit(rt: HostRuntime) -> Result<(), Fail> {
         ("r1 add 0 over minus\n", kink(0, false, false)),
         ("r1 add 255 under minus", kink(255, true, false)),
         ("r1 drop 02", EditLine::Change(DROP)),
-        ("r2 add 1 left 2 right", finger(1, Side::Left, 2, Side::Right)),
-        ("r2 add 255 right 0 left", finger(255, Side::Right, 0, Side::Left)),
+        (
+            "r2 add 1 left 2 right",
+            finger(1, Side::Left, 2, Side::Right),
+        ),
+        (
+            "r2 add 255 right 0 left",
+            finger(255, Side::Right, 0, Side::Left),
+        ),
         ("r2 drop 1 255", bigon(1, 255)),
         ("r3 1 2 3", slide(1, 2, 3)),
         (" undo\t", EditLine::Undo),
