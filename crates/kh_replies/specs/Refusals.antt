@@ -12,7 +12,6 @@ use Rattle.json_code.specs.declared.stop.JsonStop.{JsonStop}
 use Rattle.json_code.specs.declared.stop.JsonStop.TheVariants as json
 use Rattle.braid_maker.specs.declared.limits.TheConstants.{NUMBERS}
 use Rattle.circle_smoothing.specs.declared.limits.TheConstants.{GENERATORS}
-use Rattle.undo_stack.specs.declared.limits.TheConstants.{SCRIPT_LINES}
 use Rattle.kh_replies.specs.declared.status.Status.TheVariants.{CodeRefused, Usage, Limit}
 use Rattle.kh_replies.specs.Replies.{Reply, reply_of}
 
@@ -54,9 +53,9 @@ too_many_loops count = limit_on (codes "loops") count LOOPS
 abbrev pub too_many_generators : ℕ → Reply
 too_many_generators count = limit_on (codes "generators") count GENERATORS
 
--- a script has more lines than a script may have
-abbrev pub too_many_lines : ℕ → Reply
-too_many_lines count = limit_on (codes "lines") count SCRIPT_LINES
+-- a script has more lines than a limit
+abbrev pub too_many_lines : ℕ → ℕ → Reply
+too_many_lines count limit = limit_on (codes "lines") count limit
 
 -- a number is none of a diagram
 abbrev pub too_large_number : ℕ → Reply

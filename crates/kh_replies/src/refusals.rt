@@ -12,7 +12,6 @@ use json_code::JsonStop;
 use kh_types::{CROSSINGS, CodeFault, LOOPS, NoMemory};
 use pd_code::PdStop;
 use std::alloc::Global;
-use undo_stack::SCRIPT_LINES;
 
 /// The reply to words that give no command.
 pub fn usage(alloc: Global) -> Result<Reply, NoMemory>
@@ -50,11 +49,11 @@ pub fn too_many_generators(alloc: Global, count: u128) -> Result<Reply, NoMemory
     limit_on(alloc, "generators", count, GENERATORS as u128)
 }
 
-/// The reply to a script with more lines than a script may have.
-pub fn too_many_lines(alloc: Global, count: u32) -> Result<Reply, NoMemory>
-    ensures { IfOk result (λ reply. reply ≡ too_many_lines count) }
+/// The reply to a script with more lines than a limit.
+pub fn too_many_lines(alloc: Global, count: u32, limit: usize) -> Result<Reply, NoMemory>
+    ensures { IfOk result (λ reply. reply ≡ too_many_lines count limit) }
 {
-    limit_on(alloc, "lines", count.into(), SCRIPT_LINES as u128)
+    limit_on(alloc, "lines", count.into(), limit as u128)
 }
 
 /// The reply to a number that is none of a diagram.

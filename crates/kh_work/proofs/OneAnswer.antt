@@ -7,6 +7,7 @@ use Rattle.undo_stack.specs.declared.schedule.ScheduleLine.{ScheduleLine}
 use Rattle.undo_stack.specs.declared.stop.ScriptStop.{ScriptStop}
 use Rattle.undo_stack.specs.declared.stop.ScriptStop.TheVariants as stops
 use Rattle.undo_stack.specs.Schedule.{IsSchedule}
+use Rattle.undo_stack.specs.declared.limits.TheConstants.{SCRIPT_LINES}
 use Rattle.undo_stack.specs.ScheduleSteps.{schedule_of}
 use Rattle.undo_stack.proofs.ScheduleReadings.{IsSchedule-one, IsSchedule-schedule_of}
 use Rattle.word_line.specs.declared.command.Task.{Task}
@@ -32,7 +33,7 @@ use Rattle.kh_work.specs.Answer.{IsCodeReply, IsNumberReply, IsScriptedReply, Is
 IsScriptReply-some : (field : ℕ) (code : Code) (text : List ℕ) (reading : Result (List (ℕ × ScheduleLine)) ScriptStop)
     → IsSchedule text reading → (reply : Reply) × IsScriptReply field code reading reply
 IsScriptReply-some field code text (Ok script) read = (schedule_reply field code script, refl)
-IsScriptReply-some field code text (Err (stops.LineLimit count)) read = (too_many_lines count, refl)
+IsScriptReply-some field code text (Err (stops.LineLimit count)) read = (too_many_lines count SCRIPT_LINES, refl)
 IsScriptReply-some field code text (Err (stops.Line line)) read = (refused_line line, refl)
 IsScriptReply-some field code text (Err stops.NoMemory) read = absurd read
 

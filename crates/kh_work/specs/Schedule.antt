@@ -8,6 +8,7 @@ use Rattle.circle_smoothing.specs.GeneratorCounts.{generator_count}
 use Rattle.circle_smoothing.specs.declared.limits.TheConstants.{GENERATORS}
 use Rattle.kh_types.specs.declared.limits.TheConstants.{WORKERS}
 use Rattle.undo_stack.specs.Schedule.{IsSchedule}
+use Rattle.undo_stack.specs.declared.limits.TheConstants.{SCRIPT_LINES}
 use Rattle.undo_stack.specs.declared.schedule.ScheduleLine.{ScheduleLine}
 use Rattle.undo_stack.specs.declared.schedule.ScheduleLine.TheVariants as lines
 use Rattle.undo_stack.specs.declared.stop.ScriptStop.{ScriptStop}
@@ -68,7 +69,7 @@ schedule_reply field code script =
 -- the reply to what the script was read as
 abbrev pub IsScriptReply : ℕ → Code → Result (List (ℕ × ScheduleLine)) ScriptStop → Reply → Type 0
 IsScriptReply field code (Ok script) reply = reply ≡ schedule_reply field code script
-IsScriptReply field code (Err (stops.LineLimit count)) reply = reply ≡ too_many_lines count
+IsScriptReply field code (Err (stops.LineLimit count)) reply = reply ≡ too_many_lines count SCRIPT_LINES
 IsScriptReply field code (Err (stops.Line line)) reply = reply ≡ refused_line line
 IsScriptReply field code (Err stops.NoMemory) reply = ⊥
 

@@ -2,3 +2,10 @@ mod Loops
 mod Readings
 mod ScheduleLines
 pub mod ScheduleReadings
+pub mod ListEnds
+pub mod HistorySteps
+pub mod MoveLemmas
+pub mod HistoryLemmas
+pub mod EditRuns
+mod EditLines
+pub mod EditReadings

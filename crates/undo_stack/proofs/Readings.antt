@@ -1,7 +1,10 @@
 -- What a script reads as, and what is computed of it, are the same, where the meaning of words is what they spell.
-use Rattle.std.proofs.Common.{◌≡◌, ℕ, ◌+◌, ◌≤◌, ◌↔◌, Bool, true, false, cond, not, List, [], ◌∷◌, ◌++◌, length, filter, Option, Some, None, Result, Ok, Err, refl, sym, ◌∙◌, ap, subst, arith, length-append, nat_lt}
+use Rattle.std.proofs.Common.{◌≡◌, ◌≢◌, IfOk, ℕ, ◌+◌, ◌≤◌, ◌↔◌, Bool, true, false, cond, not, List, [], ◌∷◌, ◌++◌, length, filter, Option, Some, None, Result, Ok, Err, refl, sym, ◌∙◌, ap, subst, arith, length-append, nat_lt}
 use Rattle.std.proofs.lemmas.Bool.{le-ltb, lt-ltb, ltb-false, ltb-true}
+use Rattle.std.proofs.lemmas.List.FromFn.{length-enumerate_from}
+use Rattle.std.proofs.lemmas.List.Sums.{count_by-le-length, length-filter}
 use Rattle.std.proofs.lemmas.Option.{none-some}
+use Rattle.std.proofs.lemmas.Slice.Zip.{AllZip-long}
 use Rattle.std.specs.List.{AllZip, enumerate_from, list_all}
 use Rattle.std.specs.Option.{option_map_or}
 use Rattle.undo_stack.specs.declared.limits.TheConstants.{SCRIPT_LINES}
@@ -258,3 +261,18 @@ script_reading-IsScriptReading Spells meaning m text (Err (LineLimit count)) man
 script_reading-IsScriptReading Spells meaning m text (Err (Line wrong)) reads =
     script_reading-AreLines Spells meaning m text reads.lines (Err (Line wrong)) reads.cut reads.few reads.first
 script_reading-IsScriptReading Spells meaning m text (Err NoMemory) none = absurd none
+
+-- a text that is read has no more commands than lines
+pub IfOk-few : {T : Type 0} (Spells : List (List ℕ) → T → Type 0) (text : List ℕ) (r : Result (List (ℕ × T)) ScriptStop)
+    → (r ≢ Err NoMemory → IsScriptReading Spells text r) → IfOk r (λ lines. length lines ≤ SCRIPT_LINES)
+IfOk-few Spells text (Ok commands) reads =
+    let read = reads (λ same. cc) in
+    omega (
+      arith,
+      read.few,
+      AllZip-long (IsNumbered Spells) (worded_lines read.lines) commands read.each,
+      length-filter (λ line. has_words line.1) (enumerate_from 1 read.lines),
+      count_by-le-length (λ line. has_words line.1) (enumerate_from 1 read.lines),
+      length-enumerate_from 1 read.lines,
+    )
+IfOk-few Spells text (Err stop) reads = tt

@@ -1,16 +1,11 @@
 -- What the text of a schedule reads as, and what is computed of it, are the same.
-use Rattle.std.proofs.Common.{◌≡◌, ◌≢◌, ◌↔◌, ℕ, ◌≤◌, List, [], ◌∷◌, length, Result, Ok, Err, IfOk, arith, sym, ◌∙◌, subst}
+use Rattle.std.proofs.Common.{◌≡◌, ◌≢◌, ◌↔◌, ℕ, List, [], ◌∷◌, Result, Ok, Err, IfOk, sym, ◌∙◌, subst}
 use Rattle.std.proofs.lemmas.List.Elements.{All-cons, All-nil}
-use Rattle.std.proofs.lemmas.List.FromFn.{length-enumerate_from}
-use Rattle.std.proofs.lemmas.List.Sums.{count_by-le-length, length-filter}
-use Rattle.std.proofs.lemmas.Slice.Zip.{AllZip-long}
-use Rattle.std.specs.List.{All, AllZip, enumerate_from}
-use Rattle.undo_stack.specs.declared.limits.TheConstants.{SCRIPT_LINES}
+use Rattle.std.specs.List.{All, AllZip}
 use Rattle.undo_stack.specs.declared.schedule.ScheduleLine.{ScheduleLine}
 use Rattle.undo_stack.specs.declared.schedule.ScheduleLine.TheVariants.{Look, Commit, Forget}
 use Rattle.undo_stack.specs.declared.stop.ScriptStop.{ScriptStop}
 use Rattle.undo_stack.specs.declared.stop.ScriptStop.TheVariants.{NoMemory}
-use Rattle.kh_lex.specs.LineWords.{has_words}
 use Rattle.undo_stack.specs.Reading.{IsNumbered, worded_lines}
 use Rattle.undo_stack.specs.Schedule.{HasWorker, IsSchedule, SpellsLine}
 use Rattle.undo_stack.specs.ScheduleSteps.{schedule_line_of, schedule_of}
@@ -54,18 +49,3 @@ pub IfOk-workers : (text : List ℕ) (r : Result (List (ℕ × ScheduleLine)) Sc
     → IfOk r (λ lines. All HasWorker lines)
 IfOk-workers text (Ok commands) reads = let read = reads (λ same. cc) in All-HasWorker (worded_lines read.lines) commands read.each
 IfOk-workers text (Err stop) reads = tt
-
--- and there are no more of them than lines
-pub IfOk-few : (text : List ℕ) (r : Result (List (ℕ × ScheduleLine)) ScriptStop) → (r ≢ Err NoMemory → IsSchedule text r)
-    → IfOk r (λ lines. length lines ≤ SCRIPT_LINES)
-IfOk-few text (Ok commands) reads =
-    let read = reads (λ same. cc) in
-    omega (
-      arith,
-      read.few,
-      AllZip-long (IsNumbered SpellsLine) (worded_lines read.lines) commands read.each,
-      length-filter (λ line. has_words line.1) (enumerate_from 1 read.lines),
-      count_by-le-length (λ line. has_words line.1) (enumerate_from 1 read.lines),
-      length-enumerate_from 1 read.lines,
-    )
-IfOk-few text (Err stop) reads = tt

@@ -2,3 +2,8 @@ pub mod Reading
 pub mod Schedule
 pub mod Steps
 pub mod ScheduleSteps
+pub mod Histories
+pub mod EditRuns
+pub mod EditScript
+pub mod EditSteps
+pub mod Sums

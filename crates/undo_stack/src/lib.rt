@@ -1,7 +1,13 @@
-//! Scripts, which are lines of words, read whole before any is carried out; soon also what such lines do and undo.
+//! Scripts, which are lines of words, read whole before any is carried out; and the editor, which makes moves and takes them back.
 #![tactic(auto)]
 
 mod command;
+mod edit_laws;
+mod edit_line;
+mod edit_run;
+mod edit_words;
+mod editor;
+mod history_laws;
 mod laws;
 mod limits;
 mod reader;
@@ -9,8 +15,16 @@ mod schedule;
 mod script;
 mod stop;
 
+pub use edit_laws::{each_edit_has_one_reading, limits_of_edits, worked_edits};
+pub use edit_line::{EditLine, read_edit};
+pub use edit_run::{EditFault, EditStop, carry_out, run_lines};
+pub use editor::{Editor, NothingToRedo, NothingToUndo};
+pub use history_laws::{
+    histories_are_bounded, histories_keep_state_sums, limits_of_histories,
+    undo_and_redo_are_inverse,
+};
 pub use laws::{each_text_has_one_reading, limits_of_scripts, worked_scripts};
-pub use limits::SCRIPT_LINES;
+pub use limits::{NAMED_DIGITS, NAMED_LIMIT, SCRIPT_LINES, UNDO_DEPTH};
 pub use schedule::{ScheduleLine, read_schedule};
 pub use script::Script;
 pub use stop::ScriptStop;

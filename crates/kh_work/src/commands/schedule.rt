@@ -22,7 +22,7 @@ use kh_types::{Diagram, NoMemory, WORKERS};
 use prime_field::{F2, F3, F5, F7, PrimeField};
 use std::alloc::Global;
 use table_text::print_table;
-use undo_stack::{ScheduleLine, ScriptStop, read_schedule};
+use undo_stack::{SCRIPT_LINES, ScheduleLine, ScriptStop, read_schedule};
 
 /// The reply to a diagram and the text of a script: the answer to each line that has words, and then the text of `homology`.
 pub fn reply_to_schedule(
@@ -37,7 +37,7 @@ pub fn reply_to_schedule(
 {
     match read_schedule(alloc, script) {
         Ok(script) => reply_to_script(alloc, field, diagram, &script.lines),
-        Err(ScriptStop::LineLimit { count }) => too_many_lines(alloc, count),
+        Err(ScriptStop::LineLimit { count }) => too_many_lines(alloc, count, SCRIPT_LINES),
         Err(ScriptStop::Line { line }) => refused_line(alloc, line),
         Err(ScriptStop::NoMemory) => Err(NoMemory),
     }

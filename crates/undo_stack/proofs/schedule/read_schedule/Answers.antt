@@ -1,7 +1,8 @@
 use Rattle.std.specs.Prelude.{◌≢◌, Err}
 use Rattle.undo_stack.specs.declared.stop.ScriptStop.TheVariants.{NoMemory}
-use Rattle.undo_stack.specs.Schedule.{IsSchedule}
-use Rattle.undo_stack.proofs.ScheduleReadings.{IfOk-few, IfOk-workers, IsSchedule-schedule_of}
+use Rattle.undo_stack.specs.Schedule.{IsSchedule, SpellsLine}
+use Rattle.undo_stack.proofs.Readings.{IfOk-few}
+use Rattle.undo_stack.proofs.ScheduleReadings.{IfOk-workers, IsSchedule-schedule_of}
 use Rattle.undo_stack.proofs.schedule.read_schedule.Goals as goal
 
 -- what is computed of a text, it reads as
@@ -12,5 +13,5 @@ returns c =
     record {
       reads = reads;
       workers = IfOk-workers c.args.text.now c.read_script.result reads;
-      few = IfOk-few c.args.text.now c.read_script.result reads;
+      few = IfOk-few SpellsLine c.args.text.now c.read_script.result reads;
     }
