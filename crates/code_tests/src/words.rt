@@ -10,10 +10,11 @@ const HOMOLOGY: Command = Command {
     field: 2,
     workers: 1,
     to: Form::Pd,
+    number: None,
 };
 
 // Lines that mean a command, and the command.
-const COMMANDS: [(&[&str], Command); 12] = [
+const COMMANDS: [(&[&str], Command); 14] = [
     (&["homology"], HOMOLOGY),
     (
         &["--field=3", "homology"],
@@ -82,10 +83,27 @@ const COMMANDS: [(&[&str], Command); 12] = [
             ..HOMOLOGY
         },
     ),
+    (
+        &["check", "--number", "0000007"],
+        Command {
+            task: Task::Check,
+            number: Some(7),
+            ..HOMOLOGY
+        },
+    ),
+    (
+        &["--number=9999999", "bench", "--workers", "4"],
+        Command {
+            task: Task::Bench,
+            workers: 4,
+            number: Some(9_999_999),
+            ..HOMOLOGY
+        },
+    ),
 ];
 
 // Lines that mean none.
-const USAGES: [&[&str]; 54] = [
+const USAGES: [&[&str]; 56] = [
     &[],
     &[""],
     &["--"],
@@ -139,7 +157,9 @@ const USAGES: [&[&str]; 54] = [
     &["--field", "-2", "homology"],
     &["convert", "--to", "PD"],
     &["bench"],
-    &["check", "--number", "7"],
+    &["bench", "--number", "00000000"],
+    &["bench", "--number="],
+    &["bench", "--number", "1", "--number", "1"],
 ];
 
 fn reads(alloc: Global, line: &[&str]) -> Result<Result<Command, WordStop>, Fail> {

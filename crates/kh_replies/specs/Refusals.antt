@@ -1,5 +1,5 @@
 -- The replies that refuse: every line of a refusal or a limit. All of it is this project's rule.
-use Rattle.std.specs.Prelude.{◌≡◌, ℕ, ◌+◌, List, ◌++◌, codes}
+use Rattle.std.specs.Prelude.{◌≡◌, ℕ, ◌+◌, ◌-◌, List, ◌++◌, codes}
 use Rattle.std.specs.Fmt.{decimal}
 use Rattle.kh_types.specs.declared.limits.TheConstants.{CROSSINGS, LOOPS}
 use Rattle.kh_types.specs.declared.fault.CodeFault.{CodeFault}
@@ -10,6 +10,7 @@ use Rattle.gauss_code.specs.declared.stop.GaussStop.{GaussStop}
 use Rattle.gauss_code.specs.declared.stop.GaussStop.TheVariants as gauss
 use Rattle.json_code.specs.declared.stop.JsonStop.{JsonStop}
 use Rattle.json_code.specs.declared.stop.JsonStop.TheVariants as json
+use Rattle.braid_maker.specs.declared.limits.TheConstants.{NUMBERS}
 use Rattle.circle_smoothing.specs.declared.limits.TheConstants.{GENERATORS}
 use Rattle.kh_replies.specs.declared.status.Status.TheVariants.{CodeRefused, Usage, Limit}
 use Rattle.kh_replies.specs.Replies.{Reply, reply_of}
@@ -55,6 +56,10 @@ too_many_generators count = limit_on (codes "generators") count GENERATORS
 -- a script has more lines than a limit
 abbrev pub too_many_lines : ℕ → ℕ → Reply
 too_many_lines count limit = limit_on (codes "lines") count limit
+
+-- a number is none of a diagram
+abbrev pub too_large_number : ℕ → Reply
+too_large_number number = limit_on (codes "number") number (NUMBERS - 1)
 
 -- a script has a line that has words and is no command, and this is the number of the first
 abbrev pub refused_line : ℕ → Reply

@@ -12,6 +12,8 @@ pub enum Intake {
     Code,
     /// A code, and behind its first semicolon a script.
     CodeAndScript,
+    /// Nothing.
+    Nothing,
 }
 
 /// What a task reads.
@@ -21,5 +23,6 @@ pub fn intake_of(task: Task) -> Intake
     match task {
         Task::Homology | Task::Convert | Task::Check | Task::Jones => Intake::Code,
         Task::Schedule => Intake::CodeAndScript,
+        Task::Bench => Intake::Nothing,
     }
 }

@@ -19,6 +19,8 @@ pub use intake::{Intake, intake_of};
 pub use jones::{jones_line, reply_to_jones};
 pub use laws::inputs_are_cut_at_the_first_semicolon;
 pub use parts::{code_part, script_part};
-pub use refusals::{refused_line, too_many_bytes, too_many_generators, too_many_lines, usage};
+pub use refusals::{
+    refused_line, too_large_number, too_many_bytes, too_many_generators, too_many_lines, usage,
+};
 pub use reply::{Reply, reply_made};
 pub use status::Status;

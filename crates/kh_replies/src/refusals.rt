@@ -1,10 +1,11 @@
 //! Every line of a refusal or a limit.
 
 ghost use Rattle.std.specs.Prelude.{◌≡◌, IfOk};
-ghost use Rattle.kh_replies.specs.Refusals.{usage, too_many_bytes, too_many_crossings, too_many_loops, too_many_generators, too_many_lines, refused, refused_line, refused_with, refused_with_both, limit_on, IsPdRefusal, IsGaussRefusal, IsJsonRefusal, IsFaultRefusal, IsTextFault};
+ghost use Rattle.kh_replies.specs.Refusals.{usage, too_many_bytes, too_many_crossings, too_many_loops, too_many_generators, too_many_lines, too_large_number, refused, refused_line, refused_with, refused_with_both, limit_on, IsPdRefusal, IsGaussRefusal, IsJsonRefusal, IsFaultRefusal, IsTextFault};
 
 use crate::reply::{Reply, fixed_reply, reply_with};
 use crate::status::Status;
+use braid_maker::NUMBERS;
 use circle_smoothing::GENERATORS;
 use gauss_code::GaussStop;
 use json_code::JsonStop;
@@ -53,6 +54,13 @@ pub fn too_many_lines(alloc: Global, count: u32, limit: usize) -> Result<Reply, 
     ensures { IfOk result (λ reply. reply ≡ too_many_lines count limit) }
 {
     limit_on(alloc, "lines", count.into(), limit as u128)
+}
+
+/// The reply to a number that is none of a diagram.
+pub fn too_large_number(alloc: Global, number: u32) -> Result<Reply, NoMemory>
+    ensures { IfOk result (λ reply. reply ≡ too_large_number number) }
+{
+    limit_on(alloc, "number", number.into(), (NUMBERS - 1).into())
 }
 
 /// The reply to a script with a line that is no command.

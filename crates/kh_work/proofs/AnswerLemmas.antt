@@ -5,7 +5,7 @@ use Rattle.std.specs.Io.KnownBytes.{Consumes, IsAtEnd}
 use Rattle.kh_io.proofs.KnownBytes.{Consumes-length}
 use Rattle.kh_types.specs.declared.limits.TheConstants.{INPUT_BYTES}
 use Rattle.kh_types.specs.Code.{Code}
-use Rattle.std.specs.Prelude.{false, is_none, nat_lt, IsTrue}
+use Rattle.std.specs.Prelude.{true, false, is_none, nat_lt, IsTrue}
 use Rattle.std.proofs.lemmas.Grind.{common_steps}
 use Rattle.kh_types.specs.Acceptance.{accepted, first_fault}
 use Rattle.kh_types.specs.Table.{table, table_text}
@@ -13,14 +13,15 @@ use Rattle.kh_types.specs.declared.fault.CodeFault.{CodeFault}
 use Rattle.circle_smoothing.specs.GeneratorCounts.{generator_count}
 use Rattle.circle_smoothing.specs.declared.limits.TheConstants.{GENERATORS}
 use Rattle.word_line.specs.declared.command.Task.{Task}
-use Rattle.word_line.specs.declared.command.Task.TheVariants.{Homology, Jones, Schedule}
+use Rattle.word_line.specs.declared.command.Task.TheVariants.{Bench, Homology, Jones, Schedule}
 use Rattle.word_line.specs.declared.command.Command.{Command}
 use Rattle.word_line.specs.Commands.{IsCommand, IsUsage}
 use Rattle.word_line.proofs.Readings.{IsCommand-one}
 use Rattle.kh_replies.specs.declared.status.Status.TheVariants.{Done}
+use Rattle.kh_replies.specs.declared.intake.Intake.TheVariants as intakes
 use Rattle.kh_replies.specs.Intakes.{byte_limit, intake_of}
 use Rattle.kh_replies.specs.Replies.{Reply, reply_of}
-use Rattle.kh_replies.specs.Refusals.{usage, too_many_bytes}
+use Rattle.kh_replies.specs.Refusals.{usage, too_large_number, too_many_bytes}
 use Rattle.kh_replies.specs.Parts.{code_part, script_part}
 use Rattle.kh_replies.specs.Inputs.{IsCodeRead}
 use Rattle.kh_replies.specs.Jones.{jones_line}
@@ -30,12 +31,16 @@ use Rattle.commit_core.specs.Answering.{answers}
 use Rattle.kh_types.specs.declared.limits.TheConstants.{WORKERS}
 use Rattle.undo_stack.specs.Schedule.{IsSchedule}
 use Rattle.undo_stack.specs.declared.schedule.ScheduleLine.{ScheduleLine}
-use Rattle.kh_work.specs.Answer.{IsIntakeReply, IsCommandReply, IsAnswer, ReadsNothing, ReadsUpTo}
+use Rattle.braid_maker.specs.Closures.{code_of_number}
+use Rattle.braid_maker.specs.declared.limits.TheConstants.{NUMBERS}
+use Rattle.jones_sum.specs.Tables.{total_of}
+use Rattle.kh_work.specs.Bench.{bench_counts, bench_lines, bench_reply, bench_text}
+use Rattle.kh_work.specs.Answer.{IsBlindReply, IsIntakeReply, IsNumberReply, IsLimitedReply, IsCommandReply, IsAnswer, ReadsNothing, ReadsUpTo}
 use Rattle.kh_work.specs.declared.draft.Draft.{Draft}
 use Rattle.kh_work.specs.Drafts.{reply_in}
 use Rattle.kh_work.specs.Runs.{IsBlindAnswer}
 use Rattle.kh_work.specs.Told.{IsKnownAnswer, IsKnownReply, IsReadOut}
-use Rattle.kh_work.proofs.ReplyLemmas.{IsCommandReply-few, IsCommandReply-many, limit_of, none_reads_nothing}
+use Rattle.kh_work.proofs.ReplyLemmas.{cond-false, cond-true, IsCommandReply-few, IsCommandReply-many, less-false, less-true, limit_of}
 
 -- the bytes that were read are all that the source had left
 pub IsKnownReply-read : (left : Option (List ℕ)) (command : Command) (bytes : List ℕ) (reply : Reply) → IfSome left (λ all. bytes ≡ all)
@@ -46,12 +51,18 @@ IsKnownReply-read (Some left) command bytes reply all replied =
     record { known = subst P all replied }
 
 -- more bytes than an input may have were taken, so as many were left
-pub IsKnownReply-long : (left rest : Option (List ℕ)) (command : Command) (taken : List ℕ) (reply : Reply) → Consumes left rest taken
-    → INPUT_BYTES < length taken → reply ≡ too_many_bytes INPUT_BYTES → IsKnownReply left command reply
-IsKnownReply-long None rest command taken reply consumed many is = record { known = tt }
-IsKnownReply-long (Some bytes) rest command taken reply consumed many is =
+pub IsKnownReply-long : (left rest : Option (List ℕ)) (command : Command) (taken : List ℕ) (reply : Reply)
+    → byte_limit (intake_of command.task) ≡ Some INPUT_BYTES → Consumes left rest taken → INPUT_BYTES < length taken → reply ≡ too_many_bytes INPUT_BYTES → IsKnownReply left command reply
+IsKnownReply-long None rest command taken reply reads consumed many is = record { known = tt }
+IsKnownReply-long (Some bytes) rest command taken reply reads consumed many is =
     let within : length taken ≤ length bytes = Consumes-length (Some bytes) rest taken consumed in
-    record { known = IsCommandReply-many command bytes reply (omega arith) is }
+    record { known = IsCommandReply-many command bytes reply reads (omega arith) is }
+
+-- nothing of a source is needed where the bytes do not matter
+pub IsKnownReply-blind : (left : Option (List ℕ)) (command : Command) (reply : Reply) → IsBlindReply command reply
+    → IsKnownReply left command reply
+IsKnownReply-blind None command reply is = record { known = tt }
+IsKnownReply-blind (Some bytes) command reply is = record { known = is bytes }
 
 -- a source at its end is read out
 pub IsReadOut-end : (limit : ℕ) (before after : Option (List ℕ)) → IsAtEnd after → IsReadOut limit before after
@@ -81,21 +92,39 @@ pub IsKnownAnswer-blind : (left : Option (List ℕ)) (words : List (List ℕ)) (
 IsKnownAnswer-blind None words reply is = record { known = tt }
 IsKnownAnswer-blind (Some bytes) words reply is = record { known = is bytes }
 
--- words of a command that is built read
-pub reads_something : {P : Type 0} (words : List (List ℕ)) (command : Command) → IsCommand words command → ReadsNothing words → P
-reads_something words command is nothing = absurd (none_reads_nothing command.task (nothing command is))
+pub IsBlindAnswer-command : {E : Type 0} (result : Result Draft E) (words : List (List ℕ)) (command : Command)
+    → IsCommand words command → IfOk result (λ draft. IsBlindReply command (reply_in draft))
+    → IfOk result (λ draft. IsBlindAnswer words (reply_in draft))
+IsBlindAnswer-command (Ok draft) words command is_command replied =
+    λ bytes. answer-command words bytes command (reply_in draft) is_command (replied bytes)
+IsBlindAnswer-command (Err stop) words command is_command replied = tt
 
+-- words that read up to a limit
 pub usage_reads_nothing : {P : Type 0} (words : List (List ℕ)) (limit : ℕ) → IsUsage words → ReadsUpTo words limit → P
 usage_reads_nothing words limit none reads = absurd (none reads.command reads.meant)
 
-limit-built : (words : List (List ℕ)) (limit : ℕ) → ReadsUpTo words limit → INPUT_BYTES ≡ limit
-limit-built words limit reads =
-    let e : Some INPUT_BYTES ≡ Some limit = sym (limit_of reads.command.task) ∙ reads.limited in cc
+-- what reads nothing has no limit, and what has one reads
+pub nothing_is_read : {P : Type 0} (task : Task) (limit : ℕ) → intake_of task ≡ intakes.Nothing → byte_limit (intake_of task) ≡ Some limit → P
+nothing_is_read task limit nothing reads =
+    let e : None ≡ Some limit = ap byte_limit (sym nothing) ∙ reads in absurd (cc)
 
-pub IsReadOut-command : {E : Type 0} (result : Result Draft E) (words : List (List ℕ)) (before after : Option (List ℕ))
-    → OnOk result (IsReadOut INPUT_BYTES before after) → (limit : ℕ) → ReadsUpTo words limit → OnOk result (IsReadOut limit before after)
-IsReadOut-command result words before after read limit reads =
-    subst (λ (most : ℕ). OnOk result (IsReadOut most before after)) (limit-built words limit reads) read
+pub something_is_read : {P : Type 0} (task : Task) → byte_limit (intake_of task) ≡ Some INPUT_BYTES → byte_limit (intake_of task) ≡ None → P
+something_is_read task reads none =
+    let e : Some INPUT_BYTES ≡ None = sym reads ∙ none in absurd (cc)
+
+pub IsReadOut-limit : {E : Type 0} (result : Result Draft E) (task : Task) (before after : Option (List ℕ))
+    → OnOk result (IsReadOut INPUT_BYTES before after) → (limit : ℕ) → byte_limit (intake_of task) ≡ Some limit
+    → OnOk result (IsReadOut limit before after)
+IsReadOut-limit result task before after read limit reads =
+    subst (λ (most : ℕ). OnOk result (IsReadOut most before after)) (limit_of task limit reads) read
+
+pub IsReadOut-command : {E : Type 0} (result : Result Draft E) (words : List (List ℕ)) (command : Command)
+    (before after : Option (List ℕ)) → IsCommand words command
+    → ((limit : ℕ) → byte_limit (intake_of command.task) ≡ Some limit → OnOk result (IsReadOut limit before after))
+    → (limit : ℕ) → ReadsUpTo words limit → OnOk result (IsReadOut limit before after)
+IsReadOut-command result words command before after meant read limit reads =
+    let same : reads.command ≡ command = IsCommand-one words reads.command command reads.meant meant in
+    read limit (subst (λ (c : Command). byte_limit (intake_of c.task) ≡ Some limit) same reads.limited)
 
 -- no fault, by its test
 none-from_test : (fault : Option CodeFault) → IsTrue (is_none fault) → fault ≡ None
@@ -115,10 +144,11 @@ homology_reply-table field code few =
 
 -- a command of this task is answered so where the task is
 answer-task : (words : List (List ℕ)) (bytes : List ℕ) (command : Command) (task : Task) (reply : Reply) → IsCommand words command
-    → command.task ≡ task → length bytes ≤ INPUT_BYTES → IsIntakeReply (intake_of task) task command bytes reply → IsAnswer words bytes reply
-answer-task words bytes command task reply is_command is_task few replied =
+    → command.task ≡ task → byte_limit (intake_of task) ≡ Some INPUT_BYTES → length bytes ≤ INPUT_BYTES
+    → IsIntakeReply (intake_of task) task command bytes reply → IsAnswer words bytes reply
+answer-task words bytes command task reply is_command is_task reads few replied =
     answer-command words bytes command reply is_command
-    (IsCommandReply-few command bytes reply few
+    (IsCommandReply-few command bytes reply (ap (λ (t : Task). byte_limit (intake_of t)) is_task ∙ reads) few
     (subst (λ (t : Task). IsIntakeReply (intake_of t) t command bytes reply) (sym is_task) replied))
 
 -- the code of an accepted diagram is answered by its table and its Jones line
@@ -128,7 +158,7 @@ pub IsAnswer-table : (words : List (List ℕ)) (bytes : List ℕ) (command : Com
     → IsAnswer words bytes (reply_of Done (table_text (table command.field code) ++ jones_line code))
 IsAnswer-table words bytes command code is_command is_homology few_bytes read is_accepted few =
     answer-task words bytes command Homology (reply_of Done (table_text (table command.field code) ++ jones_line code)) is_command
-    is_homology few_bytes
+    is_homology refl few_bytes
     (record {
       outcome = Ok code;
       read = (read, first_fault-accepted code is_accepted);
@@ -140,7 +170,7 @@ pub IsAnswer-jones : (words : List (List ℕ)) (bytes : List ℕ) (command : Com
     → command.task ≡ Jones → length bytes ≤ INPUT_BYTES → IsCodeRead bytes (Ok code) → IsTrue (accepted code)
     → IsAnswer words bytes (reply_of Done (jones_line code))
 IsAnswer-jones words bytes command code is_command is_jones few_bytes read is_accepted =
-    answer-task words bytes command Jones (reply_of Done (jones_line code)) is_command is_jones few_bytes
+    answer-task words bytes command Jones (reply_of Done (jones_line code)) is_command is_jones refl few_bytes
     (record { outcome = Ok code; read = (read, first_fault-accepted code is_accepted); answered = refl })
 
 -- the text of a schedule, where the cube has few enough generators
@@ -164,9 +194,47 @@ IsAnswer-schedule words bytes command code script is_command is_schedule few_byt
     answer-task words bytes command Schedule
     (reply_of Done
     (answer_lines script (answers command.field code WORKERS (events_of script))
-    ++ (table_text (table command.field code) ++ jones_line code))) is_command is_schedule few_bytes
+    ++ (table_text (table command.field code) ++ jones_line code))) is_command is_schedule refl few_bytes
     (record {
       outcome = Ok code;
       read = (read, first_fault-accepted code is_accepted);
       answered = record { reading = Ok script; read = read_script; answered = schedule_reply-text command.field code script few };
     })
+
+-- a number is answered by the table of its diagram, where it has one
+pub IsAnswer-number : (words : List (List ℕ)) (bytes : List ℕ) (command : Command) (number : ℕ) → IsCommand words command
+    → command.task ≡ Bench → command.number ≡ Some number → IsAnswer words bytes (bench_reply command.field number)
+IsAnswer-number words bytes command number is_command is_bench is_number =
+    let P : Task → Type 0 = λ task.
+    IsLimitedReply (byte_limit (intake_of task)) bytes (IsIntakeReply (intake_of task) task command bytes) (bench_reply command.field number) in
+    let Q : Option ℕ → Type 0 = λ o. IsNumberReply Bench command.field o (bench_reply command.field number) in
+    answer-command words bytes command (bench_reply command.field number) is_command (subst P (sym is_bench) (subst Q (sym is_number) refl))
+
+bench_reply-table : (field number : ℕ) → number < NUMBERS
+    → bench_reply field number ≡ reply_of Done
+    (bench_lines (bench_counts number (code_of_number number) (total_of (table field (code_of_number number))))
+    ++ jones_line (code_of_number number))
+unfolding bench_text
+bench_reply-table field number small =
+    cond-true (nat_lt number NUMBERS) (reply_of Done (bench_text field number (code_of_number number))) (too_large_number number)
+    (less-true number NUMBERS small)
+
+bench_reply-limit : (field number : ℕ) → NUMBERS ≤ number → bench_reply field number ≡ too_large_number number
+bench_reply-limit field number large =
+    cond-false (nat_lt number NUMBERS) (reply_of Done (bench_text field number (code_of_number number))) (too_large_number number)
+    (less-false number NUMBERS large)
+
+pub IsAnswer-bench : (words : List (List ℕ)) (bytes : List ℕ) (command : Command) (number : ℕ) → IsCommand words command
+    → command.task ≡ Bench → command.number ≡ Some number → number < NUMBERS
+    → IsAnswer words bytes (reply_of Done
+    (bench_lines (bench_counts number (code_of_number number) (total_of (table command.field (code_of_number number))))
+    ++ jones_line (code_of_number number)))
+IsAnswer-bench words bytes command number is_command is_bench is_number small =
+    subst (IsAnswer words bytes) (bench_reply-table command.field number small)
+    (IsAnswer-number words bytes command number is_command is_bench is_number)
+
+pub IsAnswer-large : (words : List (List ℕ)) (bytes : List ℕ) (command : Command) (number : ℕ) → IsCommand words command
+    → command.task ≡ Bench → command.number ≡ Some number → NUMBERS ≤ number → IsAnswer words bytes (too_large_number number)
+IsAnswer-large words bytes command number is_command is_bench is_number large =
+    subst (IsAnswer words bytes) (bench_reply-limit command.field number large)
+    (IsAnswer-number words bytes command number is_command is_bench is_number)

@@ -11,9 +11,10 @@ use Rattle.undo_stack.specs.declared.limits.TheConstants.{SCRIPT_LINES}
 use Rattle.undo_stack.specs.ScheduleSteps.{schedule_of}
 use Rattle.undo_stack.proofs.ScheduleReadings.{IsSchedule-one, IsSchedule-schedule_of}
 use Rattle.word_line.specs.declared.command.Task.{Task}
-use Rattle.word_line.specs.declared.command.Task.TheVariants.{Homology, Convert, Check, Jones, Schedule}
+use Rattle.word_line.specs.declared.command.Task.TheVariants.{Homology, Convert, Check, Jones, Schedule, Bench}
 use Rattle.word_line.specs.declared.command.Command.{Command}
 use Rattle.word_line.specs.Commands.{IsCommand, IsUsage}
+use Rattle.word_line.specs.Values.{HasNumber}
 use Rattle.word_line.proofs.Readings.{IsCommand-decided, IsCommand-one}
 use Rattle.kh_replies.specs.Intakes.{byte_limit, intake_of}
 use Rattle.kh_replies.specs.Replies.{Reply}
@@ -25,7 +26,8 @@ use Rattle.kh_replies.specs.Jones.{jones_reply}
 use Rattle.kh_replies.proofs.DiagramReadings.{IsDiagramReply-some, IsDiagramReply-one}
 use Rattle.kh_work.specs.Homology.{homology_reply}
 use Rattle.kh_work.specs.Schedule.{schedule_reply, IsScriptReply, IsScheduleReply}
-use Rattle.kh_work.specs.Answer.{IsCodeReply, IsScriptedReply, IsIntakeReply, IsLimitedReply, IsCommandReply, IsAnswer}
+use Rattle.kh_work.specs.Bench.{bench_reply}
+use Rattle.kh_work.specs.Answer.{IsCodeReply, IsNumberReply, IsScriptedReply, IsIntakeReply, IsLimitedReply, IsCommandReply, IsAnswer}
 
 -- what a script was read as is answered once
 IsScriptReply-some : (field : ℕ) (code : Code) (text : List ℕ) (reading : Result (List (ℕ × ScheduleLine)) ScriptStop)
@@ -59,17 +61,27 @@ IsScheduleReply-one field code text a b is_a is_b =
 same_reply : (this a b : Reply) → a ≡ this → b ≡ this → a ≡ b
 same_reply this a b is_a is_b = is_a ∙ sym is_b
 
-IsIntakeReply-some : (task : Task) (command : Command) (bytes : List ℕ)
+IsNumberReply-some : (field : ℕ) (number : Option ℕ) → HasNumber Bench number → (reply : Reply) × IsNumberReply Bench field number reply
+IsNumberReply-some field None needed = absurd needed
+IsNumberReply-some field (Some number) needed = (bench_reply field number, refl)
+
+IsNumberReply-one : (field : ℕ) (number : Option ℕ) (a b : Reply) → IsNumberReply Bench field number a
+    → IsNumberReply Bench field number b → a ≡ b
+IsNumberReply-one field None a b is_a is_b = absurd is_a
+IsNumberReply-one field (Some number) a b is_a is_b = is_a ∙ sym is_b
+
+IsIntakeReply-some : (task : Task) (command : Command) (bytes : List ℕ) → HasNumber task command.number
     → (reply : Reply) × IsIntakeReply (intake_of task) task command bytes reply
-IsIntakeReply-some Homology command bytes =
+IsIntakeReply-some Homology command bytes needed =
     IsDiagramReply-some (IsCodeReply Homology command) (λ code. (homology_reply command.field code, refl)) bytes
-IsIntakeReply-some Convert command bytes =
+IsIntakeReply-some Convert command bytes needed =
     IsDiagramReply-some (IsCodeReply Convert command) (λ code. (convert_reply command.to code, refl)) bytes
-IsIntakeReply-some Check command bytes = IsDiagramReply-some (IsCodeReply Check command) (λ code. (check_reply code, refl)) bytes
-IsIntakeReply-some Jones command bytes = IsDiagramReply-some (IsCodeReply Jones command) (λ code. (jones_reply code, refl)) bytes
-IsIntakeReply-some Schedule command bytes =
+IsIntakeReply-some Check command bytes needed = IsDiagramReply-some (IsCodeReply Check command) (λ code. (check_reply code, refl)) bytes
+IsIntakeReply-some Jones command bytes needed = IsDiagramReply-some (IsCodeReply Jones command) (λ code. (jones_reply code, refl)) bytes
+IsIntakeReply-some Schedule command bytes needed =
     IsDiagramReply-some (IsScriptedReply Schedule command (script_part bytes))
     (λ code. IsScheduleReply-some command.field code (script_part bytes)) (code_part bytes)
+IsIntakeReply-some Bench command bytes needed = IsNumberReply-some command.field command.number needed
 
 IsIntakeReply-one : (task : Task) (command : Command) (bytes : List ℕ) (a b : Reply)
     → IsIntakeReply (intake_of task) task command bytes a → IsIntakeReply (intake_of task) task command bytes b → a ≡ b
@@ -82,6 +94,7 @@ IsIntakeReply-one Jones command bytes = IsDiagramReply-one (IsCodeReply Jones co
 IsIntakeReply-one Schedule command bytes =
     IsDiagramReply-one (IsScriptedReply Schedule command (script_part bytes))
     (λ code. IsScheduleReply-one command.field code (script_part bytes)) (code_part bytes)
+IsIntakeReply-one Bench command bytes = IsNumberReply-one command.field command.number
 
 -- within a limit or beyond it
 
@@ -105,10 +118,11 @@ IsLimitedReply-one (Some limit) bytes Answers one a b (inl is_a) (inr is_b) = ab
 IsLimitedReply-one (Some limit) bytes Answers one a b (inr is_a) (inl is_b) = absurd (omega (arith, is_a.0, is_b.0))
 IsLimitedReply-one (Some limit) bytes Answers one a b (inr is_a) (inr is_b) = one a b is_a.1 is_b.1
 
-IsCommandReply-some : (command : Command) (bytes : List ℕ) → (reply : Reply) × IsCommandReply command bytes reply
-IsCommandReply-some command bytes =
+IsCommandReply-some : (command : Command) (bytes : List ℕ) → HasNumber command.task command.number
+    → (reply : Reply) × IsCommandReply command bytes reply
+IsCommandReply-some command bytes needed =
     IsLimitedReply-some (byte_limit (intake_of command.task)) bytes (IsIntakeReply (intake_of command.task) command.task command bytes)
-    (IsIntakeReply-some command.task command bytes)
+    (IsIntakeReply-some command.task command bytes needed)
 
 IsCommandReply-one : (command : Command) (bytes : List ℕ) (a b : Reply) → IsCommandReply command bytes a
     → IsCommandReply command bytes b → a ≡ b
@@ -124,7 +138,7 @@ IsAnswer-some words bytes = answered (IsCommand-decided words)
   where
     answered : ((command : Command) × IsCommand words command) ⊎ IsUsage words → (reply : Reply) × IsAnswer words bytes reply
     answered (inl (command, is)) =
-        let reply = IsCommandReply-some command bytes in (reply.0, inl (command, is, reply.1))
+        let reply = IsCommandReply-some command bytes is.needed in (reply.0, inl (command, is, reply.1))
     answered (inr none) = (usage, inr (none, refl))
 
 pub IsAnswer-one : (words : List (List ℕ)) (bytes : List ℕ) (a b : Reply) → IsAnswer words bytes a → IsAnswer words bytes b → a ≡ b

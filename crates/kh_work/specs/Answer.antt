@@ -3,7 +3,7 @@
 use Rattle.std.specs.Prelude.{◌≡◌, ◌⊎◌, ℕ, ◌<◌, ◌≤◌, List, length, Option, Some, None}
 use Rattle.kh_types.specs.Code.{Code}
 use Rattle.word_line.specs.declared.command.Task.{Task}
-use Rattle.word_line.specs.declared.command.Task.TheVariants.{Homology, Convert, Check, Jones, Schedule}
+use Rattle.word_line.specs.declared.command.Task.TheVariants.{Homology, Convert, Check, Jones, Schedule, Bench}
 use Rattle.word_line.specs.declared.command.Command.{Command}
 use Rattle.word_line.specs.Commands.{IsCommand, IsUsage}
 use Rattle.kh_replies.specs.declared.intake.Intake.{Intake}
@@ -18,6 +18,7 @@ use Rattle.kh_replies.specs.Check.{check_reply}
 use Rattle.kh_replies.specs.Jones.{jones_reply}
 use Rattle.kh_work.specs.Homology.{homology_reply}
 use Rattle.kh_work.specs.Schedule.{IsScheduleReply}
+use Rattle.kh_work.specs.Bench.{bench_reply}
 
 -- the reply of a task that reads a code to the code of a diagram
 abbrev pub IsCodeReply : Task → Command → Code → Reply → Type 0
@@ -32,11 +33,17 @@ abbrev pub IsScriptedReply : Task → Command → List ℕ → Code → Reply �
 IsScriptedReply Schedule command script code reply = IsScheduleReply command.field code script reply
 IsScriptedReply _ command script code reply = ⊥
 
+-- the reply of a task that reads nothing, given the size of a field and the number of a command
+abbrev pub IsNumberReply : Task → ℕ → Option ℕ → Reply → Type 0
+IsNumberReply Bench field (Some number) reply = reply ≡ bench_reply field number
+IsNumberReply _ field _ reply = ⊥
+
 -- the reply of a task to the bytes of an input, which hold what it reads
 abbrev pub IsIntakeReply : Intake → Task → Command → List ℕ → Reply → Type 0
 IsIntakeReply intakes.Code task command bytes reply = IsDiagramReply (IsCodeReply task command) bytes reply
 IsIntakeReply intakes.CodeAndScript task command bytes reply =
     IsDiagramReply (IsScriptedReply task command (script_part bytes)) (code_part bytes) reply
+IsIntakeReply intakes.Nothing task command bytes reply = IsNumberReply task command.field command.number reply
 
 -- bytes are more than a limit, and refused for it; or they are not, and answered
 abbrev pub IsLimitedReply : Option ℕ → List ℕ → (Reply → Type 0) → Reply → Type 0
@@ -48,6 +55,10 @@ IsLimitedReply (Some limit) bytes Answers reply =
 abbrev pub IsCommandReply : Command → List ℕ → Reply → Type 0
 IsCommandReply command bytes reply =
     IsLimitedReply (byte_limit (intake_of command.task)) bytes (IsIntakeReply (intake_of command.task) command.task command bytes) reply
+
+-- a reply is that of a command, whatever the bytes of the input are
+abbrev pub IsBlindReply : Command → Reply → Type 0
+IsBlindReply command reply = (bytes : List ℕ) → IsCommandReply command bytes reply
 
 -- the answer to words and to the bytes of an input: the reply of the command that the words mean, and the usage line where they
 -- mean none

@@ -1,19 +1,19 @@
 //! From words and the bytes of a source to a draft of the reply.
 
-ghost use Rattle.std.specs.Prelude.{◌≡◌, ◌≤◌, ℕ, length, IfOk, OnOk, Err};
+ghost use Rattle.std.specs.Prelude.{◌≡◌, ◌≤◌, ℕ, length, IfOk, None, OnOk, Some, Err};
 ghost use Rattle.kh_io.specs.Faults.{Rose};
-ghost use Rattle.kh_replies.specs.Intakes.{intake_of};
+ghost use Rattle.kh_replies.specs.Intakes.{byte_limit, intake_of};
 ghost use Rattle.kh_replies.specs.Statuses.{IsReplyStatus, IsWhole};
 ghost use Rattle.kh_replies.specs.DiagramReplies.{IsDiagramReply};
 ghost use Rattle.kh_replies.specs.Parts.{code_part, script_part};
-ghost use Rattle.kh_work.specs.Answer.{IsCodeReply, IsCommandReply, IsIntakeReply, IsScriptedReply, ReadsNothing, ReadsUpTo};
+ghost use Rattle.kh_work.specs.Answer.{IsBlindReply, IsCodeReply, IsCommandReply, IsIntakeReply, IsScriptedReply, ReadsNothing, ReadsUpTo};
 ghost use Rattle.kh_work.specs.Drafts.{IsReady, reply_in};
 ghost use Rattle.kh_work.specs.Runs.{IsBlindAnswer};
 ghost use Rattle.kh_work.specs.Told.{IsKnownAnswer, IsKnownReply, IsTaken, IsReadOut};
 ghost use Rattle.word_line.specs.Commands.{IsUsage};
-ghost use Rattle.word_line.specs.Values.{AreWorkers, IsFieldSize};
+ghost use Rattle.word_line.specs.Values.{AreWorkers, HasNumber, IsFieldSize};
 
-use crate::commands::{draft_of_homology, reply_to_schedule};
+use crate::commands::{draft_of_bench, draft_of_homology, reply_to_schedule};
 use crate::draft::Draft;
 use kh_io::{ReadStop, Source, read_all};
 use kh_replies::{
@@ -62,9 +62,59 @@ pub fn draft_to<S: Source>(alloc: Global, words: &Words, source: &mut S) -> Resu
     ensures quiet { OnOk result (S.faults source.new ≡ S.faults source.old) }
 {
     match read_words(alloc, words) {
-        Ok(command) => draft_to_source(alloc, command, source),
+        Ok(command) => draft_to_command(alloc, command, source),
         Err(WordStop::Usage) => Ok(Draft::Made(usage(alloc)?)),
         Err(WordStop::NoMemory) => Err(ReplyStop::NoMemory),
+    }
+}
+
+// A draft of the reply of a command to a source, which is read where its task reads.
+fn draft_to_command<S: Source>(
+    alloc: Global,
+    command: Command,
+    source: &mut S,
+) -> Result<Draft, ReplyStop>
+    requires workers { AreWorkers command.workers }
+    requires field { IsFieldSize command.field }
+    requires number { HasNumber command.task command.number }
+    ensures known { IfOk result (λ draft.
+        IsKnownReply (S.left source.old) command (reply_in draft)) }
+    ensures blind { byte_limit (intake_of command.task) ≡ None
+        → IfOk result (λ draft. IsBlindReply command (reply_in draft)) }
+    ensures ready { IfOk result IsReady }
+    ensures status { IfOk result (λ draft. IsReplyStatus (reply_in draft).status) }
+    ensures unread { byte_limit (intake_of command.task) ≡ None → source.new ≡ source.old }
+    ensures taken { IsTaken (S.left source.old) (S.left source.new) }
+    ensures read_out { (limit : ℕ) → byte_limit (intake_of command.task) ≡ Some limit
+        → OnOk result (IsReadOut limit (S.left source.old) (S.left source.new)) }
+    ensures fault { result ≡ Err ReplyStop.ReadFault
+        → Rose (S.faults source.old) (S.faults source.new) }
+    ensures quiet { OnOk result (S.faults source.new ≡ S.faults source.old) }
+{
+    match intake_of(command.task) {
+        Intake::Nothing => Ok(draft_to_number(alloc, command)?),
+        Intake::Code | Intake::CodeAndScript => draft_to_source(alloc, command, source),
+    }
+}
+
+// A draft of the reply of a command that reads nothing to its number.
+fn draft_to_number(alloc: Global, command: Command) -> Result<Draft, NoMemory>
+    requires workers { AreWorkers command.workers }
+    requires field { IsFieldSize command.field }
+    requires number { HasNumber command.task command.number }
+    requires intake { intake_of command.task ≡ Intake.Nothing }
+    ensures blind { IfOk result (λ draft. IsBlindReply command (reply_in draft)) }
+    ensures ready { IfOk result IsReady }
+    ensures status { IfOk result (λ draft. IsReplyStatus (reply_in draft).status) }
+{
+    match command.task {
+        Task::Bench => match command.number {
+            Some(number) => draft_of_bench(alloc, command.field, command.workers, number),
+            None => unreachable!(),
+        },
+        Task::Homology | Task::Convert | Task::Check | Task::Jones | Task::Schedule => {
+            unreachable!()
+        }
     }
 }
 
@@ -76,6 +126,7 @@ fn draft_to_source<S: Source>(
 ) -> Result<Draft, ReplyStop>
     requires workers { AreWorkers command.workers }
     requires field { IsFieldSize command.field }
+    requires reads { byte_limit (intake_of command.task) ≡ Some INPUT_BYTES }
     ensures known { IfOk result (λ draft.
         IsKnownReply (S.left source.old) command (reply_in draft)) }
     ensures ready { IfOk result IsReady }
@@ -99,6 +150,7 @@ fn draft_to_bytes(alloc: Global, command: Command, bytes: &[u8]) -> Result<Draft
     requires few { length bytes.now ≤ INPUT_BYTES }
     requires workers { AreWorkers command.workers }
     requires field { IsFieldSize command.field }
+    requires reads { byte_limit (intake_of command.task) ≡ Some INPUT_BYTES }
     ensures known { IfOk result (λ draft. IsCommandReply command bytes.now (reply_in draft)) }
     ensures ready { IfOk result IsReady }
     ensures status { IfOk result (λ draft. IsReplyStatus (reply_in draft).status) }
@@ -108,6 +160,7 @@ fn draft_to_bytes(alloc: Global, command: Command, bytes: &[u8]) -> Result<Draft
         Intake::CodeAndScript => {
             draft_to_script(alloc, command, code_part(bytes), script_part(bytes))
         }
+        Intake::Nothing => unreachable!(),
     }
 }
 
@@ -142,7 +195,7 @@ fn draft_to_diagram(alloc: Global, command: Command, diagram: &Diagram) -> Resul
         Task::Convert => Ok(Draft::Made(reply_to_convert(alloc, command.to, diagram)?)),
         Task::Check => Ok(Draft::Made(reply_to_check(alloc, diagram)?)),
         Task::Jones => Ok(Draft::Made(reply_to_jones(alloc, diagram)?)),
-        Task::Schedule => unreachable!(),
+        Task::Schedule | Task::Bench => unreachable!(),
     }
 }
 
@@ -189,6 +242,6 @@ fn draft_to_scripted(
             diagram,
             script,
         )?)),
-        Task::Homology | Task::Convert | Task::Check | Task::Jones => unreachable!(),
+        Task::Homology | Task::Convert | Task::Check | Task::Jones | Task::Bench => unreachable!(),
     }
 }

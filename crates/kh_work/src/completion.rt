@@ -3,7 +3,7 @@
 ghost use Rattle.std.specs.Prelude.{◌≡◌, IfOk};
 ghost use Rattle.kh_work.specs.Drafts.{IsReady, reply_in};
 
-use crate::commands::reply_with_table;
+use crate::commands::{reply_with_dimension, reply_with_table};
 use crate::draft::Draft;
 use crate::tables::{table_alone, table_by};
 use kh_replies::Reply;
@@ -24,6 +24,15 @@ pub fn completed_alone(alloc: Global, draft: Draft) -> Result<Reply, NoMemory>
         Draft::Table { field, kinds, .. } => {
             let table = table_alone(alloc, field, &kinds)?;
             reply_with_table(alloc, &kinds, &table)
+        }
+        Draft::Bench {
+            field,
+            number,
+            kinds,
+            ..
+        } => {
+            let table = table_alone(alloc, field, &kinds)?;
+            reply_with_dimension(alloc, number, &kinds, &table)
         }
     }
 }
@@ -48,6 +57,15 @@ pub fn completed_by<R: Threads + Wait + Sync, G: Gate + Sync>(
         } => {
             let table = table_by(rt, alloc, field, workers, &kinds, gate)?;
             reply_with_table(alloc, &kinds, &table)
+        }
+        Draft::Bench {
+            field,
+            workers,
+            number,
+            kinds,
+        } => {
+            let table = table_by(rt, alloc, field, workers, &kinds, gate)?;
+            reply_with_dimension(alloc, number, &kinds, &table)
         }
     }
 }

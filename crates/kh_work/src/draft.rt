@@ -15,4 +15,11 @@ pub enum Draft {
         workers: u32,
         kinds: StateKinds,
     },
+    /// The same table of the diagram of a number, for the counts and the dimension that `bench` writes.
+    Bench {
+        field: u8,
+        workers: u32,
+        number: u32,
+        kinds: StateKinds,
+    },
 }

@@ -1,7 +1,7 @@
 //! Laws of the definitions: each is the contract of a function that does nothing.
 
-ghost use Rattle.std.specs.Prelude.{◌≡◌, ◌≤◌, ◌++◌, ℕ, List, length};
-ghost use Rattle.std.specs.Prelude.{IsTrue, Ok};
+ghost use Rattle.std.specs.Prelude.{◌≡◌, ◌<◌, ◌≤◌, ◌++◌, ℕ, List, length};
+ghost use Rattle.std.specs.Prelude.{IsTrue, Ok, Some};
 ghost use Rattle.circle_smoothing.specs.GeneratorCounts.{generator_count};
 ghost use Rattle.circle_smoothing.specs.declared.limits.TheConstants.{GENERATORS};
 ghost use Rattle.commit_core.specs.Answering.{answers};
@@ -21,6 +21,11 @@ ghost use Rattle.word_line.specs.Commands.{IsCommand};
 ghost use Rattle.word_line.specs.Values.{IsFieldSize};
 ghost use Rattle.kh_work.specs.Schedule.{answer_lines, events_of};
 ghost use Rattle.kh_work.specs.Answer.{IsAnswer};
+ghost use Rattle.kh_work.specs.Bench.{bench_counts, bench_lines};
+ghost use Rattle.kh_replies.specs.Refusals.{too_large_number};
+ghost use Rattle.jones_sum.specs.Tables.{total_of};
+ghost use Rattle.braid_maker.specs.Closures.{code_of_number};
+ghost use Rattle.braid_maker.specs.declared.limits.TheConstants.{NUMBERS};
 ghost use Rattle.kh_types.specs.declared.limits.TheConstants.{WORKERS};
 ghost use Rattle.undo_stack.specs.Schedule.{IsSchedule};
 ghost use Rattle.undo_stack.specs.declared.schedule.ScheduleLine.{ScheduleLine};
@@ -73,6 +78,20 @@ pub fn accepted_diagrams_are_answered_by_their_schedule()
         → IsAnswer words bytes (reply_of Status.Done
         (answer_lines script (answers command.field code WORKERS (events_of script))
         ++ (table_text (table command.field code) ++ jones_line code))) }
+{}
+
+/// Words that mean the command `bench` with a number are answered by three lines of counts of the number's diagram, the sum of all
+/// dimensions of its homology table over the field that the words name being the last, and by its Jones line; where no
+/// diagram has the number they are answered by the limit on numbers.
+pub fn numbers_are_answered_by_their_table()
+    ensures table { (words : List (List ℕ)) (bytes : List ℕ) (command : Command) (number : ℕ)
+        → IsCommand words command → command.task ≡ Task.Bench → command.number ≡ Some number
+        → number < NUMBERS → IsAnswer words bytes (reply_of Status.Done
+        (bench_lines (bench_counts number (code_of_number number)
+        (total_of (table command.field (code_of_number number)))) ++ jones_line (code_of_number number))) }
+    ensures limit { (words : List (List ℕ)) (bytes : List ℕ) (command : Command) (number : ℕ)
+        → IsCommand words command → command.task ≡ Task.Bench → command.number ≡ Some number
+        → NUMBERS ≤ number → IsAnswer words bytes (too_large_number number) }
 {}
 
 /// The Jones line of an accepted diagram is that of the graded Euler characteristic of its homology table, over each field.

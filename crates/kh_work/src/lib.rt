@@ -14,6 +14,6 @@ pub use laws::{
     accepted_diagrams_are_answered_by_their_polynomial,
     accepted_diagrams_are_answered_by_their_schedule,
     accepted_diagrams_are_answered_by_their_table, jones_line_is_the_euler_characteristic,
-    one_answer, workers_do_not_change_answers,
+    numbers_are_answered_by_their_table, one_answer, workers_do_not_change_answers,
 };
 pub use top::{run, run_alone};

@@ -14,8 +14,8 @@ use std::thread::Threads;
 use worker_pool::Gate;
 
 /// Does all that the program does: takes the words after the program's name, reads the source to its end where they mean a
-/// command that reads, makes the whole answer, and writes it. Answers how the run ended. Only `homology` with more than one worker starts
-/// threads and may wait; its workers call the gate in each of their turns. Source: this project's rule.
+/// command that reads, makes the whole answer, and writes it. Answers how the run ended. Only `homology` and `bench` with more than one
+/// worker start threads and may wait; their workers call the gate in each of their turns. Source: this project's rule.
 pub fn run<R: Threads + Wait + Sync, S: Source, K: Sink, G: Gate + Sync>(
     rt: &R,
     alloc: Global,

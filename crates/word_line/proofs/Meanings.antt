@@ -4,15 +4,17 @@ use Rattle.std.specs.Prelude.{codes, slice_get}
 use Rattle.std.proofs.lemmas.Bool.{and_parts, le-leb, leb-true}
 use Rattle.std.proofs.lemmas.Option.{cond_some, none-some, option_and_then_some, same_Some}
 use Rattle.std.proofs.lemmas.Slice.Eq.{bytes_eq-Decides}
+use Rattle.std.specs.Option.{option_map}
 use Rattle.std.specs.Str.{bytes_eq}
 use Rattle.word_line.specs.declared.command.Task.{Task}
-use Rattle.word_line.specs.declared.command.Task.TheVariants.{Homology, Convert, Check, Jones, Schedule}
+use Rattle.word_line.specs.declared.command.Task.TheVariants.{Homology, Convert, Check, Jones, Schedule, Bench}
 use Rattle.word_line.specs.declared.command.Form.{Form}
 use Rattle.word_line.specs.declared.command.Form.TheVariants.{Pd, Gauss}
+use Rattle.word_line.specs.declared.command.Command.{Command}
 use Rattle.kh_types.specs.declared.limits.TheConstants.{WORKERS}
-use Rattle.word_line.specs.declared.limits.TheConstants.{WORKERS_DIGITS}
-use Rattle.word_line.specs.Values.{IsGiven, NamesField, NamesForm, NamesWorkers, form_name, task_name}
-use Rattle.word_line.specs.Reading.{field_of, form_of, given_by, number_of, task_of, workers_of}
+use Rattle.word_line.specs.declared.limits.TheConstants.{NUMBER_DIGITS, WORKERS_DIGITS}
+use Rattle.word_line.specs.Values.{HasNumber, IsGiven, NamesField, NamesForm, NamesNumber, NamesWorkers, form_name, task_name}
+use Rattle.word_line.specs.Reading.{field_of, finished_with, form_of, given_by, number_of, numbers_of, task_of, workers_of}
 use Rattle.word_line.proofs.Numbers.{WritesNumber-number_of, number_of-WritesNumber}
 
 same_text : (a b : List ℕ) → bytes_eq a b ≡ true → a ≡ b
@@ -30,6 +32,7 @@ task_of-name Jones = refl
 task_of-name Check = refl
 task_of-name Convert = refl
 task_of-name Schedule = refl
+task_of-name Bench = refl
 
 named : (name : List ℕ) (text : List ℕ) (this task : Task) → text ≡ task_name this → bytes_eq name text ≡ true → this ≡ task → name ≡ task_name task
 named name text this task text_is is same = same_text name text is ∙ text_is ∙ ap task_name same
@@ -41,7 +44,7 @@ name_of-task name task same =
     chosen (bytes_eq name (codes "check")) Check _ task same (named name (codes "check") Check task refl) (λ same.
     chosen (bytes_eq name (codes "convert")) Convert _ task same (named name (codes "convert") Convert task refl) (λ same.
     chosen (bytes_eq name (codes "schedule")) Schedule _ task same (named name (codes "schedule") Schedule task refl) (λ same.
-    absurd (none-some task same))))))
+    chosen (bytes_eq name (codes "bench")) Bench _ task same (named name (codes "bench") Bench task refl) (λ same. absurd (none-some task same)))))))
 
 -- fields
 sized : (value text : List ℕ) (this size : ℕ) → text ≡ (48 + this) ∷ [] → ((this ≡ 2) ⊎ (this ≡ 3) ⊎ (this ≡ 5) ⊎ (this ≡ 7)) → bytes_eq value text ≡ true → this ≡ size → NamesField value size
@@ -94,6 +97,18 @@ form_of-name Gauss = refl
 pub read-NamesForm : (value : List ℕ) (form : Form) → NamesForm value form → form_of value ≡ Some form
 read-NamesForm value form names = ap form_of names ∙ form_of-name form
 
+-- numbers
+pub NamesNumber-read : (value : List ℕ) (number : Option ℕ) → numbers_of value ≡ Some number → NamesNumber value number
+NamesNumber-read value number same = go (number_of NUMBER_DIGITS value) refl same
+  where
+    go : (o : Option ℕ) → number_of NUMBER_DIGITS value ≡ o → option_map (λ n. Some n) o ≡ Some number → NamesNumber value number
+    go None is same = absurd (none-some number same)
+    go (Some n) is same = subst (NamesNumber value) (same_Some (Some n) number same) (WritesNumber-number_of NUMBER_DIGITS value n is)
+
+pub read-NamesNumber : (value : List ℕ) (number : Option ℕ) → NamesNumber value number → numbers_of value ≡ Some number
+read-NamesNumber value None names = absurd names
+read-NamesNumber value (Some number) names = ap (option_map (λ n. Some n)) (number_of-WritesNumber NUMBER_DIGITS value number names)
+
 -- options
 pub IsGiven-read : {X : Type 0} (names : List ℕ → X → Type 0) (reading : List ℕ → Option X) (default : X)
     → ((value : List ℕ) (x : X) → reading value ≡ Some x → names value x)
@@ -113,3 +128,22 @@ pub IsGiven-once : {X : Type 0} (names : List ℕ → X → Type 0) (default : X
 IsGiven-once names default [] x given = omega arith
 IsGiven-once names default (value ∷ []) x given = omega arith
 IsGiven-once names default (first ∷ second ∷ more) x given = absurd given
+
+-- `bench` has a number
+pub HasNumber-read : (command made : Command) (task : Task) (number : Option ℕ) → finished_with command task number ≡ Some made → HasNumber task number × (command ≡ made)
+HasNumber-read command made Homology number same = (tt, same_Some command made same)
+HasNumber-read command made Jones number same = (tt, same_Some command made same)
+HasNumber-read command made Check number same = (tt, same_Some command made same)
+HasNumber-read command made Convert number same = (tt, same_Some command made same)
+HasNumber-read command made Schedule number same = (tt, same_Some command made same)
+HasNumber-read command made Bench None same = absurd (none-some made same)
+HasNumber-read command made Bench (Some number) same = (tt, same_Some command made same)
+
+pub read-HasNumber : (command : Command) (task : Task) (number : Option ℕ) → HasNumber task number → finished_with command task number ≡ Some command
+read-HasNumber command Homology number needed = refl
+read-HasNumber command Jones number needed = refl
+read-HasNumber command Check number needed = refl
+read-HasNumber command Convert number needed = refl
+read-HasNumber command Schedule number needed = refl
+read-HasNumber command Bench None needed = absurd needed
+read-HasNumber command Bench (Some number) needed = refl

@@ -6,7 +6,7 @@ use Rattle.std.specs.Char.{is_ascii_digit}
 use Rattle.std.proofs.lemmas.Option.{cond_some, none-some, option_and_then_some, same_Some}
 use Rattle.std.specs.Prelude.{codes, is_some, slice_get}
 use Rattle.std.specs.List.{All, list_all}
-use Rattle.std.specs.Option.{option_and_then, option_map}
+use Rattle.std.specs.Option.{option_and_then}
 use Rattle.clap.specs.Walk as steps
 use Rattle.clap.specs.Walk.{Row, Text, walk, first_of, idle, nothing_held, rows_of}
 use Rattle.clap.specs.Simple.{App, entered, matches_of, names_of}
@@ -15,20 +15,20 @@ use Rattle.clap.specs.Kinds.{Kinds}
 use Rattle.clap.specs.declared.parser.matches.Found.{Found}
 use Rattle.clap.proofs.WalkLemmas.{first_value-rows}
 use Rattle.word_line.specs.declared.command.Command.{Command}
+use Rattle.word_line.specs.declared.limits.TheConstants.{NUMBER_DIGITS, WORKERS_DIGITS}
 use Rattle.word_line.specs.declared.command.Task.{Task}
-use Rattle.word_line.specs.declared.command.Task.TheVariants.{Homology, Convert, Check, Jones, Schedule}
+use Rattle.word_line.specs.declared.command.Task.TheVariants.{Homology, Convert, Check, Jones, Schedule, Bench}
 use Rattle.word_line.specs.declared.command.Form.{Form}
 use Rattle.word_line.specs.declared.command.Form.TheVariants.{Pd, Gauss}
 use Rattle.word_line.specs.Commands.{IsCommand}
-use Rattle.word_line.specs.declared.limits.TheConstants.{WORKERS_DIGITS}
 use Rattle.word_line.specs.Line.{command_found, kh_line}
 use Rattle.word_line.specs.Pieces.{HasNoDash, IsLine, Key, Piece, key_name, positionals}
 use Rattle.word_line.specs.Pieces as key
-use Rattle.word_line.specs.Reading.{command_given, command_with, field_in, field_of, form_in, form_of, task_of, workers_in, workers_of}
-use Rattle.word_line.specs.Values.{AreWorkers, IsFieldSize, IsGiven, NamesField, NamesForm, NamesWorkers, WritesNumber, form_name, task_name, values_in}
+use Rattle.word_line.specs.Reading.{command_given, command_with, field_in, field_of, finished, form_in, form_of, number_in, numbers_of, task_of, workers_in, workers_of}
+use Rattle.word_line.specs.Values.{AreWorkers, IsFieldSize, IsGiven, NamesField, NamesForm, NamesNumber, NamesWorkers, WritesNumber, form_name, task_name, values_in}
 use Rattle.word_line.proofs.Lines.{Distinct, first_of-values, has-some, line_of, line_taken, taken_line, tasks_of-line, uses_behind, uses_of, values_of, values_of-line}
 use Rattle.word_line.proofs.Machine.{found_is_taken, passed, fault_from, walk_of, ready, rows_taken, taken, walk_at, with_task}
-use Rattle.word_line.proofs.Meanings.{IsGiven-once, IsGiven-read, NamesField-read, NamesForm-read, NamesWorkers-read, name_of-task, read-IsGiven, read-NamesField, read-NamesForm, read-NamesWorkers, task_of-name}
+use Rattle.word_line.proofs.Meanings.{HasNumber-read, IsGiven-once, IsGiven-read, NamesField-read, NamesForm-read, NamesNumber-read, NamesWorkers-read, name_of-task, read-HasNumber, read-IsGiven, read-NamesField, read-NamesForm, read-NamesNumber, read-NamesWorkers, task_of-name}
 use Rattle.word_line.proofs.Rows.{Use, has, rows_at}
 use Rattle.word_line.proofs.Rules.{built_is, shape}
 
@@ -40,6 +40,7 @@ task_no_dash Jones = λ is. absurd (omega (arith, is))
 task_no_dash Check = λ is. absurd (omega (arith, is))
 task_no_dash Convert = λ is. absurd (omega (arith, is))
 task_no_dash Schedule = λ is. absurd (omega (arith, is))
+task_no_dash Bench = λ is. absurd (omega (arith, is))
 
 digits_no_dash : (limit : ℕ) (value : Text) (number : ℕ) → WritesNumber limit value number → HasNoDash value
 digits_no_dash limit [] number written = tt
@@ -64,6 +65,10 @@ form_name-no_dash Gauss = λ is. absurd (omega (arith, is))
 form_no_dash : (value : Text) (form : Form) → NamesForm value form → HasNoDash value
 form_no_dash value form names = subst HasNoDash (sym names) (form_name-no_dash form)
 
+number_no_dash : (value : Text) (number : Option ℕ) → NamesNumber value number → HasNoDash value
+number_no_dash value None names = absurd names
+number_no_dash value (Some number) names = digits_no_dash NUMBER_DIGITS value number names
+
 given_no_dash : {X : Type 0} (names : Text → X → Type 0) (default : X) → ((value : Text) (x : X) → names value x → HasNoDash value)
     → (values : List Text) (x : X) → IsGiven names default values x → All HasNoDash values
 given_no_dash names default plain [] x given = All-nil HasNoDash
@@ -75,56 +80,58 @@ given_no_dash names default plain (first ∷ second ∷ more) x given = absurd g
 -- the command of the texts that were given
 abbrev command_of : List Use → Option Command
 command_of uses = command_given (slice_get (values_of None uses) 0) (slice_get (values_of (Some key.field) uses) 0)
-    (slice_get (values_of (Some key.workers) uses) 0) (slice_get (values_of (Some key.to) uses) 0)
+    (slice_get (values_of (Some key.workers) uses) 0) (slice_get (values_of (Some key.to) uses) 0) (slice_get (values_of (Some key.number) uses) 0)
 
 -- the same of rows
 abbrev pub command_in : List Row → Option Command
 command_in rows = command_given (first_of (codes "task") rows) (first_of (codes "field") rows)
-    (first_of (codes "workers") rows) (first_of (codes "to") rows)
+    (first_of (codes "workers") rows) (first_of (codes "to") rows) (first_of (codes "number") rows)
 
 command_in-uses : (uses : List Use) → command_in (rows_at uses) ≡ command_of uses
-command_in-uses uses = rw (first_of-values None uses, first_of-values (Some key.field) uses, first_of-values (Some key.workers) uses, first_of-values (Some key.to) uses) refl
+command_in-uses uses = rw (first_of-values None uses, first_of-values (Some key.field) uses, first_of-values (Some key.workers) uses, first_of-values (Some key.to) uses, first_of-values (Some key.number) uses) refl
 
 pub command_found-rows : (found : Found) → command_found found ≡ command_in (rows_of found)
-command_found-rows found = rw (first_value-rows found (codes "task"), first_value-rows found (codes "field"), first_value-rows found (codes "workers"), first_value-rows found (codes "to")) refl
-
-option_map_some : {A B P : Type 0} (f : A → B) (o : Option A) (y : B) → option_map f o ≡ Some y
-    → ((x : A) → o ≡ Some x → f x ≡ y → P) → P
-option_map_some f None y same this = absurd (none-some y same)
-option_map_some f (Some x) y same this = this x refl (same_Some (f x) y same)
+command_found-rows found = rw (first_value-rows found (codes "task"), first_value-rows found (codes "field"), first_value-rows found (codes "workers"), first_value-rows found (codes "to"), first_value-rows found (codes "number")) refl
 
 -- what texts have where they give a command
-record Gives (name field workers to : Option Text) (command : Command) : Type 0 where
+record Gives (name field workers to number : Option Text) (command : Command) : Type 0 where
   text : Text
   is : name ≡ Some text
   task : task_of text ≡ Some command.task
   of_field : field_in field ≡ Some command.field
   of_workers : workers_in workers ≡ Some command.workers
   of_to : form_in to ≡ Some command.to
+  of_number : number_in number ≡ Some command.number
+  done : finished command ≡ Some command
 
-gives_command : (name field workers to : Option Text) (command : Command) → Gives name field workers to command
-    → command_given name field workers to ≡ Some command
-gives_command name field workers to command gives =
-    rw (gives.is, gives.task, gives.of_field, gives.of_workers, gives.of_to) refl
+gives_command : (name field workers to number : Option Text) (command : Command) → Gives name field workers to number command
+    → command_given name field workers to number ≡ Some command
+gives_command name field workers to number command gives =
+    rw (gives.is, gives.task, gives.of_field, gives.of_workers, gives.of_to, gives.of_number) gives.done
 
-command_gives : (name field workers to : Option Text) (command : Command) → command_given name field workers to ≡ Some command
-    → Gives name field workers to command
-command_gives name field workers to command same =
-    option_and_then_some (λ (t : Task). option_and_then (λ (f : ℕ). option_and_then (λ (w : ℕ). option_map (λ (o : Form).
-    command_with t f w o) (form_in to)) (workers_in workers)) (field_in field)) (option_and_then task_of name) command same (λ t is_t same.
-    option_and_then_some (λ (f : ℕ). option_and_then (λ (w : ℕ). option_map (λ (o : Form).
-    command_with t f w o) (form_in to)) (workers_in workers)) (field_in field) command same (λ f is_f same.
-    option_and_then_some (λ (w : ℕ). option_map (λ (o : Form). command_with t f w o) (form_in to)) (workers_in workers) command same (λ w is_w same.
-    option_map_some (command_with t f w) (form_in to) command same (λ o is_o same.
+command_gives : (name field workers to number : Option Text) (command : Command) → command_given name field workers to number ≡ Some command
+    → Gives name field workers to number command
+command_gives name field workers to number command same =
+    option_and_then_some (λ (t : Task). option_and_then (λ (f : ℕ). option_and_then (λ (w : ℕ). option_and_then (λ (o : Form). option_and_then (λ (n : Option ℕ).
+    finished (command_with t f w o n)) (number_in number)) (form_in to)) (workers_in workers)) (field_in field)) (option_and_then task_of name) command same (λ t is_t same.
+    option_and_then_some (λ (f : ℕ). option_and_then (λ (w : ℕ). option_and_then (λ (o : Form). option_and_then (λ (n : Option ℕ).
+    finished (command_with t f w o n)) (number_in number)) (form_in to)) (workers_in workers)) (field_in field) command same (λ f is_f same.
+    option_and_then_some (λ (w : ℕ). option_and_then (λ (o : Form). option_and_then (λ (n : Option ℕ).
+    finished (command_with t f w o n)) (number_in number)) (form_in to)) (workers_in workers) command same (λ w is_w same.
+    option_and_then_some (λ (o : Form). option_and_then (λ (n : Option ℕ). finished (command_with t f w o n)) (number_in number)) (form_in to) command same (λ o is_o same.
+    option_and_then_some (λ (n : Option ℕ). finished (command_with t f w o n)) (number_in number) command same (λ n is_n same.
     option_and_then_some task_of name t is_t (λ text is_text is_task.
-    subst (Gives name field workers to) same (record {
+    let end = HasNumber-read (command_with t f w o n) command t n same in
+    subst (Gives name field workers to number) end.1 (record {
       text = text;
       is = is_text;
       task = is_task;
       of_field = is_f;
       of_workers = is_w;
       of_to = is_o;
-    }))))))
+      of_number = is_n;
+      done = read-HasNumber (command_with t f w o n) t n end.0;
+    })))))))
 
 -- ---- words and commands
 
@@ -137,7 +144,7 @@ command_is : (words : List Text) (uses : List Use) (command : Command) → taken
 command_is words uses command took same =
     let line = taken_line words uses took in
     let gives = command_gives (slice_get (values_of None uses) 0) (slice_get (values_of (Some key.field) uses) 0) (slice_get (values_of (Some key.workers) uses) 0)
-    (slice_get (values_of (Some key.to) uses) 0) command same in
+    (slice_get (values_of (Some key.to) uses) 0) (slice_get (values_of (Some key.number) uses) 0) command same in
     let tasks : values_of None uses ≡ positionals line.pieces ++ line.behind = ap (values_of None) line.is ∙ tasks_of-line line.pieces line.behind in
     let one : values_of None uses ≡ gives.text ∷ [] = one_text (values_of None uses) gives.text (line.distinct None) gives.is in
     let named : gives.text ≡ task_name command.task = name_of-task gives.text command.task gives.task in
@@ -154,17 +161,22 @@ command_is words uses command took same =
           (IsGiven-read NamesWorkers workers_of 1 NamesWorkers-read (values_of (Some key.workers) uses) command.workers (line.distinct (Some key.workers)) gives.of_workers);
       to = subst (λ v. IsGiven NamesForm Pd v command.to) (values key.to)
           (IsGiven-read NamesForm form_of Pd NamesForm-read (values_of (Some key.to) uses) command.to (line.distinct (Some key.to)) gives.of_to);
+      number = subst (λ v. IsGiven NamesNumber None v command.number) (values key.number)
+          (IsGiven-read NamesNumber numbers_of None NamesNumber-read (values_of (Some key.number) uses) command.number (line.distinct (Some key.number)) gives.of_number);
+      needed = (HasNumber-read command command command.task command.number gives.done).0;
     }
 
 values_no_dash : (words : List Text) (command : Command) (is : IsCommand words command) (k : Key) → All HasNoDash (values_in k is.pieces)
 values_no_dash words command is key.field = given_no_dash NamesField 2 field_no_dash (values_in key.field is.pieces) command.field is.field
 values_no_dash words command is key.workers = given_no_dash NamesWorkers 1 workers_no_dash (values_in key.workers is.pieces) command.workers is.workers
 values_no_dash words command is key.to = given_no_dash NamesForm Pd form_no_dash (values_in key.to is.pieces) command.to is.to
+values_no_dash words command is key.number = given_no_dash NamesNumber None number_no_dash (values_in key.number is.pieces) command.number is.number
 
 values_once : (words : List Text) (command : Command) (is : IsCommand words command) (k : Key) → length (values_in k is.pieces) ≤ 1
 values_once words command is key.field = IsGiven-once NamesField 2 (values_in key.field is.pieces) command.field is.field
 values_once words command is key.workers = IsGiven-once NamesWorkers 1 (values_in key.workers is.pieces) command.workers is.workers
 values_once words command is key.to = IsGiven-once NamesForm Pd (values_in key.to is.pieces) command.to is.to
+values_once words command is key.number = IsGiven-once NamesNumber None (values_in key.number is.pieces) command.number is.number
 
 abbrev line_uses : (words : List Text) (command : Command) → IsCommand words command → List Use
 line_uses words command is = uses_of is.pieces ++ uses_behind is.behind
@@ -185,7 +197,7 @@ command_of-line words command is =
     let values : (k : Key) → values_in k is.pieces ≡ values_of (Some k) uses = λ k. sym (values_of-line k is.pieces is.behind) in
     let tasks : values_of None uses ≡ task_name command.task ∷ [] = tasks_of-line is.pieces is.behind ∙ is.task in
     gives_command (slice_get (values_of None uses) 0) (slice_get (values_of (Some key.field) uses) 0) (slice_get (values_of (Some key.workers) uses) 0)
-    (slice_get (values_of (Some key.to) uses) 0) command (record {
+    (slice_get (values_of (Some key.to) uses) 0) (slice_get (values_of (Some key.number) uses) 0) command (record {
       text = task_name command.task;
       is = ap (λ t. slice_get t 0) tasks;
       task = task_of-name command.task;
@@ -195,6 +207,9 @@ command_of-line words command is =
           (read-IsGiven NamesWorkers workers_of 1 read-NamesWorkers (values_in key.workers is.pieces) command.workers is.workers);
       of_to = subst (λ v. form_in (slice_get v 0) ≡ Some command.to) (values key.to)
           (read-IsGiven NamesForm form_of Pd read-NamesForm (values_in key.to is.pieces) command.to is.to);
+      of_number = subst (λ v. number_in (slice_get v 0) ≡ Some command.number) (values key.number)
+          (read-IsGiven NamesNumber numbers_of None read-NamesNumber (values_in key.number is.pieces) command.number is.number);
+      done = read-HasNumber command command.task command.number is.needed;
     })
 
 -- words mean one command at most

@@ -19,16 +19,16 @@ task_rule = record (new_rule (codes "task")) { required = true }
 abbrev pub option_rule : List ℕ → Rule
 option_rule name = record (new_rule name) { long = Some name }
 
--- the command line: one required positional, and three options with a value; all words are its own, and it has no help
+-- the command line: one required positional, and four options with a value; all words are its own, and it has no help
 abbrev pub kh_line : App
-kh_line = with_rule (with_rule (with_rule (with_rule
+kh_line = with_rule (with_rule (with_rule (with_rule (with_rule
     (on_top (λ s. record s { no_binary_name = true; disable_help_flag = true }) (new_app (codes "kh")))
-    task_rule) (option_rule (codes "field"))) (option_rule (codes "workers"))) (option_rule (codes "to"))
+    task_rule) (option_rule (codes "field"))) (option_rule (codes "workers"))) (option_rule (codes "to"))) (option_rule (codes "number"))
 
 -- the command of what `clap` found
 abbrev pub command_found : Found → Option Command
 command_found found = command_given (first_value found (codes "task")) (first_value found (codes "field"))
-    (first_value found (codes "workers")) (first_value found (codes "to"))
+    (first_value found (codes "workers")) (first_value found (codes "to")) (first_value found (codes "number"))
 
 -- why words of which `clap` finds this fault give no command: want of memory is that, and all else is that they mean none
 abbrev pub stop_of : ErrorKind → WordStop

@@ -7,12 +7,12 @@ use Rattle.std.specs.Borrow.{Bor}
 use Rattle.std.specs.Str.{bytes_eq}
 use Rattle.std.specs.Str.Parse.{digits_value}
 use Rattle.word_line.specs.declared.command.Task.{Task}
-use Rattle.word_line.specs.declared.command.Task.TheVariants.{Homology, Convert, Check, Jones, Schedule}
+use Rattle.word_line.specs.declared.command.Task.TheVariants.{Homology, Convert, Check, Jones, Schedule, Bench}
 use Rattle.word_line.specs.declared.command.Form.{Form}
 use Rattle.word_line.specs.declared.command.Form.TheVariants.{Pd, Gauss}
 use Rattle.word_line.specs.declared.command.Command.{Command}
 use Rattle.kh_types.specs.declared.limits.TheConstants.{WORKERS}
-use Rattle.word_line.specs.declared.limits.TheConstants.{WORKERS_DIGITS}
+use Rattle.word_line.specs.declared.limits.TheConstants.{NUMBER_DIGITS, WORKERS_DIGITS}
 
 -- a word is digits, of which there is one at least, and no more than a limit
 abbrev pub is_number : ℕ → List ℕ → Bool
@@ -30,6 +30,7 @@ task_of name =
     else if bytes_eq name (codes "check") then Some Check
     else if bytes_eq name (codes "convert") then Some Convert
     else if bytes_eq name (codes "schedule") then Some Schedule
+    else if bytes_eq name (codes "bench") then Some Bench
     else None
 
 -- the field of a value
@@ -47,6 +48,10 @@ workers_of value =
 abbrev pub form_of : List ℕ → Option Form
 form_of value =
     if bytes_eq value (codes "pd") then Some Pd else if bytes_eq value (codes "gauss") then Some Gauss else None
+
+-- the number of a value
+abbrev pub numbers_of : List ℕ → Option (Option ℕ)
+numbers_of value = option_map (λ number. Some number) (number_of NUMBER_DIGITS value)
 
 -- what a value says, or the default where there is none
 abbrev pub given_by : {X : Type 0} → (List ℕ → Option X) → X → Option (List ℕ) → Option X
@@ -69,14 +74,26 @@ workers_in = given_by workers_of 1
 abbrev pub form_in : Option (List ℕ) → Option Form
 form_in = given_by form_of Pd
 
--- the command of a task and options
-abbrev pub command_with : Task → ℕ → ℕ → Form → Command
-command_with task field workers to =
-    record { task = task; field = field; workers = workers; to = to }
+-- the number of a value; none where there is no value
+abbrev pub number_in : Option (List ℕ) → Option (Option ℕ)
+number_in = given_by numbers_of None
 
--- the command of the texts that a line gives: its positional, and the values of `--field`, `--workers` and `--to`
-abbrev pub command_given : Option (List ℕ) → Option (List ℕ) → Option (List ℕ) → Option (List ℕ) → Option Command
-command_given name field workers to =
-    option_and_then (λ t. option_and_then (λ f. option_and_then (λ w. option_map (λ o.
-    command_with t f w o) (form_in to)) (workers_in workers)) (field_in field))
+-- a command, unless it lacks the number that its task needs
+abbrev pub finished_with : Command → Task → Option ℕ → Option Command
+finished_with command Bench None = None
+finished_with command _ _ = Some command
+
+abbrev pub finished : Command → Option Command
+finished command = finished_with command command.task command.number
+
+-- the command of a task and options
+abbrev pub command_with : Task → ℕ → ℕ → Form → Option ℕ → Command
+command_with task field workers to number =
+    record { task = task; field = field; workers = workers; to = to; number = number }
+
+-- the command of the texts that a line gives: its positional, and the values of `--field`, `--workers`, `--to` and `--number`
+abbrev pub command_given : Option (List ℕ) → Option (List ℕ) → Option (List ℕ) → Option (List ℕ) → Option (List ℕ) → Option Command
+command_given name field workers to number =
+    option_and_then (λ t. option_and_then (λ f. option_and_then (λ w. option_and_then (λ o. option_and_then (λ n.
+    finished (command_with t f w o n)) (number_in number)) (form_in to)) (workers_in workers)) (field_in field))
     (option_and_then task_of name)

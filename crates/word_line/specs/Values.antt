@@ -1,16 +1,16 @@
 -- What the words of a command mean (this project's rule).
-use Rattle.std.specs.Prelude.{◌≡◌, ◌⊎◌, ℕ, ◌+◌, ◌<◌, ◌≤◌, Bool, true, false, IsTrue, if◌then◌else◌, List, [], ◌∷◌, length, codes}
+use Rattle.std.specs.Prelude.{◌≡◌, ◌⊎◌, ⊤, ℕ, ◌+◌, ◌<◌, ◌≤◌, Bool, true, false, IsTrue, if◌then◌else◌, List, [], ◌∷◌, length, codes, Option, Some, None}
 use Rattle.std.specs.Char.{is_ascii_digit}
 use Rattle.std.specs.List.{list_all}
 use Rattle.std.specs.Str.Parse.{digits_value}
 use Rattle.word_line.specs.declared.command.Task.{Task}
-use Rattle.word_line.specs.declared.command.Task.TheVariants.{Homology, Convert, Check, Jones, Schedule}
+use Rattle.word_line.specs.declared.command.Task.TheVariants.{Homology, Convert, Check, Jones, Schedule, Bench}
 use Rattle.word_line.specs.declared.command.Form.{Form}
 use Rattle.word_line.specs.declared.command.Form.TheVariants.{Pd, Gauss}
 use Rattle.word_line.specs.Pieces.{Key, Piece, positional, apart, joined}
 use Rattle.word_line.specs.Pieces as key
 use Rattle.kh_types.specs.declared.limits.TheConstants.{WORKERS}
-use Rattle.word_line.specs.declared.limits.TheConstants.{WORKERS_DIGITS}
+use Rattle.word_line.specs.declared.limits.TheConstants.{NUMBER_DIGITS, WORKERS_DIGITS}
 
 -- the word of a task
 abbrev pub task_name : Task → List ℕ
@@ -19,6 +19,7 @@ task_name Jones = codes "jones"
 task_name Check = codes "check"
 task_name Convert = codes "convert"
 task_name Schedule = codes "schedule"
+task_name Bench = codes "bench"
 
 -- the word of a form
 abbrev pub form_name : Form → List ℕ
@@ -30,6 +31,7 @@ abbrev pub same_key : Key → Key → Bool
 same_key key.field key.field = true
 same_key key.workers key.workers = true
 same_key key.to key.to = true
+same_key key.number key.number = true
 same_key _ _ = false
 
 -- the values that parts of a line give an option, in order
@@ -66,8 +68,18 @@ NamesWorkers value count = WritesNumber WORKERS_DIGITS value count × AreWorkers
 abbrev pub NamesForm : List ℕ → Form → Type 0
 NamesForm value form = value ≡ form_name form
 
+-- a value names a number: one to seven digits
+abbrev pub NamesNumber : List ℕ → Option ℕ → Type 0
+NamesNumber value None = ⊥
+NamesNumber value (Some number) = WritesNumber NUMBER_DIGITS value number
+
 -- the values that an option is given, of which there is at most one, say what it is; where there is none it is the default
 abbrev pub IsGiven : {X : Type 0} → (List ℕ → X → Type 0) → X → List (List ℕ) → X → Type 0
 IsGiven names default [] given = given ≡ default
 IsGiven names default (value ∷ []) given = names value given
 IsGiven names default (first ∷ second ∷ more) given = ⊥
+
+-- the task that needs a number has one
+abbrev pub HasNumber : Task → Option ℕ → Type 0
+HasNumber Bench None = ⊥
+HasNumber _ _ = ⊤

@@ -15,6 +15,8 @@ pub enum Task {
     Jones,
     /// Let workers look and commit as a script says; write the answers, and the homology table.
     Schedule,
+    /// Write the counts, the dimension and the Jones polynomial of the closed braid of a number.
+    Bench,
 }
 
 /// A form of codes as text. Source: this project's rule.
@@ -37,6 +39,8 @@ pub struct Command {
     pub workers: u32,
     /// The form in which `convert` writes.
     pub to: Form,
+    /// The number whose diagram `bench` takes.
+    pub number: Option<u32>,
 }
 
 /// Why words give no command.

@@ -1,11 +1,11 @@
 //! What holds of words and commands, as laws.
 
-ghost use Rattle.std.specs.Prelude.{◌≡◌, ◌⊎◌, ℕ, List, [], ◌∷◌, codes};
+ghost use Rattle.std.specs.Prelude.{◌≡◌, ◌⊎◌, ℕ, List, [], ◌∷◌, None, Some, codes};
 ghost use Rattle.word_line.specs.Commands.{IsCommand, IsUsage};
 ghost use Rattle.word_line.specs.Reading.{command_with};
 ghost use Rattle.word_line.specs.declared.command.Command.{Command};
 ghost use Rattle.word_line.specs.declared.command.Form.TheVariants.{Pd, Gauss};
-ghost use Rattle.word_line.specs.declared.command.Task.TheVariants.{Homology, Convert, Jones};
+ghost use Rattle.word_line.specs.declared.command.Task.TheVariants.{Bench, Homology, Convert, Jones};
 
 /// Words mean one command at most.
 pub fn words_mean_one_command()
@@ -21,15 +21,20 @@ pub fn words_are_decided()
 
 /// Words that mean a command, worked out.
 pub fn worked_commands()
-    ensures alone { IsCommand (codes "homology" ∷ []) (command_with Homology 2 1 Pd) }
+    ensures alone { IsCommand (codes "homology" ∷ []) (command_with Homology 2 1 Pd None) }
     ensures joined { IsCommand (codes "--field=3" ∷ codes "homology" ∷ [])
-        (command_with Homology 3 1 Pd) }
-    ensures behind { IsCommand (codes "--" ∷ codes "homology" ∷ []) (command_with Homology 2 1 Pd) }
-    ensures ended { IsCommand (codes "jones" ∷ codes "--" ∷ []) (command_with Jones 2 1 Pd) }
+        (command_with Homology 3 1 Pd None) }
+    ensures behind { IsCommand (codes "--" ∷ codes "homology" ∷ [])
+        (command_with Homology 2 1 Pd None) }
+    ensures ended { IsCommand (codes "jones" ∷ codes "--" ∷ [])
+        (command_with Jones 2 1 Pd None) }
     ensures all { IsCommand (codes "--to" ∷ codes "gauss" ∷ codes "convert" ∷ codes "--workers=07"
-        ∷ codes "--field" ∷ codes "7" ∷ []) (command_with Convert 7 7 Gauss) }
+        ∷ codes "--field" ∷ codes "7" ∷ codes "--number"
+        ∷ codes "0000000" ∷ []) (command_with Convert 7 7 Gauss (Some 0)) }
     ensures most { IsCommand (codes "homology" ∷ codes "--workers" ∷ codes "64" ∷ [])
-        (command_with Homology 2 64 Pd) }
+        (command_with Homology 2 64 Pd None) }
+    ensures numbered { IsCommand (codes "bench" ∷ codes "--number" ∷ codes "1234567" ∷ [])
+        (command_with Bench 2 1 Pd (Some 1234567)) }
 {}
 
 /// Words that mean no command, worked out.
@@ -40,6 +45,7 @@ pub fn worked_usage()
     ensures long { IsUsage (codes "homology" ∷ codes "--workers" ∷ codes "001" ∷ []) }
     ensures twice { IsUsage (codes "homology" ∷ codes "--field" ∷ codes "2"
         ∷ codes "--field" ∷ codes "2" ∷ []) }
+    ensures unnumbered { IsUsage (codes "bench" ∷ []) }
     ensures help { IsUsage (codes "homology" ∷ codes "--help" ∷ []) }
     ensures short { IsUsage (codes "homology" ∷ codes "-h" ∷ []) }
     ensures shortened { IsUsage (codes "homology" ∷ codes "--work" ∷ codes "2" ∷ []) }

@@ -64,5 +64,6 @@ fn command_in(matches: &ArgMatches<'_>) -> Option<Command>
         field: matches.get_str("field"),
         workers: matches.get_str("workers"),
         to: matches.get_str("to"),
+        number: matches.get_str("number"),
     })
 }

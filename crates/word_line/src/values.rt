@@ -1,11 +1,11 @@
 //! What the values of options mean.
 
 ghost use Rattle.std.specs.Prelude.{◌≡◌};
-ghost use Rattle.word_line.specs.Reading.{command_given, field_in, field_of, form_in, form_of, task_of, text_in, workers_in, workers_of};
+ghost use Rattle.word_line.specs.Reading.{command_given, field_in, field_of, finished, form_in, form_of, number_in, numbers_of, task_of, text_in, workers_in, workers_of};
 
 use crate::command::{Command, Form, Task};
 use crate::digits::number_of;
-use crate::limits::WORKERS_DIGITS;
+use crate::limits::{NUMBER_DIGITS, WORKERS_DIGITS};
 use kh_types::WORKERS;
 
 /// The texts that a line gives: its one positional, and the values of its options.
@@ -19,23 +19,38 @@ pub struct Given<'a> {
     pub workers: Option<&'a str>,
     /// The value of `--to`.
     pub to: Option<&'a str>,
+    /// The value of `--number`.
+    pub number: Option<&'a str>,
 }
 
 /// The command of the texts that a line gives.
 pub fn command_given(given: &Given<'_>) -> Option<Command>
     ensures { result ≡ command_given (text_in given.now.task) (text_in given.now.field)
-        (text_in given.now.workers) (text_in given.now.to) }
+        (text_in given.now.workers) (text_in given.now.to) (text_in given.now.number) }
 {
     let task = task_of(given.task?)?;
     let field = field_in(given.field)?;
     let workers = workers_in(given.workers)?;
     let to = form_in(given.to)?;
-    Some(Command {
+    let number = number_in(given.number)?;
+    finished(Command {
         task,
         field,
         workers,
         to,
+        number,
     })
+}
+
+// A command, unless it lacks the number that its task needs.
+fn finished(command: Command) -> Option<Command>
+    ensures { result ≡ finished command }
+{
+    if command.task == Task::Bench && command.number.is_none() {
+        None
+    } else {
+        Some(command)
+    }
 }
 
 // The task of a name.
@@ -48,6 +63,7 @@ fn task_of(name: &str) -> Option<Task>
         "check" => Some(Task::Check),
         "convert" => Some(Task::Convert),
         "schedule" => Some(Task::Schedule),
+        "bench" => Some(Task::Bench),
         _ => None,
     }
 }
@@ -116,4 +132,22 @@ fn form_of(value: &str) -> Option<Form>
         "gauss" => Some(Form::Gauss),
         _ => None,
     }
+}
+
+// The number of a value; none where there is no value.
+fn number_in(value: Option<&str>) -> Option<Option<u32>>
+    ensures { result ≡ number_in (text_in value.entry) }
+{
+    match value {
+        Some(value) => numbers_of(value),
+        None => Some(None),
+    }
+}
+
+// The number that a value writes.
+fn numbers_of(value: &str) -> Option<Option<u32>>
+    ensures { result ≡ numbers_of value.now }
+{
+    let number = number_of(value.as_bytes(), NUMBER_DIGITS)?;
+    Some(Some(number))
 }

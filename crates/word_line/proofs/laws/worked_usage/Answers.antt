@@ -11,6 +11,7 @@ returns c = record {
   many = means_none (codes "homology" ∷ codes "--workers" ∷ codes "65" ∷ []) refl;
   long = means_none (codes "homology" ∷ codes "--workers" ∷ codes "001" ∷ []) refl;
   twice = means_none (codes "homology" ∷ codes "--field" ∷ codes "2" ∷ codes "--field" ∷ codes "2" ∷ []) refl;
+  unnumbered = means_none (codes "bench" ∷ []) refl;
   help = means_none (codes "homology" ∷ codes "--help" ∷ []) refl;
   short = means_none (codes "homology" ∷ codes "-h" ∷ []) refl;
   shortened = means_none (codes "homology" ∷ codes "--work" ∷ codes "2" ∷ []) refl;

@@ -1,0 +1,16 @@
+use Rattle.std.proofs.Common.{refl}
+use Rattle.kh_work.proofs.ReplyLemmas.{bench_reply-diagram, generators_of_diagram}
+use Rattle.kh_work.proofs.commands.bench.draft_of_bench.Goals as goal
+
+pub returns-in-Ok-clause-reply : goal.returns-in-Ok-clause-reply
+returns-in-Ok-clause-reply c =
+    bench_reply-diagram c.args.field c.args.number c.of_diagram.result c.in-Ok.diagram (c.in-Ok.ensures.within.0 refl) c.of_diagram.ensures
+    c.in-Ok.ensures.diagram
+
+pub returns-in-Ok-clause-ready : goal.returns-in-Ok-clause-ready
+returns-in-Ok-clause-ready c = (
+  generators_of_diagram c.args.number c.of_diagram.result c.in-Ok.diagram c.of_diagram.ensures c.in-Ok.ensures.diagram
+      c.numbers_give_small_diagrams.ensures.within,
+  c.requires.workers,
+  c.requires.field,
+)

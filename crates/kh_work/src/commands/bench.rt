@@ -1,0 +1,98 @@
+//! The command `bench`: the counts, the dimension and the Jones polynomial of the diagram of a number.
+
+ghost use Rattle.std.specs.Prelude.{◌≡◌, ◌++◌, IfOk, string_bytes};
+ghost use Rattle.word_line.specs.Values.{AreWorkers, IsFieldSize};
+ghost use Rattle.jones_sum.specs.Tables.{total_of};
+ghost use Rattle.kh_work.specs.Bench.{bench_counts, bench_lines, bench_reply};
+ghost use Rattle.kh_work.specs.Drafts.{IsReady, reply_in};
+ghost use Rattle.kh_replies.specs.Jones.{jones_line};
+ghost use Rattle.kh_replies.specs.Replies.{reply_of};
+ghost use Rattle.kh_replies.specs.declared.status.Status.{Status};
+
+use crate::draft::Draft;
+use braid_maker::from_number;
+use braid_maker::laws::numbers_give_small_diagrams;
+use circle_smoothing::StateKinds;
+use jones_sum::Table;
+use kh_replies::{Reply, Status, jones_line, reply_made, too_large_number};
+use kh_types::NoMemory;
+use std::alloc::Global;
+
+/// A number, how many crossings, loops and generators its diagram has, and the dimension of its homology.
+#[derive(Clone, Copy)]
+pub struct BenchCounts {
+    /// The number.
+    pub number: u32,
+    /// The crossings.
+    pub crossings: u8,
+    /// The crossingless loops.
+    pub loops: u8,
+    /// The generators of the cube.
+    pub generators: u128,
+    /// The sum of all dimensions.
+    pub dimension: u64,
+}
+
+/// The reply to a number, whose homology table is still to be made where a diagram has the number.
+pub fn draft_of_bench(
+    alloc: Global,
+    field: u8,
+    workers: u32,
+    number: u32,
+) -> Result<Draft, NoMemory>
+    requires workers { AreWorkers workers }
+    requires field { IsFieldSize field }
+    ensures reply { IfOk result (λ draft. reply_in draft ≡ bench_reply field number) }
+    ensures ready { IfOk result IsReady }
+{
+    numbers_give_small_diagrams();
+    match from_number(number) {
+        Ok(diagram) => Ok(Draft::Bench {
+            field,
+            workers,
+            number,
+            kinds: StateKinds::of_diagram(&diagram),
+        }),
+        Err(limit) => Ok(Draft::Made(too_large_number(alloc, limit.number)?)),
+    }
+}
+
+/// The lines of the counts and of the sum of all dimensions of the homology table, and the Jones line, which is read from the kinds of the diagram's states.
+pub fn reply_with_dimension(
+    alloc: Global,
+    number: u32,
+    kinds: &StateKinds,
+    table: &Table,
+) -> Result<Reply, NoMemory>
+    ensures { IfOk result (λ reply. reply ≡ reply_of Status.Done
+        (bench_lines (bench_counts number kinds.now (total_of table.now)) ++ jones_line kinds.now)) }
+{
+    let counts = bench_counts(number, kinds, table.total());
+    let mut text = bench_lines(alloc, counts)?.into_bytes();
+    text.extend_from_slice(&jones_line(alloc, kinds)?)?;
+    Ok(reply_made(Status::Done, text))
+}
+
+// The counts of a number and its diagram, and a dimension.
+fn bench_counts(number: u32, kinds: &StateKinds, dimension: u64) -> BenchCounts
+    ensures { result ≡ bench_counts number kinds.now dimension }
+{
+    let diagram = kinds.diagram();
+    BenchCounts {
+        number,
+        crossings: diagram.count(),
+        loops: diagram.loops(),
+        generators: kinds.generator_count(),
+        dimension,
+    }
+}
+
+// The lines of some counts.
+fn bench_lines(alloc: Global, counts: BenchCounts) -> Result<String, NoMemory>
+    ensures { IfOk result (λ text. string_bytes text ≡ bench_lines counts) }
+{
+    Ok(format!(in alloc;
+        "bench {}\ncrossings {} loops {} generators {}\ndimension {}\n",
+        counts.number, counts.crossings, counts.loops, counts.generators, counts.dimension
+    )?)
+}
