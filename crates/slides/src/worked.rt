@@ -31,7 +31,7 @@ pub fn worked_slides()
     ensures four { slid (slots_with 6 8 1 7 ∷ slots_with 1 2 2 3 ∷ slots_with 5 5 6 4
         ∷ slots_with 3 8 4 7 ∷ []) 2 7 15
         ≡ slots_with 1 7 2 8 ∷ slots_with 6 3 1 4 ∷ slots_with 5 5 6 4 ∷ slots_with 2 7 3 8 ∷ [] }
-    // The papers' rows 9 and 28; the second before the two arcs of the over circle, 5 and 6,
+    // A knot's slide, and one under an over circle, before that circle's two arcs, 5 and 6,
     // exchange their numbers.
     ensures knot_accepted { accepted (without_loops (slots_with 5 2 6 1 ∷ slots_with 3 3 4 2
         ∷ slots_with 4 5 1 6 ∷ [])) ≡ true }
@@ -45,7 +45,7 @@ pub fn worked_slides()
         ∷ slots_with 2 4 3 3 ∷ []) 1 2 3 ≡ Some 1 }
     ensures circle { slid (slots_with 1 6 2 5 ∷ slots_with 4 6 1 5 ∷ slots_with 2 4 3 3 ∷ []) 1 4 8
         ≡ slots_with 2 5 3 6 ∷ slots_with 3 5 4 6 ∷ slots_with 1 1 2 4 ∷ [] }
-    // Row 29: the trefoil has two triangles, and each has slots of one parity.
+    // The trefoil has two triangles, and each has slots of one parity.
     ensures alternating { has_triangle trefoil.crossings 1 2 3 ≡ true }
     ensures alternating_slot { slide_slot trefoil.crossings 1 2 3 ≡ None }
     ensures no_triangle { has_triangle trefoil.crossings 1 2 2 ≡ false }
