@@ -40,11 +40,11 @@ AreDegreesOf code degrees = All (Contains (block_degrees code)) degrees
 abbrev pub AreBlocksAt : Code → List ℤ → List BlockHistory → Type 0
 AreBlocksAt code degrees blocks = map origin_of blocks ≡ map (λ j. (code, j)) degrees
 
--- for each block so many pivots, the first of its history, are by workers
+-- no more pivots are counted as by workers than the block's history has
 abbrev pub HasCommitted : BlockHistory → ℕ → Type 0
 HasCommitted held count = count ≤ length held.history
 
--- each block is cancelled to zero, and for each it is told how many of its pivots are by workers
+-- each block is cancelled to zero, and for each a count of pivots by workers is told, within its history
 pub record AreDone (p : ℕ) (blocks : List BlockHistory) (committed : List ℕ) : Type 0 where
   pub zero : All (IsFinished p) blocks
   pub counts : AllZip HasCommitted blocks committed
