@@ -1,5 +1,5 @@
 #!/usr/bin/env python3
-"""Makes `large_tables.txt` and `polynomials.txt` anew, which `tests/program` compares with what the program writes.
+"""Makes `large_tables.txt`, `polynomials.txt` and `numbers.txt` anew, which `tests/program` compares with what the program writes.
 
     tests/make_data.py OTHER
 
@@ -9,8 +9,9 @@ OTHER is a program that shares no code with `kh`: it reads a planar diagram text
 rows and the Jones line. The stored tables are those of a C++ program that cancels the cube block by block over sorted columns and rows,
 and stops where the table's Euler characteristic is not the state sum. It lists slots counterclockwise and takes v+ for degree 1, as here.
 The polynomials are worked out by this script, which takes one crossing after another into a sum over the ways that the open ends are
-joined (Kauffman's bracket by tangles), and goes through no states; for the links with a table it is compared with OTHER's. No value is
-taken from `kh`.
+joined (Kauffman's bracket by tangles), and goes through no states; for the links with a table it is compared with OTHER's. Of a number
+OTHER is given `--bench` and the number, makes the closed braid of its digits itself, and writes the four lines of `kh bench`; their
+Jones line is compared with what this script works out from the digits. No value is taken from `kh`.
 """
 import os
 import re
@@ -53,6 +54,17 @@ POLYNOMIALS = [
     (2, [1] * 20),
     (21, list(range(1, 21))),
 ]
+
+
+# Numbers of diagrams: two neighbours, and from 0 to the greatest in even steps.
+NUMBERS = [0, 1, *(step * 1_048_575 // 998 for step in range(1, 999))]
+NUMBERS_HEAD = """\
+# What `kh bench` writes of 1,000 numbers: the closed braid of three strands whose ten letters the digits to the base 4 give, the least
+# first. `tests/make_data.py` made this file, and says by what program.
+#
+# The number; its loops; its generators; all dimensions summed, over two elements and over three; the Jones polynomial.
+
+"""
 
 
 def written_by(other, words, text):
@@ -118,7 +130,14 @@ def positive_crossings(crossings):
     return sum(j == (l + 1 if l + 1 in component[l] else min(component[l])) for _, j, _, l in crossings)
 
 
-def jones_line(text):
+def with_circle(polynomial):
+    """Times q + q^-1."""
+    whole = shifted(polynomial, 1, 1)
+    whole.update(shifted(polynomial, 1, -1))
+    return whole
+
+
+def jones_line(text, plus=None, loops=0):
     """The sum over the states of (-1)^(r - n-) q^(r + n+ - 2n-) (q + q^-1)^circles, crossing by crossing."""
     crossings = [tuple(map(int, it.split(","))) for it in re.findall(r"X\[([^]]*)\]", text)]
     sums = {(): Counter({0: 1})}
@@ -130,14 +149,14 @@ def jones_line(text):
                 for pair in pairs:
                     open_ends, closes = joined(open_ends, *pair)
                     if closes:
-                        up, down = shifted(term, 1, 1), shifted(term, 1, -1)
-                        up.update(down)
-                        term = up
+                        term = with_circle(term)
                 after.setdefault(tuple(sorted(open_ends.items())), Counter()).update(term)
         sums = after
-    plus = positive_crossings(crossings)
+    plus = positive_crossings(crossings) if plus is None else plus
     minus = len(crossings) - plus
     whole = shifted(sums[()], (-1) ** minus, plus - 2 * minus)
+    for _ in range(loops):
+        whole = with_circle(whole)
     return "jones " + " ".join(f"{whole[at]}*q^{at}" for at in sorted(whole) if whole[at])
 
 
@@ -145,6 +164,23 @@ def polynomial_of(strands, letters):
     """The block of a link whose Jones line is stored."""
     text = planar_diagram(strands, letters)
     return "\n".join([named(strands, letters), text, jones_line(text)])
+
+
+def number_line(other, number):
+    """The line of a number, from what the other program writes of it over two elements and over three."""
+    letters = [(1, -1, 2, -2)[number // 4**place % 4] for place in range(10)]
+    crossed = {strand for letter in letters for strand in (abs(letter), abs(letter) + 1)}
+    (head, counts, two, jones), three = (written_by(other, ["--bench", str(number), "--field", field], "") for field in "23")
+    _, crossings, _, loops, _, generators = counts.split()
+    assert [head, counts, jones] == [three[0], three[1], three[3]] and (head, crossings) == (f"bench {number}", "10"), number
+    assert int(loops) == 3 - len(crossed), number
+    assert jones == jones_line(planar_diagram(3, letters), sum(it > 0 for it in letters), int(loops)), number
+    return " ".join([str(number), loops, generators, two.split()[1], three[2].split()[1], *jones.split()[1:]])
+
+
+def write_numbers(other):
+    with open(os.path.join(HERE, "numbers.txt"), "w", encoding="utf-8") as file:
+        file.write(NUMBERS_HEAD + "".join(number_line(other, number) + "\n" for number in NUMBERS))
 
 
 def write(name, what, lines, blocks):
@@ -158,6 +194,7 @@ def main(other):
     write("large_tables.txt", "Homology tables of links of 17 crossings.", "for each field the rows j,i,dim; the Jones line.", tables)
     polynomials = [polynomial_of(*braid) for braid in POLYNOMIALS]
     write("polynomials.txt", "Jones polynomials of links of 17 to 20 crossings.", "the Jones line.", polynomials)
+    write_numbers(other)
 
 
 if __name__ == "__main__":
