@@ -46,3 +46,27 @@ def planar_diagram(strands, letters):
         )
         items.append("X[%d,%d,%d,%d]" % slots)
     return "PD[" + ",".join(items) + "]"
+
+
+def closure(strands, letters):
+    """The crossings and the loops of a closed braid, under the numbers that `kh` gives its arcs: of each strand, walked up from the
+    bottom of the least position that is not walked yet, one arc after another.
+    """
+    crossings, loops, walked, arc = [[0, 0, 0, 0] for _ in letters], 0, set(), 1
+    for start in range(1, strands + 1):
+        if start in walked:
+            continue
+        first, at, slot = arc, start, None
+        while start not in walked or at != start:
+            walked.add(at)
+            for crossing, letter in zip(crossings, letters):
+                if at in (abs(letter), abs(letter) + 1):
+                    rises = at == abs(letter)
+                    enters, leaves = (0, 2) if rises == (letter < 0) else (3, 1) if letter > 0 else (1, 3)
+                    crossing[enters], crossing[leaves], slot, arc = arc, arc + 1, (crossing, leaves), arc + 1
+                    at += 1 if rises else -1
+        if slot:
+            slot[0][slot[1]] = first
+        else:
+            loops += 1
+    return crossings, loops
