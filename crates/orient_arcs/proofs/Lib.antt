@@ -11,6 +11,7 @@ pub mod DartSmoothings
 pub mod AlikeCrossings
 pub mod PairedCodes
 pub mod AcceptedParts
+pub mod PairingTests
 pub mod StepLemmas
 pub mod ComponentSteps
 pub mod OwnNumbers

@@ -5,7 +5,9 @@
 pub mod laws;
 mod numbered;
 mod of_diagram;
+mod pairing;
 mod parts;
+mod passes;
 mod renumbering;
 
 pub use numbered::Components;

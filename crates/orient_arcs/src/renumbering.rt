@@ -9,39 +9,9 @@ ghost use Rattle.orient_arcs.specs.Renumbered.{bound_of, entering, follows, is_i
 ghost use Rattle.orient_arcs.specs.Steps.{is_new, is_turned, order_below, start_of};
 
 use crate::parts::Parts;
+use crate::passes::{Pass, passes_through};
 use arrayvec::ArrayVec;
 use kh_types::{ARCS, CROSSINGS, Crossing, RawCode};
-use std::marker::Model;
-
-/// A pass: its label, and the names on which it enters and leaves.
-#[derive(Clone, Copy)]
-struct Pass {
-    label: i32,
-    enters: u8,
-    leaves: u8,
-}
-
-impl Model for Pass {
-    ghost use Rattle.code_passes.specs.Passes.{Pass};
-
-    ghost Value = { Pass };
-
-    ghost view = { λ pass. record { label = pass.label; enters = pass.enters; leaves = pass.leaves } };
-
-    ghost inverse = { λ pass. record { label = pass.label; enters = pass.enters; leaves = pass.leaves } };
-}
-
-impl Default for Pass {
-    ghost is_default = { λ pass. pass ≡ no_pass };
-
-    fn default() -> Pass {
-        Pass {
-            label: 0,
-            enters: 0,
-            leaves: 0,
-        }
-    }
-}
 
 /// The code of some parts.
 pub fn renumber(parts: &Parts) -> RawCode
@@ -95,79 +65,6 @@ fn place_of(order: &[u8], name: u8) -> usize
     ensures within { result ≤ length order.now }
 {
     order.iter().take_while(|other| name != **other).count()
-}
-
-// All passes.
-#[tactic(auto, using(crate::proofs::StepLemmas::passes_more, crate::proofs::StepLemmas::length_passes))]
-fn passes_through(parts: &Parts) -> ArrayVec<Pass, ARCS>
-    ensures passes { result.items ≡ passes_through parts.now }
-    ensures size { length result.items ≡ 2 * length parts.now.crossings }
-    ensures few { length result.items ≤ ARCS }
-{
-    let mut passes = ArrayVec::new();
-    'places: for place in 0..parts.crossings.len() {
-        push_passes(&mut passes, parts, place);
-    }
-    passes
-}
-
-fn push_passes(passes: &mut ArrayVec<Pass, ARCS>, parts: &Parts, place: usize)
-    requires room { length passes.old.items + 2 ≤ ARCS }
-    requires place { place < length parts.now.crossings }
-    requires few { length parts.now.crossings ≤ CROSSINGS }
-    ensures { passes.new.items ≡ passes.old.items ++ passes_at parts.now place }
-{
-    let slots = slots_in(parts, place);
-    passes.push(under_pass(slots, place));
-    passes.push(over_pass(slots, is_positive_at(parts, place), place));
-}
-
-// The slots of the crossing at a place.
-fn slots_in(parts: &Parts, place: usize) -> Crossing
-    requires { place < length parts.now.crossings }
-    ensures { result ≡ slots_in parts.now.crossings place }
-{
-    parts.crossings[place]
-}
-
-// Whether the crossing at a place is positive.
-fn is_positive_at(parts: &Parts, place: usize) -> bool
-    ensures { result ≡ is_positive_at parts.now.positive place }
-{
-    parts.positive.get(place).copied().unwrap_or(false)
-}
-
-// The under pass of a crossing.
-fn under_pass(slots: Crossing, place: usize) -> Pass
-    requires { place < CROSSINGS }
-    ensures { result ≡ under_pass slots place }
-{
-    Pass {
-        label: -(place as i32 + 1),
-        enters: slots.0[0],
-        leaves: slots.0[2],
-    }
-}
-
-// The over pass of a crossing.
-fn over_pass(slots: Crossing, positive: bool, place: usize) -> Pass
-    requires { place < CROSSINGS }
-    ensures { result ≡ over_pass slots positive place }
-{
-    let label = place as i32 + 1;
-    if positive {
-        Pass {
-            label,
-            enters: slots.0[3],
-            leaves: slots.0[1],
-        }
-    } else {
-        Pass {
-            label,
-            enters: slots.0[1],
-            leaves: slots.0[3],
-        }
-    }
 }
 
 // The pass that enters on a name.
