@@ -15,3 +15,4 @@ pub mod StepLemmas
 pub mod ComponentSteps
 pub mod OwnNumbers
 pub mod PairedAlike
+pub mod KeptOrder

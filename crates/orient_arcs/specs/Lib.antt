@@ -6,3 +6,4 @@ pub mod Alike
 pub mod WorkedParts
 pub mod RawParts
 pub mod Steps
+pub mod OtherNames
