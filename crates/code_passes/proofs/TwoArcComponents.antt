@@ -182,7 +182,7 @@ over_label true (suc crossing) over = absurd (cc)
 over_label false crossing over = (refl, refl)
 
 -- the labels of a component of two arcs that are both over ascend
-ascending : (crossings : List (List ℕ)) (first : ℕ) → IsOriented crossings → IsFirst crossings first → size crossings first ≡ 2
+pub ascending : (crossings : List (List ℕ)) (first : ℕ) → IsOriented crossings → IsFirst crossings first → size crossings first ≡ 2
     → ((is_over (entering_label crossings first) && is_over (entering_label crossings (first + 1)))
     && int_lt (entering_label crossings (first + 1)) (entering_label crossings first)) ≡ false
 ascending crossings first oriented is two = elim (cases_Bool test) [

@@ -32,7 +32,7 @@ use Rattle.diagram_moves.proofs.SlideLemmas.{components-slid_at, sum-slid_at}
 use Rattle.diagram_moves.proofs.FaultLemmas.{both-none, neither-fault, other-fault}
 
 -- what holds of the code where no fault comes holds of the answer
-answered-keeps : (P : Code → Type 0) (fault : Option MoveFault) (code : Code) → (fault ≡ None → P code) → IfOk (answered fault code) P
+pub answered-keeps : (P : Code → Type 0) (fault : Option MoveFault) (code : Code) → (fault ≡ None → P code) → IfOk (answered fault code) P
 answered-keeps P None code holds = holds refl
 answered-keeps P (Some fault) code holds = tt
 

@@ -81,7 +81,7 @@ pub without_one : (code : Code) (p : ℕ) → without_finger code p p ≡ withou
 without_one code p = ap (λ (gone : ℕ → Bool). dropped code gone) (fun_ext (one_of_one p))
 
 -- the slot at which a crossing that is dropped has a kink
-kink-found : (code : Code) (crossing : ℕ) → kink_drop_fault code crossing ≡ None
+pub kink-found : (code : Code) (crossing : ℕ) → kink_drop_fault code crossing ≡ None
     → (p : ℕ) × HasKinkAt code.crossings (place_of crossing) p
 kink-found code crossing none =
     let both = both-none (no_crossing code crossing) (no_kink code crossing) none in
@@ -90,7 +90,7 @@ kink-found code crossing none =
     HasKinkAt-found code.crossings (place_of crossing) (omega (arith, within)) kinked
 
 -- the slots at which two crossings that are dropped meet in a bigon
-bigon-found : (code : Code) (first second : ℕ) → finger_drop_fault code first second ≡ None
+pub bigon-found : (code : Code) (first second : ℕ) → finger_drop_fault code first second ≡ None
     → (p : ℕ) × (q : ℕ) × HasBigonAt code.crossings (place_of first) (place_of second) p q
 bigon-found code first second none =
     let from_first = both-none (no_crossing code first) (option_or (no_crossing code second) (no_bigon code first second)) none in

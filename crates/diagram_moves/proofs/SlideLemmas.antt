@@ -30,7 +30,7 @@ some_of : (slot : Option ℕ) → is_none slot ≡ false → (k : ℕ) × (slot 
 some_of (Some k) some = (k, refl)
 some_of None some = absurd (cc)
 
-IsPlaced-none : (code : Code) (first second third : ℕ) → slide_fault code first second third ≡ None
+pub IsPlaced-none : (code : Code) (first second third : ℕ) → slide_fault code first second third ≡ None
     → IsPlaced code first second third
 IsPlaced-none code first second third none =
     let last = option_or (no_triangle code first second third) (no_heights code first second third) in

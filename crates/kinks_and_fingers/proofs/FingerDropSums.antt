@@ -141,7 +141,7 @@ bigon-signs code c d p q is bigon p_slot q_slot =
 
 -- the numbers of positive and of negative crossings
 
-plus-kept_two : (code : Code) (c d : ℕ) → c < length code.crossings → d < length code.crossings → c ≢ d
+pub plus-kept_two : (code : Code) (c d : ℕ) → c < length code.crossings → d < length code.crossings → c ≢ d
     → plus_count code.crossings
     ≡ one_if (positive_at code.crossings c) + one_if (positive_at code.crossings d) + strand_plus (without_finger code c d)
 plus-kept_two code c d c_below d_below apart =

@@ -130,7 +130,7 @@ count-one p c n below = elim (cases_Bool (p c)) [
     off true false tells = refl
     off false false tells = refl
 
-plus-kept : (code : Code) (c : ℕ) → c < length code.crossings
+pub plus-kept : (code : Code) (c : ℕ) → c < length code.crossings
     → plus_count code.crossings ≡ cond (positive_at code.crossings c) 1 0 + strand_plus (without_kink code c)
 plus-kept code c below =
     let p : ℕ → Bool = positive_at code.crossings in

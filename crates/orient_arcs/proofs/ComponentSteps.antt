@@ -18,7 +18,7 @@ use Rattle.orient_arcs.proofs.Labels.{IsIn-order, order-IsIn, AreDistinct-order}
 
 module _ (next : ℕ → ℕ) where
   -- a walk round two names
-  walk-two : (fuel a b : ℕ) → next a ≡ b → next b ≡ a → b ≢ a → walk next a (suc (suc fuel)) a ≡ a ∷ b ∷ []
+  pub walk-two : (fuel a b : ℕ) → next a ≡ b → next b ≡ a → b ≢ a → walk next a (suc (suc fuel)) a ≡ a ∷ b ∷ []
   walk-two fuel a b is_b is_a differ =
       let first : nat_eq (next a) a ≡ false = ap (λ x. nat_eq x a) is_b ∙ neq-eqb b a differ in
       let second : nat_eq (next (next a)) a ≡ true = eq-eqb (next (next a)) a (ap next is_b ∙ is_a) in

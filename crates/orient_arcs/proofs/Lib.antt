@@ -16,3 +16,4 @@ pub mod StepLemmas
 pub mod ComponentSteps
 pub mod OwnNumbers
 pub mod PairedAlike
+pub mod KeptOrder

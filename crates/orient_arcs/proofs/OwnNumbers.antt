@@ -31,14 +31,14 @@ use Rattle.orient_arcs.proofs.Bridge.{below-bound, distinct-order}
 use Rattle.orient_arcs.proofs.ComponentSteps.{order-same, order-turned}
 
 -- numbers in a range
-in-range : (a n x : ℕ) → a ≤ x → x < a + n → IsIn x (range_with_len a n)
+pub in-range : (a n x : ℕ) → a ≤ x → x < a + n → IsIn x (range_with_len a n)
 in-range a zero x from below = absurd (omega (arith, from, below))
 in-range a (suc n) x from below = elim (cases_eq x a) [
   | inl same ↦ inl same
   | inr other ↦ inr (in-range (a + 1) n x (omega (arith, from, other)) (omega (arith, below)))
 ]
 
-range-in : (a n x : ℕ) → IsIn x (range_with_len a n) → (a ≤ x) × (x < a + n)
+pub range-in : (a n x : ℕ) → IsIn x (range_with_len a n) → (a ≤ x) × (x < a + n)
 range-in a zero x is = absurd is
 range-in a (suc n) x (inl same) = (omega (arith, same), omega (arith, same))
 range-in a (suc n) x (inr later) = let is = range-in (a + 1) n x later in (omega (arith, is.0), omega (arith, is.1))
@@ -56,7 +56,7 @@ module _ (code : Code) (directed : IsDirected code.crossings) (moves : HasNoSing
   oriented : IsOriented cs
   oriented = record { directed = directed; moves = moves }
 
-  paired : ArePaired parts
+  pub paired : ArePaired parts
   paired = ArePaired-directed code directed moves
 
   -- a pass goes from an arc to the next, and its label is that of the arc
@@ -90,7 +90,7 @@ module _ (code : Code) (directed : IsDirected code.crossings) (moves : HasNoSing
       by false true same place pass = absurd (cc)
 
   -- the heads are the arcs
-  arc-head : (x : ℕ) → IsArc cs x → IsIn x (heads_of parts paired)
+  pub arc-head : (x : ℕ) → IsArc cs x → IsIn x (heads_of parts paired)
   arc-head x is = in-counted (λ (pass : Pass). pass.enters) passes x (some-head code directed moves x is)
 
   head-arc : (x : ℕ) → IsIn x (heads_of parts paired) → IsArc cs x
@@ -103,20 +103,20 @@ module _ (code : Code) (directed : IsDirected code.crossings) (moves : HasNoSing
       firsts [] all = tt
       firsts (p ∷ ps) all = (all.0.0, firsts ps all.1)
 
-  follows-next : (x : ℕ) → IsArc cs x → follows passes x ≡ next cs x
+  pub follows-next : (x : ℕ) → IsArc cs x → follows passes x ≡ next cs x
   unfolding IsOwn
   follows-next x is =
       (entering-holds parts paired IsOwn x own-passes (arc-head x is)).0
       ∙ ap (next cs) (entering-enters parts paired x (arc-head x is))
 
-  label-own : (x : ℕ) → IsArc cs x → label_entered passes x ≡ printing.entering_label cs x
+  pub label-own : (x : ℕ) → IsArc cs x → label_entered passes x ≡ printing.entering_label cs x
   unfolding IsOwn
   label-own x is =
       (entering-holds parts paired IsOwn x own-passes (arc-head x is)).1
       ∙ ap (printing.entering_label cs) (entering-enters parts paired x (arc-head x is))
 
   -- a walk from a first arc goes over the arcs of its component
-  walk-range : (first : ℕ) → IsFirst cs first → (fuel i : ℕ) → i < size cs first → size cs first ≤ fuel + i
+  pub walk-range : (first : ℕ) → IsFirst cs first → (fuel i : ℕ) → i < size cs first → size cs first ≤ fuel + i
       → walk (follows passes) first fuel (first + i) ≡ range_with_len (first + i) (size cs first - i)
   walk-range first is zero i below enough = absurd (omega (arith, below, enough))
   walk-range first is (suc fuel) i below enough =
@@ -146,7 +146,7 @@ module _ (code : Code) (directed : IsDirected code.crossings) (moves : HasNoSing
       ]
 
   -- which is not turned
-  turned-own : (first : ℕ) → IsFirst cs first
+  pub turned-own : (first : ℕ) → IsFirst cs first
       → turned_names (label_entered passes) (range_with_len first (size cs first)) ≡ range_with_len first (size cs first)
   turned-own first is =
       let names = range_with_len first (size cs first) in

@@ -7,3 +7,4 @@ pub mod Alike
 pub mod WorkedParts
 pub mod RawParts
 pub mod Steps
+pub mod OtherNames

@@ -9,6 +9,7 @@ ghost use Rattle.orient_arcs.specs.Parts.{Parts, parts_of, ArePaired, passes_thr
 ghost use Rattle.kh_types.specs.Acceptance.{accepted};
 ghost use Rattle.kh_types.specs.StateSum.{state_sum};
 ghost use Rattle.orient_arcs.specs.Alike.{IsOf};
+ghost use Rattle.orient_arcs.specs.OtherNames.{IsNamedBy, KeepsComponents};
 ghost use Rattle.orient_arcs.specs.Renumbered.{AreOrdered, named_components, order_of, number_in, renumber};
 
 /// A renumbered code is a directed code.
@@ -60,4 +61,14 @@ pub fn accepted_codes_are_renumbered()
     ensures accepted { (code : Code) (parts : Parts) → IsTrue (accepted code) → IsOf code parts → IsTrue (accepted (renumber parts)) }
     ensures sums { (code : Code) (parts : Parts) → IsTrue (accepted code) → IsOf code parts → (exponent : ℤ)
         → state_sum (renumber parts) exponent ≡ state_sum code exponent }
+{}
+
+/// A code's own numbers come back from any names that keep the order of its components, and that of
+/// each least arc: so from all names that ascend with its arcs.
+pub fn own_numbers_come_back()
+    ensures crossings { (f : ℕ → ℕ) (code : Code) (parts : Parts) → IsTrue (accepted code)
+        → All (λ slots. length slots ≡ 4) code.crossings → ArePaired parts → IsNamedBy f code parts
+        → KeepsComponents f code.crossings → (renumber parts).crossings ≡ code.crossings }
+    ensures ascending { (f : ℕ → ℕ) (code : Code) → IsTrue (accepted code)
+        → ((x y : ℕ) → x < y → f x < f y) → KeepsComponents f code.crossings }
 {}
