@@ -14,7 +14,7 @@ const HOMOLOGY: Command = Command {
 };
 
 // Lines that mean a command, and the command.
-const COMMANDS: [(&[&str], Command); 14] = [
+const COMMANDS: [(&[&str], Command); 15] = [
     (&["homology"], HOMOLOGY),
     (
         &["--field=3", "homology"],
@@ -80,6 +80,14 @@ const COMMANDS: [(&[&str], Command); 14] = [
         &["schedule"],
         Command {
             task: Task::Schedule,
+            ..HOMOLOGY
+        },
+    ),
+    (
+        &["--field", "5", "edit"],
+        Command {
+            task: Task::Edit,
+            field: 5,
             ..HOMOLOGY
         },
     ),

@@ -13,6 +13,7 @@ intake_of tasks.Convert = Code
 intake_of tasks.Check = Code
 intake_of tasks.Jones = Code
 intake_of tasks.Schedule = CodeAndScript
+intake_of tasks.Edit = CodeAndScript
 intake_of tasks.Bench = Nothing
 
 -- the most bytes of it; none is for what reads nothing

@@ -22,7 +22,7 @@ pub fn intake_of(task: Task) -> Intake
 {
     match task {
         Task::Homology | Task::Convert | Task::Check | Task::Jones => Intake::Code,
-        Task::Schedule => Intake::CodeAndScript,
+        Task::Schedule | Task::Edit => Intake::CodeAndScript,
         Task::Bench => Intake::Nothing,
     }
 }

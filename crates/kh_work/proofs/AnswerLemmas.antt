@@ -13,7 +13,7 @@ use Rattle.kh_types.specs.declared.fault.CodeFault.{CodeFault}
 use Rattle.circle_smoothing.specs.GeneratorCounts.{generator_count}
 use Rattle.circle_smoothing.specs.declared.limits.TheConstants.{GENERATORS}
 use Rattle.word_line.specs.declared.command.Task.{Task}
-use Rattle.word_line.specs.declared.command.Task.TheVariants.{Bench, Homology, Jones, Schedule}
+use Rattle.word_line.specs.declared.command.Task.TheVariants.{Bench, Edit, Homology, Jones, Schedule}
 use Rattle.word_line.specs.declared.command.Command.{Command}
 use Rattle.word_line.specs.Commands.{IsCommand, IsUsage}
 use Rattle.word_line.proofs.Readings.{IsCommand-one}
@@ -31,6 +31,11 @@ use Rattle.commit_core.specs.Answering.{answers}
 use Rattle.kh_types.specs.declared.limits.TheConstants.{WORKERS}
 use Rattle.undo_stack.specs.Schedule.{IsSchedule}
 use Rattle.undo_stack.specs.declared.schedule.ScheduleLine.{ScheduleLine}
+use Rattle.undo_stack.specs.EditScript.{IsEdit}
+use Rattle.undo_stack.specs.EditRuns.{edited}
+use Rattle.undo_stack.specs.Histories.{opening_history}
+use Rattle.undo_stack.specs.declared.edit_line.EditLine.{EditLine}
+use Rattle.kh_work.specs.Edit.{edit_reply, edits_in, outcome_reply}
 use Rattle.braid_maker.specs.Closures.{code_of_number}
 use Rattle.braid_maker.specs.declared.limits.TheConstants.{NUMBERS}
 use Rattle.jones_sum.specs.Tables.{total_of}
@@ -199,6 +204,21 @@ IsAnswer-schedule words bytes command code script is_command is_schedule few_byt
       outcome = Ok code;
       read = (read, first_fault-accepted code is_accepted);
       answered = record { reading = Ok script; read = read_script; answered = schedule_reply-text command.field code script few };
+    })
+
+-- the code of an accepted diagram with a script is answered by what comes of the lines of the script
+pub IsAnswer-edit : (words : List (List ℕ)) (bytes : List ℕ) (command : Command) (code : Code) (script : List (ℕ × EditLine))
+    → IsCommand words command → command.task ≡ Edit → length bytes ≤ INPUT_BYTES → IsCodeRead (code_part bytes) (Ok code)
+    → IsTrue (accepted code) → IsEdit (script_part bytes) (Ok script)
+    → IsAnswer words bytes (outcome_reply code script (edited (edits_in script) (opening_history code)))
+unfolding edit_reply
+IsAnswer-edit words bytes command code script is_command is_edit few_bytes read is_accepted read_script =
+    answer-task words bytes command Edit (outcome_reply code script (edited (edits_in script) (opening_history code))) is_command is_edit
+    refl few_bytes
+    (record {
+      outcome = Ok code;
+      read = (read, first_fault-accepted code is_accepted);
+      answered = record { reading = Ok script; read = read_script; answered = refl };
     })
 
 -- a number is answered by the table of its diagram, where it has one

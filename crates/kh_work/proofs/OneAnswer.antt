@@ -10,8 +10,9 @@ use Rattle.undo_stack.specs.Schedule.{IsSchedule}
 use Rattle.undo_stack.specs.declared.limits.TheConstants.{SCRIPT_LINES}
 use Rattle.undo_stack.specs.ScheduleSteps.{schedule_of}
 use Rattle.undo_stack.proofs.ScheduleReadings.{IsSchedule-one, IsSchedule-schedule_of}
+use Rattle.kh_work.proofs.EditLemmas.{IsEditReply-one, IsEditReply-some}
 use Rattle.word_line.specs.declared.command.Task.{Task}
-use Rattle.word_line.specs.declared.command.Task.TheVariants.{Homology, Convert, Check, Jones, Schedule, Bench}
+use Rattle.word_line.specs.declared.command.Task.TheVariants.{Homology, Convert, Check, Jones, Schedule, Edit, Bench}
 use Rattle.word_line.specs.declared.command.Command.{Command}
 use Rattle.word_line.specs.Commands.{IsCommand, IsUsage}
 use Rattle.word_line.specs.Values.{HasNumber}
@@ -81,6 +82,9 @@ IsIntakeReply-some Jones command bytes needed = IsDiagramReply-some (IsCodeReply
 IsIntakeReply-some Schedule command bytes needed =
     IsDiagramReply-some (IsScriptedReply Schedule command (script_part bytes))
     (λ code. IsScheduleReply-some command.field code (script_part bytes)) (code_part bytes)
+IsIntakeReply-some Edit command bytes needed =
+    IsDiagramReply-some (IsScriptedReply Edit command (script_part bytes)) (λ code. IsEditReply-some code (script_part bytes))
+    (code_part bytes)
 IsIntakeReply-some Bench command bytes needed = IsNumberReply-some command.field command.number needed
 
 IsIntakeReply-one : (task : Task) (command : Command) (bytes : List ℕ) (a b : Reply)
@@ -94,6 +98,9 @@ IsIntakeReply-one Jones command bytes = IsDiagramReply-one (IsCodeReply Jones co
 IsIntakeReply-one Schedule command bytes =
     IsDiagramReply-one (IsScriptedReply Schedule command (script_part bytes))
     (λ code. IsScheduleReply-one command.field code (script_part bytes)) (code_part bytes)
+IsIntakeReply-one Edit command bytes =
+    IsDiagramReply-one (IsScriptedReply Edit command (script_part bytes)) (λ code. IsEditReply-one code (script_part bytes))
+    (code_part bytes)
 IsIntakeReply-one Bench command bytes = IsNumberReply-one command.field command.number
 
 -- within a limit or beyond it

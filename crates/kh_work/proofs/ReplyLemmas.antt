@@ -8,12 +8,16 @@ use Rattle.kh_types.specs.Table.{Table, table}
 use Rattle.jones_sum.specs.Tables.{total_of}
 use Rattle.kh_replies.specs.Jones.{jones_line}
 use Rattle.undo_stack.specs.declared.schedule.ScheduleLine.{ScheduleLine}
+use Rattle.undo_stack.specs.EditRuns.{edited}
+use Rattle.undo_stack.specs.Histories.{opening_history}
+use Rattle.undo_stack.specs.declared.edit_line.EditLine.{EditLine}
+use Rattle.undo_stack.specs.declared.edit_run.EditFault.{EditFault}
 use Rattle.undo_stack.specs.declared.stop.ScriptStop.{ScriptStop}
 use Rattle.undo_stack.specs.declared.stop.ScriptStop.TheVariants as stops
 use Rattle.circle_smoothing.specs.GeneratorCounts.{generator_count}
 use Rattle.circle_smoothing.specs.declared.limits.TheConstants.{GENERATORS}
 use Rattle.word_line.specs.declared.command.Task.{Task}
-use Rattle.word_line.specs.declared.command.Task.TheVariants.{Homology, Convert, Check, Jones, Schedule, Bench}
+use Rattle.word_line.specs.declared.command.Task.TheVariants.{Homology, Convert, Check, Jones, Schedule, Edit, Bench}
 use Rattle.word_line.specs.declared.command.Command.{Command}
 use Rattle.kh_replies.specs.declared.status.Status.{Status}
 use Rattle.kh_replies.specs.declared.status.Status.TheVariants.{Done, Usage}
@@ -34,6 +38,7 @@ use Rattle.kh_work.specs.declared.draft.Draft.{Draft}
 use Rattle.kh_work.specs.Drafts.{reply_in}
 use Rattle.kh_work.specs.Homology.{homology_reply, homology_text}
 use Rattle.kh_work.specs.Schedule.{IsScheduleReply, IsScriptReply, schedule_reply, schedule_text}
+use Rattle.kh_work.specs.Edit.{IsEditedReply, edit_reply, edit_status, edits_in}
 use Rattle.kh_work.specs.Bench.{bench_counts, bench_lines, bench_reply, bench_text}
 use Rattle.kh_work.specs.Answer.{IsBlindReply, IsCodeReply, IsNumberReply, IsScriptedReply, IsIntakeReply, IsLimitedReply, IsCommandReply}
 
@@ -55,6 +60,7 @@ limit_of Convert limit is = let e : Some INPUT_BYTES ≡ Some limit = is in cc
 limit_of Check limit is = let e : Some INPUT_BYTES ≡ Some limit = is in cc
 limit_of Jones limit is = let e : Some INPUT_BYTES ≡ Some limit = is in cc
 limit_of Schedule limit is = let e : Some INPUT_BYTES ≡ Some limit = is in cc
+limit_of Edit limit is = let e : Some INPUT_BYTES ≡ Some limit = is in cc
 limit_of Bench limit is = let e : None ≡ Some limit = is in absurd (cc)
 
 -- bytes within the limit, or beyond it
@@ -151,6 +157,21 @@ script-status field code (Err (stops.LineLimit count)) reply is = status-of repl
 script-status field code (Err (stops.Line line)) reply is = status-of reply _ is tt
 script-status field code (Err stops.NoMemory) reply is = absurd is
 
+edit-status : (code : Code) (script : List (ℕ × EditLine)) → IsReplyStatus (edit_reply code script).status
+unfolding edit_reply
+edit-status code script = go (edited (edits_in script) (opening_history code)).fault
+  where
+    go : (fault : Option EditFault) → IsReplyStatus (edit_status fault)
+    go None = tt
+    go (Some fault) = tt
+
+edited-status : (code : Code) (reading : Result (List (ℕ × EditLine)) ScriptStop) (reply : Reply) → IsEditedReply code reading reply
+    → IsReplyStatus reply.status
+edited-status code (Ok script) reply is = status-of reply _ is (edit-status code script)
+edited-status code (Err (stops.LineLimit count)) reply is = status-of reply _ is tt
+edited-status code (Err (stops.Line line)) reply is = status-of reply _ is tt
+edited-status code (Err stops.NoMemory) reply is = absurd is
+
 code_reply-status : (task : Task) (command : Command) (code : Code) (reply : Reply) → IsCodeReply task command code reply
     → IsReplyStatus reply.status
 code_reply-status Homology command code reply is = status-of reply _ is (homology-status command.field code)
@@ -158,6 +179,7 @@ code_reply-status Convert command code reply is = status-of reply _ is tt
 code_reply-status Check command code reply is = status-of reply _ is tt
 code_reply-status Jones command code reply is = status-of reply _ is tt
 code_reply-status Schedule command code reply is = absurd is
+code_reply-status Edit command code reply is = absurd is
 code_reply-status Bench command code reply is = absurd is
 
 intake_reply-status : (task : Task) (command : Command) (bytes : List ℕ) (reply : Reply)
@@ -169,6 +191,9 @@ intake_reply-status Jones command bytes = diagram_reply-status (IsCodeReply Jone
 intake_reply-status Schedule command bytes =
     diagram_reply-status (IsScriptedReply Schedule command (script_part bytes))
     (λ code reply is. script-status command.field code is.reading reply is.answered) (code_part bytes)
+intake_reply-status Edit command bytes =
+    diagram_reply-status (IsScriptedReply Edit command (script_part bytes))
+    (λ code reply is. edited-status code is.reading reply is.answered) (code_part bytes)
 intake_reply-status Bench command bytes = number_reply-status command.field command.number
 
 limited-status : (limit : Option ℕ) (bytes : List ℕ) (Answers : Reply → Type 0) (reply : Reply)

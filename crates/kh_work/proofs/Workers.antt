@@ -2,7 +2,7 @@
 use Rattle.std.proofs.Common.{◌≡◌, ℕ, inl, inr, List, subst, ap, None, Some}
 use Rattle.std.specs.Prelude.{Option}
 use Rattle.word_line.specs.declared.command.Task.{Task}
-use Rattle.word_line.specs.declared.command.Task.TheVariants.{Homology, Convert, Check, Jones, Schedule, Bench}
+use Rattle.word_line.specs.declared.command.Task.TheVariants.{Homology, Convert, Check, Jones, Schedule, Edit, Bench}
 use Rattle.word_line.specs.declared.command.Command.{Command}
 use Rattle.word_line.specs.Commands.{IsCommand}
 use Rattle.word_line.proofs.Readings.{IsCommand-one}
@@ -21,6 +21,7 @@ IsIntakeReply-workers Convert command workers bytes reply is = is
 IsIntakeReply-workers Check command workers bytes reply is = is
 IsIntakeReply-workers Jones command workers bytes reply is = is
 IsIntakeReply-workers Schedule command workers bytes reply is = is
+IsIntakeReply-workers Edit command workers bytes reply is = is
 IsIntakeReply-workers Bench command workers bytes reply is = is
 
 IsLimitedReply-weaker : (limit : Option ℕ) (bytes : List ℕ) (Answers Other : Reply → Type 0) (reply : Reply)

@@ -3,7 +3,7 @@
 use Rattle.std.specs.Prelude.{◌≡◌, ◌⊎◌, ℕ, ◌<◌, ◌≤◌, List, length, Option, Some, None}
 use Rattle.kh_types.specs.Code.{Code}
 use Rattle.word_line.specs.declared.command.Task.{Task}
-use Rattle.word_line.specs.declared.command.Task.TheVariants.{Homology, Convert, Check, Jones, Schedule, Bench}
+use Rattle.word_line.specs.declared.command.Task.TheVariants.{Homology, Convert, Check, Jones, Schedule, Edit, Bench}
 use Rattle.word_line.specs.declared.command.Command.{Command}
 use Rattle.word_line.specs.Commands.{IsCommand, IsUsage}
 use Rattle.kh_replies.specs.declared.intake.Intake.{Intake}
@@ -18,6 +18,7 @@ use Rattle.kh_replies.specs.Check.{check_reply}
 use Rattle.kh_replies.specs.Jones.{jones_reply}
 use Rattle.kh_work.specs.Homology.{homology_reply}
 use Rattle.kh_work.specs.Schedule.{IsScheduleReply}
+use Rattle.kh_work.specs.Edit.{IsEditReply}
 use Rattle.kh_work.specs.Bench.{bench_reply}
 
 -- the reply of a task that reads a code to the code of a diagram
@@ -31,6 +32,7 @@ IsCodeReply _ command code reply = ⊥
 -- the reply of a task that reads a code and a script to the text of the script and the code of a diagram
 abbrev pub IsScriptedReply : Task → Command → List ℕ → Code → Reply → Type 0
 IsScriptedReply Schedule command script code reply = IsScheduleReply command.field code script reply
+IsScriptedReply Edit command script code reply = IsEditReply code script reply
 IsScriptedReply _ command script code reply = ⊥
 
 -- the reply of a task that reads nothing, given the size of a field and the number of a command

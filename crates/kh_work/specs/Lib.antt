@@ -1,5 +1,6 @@
 pub mod Homology
 pub mod Schedule
+pub mod Edit
 pub mod Bench
 pub mod Answer
 pub mod Drafts

@@ -13,7 +13,7 @@ ghost use Rattle.kh_work.specs.Told.{IsKnownAnswer, IsKnownReply, IsTaken, IsRea
 ghost use Rattle.word_line.specs.Commands.{IsUsage};
 ghost use Rattle.word_line.specs.Values.{AreWorkers, HasNumber, IsFieldSize};
 
-use crate::commands::{draft_of_bench, draft_of_homology, reply_to_schedule};
+use crate::commands::{draft_of_bench, draft_of_homology, reply_to_edit, reply_to_schedule};
 use crate::draft::Draft;
 use kh_io::{ReadStop, Source, read_all};
 use kh_replies::{
@@ -112,9 +112,12 @@ fn draft_to_number(alloc: Global, command: Command) -> Result<Draft, NoMemory>
             Some(number) => draft_of_bench(alloc, command.field, command.workers, number),
             None => unreachable!(),
         },
-        Task::Homology | Task::Convert | Task::Check | Task::Jones | Task::Schedule => {
-            unreachable!()
-        }
+        Task::Homology
+        | Task::Convert
+        | Task::Check
+        | Task::Jones
+        | Task::Schedule
+        | Task::Edit => unreachable!(),
     }
 }
 
@@ -195,7 +198,7 @@ fn draft_to_diagram(alloc: Global, command: Command, diagram: &Diagram) -> Resul
         Task::Convert => Ok(Draft::Made(reply_to_convert(alloc, command.to, diagram)?)),
         Task::Check => Ok(Draft::Made(reply_to_check(alloc, diagram)?)),
         Task::Jones => Ok(Draft::Made(reply_to_jones(alloc, diagram)?)),
-        Task::Schedule | Task::Bench => unreachable!(),
+        Task::Schedule | Task::Edit | Task::Bench => unreachable!(),
     }
 }
 
@@ -242,6 +245,7 @@ fn draft_to_scripted(
             diagram,
             script,
         )?)),
+        Task::Edit => Ok(Draft::Made(reply_to_edit(alloc, diagram, script)?)),
         Task::Homology | Task::Convert | Task::Check | Task::Jones | Task::Bench => unreachable!(),
     }
 }

@@ -1,6 +1,6 @@
 //! Laws of the definitions: each is the contract of a function that does nothing.
 
-ghost use Rattle.std.specs.Prelude.{◌≡◌, ◌<◌, ◌≤◌, ◌++◌, ℕ, List, length};
+ghost use Rattle.std.specs.Prelude.{◌≡◌, ◌<◌, ◌≤◌, ◌++◌, ℕ, List, [], length};
 ghost use Rattle.std.specs.Prelude.{IsTrue, Ok, Some};
 ghost use Rattle.circle_smoothing.specs.GeneratorCounts.{generator_count};
 ghost use Rattle.circle_smoothing.specs.declared.limits.TheConstants.{GENERATORS};
@@ -20,6 +20,7 @@ ghost use Rattle.kh_replies.specs.Parts.{code_part, script_part};
 ghost use Rattle.word_line.specs.Commands.{IsCommand};
 ghost use Rattle.word_line.specs.Values.{IsFieldSize};
 ghost use Rattle.kh_work.specs.Schedule.{answer_lines, events_of};
+ghost use Rattle.kh_work.specs.Edit.{edits_in, outcome_reply};
 ghost use Rattle.kh_work.specs.Answer.{IsAnswer};
 ghost use Rattle.kh_work.specs.Bench.{bench_counts, bench_lines};
 ghost use Rattle.kh_replies.specs.Refusals.{too_large_number};
@@ -28,6 +29,11 @@ ghost use Rattle.braid_maker.specs.Closures.{code_of_number};
 ghost use Rattle.braid_maker.specs.declared.limits.TheConstants.{NUMBERS};
 ghost use Rattle.kh_types.specs.declared.limits.TheConstants.{WORKERS};
 ghost use Rattle.undo_stack.specs.Schedule.{IsSchedule};
+ghost use Rattle.undo_stack.specs.EditScript.{IsEdit};
+ghost use Rattle.undo_stack.specs.EditRuns.{diagram_after, edited};
+ghost use Rattle.undo_stack.specs.Histories.{opening_history};
+ghost use Rattle.undo_stack.specs.Sums.{HasSumOf};
+ghost use Rattle.undo_stack.specs.declared.edit_line.EditLine.{EditLine};
 ghost use Rattle.undo_stack.specs.declared.schedule.ScheduleLine.{ScheduleLine};
 
 /// To all words and all bytes there is exactly one answer.
@@ -78,6 +84,22 @@ pub fn accepted_diagrams_are_answered_by_their_schedule()
         → IsAnswer words bytes (reply_of Status.Done
         (answer_lines script (answers command.field code WORKERS (events_of script))
         ++ (table_text (table command.field code) ++ jones_line code))) }
+{}
+
+/// Words that mean the command `edit`, and bytes with the code of an accepted diagram and a script that is read as the lines of an edit,
+/// are answered by the diagram after each line that is done, and by the line behind them, where it is refused. Every diagram that is
+/// written, that after any number of lines, is accepted and has the first one's state sum. Without lines nothing is written.
+pub fn accepted_diagrams_are_answered_by_their_edit()
+    ensures answer { (words : List (List ℕ)) (bytes : List ℕ) (command : Command) (code : Code)
+        (script : List (ℕ × EditLine))
+        → IsCommand words command → command.task ≡ Task.Edit
+        → length bytes ≤ INPUT_BYTES → IsCodeRead (code_part bytes) (Ok code) → IsTrue (accepted code)
+        → IsEdit (script_part bytes) (Ok script)
+        → IsAnswer words bytes (outcome_reply code script (edited (edits_in script) (opening_history code))) }
+    ensures sum { (lines : List EditLine) (code : Code) (count : ℕ) → IsTrue (accepted code)
+        → HasSumOf code (diagram_after lines code count) }
+    ensures nothing { (code : Code)
+        → outcome_reply code [] (edited (edits_in []) (opening_history code)) ≡ reply_of Status.Done [] }
 {}
 
 /// Words that mean the command `bench` with a number are answered by three lines of counts of the number's diagram, the sum of all

@@ -11,6 +11,7 @@ mod top;
 
 pub use kh_replies::Status;
 pub use laws::{
+    accepted_diagrams_are_answered_by_their_edit,
     accepted_diagrams_are_answered_by_their_polynomial,
     accepted_diagrams_are_answered_by_their_schedule,
     accepted_diagrams_are_answered_by_their_table, jones_line_is_the_euler_characteristic,

@@ -7,5 +7,6 @@ pub mod HistorySteps
 pub mod MoveLemmas
 pub mod HistoryLemmas
 pub mod EditRuns
+pub mod EditedParts
 mod EditLines
 pub mod EditReadings

@@ -1,9 +1,9 @@
 -- What lines of an edit do to the undo machine (this project's rule).
-use Rattle.std.specs.Prelude.{ℕ, ◌+◌, List, [], ◌∷◌, Option, None, Some, ok_or, Result, Ok, Err}
+use Rattle.std.specs.Prelude.{ℕ, ◌+◌, List, [], ◌∷◌, take, Option, None, Some, ok_or, Result, Ok, Err}
 use Rattle.kh_types.specs.Code.{Code}
 use Rattle.diagram_moves.specs.Moved.{moved}
 use Rattle.diagram_moves.specs.declared.fault.MoveFault.{MoveFault}
-use Rattle.undo_stack.specs.Histories.{History, changed, redone, undone}
+use Rattle.undo_stack.specs.Histories.{History, changed, opening_history, redone, undone}
 use Rattle.undo_stack.specs.declared.edit_line.EditLine.{EditLine}
 use Rattle.undo_stack.specs.declared.edit_line.EditLine.TheVariants.{Change, Undo, Redo}
 use Rattle.undo_stack.specs.declared.edit_run.EditFault.{EditFault}
@@ -42,3 +42,7 @@ edited_from count (line ∷ more) history = then_edits (edited_from (count + 1) 
 -- what comes of some lines
 abbrev pub edited : List EditLine → History → EditOutcome
 edited = edited_from 0
+
+-- the diagram after the first lines of an edit, so many of them
+abbrev pub diagram_after : List EditLine → Code → ℕ → Code
+diagram_after lines code count = (edited (take count lines) (opening_history code)).history.diagram

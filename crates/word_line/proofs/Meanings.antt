@@ -7,7 +7,7 @@ use Rattle.std.proofs.lemmas.Slice.Eq.{bytes_eq-Decides}
 use Rattle.std.specs.Option.{option_map}
 use Rattle.std.specs.Str.{bytes_eq}
 use Rattle.word_line.specs.declared.command.Task.{Task}
-use Rattle.word_line.specs.declared.command.Task.TheVariants.{Homology, Convert, Check, Jones, Schedule, Bench}
+use Rattle.word_line.specs.declared.command.Task.TheVariants.{Homology, Convert, Check, Jones, Schedule, Edit, Bench}
 use Rattle.word_line.specs.declared.command.Form.{Form}
 use Rattle.word_line.specs.declared.command.Form.TheVariants.{Pd, Gauss}
 use Rattle.word_line.specs.declared.command.Command.{Command}
@@ -32,6 +32,7 @@ task_of-name Jones = refl
 task_of-name Check = refl
 task_of-name Convert = refl
 task_of-name Schedule = refl
+task_of-name Edit = refl
 task_of-name Bench = refl
 
 named : (name : List ℕ) (text : List ℕ) (this task : Task) → text ≡ task_name this → bytes_eq name text ≡ true → this ≡ task → name ≡ task_name task
@@ -44,7 +45,8 @@ name_of-task name task same =
     chosen (bytes_eq name (codes "check")) Check _ task same (named name (codes "check") Check task refl) (λ same.
     chosen (bytes_eq name (codes "convert")) Convert _ task same (named name (codes "convert") Convert task refl) (λ same.
     chosen (bytes_eq name (codes "schedule")) Schedule _ task same (named name (codes "schedule") Schedule task refl) (λ same.
-    chosen (bytes_eq name (codes "bench")) Bench _ task same (named name (codes "bench") Bench task refl) (λ same. absurd (none-some task same)))))))
+    chosen (bytes_eq name (codes "edit")) Edit _ task same (named name (codes "edit") Edit task refl) (λ same.
+    chosen (bytes_eq name (codes "bench")) Bench _ task same (named name (codes "bench") Bench task refl) (λ same. absurd (none-some task same))))))))
 
 -- fields
 sized : (value text : List ℕ) (this size : ℕ) → text ≡ (48 + this) ∷ [] → ((this ≡ 2) ⊎ (this ≡ 3) ⊎ (this ≡ 5) ⊎ (this ≡ 7)) → bytes_eq value text ≡ true → this ≡ size → NamesField value size
@@ -136,6 +138,7 @@ HasNumber-read command made Jones number same = (tt, same_Some command made same
 HasNumber-read command made Check number same = (tt, same_Some command made same)
 HasNumber-read command made Convert number same = (tt, same_Some command made same)
 HasNumber-read command made Schedule number same = (tt, same_Some command made same)
+HasNumber-read command made Edit number same = (tt, same_Some command made same)
 HasNumber-read command made Bench None same = absurd (none-some made same)
 HasNumber-read command made Bench (Some number) same = (tt, same_Some command made same)
 
@@ -145,5 +148,6 @@ read-HasNumber command Jones number needed = refl
 read-HasNumber command Check number needed = refl
 read-HasNumber command Convert number needed = refl
 read-HasNumber command Schedule number needed = refl
+read-HasNumber command Edit number needed = refl
 read-HasNumber command Bench None needed = absurd needed
 read-HasNumber command Bench (Some number) needed = refl

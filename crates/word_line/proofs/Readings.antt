@@ -17,7 +17,7 @@ use Rattle.clap.proofs.WalkLemmas.{first_value-rows}
 use Rattle.word_line.specs.declared.command.Command.{Command}
 use Rattle.word_line.specs.declared.limits.TheConstants.{NUMBER_DIGITS, WORKERS_DIGITS}
 use Rattle.word_line.specs.declared.command.Task.{Task}
-use Rattle.word_line.specs.declared.command.Task.TheVariants.{Homology, Convert, Check, Jones, Schedule, Bench}
+use Rattle.word_line.specs.declared.command.Task.TheVariants.{Homology, Convert, Check, Jones, Schedule, Edit, Bench}
 use Rattle.word_line.specs.declared.command.Form.{Form}
 use Rattle.word_line.specs.declared.command.Form.TheVariants.{Pd, Gauss}
 use Rattle.word_line.specs.Commands.{IsCommand}
@@ -40,6 +40,7 @@ task_no_dash Jones = λ is. absurd (omega (arith, is))
 task_no_dash Check = λ is. absurd (omega (arith, is))
 task_no_dash Convert = λ is. absurd (omega (arith, is))
 task_no_dash Schedule = λ is. absurd (omega (arith, is))
+task_no_dash Edit = λ is. absurd (omega (arith, is))
 task_no_dash Bench = λ is. absurd (omega (arith, is))
 
 digits_no_dash : (limit : ℕ) (value : Text) (number : ℕ) → WritesNumber limit value number → HasNoDash value

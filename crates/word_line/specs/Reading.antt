@@ -7,7 +7,7 @@ use Rattle.std.specs.Borrow.{Bor}
 use Rattle.std.specs.Str.{bytes_eq}
 use Rattle.std.specs.Str.Parse.{digits_value}
 use Rattle.word_line.specs.declared.command.Task.{Task}
-use Rattle.word_line.specs.declared.command.Task.TheVariants.{Homology, Convert, Check, Jones, Schedule, Bench}
+use Rattle.word_line.specs.declared.command.Task.TheVariants.{Homology, Convert, Check, Jones, Schedule, Edit, Bench}
 use Rattle.word_line.specs.declared.command.Form.{Form}
 use Rattle.word_line.specs.declared.command.Form.TheVariants.{Pd, Gauss}
 use Rattle.word_line.specs.declared.command.Command.{Command}
@@ -30,6 +30,7 @@ task_of name =
     else if bytes_eq name (codes "check") then Some Check
     else if bytes_eq name (codes "convert") then Some Convert
     else if bytes_eq name (codes "schedule") then Some Schedule
+    else if bytes_eq name (codes "edit") then Some Edit
     else if bytes_eq name (codes "bench") then Some Bench
     else None
 

@@ -4,7 +4,7 @@ use Rattle.std.specs.Char.{is_ascii_digit}
 use Rattle.std.specs.List.{list_all}
 use Rattle.std.specs.Str.Parse.{digits_value}
 use Rattle.word_line.specs.declared.command.Task.{Task}
-use Rattle.word_line.specs.declared.command.Task.TheVariants.{Homology, Convert, Check, Jones, Schedule, Bench}
+use Rattle.word_line.specs.declared.command.Task.TheVariants.{Homology, Convert, Check, Jones, Schedule, Edit, Bench}
 use Rattle.word_line.specs.declared.command.Form.{Form}
 use Rattle.word_line.specs.declared.command.Form.TheVariants.{Pd, Gauss}
 use Rattle.word_line.specs.Pieces.{Key, Piece, positional, apart, joined}
@@ -19,6 +19,7 @@ task_name Jones = codes "jones"
 task_name Check = codes "check"
 task_name Convert = codes "convert"
 task_name Schedule = codes "schedule"
+task_name Edit = codes "edit"
 task_name Bench = codes "bench"
 
 -- the word of a form

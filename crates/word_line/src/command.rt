@@ -15,6 +15,8 @@ pub enum Task {
     Jones,
     /// Let workers look and commit as a script says; write the answers, and the homology table.
     Schedule,
+    /// Make moves of the diagram as a script says, and take them back; write the diagram after each line.
+    Edit,
     /// Write the counts, the dimension and the Jones polynomial of the closed braid of a number.
     Bench,
 }

@@ -63,6 +63,7 @@ fn task_of(name: &str) -> Option<Task>
         "check" => Some(Task::Check),
         "convert" => Some(Task::Convert),
         "schedule" => Some(Task::Schedule),
+        "edit" => Some(Task::Edit),
         "bench" => Some(Task::Bench),
         _ => None,
     }
