@@ -66,7 +66,7 @@ fn worked_moves_leave_these_codes(rt: HostRuntime) {
     assert!(rt; leaves(OVER_CIRCLE, drop, &[], 2));
 }
 
-/// Three crossings of a knot; and two, where a circle lies over and its two arcs exchange numbers.
+/// A Hopf link with a kink; and a circle that lies over, whose two arcs exchange their numbers.
 #[test]
 fn worked_slides_leave_these_codes(rt: HostRuntime) {
     let slid = [[6, 3, 5, 2], [4, 2, 1, 1], [3, 6, 4, 5]];

@@ -17,7 +17,7 @@ follows passes name = (entering passes name).leaves
 abbrev pub label_entered : List Pass → ℕ → ℤ
 label_entered passes name = (entering passes name).label
 
--- a number above all names
+-- a number above all names that are entered
 abbrev pub bound_of : List Pass → ℕ
 bound_of [] = 0
 bound_of (pass ∷ passes) = max (pass.enters + 1) (bound_of passes)

@@ -6,10 +6,11 @@ use Rattle.orient_arcs.specs.Parts.{Parts, parts_of}
 abbrev pub with_signs : List (List ℕ) → List Bool → Parts
 with_signs crossings positive = record { crossings = crossings; positive = positive; loops = 0 }
 
--- the trefoil, and the same under names with gaps
+-- the trefoil
 abbrev pub trefoil_parts : Parts
 trefoil_parts = with_signs (slots_with 1 4 2 5 ∷ slots_with 3 6 4 1 ∷ slots_with 5 2 6 3 ∷ []) (false ∷ false ∷ false ∷ [])
 
+-- the trefoil under names with gaps
 abbrev pub named_trefoil : Parts
 named_trefoil = with_signs (slots_with 7 9 2 4 ∷ slots_with 30 0 9 7 ∷ slots_with 4 2 0 30 ∷ []) (false ∷ false ∷ false ∷ [])
 
@@ -17,21 +18,23 @@ named_trefoil = with_signs (slots_with 7 9 2 4 ∷ slots_with 30 0 9 7 ∷ slots
 abbrev pub turned_circle : Parts
 turned_circle = with_signs (slots_with 1 3 2 4 ∷ slots_with 2 3 1 4 ∷ []) (true ∷ false ∷ [])
 
--- the triangle of three arcs over a circle, after a slide
+-- a kinked circle under a circle of two arcs, after a slide; the second arc of the circle enters its first listed crossing
 abbrev pub slid : Parts
 slid = with_signs (slots_with 2 5 3 6 ∷ slots_with 3 5 4 6 ∷ slots_with 1 1 2 4 ∷ []) (true ∷ false ∷ true ∷ [])
 
--- a curl, and a crossing whose over pass is a component of one arc
+-- a curl
 abbrev pub curl_parts : Parts
 curl_parts = with_signs (slots_with 5 5 3 3 ∷ []) (true ∷ [])
 
+-- a crossing whose over pass is a component of one arc
 abbrev pub single : Parts
 single = with_signs (slots_with 2 1 2 1 ∷ []) (true ∷ [])
 
--- the mirror image of the trefoil, and the trefoil with the other direction
+-- the mirror image of the trefoil
 abbrev pub mirrored : Parts
 mirrored = with_signs (slots_with 4 2 5 1 ∷ slots_with 6 4 1 3 ∷ slots_with 2 6 3 5 ∷ []) (true ∷ true ∷ true ∷ [])
 
+-- the trefoil with the other direction
 abbrev pub reversed : Parts
 reversed = with_signs (slots_with 2 5 1 4 ∷ slots_with 4 1 3 6 ∷ slots_with 6 3 5 2 ∷ []) (false ∷ false ∷ false ∷ [])
 

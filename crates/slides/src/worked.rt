@@ -6,7 +6,8 @@ ghost use Rattle.kh_types.specs.Acceptance.{accepted};
 ghost use Rattle.slides.specs.Triangles.{slide_slot, has_triangle, step};
 ghost use Rattle.slides.specs.Slid.{slid};
 
-/// Three slides at which outer arcs are one, and the trefoil, whose triangles are alternating.
+/// Five slides, of which four are at triangles with outer arcs that are one, and the trefoil, whose
+/// triangles are alternating.
 pub fn worked_slides()
     // Three kinks: each crossing's two outer ends are one arc.
     ensures kinks_accepted { accepted (without_loops (slots_with 6 2 1 1 ∷ slots_with 5 4 6 5
@@ -31,13 +32,13 @@ pub fn worked_slides()
     ensures four { slid (slots_with 6 8 1 7 ∷ slots_with 1 2 2 3 ∷ slots_with 5 5 6 4
         ∷ slots_with 3 8 4 7 ∷ []) 2 7 15
         ≡ slots_with 1 7 2 8 ∷ slots_with 6 3 1 4 ∷ slots_with 5 5 6 4 ∷ slots_with 2 7 3 8 ∷ [] }
-    // A knot's slide, and one under an over circle, before that circle's two arcs, 5 and 6,
-    // exchange their numbers.
-    ensures knot_accepted { accepted (without_loops (slots_with 5 2 6 1 ∷ slots_with 3 3 4 2
+    // A Hopf link with a kink; and a triangle under a circle that lies over, before the circle's two
+    // arcs, 5 and 6, exchange their numbers.
+    ensures hopf_accepted { accepted (without_loops (slots_with 5 2 6 1 ∷ slots_with 3 3 4 2
         ∷ slots_with 4 5 1 6 ∷ [])) ≡ true }
-    ensures knot_slot { slide_slot (slots_with 5 2 6 1 ∷ slots_with 3 3 4 2 ∷ slots_with 4 5 1 6
+    ensures hopf_slot { slide_slot (slots_with 5 2 6 1 ∷ slots_with 3 3 4 2 ∷ slots_with 4 5 1 6
         ∷ []) 1 2 3 ≡ Some 1 }
-    ensures knot { slid (slots_with 5 2 6 1 ∷ slots_with 3 3 4 2 ∷ slots_with 4 5 1 6 ∷ []) 1 6 11
+    ensures hopf { slid (slots_with 5 2 6 1 ∷ slots_with 3 3 4 2 ∷ slots_with 4 5 1 6 ∷ []) 1 6 11
         ≡ slots_with 6 3 5 2 ∷ slots_with 4 2 1 1 ∷ slots_with 3 6 4 5 ∷ [] }
     ensures circle_accepted { accepted (without_loops (slots_with 1 6 2 5 ∷ slots_with 4 6 1 5
         ∷ slots_with 2 4 3 3 ∷ [])) ≡ true }
