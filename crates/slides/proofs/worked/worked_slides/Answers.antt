@@ -14,9 +14,9 @@ pub returns-clause-four_accepted : goal.returns-clause-four_accepted
 unfolding first_fault accepted
 returns-clause-four_accepted c = refl
 
-pub returns-clause-knot_accepted : goal.returns-clause-knot_accepted
+pub returns-clause-hopf_accepted : goal.returns-clause-hopf_accepted
 unfolding first_fault accepted
-returns-clause-knot_accepted c = refl
+returns-clause-hopf_accepted c = refl
 
 pub returns-clause-circle_accepted : goal.returns-clause-circle_accepted
 unfolding first_fault accepted
