@@ -22,6 +22,8 @@ mod pd_texts;
 #[cfg(test)]
 mod plain_acceptance;
 #[cfg(test)]
+mod renumbering;
+#[cfg(test)]
 mod scripts;
 #[cfg(test)]
 mod tables;

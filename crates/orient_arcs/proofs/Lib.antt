@@ -7,6 +7,7 @@ pub mod PairedPasses
 pub mod Labels
 pub mod Bridge
 pub mod Ordered
+pub mod OneOrder
 pub mod DartSmoothings
 pub mod AlikeCrossings
 pub mod PairedCodes

@@ -88,3 +88,10 @@ pub record AreOrdered (parts : Parts) (components : List (List ℕ)) : Type 0 wh
       → name_at components at 0 ≤ name_at components at place
   pub ascending : (at later : ℕ) → at < later → later < length components → name_at components at 0 < name_at components later 0
   pub once : (name : ℕ) → count_by (nat_eq name) (all_of components) ≡ head_count parts name
+
+-- names in order: those of components in order, one after another, each along its direction from its least name on; but one of two
+-- arcs that is over at both its crossings begins with the arc that enters the first listed of them
+pub record AreInOrder (parts : Parts) (order : List ℕ) : Type 0 where
+  pub components : List (List ℕ)
+  pub ordered : AreOrdered parts components
+  pub begun : order ≡ flat_map (turned_names (label_entered (passes_through parts))) components

@@ -1,6 +1,6 @@
 //! What renumbering does.
 
-ghost use Rattle.std.specs.Prelude.{All, ℤ, IsTrue, ◌≡◌, ◌≢◌, ◌<◌, ◌≤◌, ◌-◌, ◌*◌, ◌+◌, ℕ, List, length, MatchBool};
+ghost use Rattle.std.specs.Prelude.{All, ℤ, IsTrue, ◌≡◌, ◌≢◌, ◌<◌, ◌≤◌, ◌-◌, ◌*◌, ◌+◌, ℕ, List, length, map, MatchBool};
 ghost use Rattle.kh_types.specs.Code.{Code, arc_in, slots_of, IsCrossing, IsArc};
 ghost use Rattle.kh_types.specs.Components.{next};
 ghost use Rattle.kh_types.specs.Directions.{is_positive, HasNoSingleArcs};
@@ -10,7 +10,7 @@ ghost use Rattle.kh_types.specs.Acceptance.{accepted};
 ghost use Rattle.kh_types.specs.StateSum.{state_sum};
 ghost use Rattle.orient_arcs.specs.Alike.{IsOf};
 ghost use Rattle.orient_arcs.specs.OtherNames.{IsNamedBy, KeepsComponents};
-ghost use Rattle.orient_arcs.specs.Renumbered.{AreOrdered, named_components, order_of, number_in, renumber};
+ghost use Rattle.orient_arcs.specs.Renumbered.{AreInOrder, AreOrdered, named_components, order_of, number_in, renamed, renumber};
 
 /// A renumbered code is a directed code, in which the over strand of each crossing goes the way that the parts say; so each crossing
 /// keeps its sign, one whose over pass is a component of one arc excepted.
@@ -42,6 +42,16 @@ pub fn numbers_tell_names_apart()
 /// Components follow one another in the order of their least names.
 pub fn components_stand_in_order()
     ensures { (parts : Parts) → ArePaired parts → AreOrdered parts (named_components (passes_through parts)) }
+{}
+
+/// The names have one order: those of the components in order, one after another, each as it begins; and renumbering gives each
+/// name its place in it.
+pub fn names_have_one_order()
+    ensures order { (parts : Parts) → ArePaired parts → AreInOrder parts (order_of (passes_through parts)) }
+    ensures one { (parts : Parts) (order other : List ℕ) → ArePaired parts → AreInOrder parts order → AreInOrder parts other
+        → order ≡ other }
+    ensures code { (parts : Parts) (order : List ℕ) → ArePaired parts → AreInOrder parts order
+        → (renumber parts).crossings ≡ map (renamed (number_in order)) parts.crossings }
 {}
 
 /// A directed code without single arcs keeps its numbers, where each of its crossings has four slots.
