@@ -85,10 +85,10 @@ is_kink-crossing true false a = is_kink-at (kink_crossing true false a) 3 (omega
 is_kink-crossing false true a = is_kink-at (kink_crossing false true a) 2 (omega arith) refl
 is_kink-crossing false false a = is_kink-at (kink_crossing false false a) 1 (omega arith) refl
 
-within-none : (x most : ℕ) (fault : MoveFault) → 1 ≤ x → x ≤ most → refused_where (nat_eq x 0 || nat_lt most x) fault ≡ None
+pub within-none : (x most : ℕ) (fault : MoveFault) → 1 ≤ x → x ≤ most → refused_where (nat_eq x 0 || nat_lt most x) fault ≡ None
 within-none x most fault positive within = grind (arith, nat_tests)
 
-held-none : (b : Bool) (fault : MoveFault) → b ≡ true → refused_where (not b) fault ≡ None
+pub held-none : (b : Bool) (fault : MoveFault) → b ≡ true → refused_where (not b) fault ≡ None
 held-none true fault holds = refl
 held-none false fault holds = absurd (cc)
 
