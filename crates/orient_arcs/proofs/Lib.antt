@@ -18,3 +18,5 @@ pub mod ComponentSteps
 pub mod OwnNumbers
 pub mod PairedAlike
 pub mod KeptOrder
+pub mod ArcWalks
+pub mod PlacedNumbers

@@ -28,6 +28,7 @@ use Rattle.orient_arcs.proofs.PairedPasses.{heads_of, entering-holds, entering-e
 use Rattle.orient_arcs.proofs.Labels.{turned-cases, turned-labels}
 use Rattle.orient_arcs.proofs.PairedCodes.{ArePaired-directed, positive-is, some-head, ends-arcs, arc-of}
 use Rattle.orient_arcs.proofs.Bridge.{below-bound, distinct-order}
+use Rattle.orient_arcs.proofs.ArcWalks.{walk-arcs}
 use Rattle.orient_arcs.proofs.ComponentSteps.{order-same, order-turned}
 
 -- numbers in a range
@@ -118,32 +119,7 @@ module _ (code : Code) (directed : IsDirected code.crossings) (moves : HasNoSing
   -- a walk from a first arc goes over the arcs of its component
   pub walk-range : (first : ℕ) → IsFirst cs first → (fuel i : ℕ) → i < size cs first → size cs first ≤ fuel + i
       → walk (follows passes) first fuel (first + i) ≡ range_with_len (first + i) (size cs first - i)
-  walk-range first is zero i below enough = absurd (omega (arith, below, enough))
-  walk-range first is (suc fuel) i below enough =
-      let x = first + i in
-      let end = end-within cs directed first is in
-      let is_arc : IsArc cs x = record { positive = omega (arith, is.is_arc.positive); within = omega (arith, end, below) } in
-      let place = HasPlace-directed cs directed x is_arc in
-      let inside = component-in cs directed first x is (omega arith) (omega (arith, below)) in
-      let alike : size cs (component cs x) ≡ size cs first = ap (size cs) inside in
-      let goes = follows-next x is_arc in
-      elim (cases_lt (i + 1) (size cs first)) [
-        | inl more ↦
-            let to : follows passes x ≡ first + (i + 1) =
-            goes ∙ place.inside (omega (arith, more, inside, alike)) ∙ omega arith in
-            let e : size cs first - i ≡ suc (size cs first - (i + 1)) = omega (arith, more) in
-            let f : first + i + 1 ≡ first + (i + 1) = omega arith in
-            ap (λ y. x ∷ (if nat_eq y first then [] else walk (follows passes) first fuel y)) to
-            ∙ ap (λ b. x ∷ (if b then [] else walk (follows passes) first fuel (first + (i + 1))))
-            (neq-eqb (first + (i + 1)) first (λ same. absurd (omega (arith, same))))
-            ∙ ap (λ ys. x ∷ ys) (walk-range first is fuel (i + 1) more (omega (arith, enough)) ∙ ap (λ k. range_with_len k (size cs first - (i + 1))) (sym f))
-            ∙ ap (λ k. range_with_len x k) (sym e)
-        | inr last ↦
-            let to : follows passes x ≡ first = goes ∙ place.last (omega (arith, last, inside, alike)) ∙ inside in
-            let e : size cs first - i ≡ suc zero = omega (arith, last, below) in
-            ap (λ b. x ∷ (if b then [] else walk (follows passes) first fuel (follows passes x))) (eq-eqb (follows passes x) first to)
-            ∙ ap (λ k. range_with_len x k) (sym e)
-      ]
+  walk-range = walk-arcs cs directed (follows passes) follows-next
 
   -- which is not turned
   pub turned-own : (first : ℕ) → IsFirst cs first
