@@ -5,8 +5,8 @@
 
 `tests/program` runs these cases behind its rows. The draws are the same in each run. A case is one run of the program: the moves that can
 be made from a diagram, one after another; a move that cannot be made; the counts of a diagram that came; its Jones polynomial or homology,
-which has to be that of the first; a script of moves that are taken back and made again; or a line of `edit_by_hand.py`. With a word only
-the cases whose names have it are run. The last line is 'N passed, M failed'.
+which has to be that of the first; a script of moves that are taken back and made again; `check` on a code some of whose arcs were
+changed; or a line of `edit_by_hand.py`. With a word only the cases whose names have it are run. The last line is 'N passed, M failed'.
 """
 import functools
 import os
@@ -29,6 +29,7 @@ SECONDS = 60
 STEPS = 200
 SCRIPTS = 2000
 LONG_SCRIPTS = 20
+CHANGED_CODES = 1000
 JONES_CROSSINGS = 14
 HOMOLOGY_CROSSINGS = 10
 HOMOLOGY_GENERATORS = 200_000
@@ -200,6 +201,16 @@ def scripts(program, small, seed, count, lines_for):
         yield asked(program, ["edit"], given, moves.answer(diagram, script))
 
 
+def changed_codes(program, texts):
+    """Codes some of which break a rule of acceptance: `check` names the first, or tells the counts."""
+    draw = random.Random("codes")
+    for _ in range(CHANGED_CODES):
+        code = draws.changed_code(draw, codes.read(draw.choice(texts)))
+        fault = codes.fault_of(code)
+        wanted = (moves.CODE_REFUSED, f"refused {fault}\n") if fault else (moves.DONE, codes.counts(codes.accepted(code)))
+        yield asked(program, ["check"], codes.printed(code), wanted)
+
+
 def by_hand(name, text, line, answer):
     """What gives the case of a line with its answer."""
     status = moves.MOVE_REFUSED if answer.startswith("refused") else moves.DONE
@@ -233,9 +244,11 @@ def groups():
     for what in ("moves", "acceptance", "polynomials", "tables"):
         for chain in chains:
             yield f"{what} from {chain.name}", getattr(chain, what)
-    small = [text for _, text in diagrams() if len(codes.read(text).crossings) <= 6]
+    texts = [text for _, text in diagrams() if codes.read(text).crossings]
+    small = [text for text in texts if len(codes.read(text).crossings) <= 6] + ["PD[]"]
+    yield "changed codes", functools.partial(changed_codes, texts=texts)
     yield "scripts", functools.partial(scripts, small=small, seed="scripts", count=SCRIPTS, lines_for=draws.short_lines)
-    yield "long scripts", functools.partial(scripts, small=small[2:], seed="long", count=LONG_SCRIPTS, lines_for=draws.many_lines)
+    yield "long scripts", functools.partial(scripts, small=small[:-1], seed="long", count=LONG_SCRIPTS, lines_for=draws.many_lines)
 
 
 def faults(program, word=""):

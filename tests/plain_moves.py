@@ -25,7 +25,7 @@ from plain_diagrams import (
 
 UNDO_DEPTH = 256
 LINES = 4096
-DONE, LINE_REFUSED, LIMIT, MOVE_REFUSED = 0, 1, 6, 7
+DONE, CODE_REFUSED, LIMIT, MOVE_REFUSED = 0, 1, 6, 7
 
 
 def need(holds, why):
@@ -237,7 +237,7 @@ def answer(diagram, script):
         try:
             understood(line)
         except Refused:
-            return LINE_REFUSED, f"refused line {number}\n"
+            return CODE_REFUSED, f"refused line {number}\n"
     for number, line in enumerate(lines, 1):
         if not understood(line):
             continue

@@ -1,6 +1,6 @@
-"""Lines and scripts of `edit` that are drawn at random, for `edit_scripts.py`.
+"""Lines and scripts of `edit`, and changed codes, that are drawn at random, for `edit_scripts.py`.
 
-Each function is given a source of draws. What a line comes to is not known here: the second reading says it.
+Each function is given a source of draws. What a line or a code comes to is not known here: the second reading says it.
 """
 import plain_diagrams as codes
 import plain_moves as moves
@@ -166,3 +166,29 @@ def script_of(draw, lines):
 def short_lines(draw, editor):
     for _ in range(draw.randint(10, 60)):
         yield next_line(draw, editor)
+
+
+def changed(draw, crossings):
+    """The crossings, lists of slots, with some other arcs at some slots."""
+    one, other = draw.choice(crossings), draw.choice(crossings)
+    slot, far_slot = draw.randrange(4), draw.randrange(4)
+    kind = draw.choice(("turn", "turn", "flip", "exchange", "rename", "rename", "set"))
+    if kind == "turn":
+        one[:] = one[slot:] + one[:slot]
+    elif kind == "flip":
+        one[1], one[3] = one[3], one[1]
+    elif kind == "exchange":
+        one[slot], other[far_slot] = other[far_slot], one[slot]
+    elif kind == "rename":
+        new = {one[slot]: other[far_slot], other[far_slot]: one[slot]}
+        crossings[:] = [[new.get(arc, arc) for arc in slots] for slots in crossings]
+    else:
+        one[slot] = draw.randrange(2 * len(crossings) + 2)
+
+
+def changed_code(draw, code):
+    """The code after a few changes, which may break it."""
+    crossings = [list(slots) for slots in code.crossings]
+    for _ in range(draw.choice((1, 1, 1, 2, 3))):
+        changed(draw, crossings)
+    return codes.Code(tuple(map(tuple, crossings)), code.loops)
