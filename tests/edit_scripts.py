@@ -1,156 +1,273 @@
-"""Seeded scripts of `edit`, over the built program and over a plain machine: lists of diagrams, and the moves of `plain_moves.py`.
+#!/usr/bin/env python3
+"""Compares what `kh edit` writes with a plain second reading of its rules, on moves and scripts that are drawn at random.
 
-    tests/edit_scripts.py PROGRAM [COUNT [SEED]]
+    tests/edit_scripts.py PROGRAM [WORD]
 
-For each script it compares the status and every byte. The diagrams of some scripts are given to `jones` one by one, and have the first
-one's line. `tests/program` runs 2,000 scripts. A fault is told with the seed that makes the script.
+`tests/program` runs these cases behind its rows. The draws are the same in each run. A case is one run of the program: the moves that can
+be made from a diagram, one after another; a move that cannot be made; the counts of a diagram that came; its Jones polynomial or homology,
+which has to be that of the first; a script of moves that are taken back and made again; `check` on a code some of whose arcs were
+changed; or a line of `edit_by_hand.py`. With a word only the cases whose names have it are run. The last line is 'N passed, M failed'.
 """
+import functools
+import os
 import random
 import subprocess
 import sys
+from typing import NamedTuple
 
-from plain_moves import Refused, faces_of, is_bigon, moved, text_of
+import edit_by_hand as hand
+import plain_diagrams as codes
+import plain_moves as moves
+import random_moves as draws
 
-NAME, SCRIPTS = "seeded scripts of edits", 2_000
-UNDO_DEPTH = 256
-LOOPS = 8
-STARTS = [
-    ((), 0),
-    ((), 2),
-    (((1, 1, 2, 2),), 0),
-    (((2, 1, 1, 2),), 3),
-    (((1, 4, 2, 3), (2, 4, 1, 3)), 0),
-    (((4, 1, 3, 2), (2, 3, 1, 4)), 1),
-    (((1, 4, 2, 5), (3, 6, 4, 1), (5, 2, 6, 3)), 0),
-    (((5, 2, 6, 1), (3, 3, 4, 2), (4, 5, 1, 6)), 0),
-    (((1, 6, 2, 5), (4, 6, 1, 5), (2, 4, 3, 3)), 0),
-    (((4, 2, 5, 1), (8, 6, 1, 5), (6, 3, 7, 4), (2, 7, 3, 8)), 0),
-    (((4, 1, 3, 2), (2, 3, 1, 4), (5, 7, 6, 8), (7, 5, 8, 6)), 8),
-    (tuple((a, a, a + 1, a + 1) for a in range(1, 39, 2)), 0),
-    (tuple((a, a, a + 1, a + 1) for a in range(1, 41, 2)), 1),
-]
+HERE = os.path.dirname(os.path.abspath(__file__))
+sys.path.insert(0, os.path.join(os.path.dirname(HERE), "bench"))
+from braids import planar_diagram
 
-
-class Machine:
-    """A diagram with those before it and those that were undone."""
-
-    def __init__(self, code):
-        self.past, self.code, self.future = [], code, []
-
-    def carry_out(self, words):
-        if words == ["undo"]:
-            if not self.past:
-                raise Refused("nothing to undo")
-            self.future.insert(0, self.code)
-            self.code = self.past.pop()
-        elif words == ["redo"]:
-            if not self.future:
-                raise Refused("nothing to redo")
-            self.past.append(self.code)
-            self.code = self.future.pop(0)
-        else:
-            changed = moved(self.code, words)
-            self.past = [*self.past, self.code][-UNDO_DEPTH:]
-            self.code, self.future = changed, []
+NAME = "edit, "
+SECONDS = 60
+STEPS = 200
+SCRIPTS = 2000
+LONG_SCRIPTS = 20
+CHANGED_CODES = 1000
+JONES_CROSSINGS = 14
+HOMOLOGY_CROSSINGS = 10
+HOMOLOGY_GENERATORS = 200_000
 
 
-def any_change(chance, code):
-    """The words of some move, which the diagram need not allow."""
-    count = len(code[0])
-
-    def some(most):
-        return str(chance.randint(1, most) if most and chance.random() < 0.99 else chance.choice([0, most + 1, 255]))
-
-    def arc():
-        return some(2 * count + (code[1] if chance.random() < 0.05 else 0))
-
-    def side():
-        return chance.choice(["left", "right"])
-
-    kind = chance.choice(["kink", "kink drop", "finger", "finger drop", "slide", "slide"])
-    if kind == "kink":
-        return ["r1", "add", arc(), chance.choice(["under", "over"]), chance.choice(["plus", "minus"])]
-    if kind == "kink drop":
-        kinks = [c + 1 for c, it in enumerate(code[0]) if any(it[p] == it[p - 1] for p in range(4))]
-        return ["r1", "drop", str(chance.choice(kinks)) if kinks else some(count)]
-    if kind == "finger":
-        return ["r2", "add", arc(), side(), arc(), side()]
-    if kind == "finger drop":
-        pairs = [(c + 1, d + 1) for c in range(count) for d in range(count) if is_bigon(code[0], c, d)] if count < 9 else []
-        return ["r2", "drop", *map(str, chance.choice(pairs) if pairs else (some(count), some(count)))]
-    threes = [face for face in faces_of(code[0]) if len(face) == 3] if 2 < count < 9 else []
-    return ["r3", *(str(c + 1) for c, _ in chance.choice(threes))] if threes else ["r3", some(count), some(count), some(count)]
+def stored(name):
+    """The texts of a file of links beside this script, by their names."""
+    with open(os.path.join(HERE, name), encoding="utf-8") as file:
+        blocks = [block.strip().splitlines() for block in file.read().split("\n\n")[1:]]
+    return {head.split(":")[0]: text for head, text, *_ in blocks}
 
 
-def some_line(chance, machine):
-    """The words of a line, mostly of one that is done."""
-    for _ in range(1 if chance.random() < 0.03 else 40):
-        turn = chance.random()
-        words = ["undo"] if turn < 0.15 else ["redo"] if turn < 0.3 else any_change(chance, machine.code)
-        try:
-            if words == ["undo"] and machine.past or words == ["redo"] and machine.future or words[1:] and moved(machine.code, words):
-                break
-        except Refused:
-            pass
-    return words
+def diagrams():
+    """The diagrams that moves begin with: a name and a text."""
+    yield from (
+        ("no crossings", "PD[]"),
+        ("two loops", "PD[Loop[1], Loop[2]]"),
+        ("a curl", hand.CURL),
+        ("a curl of the other sign", "PD[X[1,2,2,1]]"),
+        ("a curl over first, with loops", "PD[X[2,2,1,1], Loop[3], Loop[4]]"),
+        ("a curl over first of the other sign", "PD[X[2,1,1,2]]"),
+        ("a Hopf link", hand.HOPF),
+        ("the other Hopf link", "PD[X[1,3,2,4], X[3,1,4,2]]"),
+        ("two curls apart", hand.TWO_CURLS),
+        ("a circle over a circle", hand.CIRCLE_OVER_CIRCLE),
+        ("a circle over a circle, listed the other way", "PD[X[2,4,1,3], X[1,4,2,3], Loop[5]]"),
+        ("a circle over a curl", hand.CIRCLE_OVER_CURL),
+        ("a circle with a curl over a circle", hand.CIRCLE_WITH_CURL),
+        ("a Hopf link with a curl", hand.HOPF_WITH_CURL),
+        ("a trefoil", hand.TREFOIL),
+        ("the other trefoil", "PD[X[4,2,5,1], X[6,4,1,3], X[2,6,3,5]]"),
+        ("two triangles", hand.TWO_TRIANGLES),
+        ("a figure eight", "PD[X[4,2,5,1], X[8,6,1,5], X[6,3,7,4], X[2,7,3,8]]"),
+        ("a curl and a trefoil apart, with a loop", "PD[X[1,1,2,2], X[3,6,4,7], X[5,8,6,3], X[7,4,8,5], Loop[1]]"),
+        ("two Hopf links apart", "PD[X[4,1,3,2], X[2,3,1,4], X[8,5,7,6], X[6,7,5,8]]"),
+        ("five curls and eight loops", hand.with_more(hand.curls(5), ", ".join(["Loop[1]"] * 8))),
+        ("twelve curls", hand.curls(12)),
+    )
+    tables, polynomials = stored("tables.txt"), stored("polynomials.txt")
+    for name in ("5_2", "Whitehead", "6_3", "Borromean", "T(2,6)", "7_7", "8_18", "8_19", "9_42", "10_123", "10_152"):
+        yield name, tables[name]
+    for strands, letters in ((4, [1, -2, 3] * 4), (3, [1, 2] * 6), (3, [1, -2] * 7), (4, [1, 2, 3, -2] * 4)):
+        yield f"a braid of {len(letters)} crossings on {strands} strands", planar_diagram(strands, letters)
+    for name, text in list(polynomials.items())[:7:3]:
+        yield name, text
 
 
-def spaced(chance, words):
-    """A line of words, with some white space."""
-    between = chance.choice([" ", " ", " ", "\t", "  \r"])
-    return chance.choice(["", "", "", "\t ", "\r"]) + between.join(words) + chance.choice(["", "", "", "\r", " "])
+class Case(NamedTuple):
+    """What the program was asked, and the status and the text that came and that were wanted."""
+
+    words: list
+    given: str
+    came: tuple
+    wanted: tuple
+
+    def fault(self):
+        """What is wrong with the case, if anything is: the first line that differs, then what was given."""
+        if self.came == self.wanted:
+            return None
+        (status, text), (wanted, wanted_text) = self.came, self.wanted
+        lines = zip([*text.split("\n"), "its end"], [*wanted_text.split("\n"), "its end"])
+        line, wanted_line = next((pair for pair in lines if pair[0] != pair[1]), ("the text", "it"))
+        return f"{line!r} with {status} and not {wanted_line!r} with {wanted}: {' '.join(self.words)} on {self.given!r}"
 
 
-def case_of(seed):
-    """A code and a script as bytes, the status and the lines that come of it, and the diagrams."""
-    chance = random.Random(seed)
-    first = chance.choice(STARTS)
-    machine, script, wrote, seen, status = Machine(first), [], [], [first], 0
-    for _ in range(chance.choice([1, 3, 10, 10, 25])):
-        if chance.random() < 0.1:
-            script.append(chance.choice(["", " ", "\t\r"]))
-            continue
-        words = some_line(chance, machine)
-        script.append(spaced(chance, words))
-        try:
-            machine.carry_out(words)
-            wrote.append(f"{len(script)} {text_of(machine.code)}\n")
-            seen.append(machine.code)
-        except Refused as why:
-            wrote.append(f"{len(script)} refused {why}\n")
-            status = 7
-            # (lines behind it, which are read but not carried out)
-            script += ["undo", "redo", "r1 drop 1"][: chance.randint(0, 3)]
-            break
-    given = text_of(first) + ";" + "\n".join(script) + chance.choice(["", "\n"])
-    return given.encode(), status, "".join(wrote).encode(), seen
+def ask(program, words, given):
+    """The status of the program and what it writes."""
+    try:
+        done = subprocess.run([program, *words], input=given.encode(), stdout=subprocess.PIPE, timeout=SECONDS)
+    except subprocess.TimeoutExpired:
+        return None, f"no answer in {SECONDS} seconds"
+    return done.returncode, done.stdout.decode(errors="replace")
 
 
-def ran(program, word, given):
-    done = subprocess.run([program, word], input=given, stdout=subprocess.PIPE, timeout=60)
-    return done.returncode, done.stdout
+def asked(program, words, given, wanted):
+    return Case(words, given, ask(program, words, given), wanted)
 
 
-def fault_of(program, seed):
-    """What is wrong with a script, if anything is."""
-    given, status, wrote, seen = case_of(seed)
-    came = ran(program, "edit", given)
-    if came != (status, wrote):
-        return f"seed {seed}: {came} and not {(status, wrote)} for {given}"
-    if seed % 20 == 0:
-        sums = {ran(program, "jones", text_of(it).encode()) for it in seen if it[1] <= LOOPS}
-        if len(sums) != 1 or min(sums)[0]:
-            return f"seed {seed}: {len(sums)} polynomials for {given}"
-    return None
+def alike(program, words, texts):
+    """The program answers the first text, and writes the same for the others."""
+    status, wrote = ask(program, words, texts[0])
+    yield Case(words, texts[0], (status, ""), (moves.DONE, ""))
+    for text in texts[1:]:
+        yield asked(program, words, text, (moves.DONE, wrote))
 
 
-def faults(program, count=SCRIPTS, first=0):
-    """The name of the test, and the first faults of scripts, or None."""
-    found = [fault for fault in (fault_of(program, seed) for seed in range(first, first + count)) if fault]
-    return [(NAME, "; ".join(found[:3]) or None)]
+def most_generators(diagram):
+    """A bound on the cube's generators: a piece of n crossings has no more than twice the n-th power of three."""
+    return 3 ** len(diagram.crossings) * 2 ** (len(codes.pieces(codes.code_of(diagram))) + diagram.loops)
+
+
+class Chain:
+    """Moves from a diagram that are drawn one after another: those that can be made and what comes, and those that cannot."""
+
+    def __init__(self, name, text):
+        self.name, self.text = name, text
+
+    @functools.cached_property
+    def drawn(self):
+        """The lines of moves with the diagrams that come; and the lines of the others, each with its place and why it is refused."""
+        draw, lines, came, refused = random.Random(self.name), [], [codes.accepted(codes.read(self.text))], []
+        for _ in range(STEPS):
+            line = (draws.good_line if draw.random() < 0.55 else draws.any_line)(draw, came[-1])
+            try:
+                came.append(moves.moved(came[-1], line))
+                lines.append(line)
+            except codes.Refused as why:
+                refused.append((len(lines), line, str(why)))
+        return lines, came, refused
+
+    @functools.cached_property
+    def texts(self):
+        return [codes.printed(codes.code_of(diagram)) for diagram in self.drawn[1]]
+
+    def readable(self):
+        """The different diagrams that came and can be read, each with its text; the first is there from the start."""
+        few = [(text, diagram) for text, diagram in zip(self.texts, self.drawn[1]) if diagram.loops <= codes.LOOPS_OF_A_TEXT]
+        return [(diagram, text) for text, diagram in dict(few).items()]
+
+    def moves(self, program):
+        """A run of all moves that can be made, and one of each that cannot, on the diagram that there is then."""
+        lines, came, refused = self.drawn
+        wrote = "".join(f"{number} {text}\n" for number, text in enumerate(self.texts[1:], 1))
+        yield asked(program, ["edit"], f"{self.text};" + "\n".join(lines), (moves.DONE, wrote))
+        for place, line, why in refused:
+            if came[place].loops <= codes.LOOPS_OF_A_TEXT:
+                yield asked(program, ["edit"], f"{self.texts[place]};{line}", (moves.MOVE_REFUSED, f"1 refused {why}\n"))
+
+    def acceptance(self, program):
+        """Each diagram is accepted with the directions that it has, and of some the program says so."""
+        for diagram, text in self.readable():
+            code = codes.code_of(diagram)
+            fault = codes.fault_of(code) or ("" if codes.accepted(code) == diagram else "other directions")
+            yield Case(["the second reading"], text, (0, fault), (0, ""))
+        for diagram, text in self.readable()[::10]:
+            yield asked(program, ["check"], text, (moves.DONE, codes.counts(diagram)))
+
+    def polynomials(self, program):
+        """The diagrams of few crossings have the Jones polynomial of the first."""
+        few = [text for diagram, text in self.readable() if len(diagram.crossings) <= JONES_CROSSINGS]
+        return alike(program, ["jones"], few) if few[:1] == self.texts[:1] else ()
+
+    def tables(self, program):
+        """Some diagrams of few crossings have the homology of the first, over two and over three elements."""
+        few = [
+            text
+            for diagram, text in self.readable()
+            if len(diagram.crossings) <= HOMOLOGY_CROSSINGS and most_generators(diagram) <= HOMOLOGY_GENERATORS
+        ]
+        for field in "23":
+            yield from alike(program, ["homology", "--field", field], few[::10]) if few[:1] == self.texts[:1] else ()
+
+
+def code_text(draw, code):
+    """The text of a code, or JSON where there are no loops."""
+    if code.loops or draw.random() < 0.8:
+        return codes.printed(code)
+    return str([list(slots) for slots in code.crossings])
+
+
+def scripts(program, small, seed, count, lines_for):
+    """Scripts on diagrams that are drawn from small ones, and what the plain machine answers."""
+    draw = random.Random(seed)
+    for _ in range(count):
+        diagram = codes.accepted(codes.read(draw.choice(small)))
+        editor = moves.Editor(diagram)
+        script = draws.script_of(draw, list(draws.carried_out(editor, lines_for(draw, editor))))
+        given = f"{code_text(draw, codes.code_of(diagram))};{script}"
+        yield asked(program, ["edit"], given, moves.answer(diagram, script))
+
+
+def changed_codes(program, texts):
+    """Codes some of which break a rule of acceptance: `check` names the first, or tells the counts."""
+    draw = random.Random("codes")
+    for _ in range(CHANGED_CODES):
+        code = draws.changed_code(draw, codes.read(draw.choice(texts)))
+        fault = codes.fault_of(code)
+        wanted = (moves.CODE_REFUSED, f"refused {fault}\n") if fault else (moves.DONE, codes.counts(codes.accepted(code)))
+        yield asked(program, ["check"], codes.printed(code), wanted)
+
+
+def by_hand(name, text, line, answer):
+    """What gives the case of a line with its answer."""
+    status = moves.MOVE_REFUSED if answer.startswith("refused") else moves.DONE
+    return lambda program: [asked(program, ["edit"], f"{text};{line}", (status, f"1 {answer}\n"))]
+
+
+def nine_loops(program):
+    """Nine curls become loops, more than a text can have, and none of them takes a curl."""
+    left = [codes.printed(codes.Code(codes.read(hand.curls(9 - done)).crossings, done)) for done in range(1, 9)]
+    left.append("PD[" + ", ".join(f"Loop[{loop}]" for loop in range(1, 10)) + "]")
+    wrote = "".join(f"{number} {text}\n" for number, text in enumerate([*left, left[7], left[8]], 1))
+    script = "r1 drop 1\n" * 9 + "undo\nredo\n"
+    for line, why in (("r1 add 9 under plus", "loop 9"), ("r1 add 10 under plus", "no arc 10")):
+        yield asked(program, ["edit"], f"{hand.curls(9)};{script}{line}", (moves.MOVE_REFUSED, wrote + f"12 refused {why}\n"))
+
+
+def equal_tables(program):
+    """The codes of two links before and after a move have one table each."""
+    for field in "23":
+        for texts in hand.EQUAL_LINKS:
+            yield from alike(program, ["homology", "--field", field], texts)
+
+
+def groups():
+    """The name of each group of cases, and what gives them for a program."""
+    for name, *it in hand.ROWS:
+        yield f"by hand, {name}", by_hand(name, *it)
+    yield "nine loops", nine_loops
+    yield "tables of equal links", equal_tables
+    chains = [Chain(*it) for it in diagrams()]
+    for what in ("moves", "acceptance", "polynomials", "tables"):
+        for chain in chains:
+            yield f"{what} from {chain.name}", getattr(chain, what)
+    texts = [text for _, text in diagrams() if codes.read(text).crossings]
+    small = [text for text in texts if len(codes.read(text).crossings) <= 6] + ["PD[]"]
+    yield "changed codes", functools.partial(changed_codes, texts=texts)
+    yield "scripts", functools.partial(scripts, small=small, seed="scripts", count=SCRIPTS, lines_for=draws.short_lines)
+    yield "long scripts", functools.partial(scripts, small=small[:-1], seed="long", count=LONG_SCRIPTS, lines_for=draws.many_lines)
+
+
+def faults(program, word=""):
+    """The name of each case whose name has the word, and what is wrong with it, if anything is."""
+    for name, cases in groups():
+        if word in NAME + name:
+            for case in cases(program):
+                yield NAME + name, case.fault()
+
+
+def main(program, word=""):
+    passed, failed = 0, 0
+    for name, fault in faults(os.path.abspath(program), word):
+        passed, failed = passed + (not fault), failed + bool(fault)
+        if fault:
+            print(f"{name}: {fault}")
+    print(f"{passed} passed, {failed} failed")
+    return 1 if failed or not passed else 0
 
 
 if __name__ == "__main__":
-    ((_, fault),) = faults(sys.argv[1], *map(int, sys.argv[2:]))
-    print(fault or "no fault")
-    sys.exit(1 if fault else 0)
+    sys.exit(main(*sys.argv[1:]) if len(sys.argv) in (2, 3) else __doc__)

@@ -1,233 +1,249 @@
-"""The Reidemeister moves of planar diagram codes, read plainly from their rules, for `tests/edit_scripts.py`.
+"""A plain second reading of Reidemeister's three moves, and of the scripts that make them and take them back.
 
-A code is its crossings, tuples of the four arcs at their slots 0 to 3, and a number of loops, which are named on behind the arcs. A
-dart is a place and a slot. A move gives another code, or raises `Refused` with the words of the first fault. Nothing here is fast.
+It was written from their rules alone, and `edit_scripts.py` compares the program with it. A move rewrites directed passes, those of
+`plain_diagrams.py`. What is refused is told in the words that the program writes.
 """
-CROSSINGS = 20
+import re
+
+from plain_diagrams import (
+    CROSSINGS,
+    Crossing,
+    Diagram,
+    Pass,
+    Refused,
+    arcs_of,
+    classes,
+    code_of,
+    face_counts,
+    faces,
+    numbered,
+    partners,
+    printed,
+    renamed,
+    renumbered,
+)
+
+UNDO_DEPTH = 256
+LINES = 4096
+DONE, CODE_REFUSED, LIMIT, MOVE_REFUSED = 0, 1, 6, 7
 
 
-class Refused(Exception):
-    """A line that is refused; its words say why."""
+def need(holds, why):
+    if not holds:
+        raise Refused(why)
 
 
-def text_of(code):
-    crossings, loops = code
-    items = [f"X[{', '.join(map(str, it))}]" for it in crossings]
-    return f"PD[{', '.join(items + [f'Loop[{2 * len(crossings) + 1 + k}]' for k in range(loops)])}]"
-
-
-def darts_of(crossings, arc):
-    return [(c, p) for c, slots in enumerate(crossings) for p in range(4) if slots[p] == arc]
-
-
-def partner(crossings, c, p):
-    """The other dart of the arc at a dart."""
-    first, second = darts_of(crossings, crossings[c][p])
-    return second if first == (c, p) else first
-
-
-def classes(names, pairs):
-    """The classes of names that pairs join, as a list of sets, by their least names."""
-    of = {it: {it} for it in names}
-    for a, b in pairs:
-        if of[a] is not of[b]:
-            of[a] |= of[b]
-            for it in of[b]:
-                of[it] = of[a]
-    return sorted({id(it): it for it in of.values()}.values(), key=min)
-
-
-def signs_of(crossings):
-    """For each crossing whether it is positive, that is whether its over pass goes from slot 3 to slot 1."""
-    positive = [None] * len(crossings)
-    arcs = range(1, 2 * len(crossings) + 1)
-    for component in classes(arcs, [pair for i, j, k, l in crossings for pair in ((i, k), (j, l))]):
-        overs = [c for c, (i, j, k, l) in enumerate(crossings) if j in component]
-        unders = [(i, k) for i, j, k, l in crossings if i in component]
-        low, high = min(component), max(component)
-        for place, c in enumerate(overs):
-            _, j, _, l = crossings[c]
-            if len(component) > 2:
-                positive[c] = j == (low if l == high else l + 1)
-            elif unders:
-                positive[c] = l == unders[0][1]
-            else:
-                positive[c] = (l < j) == (place == 0)
-    return positive
-
-
-def passes_of(crossings, positive):
-    """The passes, under and over at each crossing in turn: the arc that comes in, the one that goes out, and whether it is over."""
-    for (i, j, k, l), plus in zip(crossings, positive):
-        yield i, k, False
-        yield (l, j, True) if plus else (j, l, True)
-
-
-def renumbered(crossings, positive, loops):
-    """The code over any names of arcs: components by their least names, each numbered along its direction."""
-    passes = list(passes_of(crossings, positive))
-    follows = {came: went for came, went, _ in passes}
-    number = {}
-    for component in classes(follows, follows.items()):
-        arc = min(component)
-        own = [it for it in passes if it[0] in component]
-        if len(component) == 2 and all(over for _, _, over in own):
-            arc = own[0][0]
-        while arc not in number:
-            number[arc] = len(number) + 1
-            arc = follows[arc]
-    return tuple(tuple(number[arc] for arc in it) for it in crossings), loops
-
-
-def faces_of(crossings):
-    """The faces, each a list of darts: from a dart to its partner, and on to the slot before."""
-    left = {(c, p) for c in range(len(crossings)) for p in range(4)}
-    while left:
-        face, dart = [], min(left)
-        while dart in left:
-            left.remove(dart)
-            face.append(dart)
-            c, p = partner(crossings, *dart)
-            dart = (c, (p - 1) % 4)
-        yield face
-
-
-def heads_of(crossings, positive):
-    """The darts at which arcs come in."""
-    return {(c, p) for c, plus in enumerate(positive) for p in (0, 3 if plus else 1)}
-
-
-def check_arcs(code, arcs):
+def need_arcs(diagram, *arcs):
     for arc in arcs:
-        if not 1 <= arc <= 2 * len(code[0]) + code[1]:
-            raise Refused(f"no arc {arc}")
+        need(1 <= arc <= 2 * len(diagram.crossings) + diagram.loops, f"no arc {arc}")
 
 
-def check_crossings(code, names):
-    for name in names:
-        if not 1 <= name <= len(code[0]):
-            raise Refused(f"no crossing {name}")
+def need_crossings(diagram, *numbers):
+    for number in numbers:
+        need(1 <= number <= len(diagram.crossings), f"no crossing {number}")
 
 
-def check_room(code, more):
-    if len(code[0]) + more > CROSSINGS:
-        raise Refused(f"crossings {len(code[0]) + more} of {CROSSINGS}")
+def need_room(diagram, more):
+    count = len(diagram.crossings) + more
+    need(count <= CROSSINGS, f"crossings {count} of {CROSSINGS}")
 
 
-def check_loops(code, arcs):
+def need_no_loops(diagram, *arcs):
     for arc in arcs:
-        if arc > 2 * len(code[0]):
-            raise Refused(f"loop {arc}")
+        need(arc <= 2 * len(diagram.crossings), f"loop {arc}")
 
 
-def widened(crossings, arcs):
-    """The crossings where each of these arcs has become three, which its tail and its head are the ends of, and the first of each."""
-    heads = heads_of(crossings, signs_of(crossings))
+def cut(diagram, *arcs):
+    """The crossings once each of these arcs is three arcs in a row: its tail keeps the first, its head gets the third."""
 
-    def first(arc):
+    def raised(arc):
         return arc + 2 * sum(it < arc for it in arcs)
 
-    def number(c, p):
-        arc = crossings[c][p]
-        return first(arc) + (2 if arc in arcs and (c, p) in heads else 0)
+    def raised_at_head(arc):
+        return raised(arc) + 2 * (arc in arcs)
 
-    return [tuple(number(c, p) for p in range(4)) for c in range(len(crossings))], [first(it) for it in arcs]
-
-
-def crossing_of(under, over, positive):
-    (u, v), (s, t) = under, over
-    return (u, t, v, s) if positive else (u, s, v, t)
+    return tuple(renamed(it, raised_at_head, raised) for it in diagram.crossings)
 
 
-def kink_add(code, arc, under_first, positive):
-    check_arcs(code, [arc])
-    check_room(code, 1)
-    check_loops(code, [arc])
-    crossings, (a,) = widened(code[0], [arc])
-    once, again = (a, a + 1), (a + 1, a + 2)
-    crossings.append(crossing_of(once, again, positive) if under_first else crossing_of(again, once, positive))
-    return tuple(crossings), code[1]
+def two_passes(arc):
+    """The passes between an arc, the next and the one after."""
+    return Pass(arc, arc + 1), Pass(arc + 1, arc + 2)
 
 
-def finger_add(code, over, over_side, under, under_side):
-    check_arcs(code, [over, under])
-    check_room(code, 2)
-    check_loops(code, [over, under])
-    if over == under:
-        raise Refused(f"same arc {over}")
-    crossings, (a, b) = widened(code[0], [over, under])
-    first, second = ((b, b + 1), (b + 1, b + 2))[:: 1 if over_side != under_side else -1]
-    crossings.append(crossing_of(first, (a, a + 1), under_side == "left"))
-    crossings.append(crossing_of(second, (a + 1, a + 2), under_side != "left"))
-    faces = len(list(faces_of(crossings)))
-    pieces = len(classes(range(1, 2 * len(crossings) + 1), [(it[0], arc) for it in crossings for arc in it]))
-    if faces != len(crossings) + 2 * pieces:
-        raise Refused(f"genus faces {faces} wanted {len(crossings) + 2 * pieces}")
-    return tuple(crossings), code[1]
+def kink_add(diagram, arc, first_pass, sign):
+    need_arcs(diagram, arc)
+    need_room(diagram, 1)
+    need_no_loops(diagram, arc)
+    first, second = two_passes(arc)
+    under, over = (first, second) if first_pass == "under" else (second, first)
+    return Diagram((*cut(diagram, arc), Crossing(under, over, sign == "plus")), diagram.loops)
 
 
-def without(code, dropped):
-    """The code without these crossings, through which their strands go straight."""
-    crossings, loops = code
-    joined = classes(range(1, 2 * len(crossings) + 1), [pair for c in dropped for pair in (crossings[c][::2], crossings[c][1::2])])
-    name = {arc: min(it) for it in joined for arc in it}
-    kept = [c for c in range(len(crossings)) if c not in dropped]
-    left = [tuple(name[arc] for arc in crossings[c]) for c in kept]
-    met = {arc for it in left for arc in it}
-    positive = signs_of(crossings)
-    return renumbered(left, [positive[c] for c in kept], loops + sum(min(it) not in met for it in joined))
+def kink_drop(diagram, crossing):
+    need_crossings(diagram, crossing)
+    slots = code_of(diagram).crossings[crossing - 1]
+    need(any(slots[slot] == slots[slot - 1] for slot in range(4)), f"no kink at {crossing}")
+    return without(diagram, crossing)
 
 
-def kink_drop(code, crossing):
-    check_crossings(code, [crossing])
-    slots = code[0][crossing - 1]
-    if not any(slots[p] == slots[(p + 1) % 4] for p in range(4)):
-        raise Refused(f"no kink at {crossing}")
-    return without(code, [crossing - 1])
+def finger_add(diagram, over, over_side, under, under_side):
+    """The over arc passes over two new crossings; the under arc meets them in the same order exactly where the sides differ."""
+    need_arcs(diagram, over, under)
+    need_room(diagram, 2)
+    need_no_loops(diagram, over, under)
+    need(over != under, f"same arc {over}")
+    overs = two_passes(over + 2 * (under < over))
+    unders = two_passes(under + 2 * (over < under))
+    positive = under_side == "left"
+    pairs = zip(unders if over_side != under_side else unders[::-1], overs, (positive, not positive))
+    result = Diagram((*cut(diagram, over, under), *(Crossing(*them) for them in pairs)), diagram.loops)
+    found, wanted = face_counts(code_of(result))
+    need(found == wanted, f"genus faces {found} wanted {wanted}")
+    return result
 
 
-def is_bigon(crossings, c, d):
-    return c != d and any(
-        (p + q) % 2 and partner(crossings, c, p) == (d, (q + 1) % 4) and partner(crossings, d, q) == (c, (p + 1) % 4)
+def has_bigon(diagram, first, second):
+    """Whether two sides join the crossings, from slot p to slot q+1 and from slot q to slot p+1, with p+q odd."""
+    partner = partners(code_of(diagram))
+    return first != second and any(
+        partner[first, p] == (second, (q + 1) % 4) and partner[second, q] == (first, (p + 1) % 4) and (p + q) % 2
         for p in range(4)
         for q in range(4)
     )
 
 
-def finger_drop(code, first, second):
-    check_crossings(code, [first, second])
-    if not is_bigon(code[0], first - 1, second - 1):
-        raise Refused(f"no bigon at {first} {second}")
-    return without(code, [first - 1, second - 1])
+def finger_drop(diagram, first, second):
+    need_crossings(diagram, first, second)
+    need(has_bigon(diagram, first, second), f"no bigon at {first} {second}")
+    return without(diagram, first, second)
 
 
-def slide(code, first, second, third):
-    check_crossings(code, [first, second, third])
-    crossings, named = code[0], {first - 1, second - 1, third - 1}
-    triangles = [it for it in faces_of(crossings) if len(it) == 3 and {c for c, _ in it} == named and len(named) == 3]
-    if not triangles:
-        raise Refused(f"no triangle at {first} {second} {third}")
-    open_ones = [it for it in triangles if len({p % 2 for _, p in it}) > 1]
-    if not open_ones:
-        raise Refused("heights")
-    face = min(open_ones, key=lambda it: next(p for c, p in it if c == first - 1))
-    changed = [list(it) for it in crossings]
-    for (c, s), (d, q) in zip(face, face[1:] + face[:1]):
-        u = (q + 1) % 4
-        changed[c][(s + 2) % 4] = changed[d][(u + 2) % 4] = crossings[c][s]
-        changed[c][s] = crossings[d][(u + 2) % 4]
-        changed[d][u] = crossings[c][(s + 2) % 4]
-    return renumbered([tuple(it) for it in changed], signs_of(crossings), code[1])
+def triangles(diagram, *crossings):
+    """The faces of three darts, one at each of these crossings, by their slots at the first."""
+    found = [face for face in faces(code_of(diagram)) if len(face) == 3 and sorted(it for it, _ in face) == sorted(set(crossings))]
+    return sorted(found, key=lambda face: dict(face)[crossings[0]])
 
 
-def moved(code, words):
-    """The code after the move that words spell."""
-    if words[:2] == ["r1", "add"]:
-        return kink_add(code, int(words[2]), words[3] == "under", words[4] == "plus")
-    if words[:2] == ["r1", "drop"]:
-        return kink_drop(code, int(words[2]))
-    if words[:2] == ["r2", "add"]:
-        return finger_add(code, int(words[2]), words[3], int(words[4]), words[5])
-    if words[:2] == ["r2", "drop"]:
-        return finger_drop(code, *map(int, words[2:]))
-    return slide(code, *map(int, words[1:]))
+def has_heights(triangle):
+    """Whether one strand lies over the others and one below: the slots do not have one parity."""
+    return len({slot % 2 for _, slot in triangle}) == 2
+
+
+def slide(diagram, first, second, third):
+    need_crossings(diagram, first, second, third)
+    found = triangles(diagram, first, second, third)
+    need(found, f"no triangle at {first} {second} {third}")
+    high = [it for it in found if has_heights(it)]
+    need(high, "heights")
+    code = code_of(diagram)
+    return renumbered(slid(diagram, [code.crossings[crossing - 1][slot] for crossing, slot in high[0]]))
+
+
+def slid(diagram, sides):
+    """The diagram where, along each of these arcs, the crossing behind it and the one before it have changed places."""
+    passes = [it for crossing in diagram.crossings for it in crossing[:2]]
+    changed = {it: it for it in passes}
+    for side in sides:
+        behind = next(it for it in passes if it.leaves == side)
+        before = next(it for it in passes if it.enters == side)
+        changed[behind], changed[before] = Pass(side, before.leaves), Pass(behind.enters, side)
+    return Diagram(tuple(Crossing(changed[under], changed[over], sign) for under, over, sign in diagram.crossings), diagram.loops)
+
+
+def without(diagram, *dropped):
+    """The diagram once the passes of these crossings are joined straight through; what meets no crossing then is a loop."""
+    kept = [it for number, it in numbered(diagram) if number not in dropped]
+    joined = [it for number, crossing in numbered(diagram) if number in dropped for it in crossing[:2]]
+    rings = classes(arcs_of(diagram), joined)
+    name = {arc: ring[0] for ring in rings for arc in ring}
+    met = {name[arc] for crossing in kept for it in crossing[:2] for arc in it}
+    crossings = tuple(renamed(it, name.get, name.get) for it in kept)
+    return renumbered(Diagram(crossings, diagram.loops + len(rings) - len(met)))
+
+
+NUMBER = "([0-9]{1,3})"
+SIDE = "(left|right)"
+MOVES = (
+    (re.compile(f"r1 add {NUMBER} (under|over) (plus|minus)"), kink_add),
+    (re.compile(f"r1 drop {NUMBER}"), kink_drop),
+    (re.compile(f"r2 add {NUMBER} {SIDE} {NUMBER} {SIDE}"), finger_add),
+    (re.compile(f"r2 drop {NUMBER} {NUMBER}"), finger_drop),
+    (re.compile(f"r3 {NUMBER} {NUMBER} {NUMBER}"), slide),
+)
+
+
+def understood(line):
+    """What a line asks for: None for one without words, `undo`, `redo`, or the call of a move and what it is given. Others are refused."""
+    words = " ".join(filter(None, re.split("[ \t\r]", line)))
+    if words in ("", "undo", "redo"):
+        return words or None
+    for form, move in MOVES:
+        found = form.fullmatch(words)
+        if found:
+            given = [int(it) if it[0].isdigit() else it for it in found.groups()]
+            need(all(it <= 255 for it in given if isinstance(it, int)), line)
+            return move, given
+    raise Refused(line)
+
+
+def moved(diagram, line):
+    """The diagram after the move of a line; one that cannot be made is refused."""
+    move, given = understood(line)
+    return move(diagram, *given)
+
+
+class Editor:
+    """A diagram, those before it and those that were taken back."""
+
+    def __init__(self, diagram):
+        self.past, self.now, self.future = [], diagram, []
+
+    def change(self, diagram):
+        self.past = [*self.past, self.now][-UNDO_DEPTH:]
+        self.now, self.future = diagram, []
+
+    def undo(self):
+        need(self.past, "nothing to undo")
+        self.future = [self.now, *self.future]
+        self.now = self.past.pop()
+
+    def redo(self):
+        need(self.future, "nothing to redo")
+        self.past = [*self.past, self.now]
+        self.now = self.future.pop(0)
+
+    def carry_out(self, line):
+        """Carries out a line that has words."""
+        if understood(line) == "undo":
+            self.undo()
+        elif understood(line) == "redo":
+            self.redo()
+        else:
+            self.change(moved(self.now, line))
+
+
+def lines_of(script):
+    """The lines of a script; behind its last line feed there is one only where that is not empty."""
+    lines = script.split("\n")
+    return lines if lines[-1] else lines[:-1]
+
+
+def answer(diagram, script):
+    """The status and what is written for a script on a diagram."""
+    lines, editor, wrote = lines_of(script), Editor(diagram), []
+    if len(lines) > LINES:
+        return LIMIT, f"limit lines {len(lines)} of {LINES}\n"
+    for number, line in enumerate(lines, 1):
+        try:
+            understood(line)
+        except Refused:
+            return CODE_REFUSED, f"refused line {number}\n"
+    for number, line in enumerate(lines, 1):
+        if not understood(line):
+            continue
+        try:
+            editor.carry_out(line)
+        except Refused as why:
+            return MOVE_REFUSED, "".join(wrote) + f"{number} refused {why}\n"
+        wrote.append(f"{number} {printed(code_of(editor.now))}\n")
+    return DONE, "".join(wrote)
