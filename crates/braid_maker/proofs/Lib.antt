@@ -17,3 +17,4 @@ pub mod Paired
 pub mod Accepted
 pub mod Digits
 pub mod NamedParts
+pub mod LetterTests

@@ -1,6 +1,6 @@
 -- The code of a closed braid.
-use Rattle.std.specs.Prelude.{ℕ, zero, suc, ◌+◌, ◌/◌, ◌%◌, ◌<◌, ◌≤◌, ℤ, pos, neg_ℤ, List, [], ◌∷◌, length, map, nat_eq, Bool, ◌&&◌, unwrap_or, if◌then◌else◌}
-use Rattle.std.specs.List.{count_by, find, list_any, range_with_len}
+use Rattle.std.specs.Prelude.{ℕ, zero, suc, ◌+◌, ◌/◌, ◌%◌, ◌<◌, ◌≤◌, ℤ, pos, neg_ℤ, List, [], ◌∷◌, length, map, nat_eq, nat_le, nat_lt, Bool, ◌&&◌, unwrap_or, if◌then◌else◌}
+use Rattle.std.specs.List.{count_by, find, list_all, list_any, range_with_len}
 use Rattle.kh_types.specs.Code.{Code}
 use Rattle.braid_maker.specs.Words.{arc_above, closed_crossings, crossing_of, last_below, touches}
 use Rattle.braid_maker.specs.Braids.{passes_over, is_straight, left_of}
@@ -64,3 +64,10 @@ code_of_number number = closure 3 (letters_of 10 number)
 -- letters of a braid on some strands: each has two neighbouring positions among them
 abbrev pub AreLetters : ℕ → List ℤ → Type 0
 AreLetters strands letters = (place : ℕ) → place < length letters → (1 ≤ left_of letters place) × (left_of letters place < strands)
+
+-- whether the letter at a place has so; and whether all letters have, as tests
+abbrev pub is_letter : ℕ → List ℤ → ℕ → Bool
+is_letter strands letters place = nat_le 1 (left_of letters place) && nat_lt (left_of letters place) strands
+
+abbrev pub are_letters : ℕ → List ℤ → Bool
+are_letters strands letters = list_all (is_letter strands letters) (range_with_len 0 (length letters))

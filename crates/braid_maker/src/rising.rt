@@ -146,8 +146,8 @@ fn touches(letters: &[i8], position: u8, place: usize) -> bool
     left == position || left + 1 == position
 }
 
-// The position at the left of the crossing of a letter.
-fn left_of(letters: &[i8], place: usize) -> u8
+/// The position at the left of the crossing of a letter.
+pub fn left_of(letters: &[i8], place: usize) -> u8
     ensures left { result ≡ left_of letters.now place }
     ensures small { result ≤ 128 }
 {

@@ -1,7 +1,7 @@
 //! Closed braids on known links.
 
 use arrayvec::ArrayVec;
-use braid_maker::{NUMBERS, NumberLimit, closure, from_number};
+use braid_maker::{LETTERS, NUMBERS, NumberLimit, STRANDS, are_letters, closure, from_number};
 use kh_types::{Diagram, RawCode};
 use std::test::Fail;
 
@@ -149,6 +149,8 @@ const BRAIDS: &[(u8, &[i8], &[[u8; 4]], u8)] = &[
 #[test]
 fn known_braids_have_their_closures(rt: HostRuntime) {
     for (strands, letters, crossings, loops) in BRAIDS {
+        assert!(rt; *strands <= STRANDS && letters.len() <= LETTERS);
+        assert!(rt; are_letters(*strands, letters));
         let code = closure(*strands, letters);
         assert!(rt; code.loops == *loops);
         assert!(rt; slots_of(&code).as_slice() == *crossings);

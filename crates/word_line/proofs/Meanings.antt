@@ -14,8 +14,9 @@ use Rattle.word_line.specs.declared.command.Command.{Command}
 use Rattle.kh_types.specs.declared.limits.TheConstants.{WORKERS}
 use Rattle.word_line.specs.declared.limits.TheConstants.{NUMBER_DIGITS, WORKERS_DIGITS}
 use Rattle.word_line.specs.Values.{HasNumber, IsGiven, NamesField, NamesForm, NamesNumber, NamesWorkers, form_name, task_name}
-use Rattle.word_line.specs.Reading.{field_of, finished_with, form_of, given_by, number_of, numbers_of, task_of, workers_of}
-use Rattle.word_line.proofs.Numbers.{WritesNumber-number_of, number_of-WritesNumber}
+use Rattle.word_line.specs.Reading.{field_of, finished_with, form_of, given_by, numbers_of, task_of, workers_of}
+use Rattle.kh_lex.specs.Numerals.{numeral_of}
+use Rattle.kh_lex.proofs.NumeralReads.{WritesNumber-numeral_of, numeral_of-WritesNumber}
 
 same_text : (a b : List ℕ) → bytes_eq a b ≡ true → a ≡ b
 same_text a b is = (bytes_eq-Decides a b).0 is
@@ -75,15 +76,15 @@ within count = cond (nat_le 1 count && nat_le count WORKERS) (Some count) None
 
 pub NamesWorkers-read : (value : List ℕ) (count : ℕ) → workers_of value ≡ Some count → NamesWorkers value count
 NamesWorkers-read value count same =
-    option_and_then_some (λ count. cond (nat_le 1 count && nat_le count WORKERS) (Some count) None) (number_of WORKERS_DIGITS value) count same (λ given is later.
+    option_and_then_some (λ count. cond (nat_le 1 count && nat_le count WORKERS) (Some count) None) (numeral_of WORKERS_DIGITS value) count same (λ given is later.
     let found = cond_some (nat_le 1 given && nat_le given WORKERS) given count later in
     let parts = and_parts (nat_le 1 given) (nat_le given WORKERS) found.0 in
     subst (NamesWorkers value) found.1
-    (WritesNumber-number_of WORKERS_DIGITS value given is, (leb-true 1 given parts.0, leb-true given WORKERS parts.1)))
+    (WritesNumber-numeral_of WORKERS_DIGITS value given is, (leb-true 1 given parts.0, leb-true given WORKERS parts.1)))
 
 pub read-NamesWorkers : (value : List ℕ) (count : ℕ) → NamesWorkers value count → workers_of value ≡ Some count
 read-NamesWorkers value count names =
-    rw (number_of-WritesNumber WORKERS_DIGITS value count names.0) (rw (le-leb 1 count names.1.0, le-leb count WORKERS names.1.1) refl)
+    rw (numeral_of-WritesNumber WORKERS_DIGITS value count names.0) (rw (le-leb 1 count names.1.0, le-leb count WORKERS names.1.1) refl)
 
 -- forms
 pub NamesForm-read : (value : List ℕ) (form : Form) → form_of value ≡ Some form → NamesForm value form
@@ -101,15 +102,15 @@ read-NamesForm value form names = ap form_of names ∙ form_of-name form
 
 -- numbers
 pub NamesNumber-read : (value : List ℕ) (number : Option ℕ) → numbers_of value ≡ Some number → NamesNumber value number
-NamesNumber-read value number same = go (number_of NUMBER_DIGITS value) refl same
+NamesNumber-read value number same = go (numeral_of NUMBER_DIGITS value) refl same
   where
-    go : (o : Option ℕ) → number_of NUMBER_DIGITS value ≡ o → option_map (λ n. Some n) o ≡ Some number → NamesNumber value number
+    go : (o : Option ℕ) → numeral_of NUMBER_DIGITS value ≡ o → option_map (λ n. Some n) o ≡ Some number → NamesNumber value number
     go None is same = absurd (none-some number same)
-    go (Some n) is same = subst (NamesNumber value) (same_Some (Some n) number same) (WritesNumber-number_of NUMBER_DIGITS value n is)
+    go (Some n) is same = subst (NamesNumber value) (same_Some (Some n) number same) (WritesNumber-numeral_of NUMBER_DIGITS value n is)
 
 pub read-NamesNumber : (value : List ℕ) (number : Option ℕ) → NamesNumber value number → numbers_of value ≡ Some number
 read-NamesNumber value None names = absurd names
-read-NamesNumber value (Some number) names = ap (option_map (λ n. Some n)) (number_of-WritesNumber NUMBER_DIGITS value number names)
+read-NamesNumber value (Some number) names = ap (option_map (λ n. Some n)) (numeral_of-WritesNumber NUMBER_DIGITS value number names)
 
 -- options
 pub IsGiven-read : {X : Type 0} (names : List ℕ → X → Type 0) (reading : List ℕ → Option X) (default : X)

@@ -25,7 +25,8 @@ use Rattle.word_line.specs.Line.{command_found, kh_line}
 use Rattle.word_line.specs.Pieces.{HasNoDash, IsLine, Key, Piece, key_name, positionals}
 use Rattle.word_line.specs.Pieces as key
 use Rattle.word_line.specs.Reading.{command_given, command_with, field_in, field_of, finished, form_in, form_of, number_in, numbers_of, task_of, workers_in, workers_of}
-use Rattle.word_line.specs.Values.{AreWorkers, IsFieldSize, IsGiven, NamesField, NamesForm, NamesNumber, NamesWorkers, WritesNumber, form_name, task_name, values_in}
+use Rattle.kh_lex.specs.Numerals.{WritesNumber}
+use Rattle.word_line.specs.Values.{AreWorkers, IsFieldSize, IsGiven, NamesField, NamesForm, NamesNumber, NamesWorkers, form_name, task_name, values_in}
 use Rattle.word_line.proofs.Lines.{Distinct, first_of-values, has-some, line_of, line_taken, taken_line, tasks_of-line, uses_behind, uses_of, values_of, values_of-line}
 use Rattle.word_line.proofs.Machine.{found_is_taken, passed, fault_from, walk_of, ready, rows_taken, taken, walk_at, with_task}
 use Rattle.word_line.proofs.Meanings.{HasNumber-read, IsGiven-once, IsGiven-read, NamesField-read, NamesForm-read, NamesNumber-read, NamesWorkers-read, name_of-task, read-HasNumber, read-IsGiven, read-NamesField, read-NamesForm, read-NamesNumber, read-NamesWorkers, task_of-name}

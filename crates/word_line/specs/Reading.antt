@@ -1,11 +1,9 @@
 -- The reading of the texts that a line gives, as the way of the code.
-use Rattle.std.specs.Prelude.{ℕ, nat_lt, nat_le, ◌&&◌, if◌then◌else◌, Bool, List, length, codes, Option, None, Some}
-use Rattle.std.specs.Char.{is_ascii_digit}
-use Rattle.std.specs.List.{list_all}
+use Rattle.std.specs.Prelude.{ℕ, nat_le, ◌&&◌, if◌then◌else◌, List, codes, Option, None, Some}
 use Rattle.std.specs.Option.{option_map, option_and_then}
 use Rattle.std.specs.Borrow.{Bor}
 use Rattle.std.specs.Str.{bytes_eq}
-use Rattle.std.specs.Str.Parse.{digits_value}
+use Rattle.kh_lex.specs.Numerals.{numeral_of}
 use Rattle.word_line.specs.declared.command.Task.{Task}
 use Rattle.word_line.specs.declared.command.Task.TheVariants.{Homology, Convert, Check, Jones, Schedule, Edit, Bench}
 use Rattle.word_line.specs.declared.command.Form.{Form}
@@ -13,14 +11,6 @@ use Rattle.word_line.specs.declared.command.Form.TheVariants.{Pd, Gauss}
 use Rattle.word_line.specs.declared.command.Command.{Command}
 use Rattle.kh_types.specs.declared.limits.TheConstants.{WORKERS}
 use Rattle.word_line.specs.declared.limits.TheConstants.{NUMBER_DIGITS, WORKERS_DIGITS}
-
--- a word is digits, of which there is one at least, and no more than a limit
-abbrev pub is_number : ℕ → List ℕ → Bool
-is_number limit word = nat_lt 0 (length word) && nat_le (length word) limit && list_all is_ascii_digit word
-
--- the number that a word writes
-abbrev pub number_of : ℕ → List ℕ → Option ℕ
-number_of limit word = if is_number limit word then Some (digits_value 10 word) else None
 
 -- the task of a name
 abbrev pub task_of : List ℕ → Option Task
@@ -43,7 +33,7 @@ field_of value =
 -- the number of workers of a value
 abbrev pub workers_of : List ℕ → Option ℕ
 workers_of value =
-    option_and_then (λ count. if nat_le 1 count && nat_le count WORKERS then Some count else None) (number_of WORKERS_DIGITS value)
+    option_and_then (λ count. if nat_le 1 count && nat_le count WORKERS then Some count else None) (numeral_of WORKERS_DIGITS value)
 
 -- the form of a value
 abbrev pub form_of : List ℕ → Option Form
@@ -52,7 +42,7 @@ form_of value =
 
 -- the number of a value
 abbrev pub numbers_of : List ℕ → Option (Option ℕ)
-numbers_of value = option_map (λ number. Some number) (number_of NUMBER_DIGITS value)
+numbers_of value = option_map (λ number. Some number) (numeral_of NUMBER_DIGITS value)
 
 -- what a value says, or the default where there is none
 abbrev pub given_by : {X : Type 0} → (List ℕ → Option X) → X → Option (List ℕ) → Option X

@@ -1,8 +1,6 @@
 -- What the words of a command mean (this project's rule).
-use Rattle.std.specs.Prelude.{◌≡◌, ◌⊎◌, ⊤, ℕ, ◌+◌, ◌<◌, ◌≤◌, Bool, true, false, IsTrue, if◌then◌else◌, List, [], ◌∷◌, length, codes, Option, Some, None}
-use Rattle.std.specs.Char.{is_ascii_digit}
-use Rattle.std.specs.List.{list_all}
-use Rattle.std.specs.Str.Parse.{digits_value}
+use Rattle.std.specs.Prelude.{◌≡◌, ◌⊎◌, ⊤, ℕ, ◌+◌, ◌≤◌, Bool, true, false, if◌then◌else◌, List, [], ◌∷◌, codes, Option, Some, None}
+use Rattle.kh_lex.specs.Numerals.{WritesNumber}
 use Rattle.word_line.specs.declared.command.Task.{Task}
 use Rattle.word_line.specs.declared.command.Task.TheVariants.{Homology, Convert, Check, Jones, Schedule, Edit, Bench}
 use Rattle.word_line.specs.declared.command.Form.{Form}
@@ -41,13 +39,6 @@ values_in k [] = []
 values_in k (positional word ∷ pieces) = values_in k pieces
 values_in k (apart other value ∷ pieces) = if same_key k other then value ∷ values_in k pieces else values_in k pieces
 values_in k (joined other value ∷ pieces) = if same_key k other then value ∷ values_in k pieces else values_in k pieces
-
--- a word writes a number: it is one ASCII digit or more, and no more than a limit, leading zeros counted; the number is theirs
-pub record WritesNumber (limit : ℕ) (word : List ℕ) (number : ℕ) : Type 0 where
-  pub some : 0 < length word
-  pub few : length word ≤ limit
-  pub digits : IsTrue (list_all is_ascii_digit word)
-  pub valued : number ≡ digits_value 10 word
 
 -- the numbers of elements of the fields
 abbrev pub IsFieldSize : ℕ → Type 0

@@ -2,7 +2,6 @@
 #![tactic(auto)]
 
 mod command;
-mod digits;
 mod laws;
 mod limits;
 mod line;

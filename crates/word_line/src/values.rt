@@ -4,8 +4,8 @@ ghost use Rattle.std.specs.Prelude.{◌≡◌};
 ghost use Rattle.word_line.specs.Reading.{command_given, field_in, field_of, finished, form_in, form_of, number_in, numbers_of, task_of, text_in, workers_in, workers_of};
 
 use crate::command::{Command, Form, Task};
-use crate::digits::number_of;
 use crate::limits::{NUMBER_DIGITS, WORKERS_DIGITS};
+use kh_lex::number_of;
 use kh_types::WORKERS;
 
 /// The texts that a line gives: its one positional, and the values of its options.

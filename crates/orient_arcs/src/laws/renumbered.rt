@@ -1,6 +1,6 @@
 //! What renumbering does.
 
-ghost use Rattle.std.specs.Prelude.{All, ℤ, IsTrue, ◌≡◌, ◌≢◌, ◌<◌, ◌≤◌, ◌-◌, ◌*◌, ◌+◌, ℕ, List, length, map, MatchBool};
+ghost use Rattle.std.specs.Prelude.{All, ℤ, IsTrue, ◌≡◌, ◌≢◌, ◌<◌, ◌≤◌, ◌-◌, ◌*◌, ◌+◌, ℕ, List, length, MatchBool};
 ghost use Rattle.kh_types.specs.Code.{Code, arc_in, slots_of, IsCrossing, IsArc};
 ghost use Rattle.kh_types.specs.Components.{next};
 ghost use Rattle.kh_types.specs.Directions.{is_positive, HasNoSingleArcs};
@@ -10,7 +10,7 @@ ghost use Rattle.kh_types.specs.Acceptance.{accepted};
 ghost use Rattle.kh_types.specs.StateSum.{state_sum};
 ghost use Rattle.orient_arcs.specs.Alike.{IsOf};
 ghost use Rattle.orient_arcs.specs.OtherNames.{IsNamedBy, KeepsComponents};
-ghost use Rattle.orient_arcs.specs.Renumbered.{AreInOrder, AreOrdered, named_components, order_of, number_in, renamed, renumber};
+ghost use Rattle.orient_arcs.specs.Renumbered.{AreInOrder, AreOrdered, named_components, order_of, number_in, renumber};
 
 /// A renumbered code is a directed code, in which the over strand of each crossing goes the way that the parts say; so each crossing
 /// keeps its sign, one whose over pass is a component of one arc excepted.
@@ -45,13 +45,15 @@ pub fn components_stand_in_order()
 {}
 
 /// The names have one order: those of the components in order, one after another, each as it begins; and renumbering gives each
-/// name its place in it.
+/// name its place in it, from 1.
 pub fn names_have_one_order()
     ensures order { (parts : Parts) → ArePaired parts → AreInOrder parts (order_of (passes_through parts)) }
     ensures one { (parts : Parts) (order other : List ℕ) → ArePaired parts → AreInOrder parts order → AreInOrder parts other
         → order ≡ other }
-    ensures code { (parts : Parts) (order : List ℕ) → ArePaired parts → AreInOrder parts order
-        → (renumber parts).crossings ≡ map (renamed (number_in order)) parts.crossings }
+    ensures slots { (parts : Parts) (order : List ℕ) → ArePaired parts → AreInOrder parts order
+        → (crossing slot : ℕ) → IsCrossing parts.crossings crossing → slot < 4
+        → arc_in (slots_of (renumber parts).crossings crossing) slot
+        ≡ number_in order (arc_in (slots_of parts.crossings crossing) slot) }
 {}
 
 /// A directed code without single arcs keeps its numbers, where each of its crossings has four slots.

@@ -1,4 +1,4 @@
-use Rattle.std.proofs.Common.{◌≡◌, ◌∙◌, ap, ap₂, sym}
+use Rattle.std.proofs.Common.{◌∙◌, ap, ap₂, sym}
 use Rattle.std.specs.Prelude.{◌&&◌}
 use Rattle.orient_arcs.specs.Pairing.{is_paired_at}
 use Rattle.orient_arcs.proofs.PairingTests.{all_take_more}
