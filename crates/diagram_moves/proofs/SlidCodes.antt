@@ -154,7 +154,7 @@ module _ (strands : Strands) (twice : HasArcsTwice strands.crossings)
 
 -- a slide
 
-signs-slid : (crossings : List (List ℕ)) (place : ℕ) → place < length crossings
+pub signs-slid : (crossings : List (List ℕ)) (place : ℕ) → place < length crossings
     → sign_at (map (positive_at crossings) (range_with_len 0 (length crossings))) place ≡ is_positive crossings (place + 1)
 signs-slid crossings place below =
     get_or-map-range_with_len (positive_at crossings) 0 (length crossings) place place false below (omega arith)

@@ -1,10 +1,11 @@
 //! Moves that are taken back by moves.
 
-ghost use Rattle.std.specs.Prelude.{◌≡◌, ◌+◌, ℕ, All, Bool, IsTrue, Ok, length};
+ghost use Rattle.std.specs.Prelude.{◌≡◌, ◌+◌, ◌%◌, ◌<◌, ℕ, All, Bool, IsTrue, Ok, Some, length};
 ghost use Rattle.kh_types.specs.Acceptance.{accepted};
-ghost use Rattle.kh_types.specs.Code.{Code};
-ghost use Rattle.diagram_moves.specs.Moved.{moved};
-ghost use Rattle.diagram_moves.specs.declared.change.Move.TheVariants.{FingerAdd, FingerDrop, KinkAdd, KinkDrop};
+ghost use Rattle.kh_types.specs.Code.{Code, IsCrossing};
+ghost use Rattle.slides.specs.Triangles.{IsTriangleAt, slide_slot};
+ghost use Rattle.diagram_moves.specs.Moved.{moved, slid_from};
+ghost use Rattle.diagram_moves.specs.declared.change.Move.TheVariants.{FingerAdd, FingerDrop, KinkAdd, KinkDrop, Slide};
 ghost use Rattle.diagram_moves.specs.declared.change.Side.{Side};
 
 /// A kink that is added and dropped gives the diagram back, with its numbers.
@@ -22,4 +23,24 @@ pub fn added_fingers_are_dropped()
         → All (λ slots. length slots ≡ 4) code.crossings
         → moved code (FingerAdd over over_side under under_side) ≡ Ok new
         → moved new (FingerDrop (length code.crossings + 1) (length code.crossings + 2)) ≡ Ok code }
+{}
+
+/// A slide leaves a triangle at the slot across. A slide at that one gives the diagram back; and so
+/// does the move, where it is made at that one, as where the slide left no other at the crossings.
+pub fn slides_are_taken_back()
+    ensures across { (code : Code) (c d e slot : ℕ) → IsTrue (accepted code)
+        → All (λ slots. length slots ≡ 4) code.crossings → IsCrossing code.crossings c
+        → IsCrossing code.crossings d → IsCrossing code.crossings e
+        → slide_slot code.crossings c d e ≡ Some slot
+        → slid_from (slid_from code c slot) c ((slot + 2) % 4) ≡ code }
+    ensures moved { (code new : Code) (c d e slot : ℕ) → IsTrue (accepted code)
+        → All (λ slots. length slots ≡ 4) code.crossings
+        → moved code (Slide c d e) ≡ Ok new → slide_slot code.crossings c d e ≡ Some slot
+        → slide_slot new.crossings c d e ≡ Some ((slot + 2) % 4)
+        → moved new (Slide c d e) ≡ Ok code }
+    ensures lone { (code new : Code) (c d e slot : ℕ) → IsTrue (accepted code)
+        → All (λ slots. length slots ≡ 4) code.crossings
+        → moved code (Slide c d e) ≡ Ok new → slide_slot code.crossings c d e ≡ Some slot
+        → ((k : ℕ) → k < 4 → IsTriangleAt new.crossings c d e k → k ≡ (slot + 2) % 4)
+        → moved new (Slide c d e) ≡ Ok code }
 {}

@@ -61,12 +61,12 @@ at_crossing P [] holds k below = absurd (omega (arith, below))
 at_crossing P (slots ∷ rest) holds zero below = (holds.0, (holds.1.0, tt))
 at_crossing P (slots ∷ rest) holds (suc k) below = at_crossing P rest holds.1.1 k (omega (arith, below))
 
-arc-behind : (crossings : List (List ℕ)) (place : ℕ)
+pub arc-behind : (crossings : List (List ℕ)) (place : ℕ)
     → arc_there crossings (on place 2) ≡ arc_in (slice_index_or crossings (place / 4) []) ((place % 4 + 2) % 4)
 arc-behind crossings place =
     ap₂ (λ k s. arc_in (slice_index_or crossings k []) s) (on-crossing place 2) (on-slot place 2)
 
-respects-behind : (f : ℕ → ℕ) (crossings : List (List ℕ)) → Respects f (flat_map passes_of crossings) → (place : ℕ)
+pub respects-behind : (f : ℕ → ℕ) (crossings : List (List ℕ)) → Respects f (flat_map passes_of crossings) → (place : ℕ)
     → place < 4 * length crossings → f (arc_there crossings place) ≡ f (arc_there crossings (on place 2))
 respects-behind f crossings respects place below =
     let slots = slice_index_or crossings (place / 4) [] in
@@ -91,7 +91,7 @@ respects-passes f crossings behind =
     ∙ ap₂ (λ k s. f (arc_in (slice_index_or crossings k []) ((s + 2) % 4))) here same in
     (there 0 (omega arith), (there 1 (omega arith), tt)))
 
-passes-arcs : (crossings : List (List ℕ)) → HasArcsTwice crossings → AreBelow (arc_count crossings + 1) (flat_map passes_of crossings)
+pub passes-arcs : (crossings : List (List ℕ)) → HasArcsTwice crossings → AreBelow (arc_count crossings + 1) (flat_map passes_of crossings)
 passes-arcs crossings twice =
     passes_of-below (arc_count crossings + 1) crossings (ArcsBelow-slots (arc_count crossings + 1) crossings twice.slots (omega arith))
 
