@@ -1,9 +1,8 @@
 -- The reply of `edit`: there is one, and what the code writes line by line is its text.
-use Rattle.std.proofs.Common.{◌≡◌, ℕ, ◌+◌, ◌<◌, List, [], ◌++◌, length, get_or, map, Some, None, Result, Ok, Err, refl, sym, ◌∙◌, ap, ap₂, subst, arith, length-map, append-nil}
-use Rattle.std.proofs.lemmas.List.{get_or-map}
+use Rattle.std.proofs.Common.{◌≡◌, ℕ, ◌+◌, ◌<◌, List, [], ◌++◌, length, get_or, Some, None, Result, Ok, Err, refl, sym, ◌∙◌, ap, ap₂, subst, arith, append-nil}
+use Rattle.std.proofs.lemmas.List.{get_or-map, length-map}
 use Rattle.kh_types.specs.Code.{Code}
 use Rattle.kh_types.proofs.Ranges.{flat_map-range_more}
-use Rattle.pd_code.specs.Printing.{pd_text}
 use Rattle.undo_stack.specs.EditSteps.{edit_of}
 use Rattle.undo_stack.specs.EditScript.{IsEdit}
 use Rattle.undo_stack.specs.EditRuns.{EditOutcome, after_line, diagram_after, edit_outcome, edited}
@@ -49,41 +48,42 @@ IsEditReply-one code text a b is_a is_b =
 -- the lines of a script before a place are done, and have led to a history and a text
 pub record IsEditSoFar (code : Code) (script : List (ℕ × EditLine)) (place : ℕ) (now : History) (text : List ℕ) : Type 0 where
   pub done : AreDone (edits_in script) place (opening_history code) now
-  pub text : text ≡ diagram_lines code script place
+  pub written : text ≡ diagram_lines code script place
 
 -- before the first line
 pub IsEditSoFar-begin : (code : Code) (script : List (ℕ × EditLine)) → IsEditSoFar code script 0 (opening_history code) []
-IsEditSoFar-begin code script = record { done = AreDone-begin (edits_in script) (opening_history code); text = refl }
+IsEditSoFar-begin code script = record { done = AreDone-begin (edits_in script) (opening_history code); written = refl }
 
 -- the line at a place, and its number
-edit-at : (script : List (ℕ × EditLine)) (place : ℕ) (line : ℕ × EditLine) → place < length script → line ≡ get_or script place line
-    → get_or (edits_in script) place line.1 ≡ line.1
-edit-at script place line within is = get_or-map (λ (l : ℕ × EditLine). l.1) script place line line.1 within ∙ ap (λ (l : ℕ × EditLine). l.1) (sym is)
+edit-at : (script : List (ℕ × EditLine)) (place : ℕ) (line other : ℕ × EditLine) → place < length script
+    → line ≡ get_or script place other → get_or (edits_in script) place line.1 ≡ line.1
+edit-at script place line other within is =
+    get_or-map (λ (l : ℕ × EditLine). l.1) script place other line.1 within ∙ ap (λ (l : ℕ × EditLine). l.1) (sym is)
 
-number_at-line : (script : List (ℕ × EditLine)) (place : ℕ) (line : ℕ × EditLine) → place < length script → line ≡ get_or script place line
-    → line.0 ≡ number_at script place
-number_at-line script place line within is = sym
-    (get_or-map (λ (l : ℕ × EditLine). l.0) script place line 0 within ∙ ap (λ (l : ℕ × EditLine). l.0) (sym is))
+number_at-line : (script : List (ℕ × EditLine)) (place : ℕ) (line other : ℕ × EditLine) → place < length script
+    → line ≡ get_or script place other → line.0 ≡ number_at script place
+number_at-line script place line other within is = sym
+    (get_or-map (λ (l : ℕ × EditLine). l.0) script place other 0 within ∙ ap (λ (l : ℕ × EditLine). l.0) (sym is))
 
 edits-length : (script : List (ℕ × EditLine)) → length (edits_in script) ≡ length script
-edits-length script = length-map (λ (l : ℕ × EditLine). l.1) script
+edits-length script = length-map script (λ (l : ℕ × EditLine). l.1)
 
 -- one more line
 pub IsEditSoFar-line : (code : Code) (script : List (ℕ × EditLine)) (place : ℕ) (now next : History) (text more : List ℕ)
-    (line : ℕ × EditLine) → place < length script → line ≡ get_or script place line → after_line line.1 now ≡ Ok next
+    (line other : ℕ × EditLine) → place < length script → line ≡ get_or script place other → after_line line.1 now ≡ Ok next
     → more ≡ text ++ diagram_line line.0 next.diagram
     → IsEditSoFar code script place now text → IsEditSoFar code script (place + 1) next more
-IsEditSoFar-line code script place now next text more line within is_line is is_more so_far =
+IsEditSoFar-line code script place now next text more line other within is_line is is_more so_far =
     let first = opening_history code in
     let done : AreDone (edits_in script) (place + 1) first next =
-    AreDone-line (edits_in script) place first now next line.1 (omega (arith, edits-length script)) (edit-at script place line within is_line)
+    AreDone-line (edits_in script) place first now next line.1 (omega (arith, edits-length script)) (edit-at script place line other within is_line)
     is so_far.done in
     let diagram : diagram_after (edits_in script) code (place + 1) ≡ next.diagram = ap (λ (o : EditOutcome). o.history.diagram) done.outcome in
     record {
       done = done;
-      text = is_more
-          ∙ ap₂ (λ (xs ys : List ℕ). xs ++ ys) so_far.text
-          (ap₂ (λ (n : ℕ) (d : Code). diagram_line n d) (number_at-line script place line within is_line) (sym diagram))
+      written = is_more
+          ∙ ap₂ (λ (xs ys : List ℕ). xs ++ ys) so_far.written
+          (ap₂ (λ (n : ℕ) (d : Code). diagram_line n d) (number_at-line script place line other within is_line) (sym diagram))
           ∙ sym
           (flat_map-range_more
           (λ k. diagram_line (number_at script k) (diagram_after (edits_in script) code (k + 1))) 0 place place (omega arith));
@@ -91,18 +91,18 @@ IsEditSoFar-line code script place now next text more line within is_line is is_
 
 -- a line is refused
 pub edit_reply-refused : (code : Code) (script : List (ℕ × EditLine)) (place : ℕ) (now : History) (text more : List ℕ)
-    (line : ℕ × EditLine) (fault : EditFault) → place < length script → line ≡ get_or script place line
+    (line other : ℕ × EditLine) (fault : EditFault) → place < length script → line ≡ get_or script place other
     → after_line line.1 now ≡ Err fault → more ≡ text ++ refusal_line line.0 fault
     → IsEditSoFar code script place now text → reply_of MoveRefused more ≡ edit_reply code script
 unfolding edit_reply
-edit_reply-refused code script place now text more line fault within is_line is is_more so_far =
+edit_reply-refused code script place now text more line other fault within is_line is is_more so_far =
     let first = opening_history code in
     let outcome : edited (edits_in script) first ≡ edit_outcome now place (Some fault) =
     AreDone-refused (edits_in script) place first now line.1 fault (omega (arith, edits-length script))
-    (edit-at script place line within is_line) is so_far.done in
+    (edit-at script place line other within is_line) is so_far.done in
     ap (reply_of MoveRefused)
     (is_more
-    ∙ ap₂ (λ (xs : List ℕ) (n : ℕ). xs ++ refusal_line n fault) so_far.text (number_at-line script place line within is_line))
+    ∙ ap₂ (λ (xs : List ℕ) (n : ℕ). xs ++ refusal_line n fault) so_far.written (number_at-line script place line other within is_line))
     ∙ ap (outcome_reply code script) (sym outcome)
 
 -- all lines are done
@@ -113,4 +113,4 @@ edit_reply-done code script place now text end so_far =
     let first = opening_history code in
     let outcome : edited (edits_in script) first ≡ edit_outcome now place None =
     AreDone-end (edits_in script) place first now (sym (edits-length script ∙ end)) so_far.done in
-    ap (reply_of Done) (so_far.text ∙ sym (append-nil (diagram_lines code script place))) ∙ ap (outcome_reply code script) (sym outcome)
+    ap (reply_of Done) (so_far.written ∙ sym (append-nil (diagram_lines code script place))) ∙ ap (outcome_reply code script) (sym outcome)

@@ -1,6 +1,6 @@
 //! The command `edit`: the diagram after each line of a script, up to the first line that is refused.
 
-ghost use Rattle.std.specs.Prelude.{◌≡◌, ◌≤◌, ◌×◌, ◌++◌, IfOk, OnOk, Ok, Err, length, true, false};
+ghost use Rattle.std.specs.Prelude.{◌≡◌, ◌≤◌, ◌++◌, IfOk, OnOk, Ok, Err, length, true, false};
 ghost use Rattle.kh_types.specs.declared.limits.TheConstants.{INPUT_BYTES};
 ghost use Rattle.undo_stack.specs.EditRuns.{after_line};
 ghost use Rattle.undo_stack.specs.declared.edit_run.EditFault.{EditFault};
