@@ -1,10 +1,11 @@
 use Rattle.std.proofs.Common.{◌≡◌}
-use Rattle.cube_signs.specs.Columns.{column_to, sign_at}
-use Rattle.cube_signs.proofs.columns.column.Given as goal
+use Rattle.std.specs.Prelude.{All}
+use Rattle.cube_signs.specs.Columns.{outs_to, sign_at, IsSmallOut}
+use Rattle.cube_signs.proofs.outs.find_outs.Given as goal
 
 abbrev pub invariant-places : goal.invariant-places
 invariant-places l = record {
-  state : l.state ≡ l.tail.state;
   sign : l.sign ≡ sign_at l.p l.state l.place;
-  entries : l.column.items ≡ column_to l.p l.steps l.heads.bases.now l.heads.ranks.now l.tail l.place;
+  outs : l.outs.items ≡ outs_to l.p l.steps l.bases l.state l.place;
+  small : All IsSmallOut l.outs.items;
 }
