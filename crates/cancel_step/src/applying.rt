@@ -75,8 +75,8 @@ pub fn cancel_in_place<F: PrimeField>(
     cancel_with(&mut scratch, complex, pivot)
 }
 
-/// Cancels a pivot in place, with memory in which lines are made: many cancellations can share it.
-pub(crate) fn cancel_with<F: PrimeField>(
+/// The same, with memory in which lines are made, which many cancellations can share.
+pub fn cancel_with<F: PrimeField>(
     scratch: &mut Vec<Entry>,
     complex: &mut Complex<F>,
     pivot: Pivot,

@@ -16,7 +16,7 @@ mod search;
 mod side;
 mod updating;
 
-pub use applying::{apply, apply_fitting, cancel_in_place};
+pub use applying::{apply, apply_fitting, cancel_in_place, cancel_with};
 pub use copying::{Look, copy};
 pub use finishing::finish;
 pub use patched::Patch;

@@ -1,5 +1,5 @@
 -- The columns of the generators of two degrees.
-use Rattle.std.proofs.Common.{◌≡◌, ℕ, ◌+◌, ◌^◌, ◌<◌, ◌≤◌, ◌∙◌, ℤ, pos, ◌+ℤ◌, List, [], ◌∷◌, ◌++◌, length, get_or, map, sym, ap, ap₂, subst, arith, true, Option, IsTrue}
+use Rattle.std.proofs.Common.{◌≡◌, ℕ, ◌+◌, ◌^◌, ◌<◌, ◌≤◌, ◌∙◌, ℤ, pos, ◌+ℤ◌, List, [], ◌∷◌, ◌++◌, length, get_or, map, sym, ap, ap₂, subst, arith, true, IsTrue}
 use Rattle.std.specs.Prelude.{slice_index_or}
 use Rattle.std.specs.Global.{Vec}
 use Rattle.std.proofs.Math.Pow.{pow_mono}
@@ -10,13 +10,13 @@ use Rattle.kh_types.specs.Acceptance.{accepted}
 use Rattle.kh_types.specs.Circles.{circle_count}
 use Rattle.kh_types.specs.Code.{Code}
 use Rattle.kh_types.specs.Generators.{Generator, generator_of, generators_at, states}
-use Rattle.circle_smoothing.specs.declared.change.Edge.{Edge}
 use Rattle.circle_smoothing.proofs.KeptNumbers.{count-within}
 use Rattle.sparse_block.specs.declared.entry.Entry.{Entry}
 use Rattle.sparse_block.specs.Inside.{lists_in}
 use Rattle.sparse_block.proofs.LineLemmas.{list-lists_in}
-use Rattle.cube_signs.specs.Columns.{column_to, generators_from, AreAllColumns, AreColumns, IsColumn}
-use Rattle.cube_signs.specs.Steps.{HasSteps}
+use Rattle.cube_signs.specs.Columns.{column_along, generators_from, AreAllColumns, AreColumns, AreFound, AreOuts, IsColumn}
+use Rattle.cube_signs.specs.declared.outs.Out.{Out}
+use Rattle.cube_signs.proofs.EdgeEntries.{column-along, column_to}
 use Rattle.cube_signs.specs.Tables.{own_base, AreRanks}
 use Rattle.cube_signs.proofs.ColumnHeads.{AreAround, IsColumn-entries}
 use Rattle.cube_signs.proofs.GeneratorPlaces.{generator-at, is_label, HasPlace-within}
@@ -43,15 +43,24 @@ label-small code i j tail is few tails =
     let power : 2 ^ circle_count code tail.state ≤ 2 ^ CIRCLES = pow_mono (count-within code tail.state is few) in
     omega (arith, tails.label_below, power)
 
+-- no state has the greatest number of 32 bits
+pub found-nowhere : (p : ℕ) (code : Code) (bases : List ℕ) (state : ℕ) (outs : List Out) → state + 1 ≡ 2 ^ 32
+    → length code.crossings ≤ CROSSINGS → AreFound p code bases state outs
+found-nowhere p code bases state outs is few below =
+    let power : 2 ^ length code.crossings ≤ 2 ^ CROSSINGS = pow_mono few in
+    absurd (omega (arith, power, below, is))
+
 -- one column more
-pub columns-more : (p : ℕ) (code : Code) (i j : ℤ) (names : List Generator) (k : ℕ) (tail : Generator) (steps : List (Option Edge))
+pub columns-more : (p : ℕ) (code : Code) (i j : ℤ) (names : List Generator) (k : ℕ) (tail : Generator) (outs : List Out)
     (bases ranks : List ℕ) (column : List Entry) (made next : List (List Entry)) → 1 < p → IsTrue (accepted code)
     → names ≡ generators_at code i j → k < length names → tail ≡ get_or names k tail
-    → HasSteps code tail.state (length code.crossings) steps → bases ≡ map (own_base code j) (states code)
-    → AreRanks code ranks → column ≡ column_to p steps bases ranks tail (length steps) → AreColumns p code i j k made
+    → AreOuts p code bases tail.state outs → bases ≡ map (own_base code j) (states code)
+    → AreRanks code ranks → column ≡ column_along ranks tail.label outs → AreColumns p code i j k made
     → next ≡ made ++ column ∷ [] → AreColumns p code i j (k + 1) next
-columns-more p code i j names k tail steps bases ranks column made next prime is is_names below is_tail has_steps is_bases are_ranks
+columns-more p code i j names k tail outs bases ranks column made next prime is is_names below is_tail are_outs is_bases are_ranks
     is_column are is_next =
+    let steps = are_outs.steps in
+    let has_steps = are_outs.of_steps in
     let tails = IsTail-at code i j names k tail is_names below is_tail in
     let around : AreAround p code i j tail steps bases ranks =
     record {
@@ -69,7 +78,8 @@ columns-more p code i j names k tail steps bases ranks column made next prime is
     is_tail ∙ get_or_default names k tail d below ∙ ap (λ (xs : List Generator). get_or xs k d) is_names in
     let more : IsColumn p code i j (get_or (generators_at code i j) k d) column =
     subst (λ (g : Generator). IsColumn p code i j g column) at
-    (subst (IsColumn p code i j tail) (sym (is_column ∙ ap (column_to p steps bases ranks tail) has_steps.size))
+    (subst (IsColumn p code i j tail) (sym (is_column ∙ ap (column_along ranks tail.label) are_outs.are ∙ column-along p steps bases ranks tail (length steps)
+    ∙ ap (column_to p steps bases ranks tail) has_steps.size))
     (IsColumn-entries p code i j tail steps bases ranks around)) in
     subst (AreColumns p code i j (k + 1)) (sym is_next) (record {
       size = length_push made column ∙ ap (λ n. n + 1) are.size;

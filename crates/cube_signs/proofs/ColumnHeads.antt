@@ -21,7 +21,8 @@ use Rattle.circle_smoothing.specs.declared.change.Edge.{Edge}
 use Rattle.kh_types.proofs.EdgeBits.{set-within}
 use Rattle.sparse_block.specs.declared.entry.Entry.{Entry}
 use Rattle.sparse_block.proofs.AscendingLemmas.{Ascend, ascend-earlier, entries-from_ascend}
-use Rattle.cube_signs.specs.Columns.{column_to, edge_entries, head_entry, sign_at, step_entries, IsColumn}
+use Rattle.cube_signs.specs.Columns.{head_entry, sign_at, IsColumn}
+use Rattle.cube_signs.proofs.EdgeEntries.{column_to, edge_entries, step_entries}
 use Rattle.cube_signs.specs.Heads.{labels_behind}
 use Rattle.cube_signs.specs.Steps.{HasSteps, IsStep}
 use Rattle.cube_signs.specs.Tables.{base_of, own_base, own_degree}

@@ -13,6 +13,7 @@ pub mod TableLemmas
 pub mod GeneratorPlaces
 pub mod LabelPlaces
 pub mod NameLemmas
+pub mod EdgeEntries
 pub mod SignLemmas
 pub mod ColumnLemmas
 pub mod ColumnHeads

@@ -1,14 +1,13 @@
--- Signs of edges, and the entries along one edge more.
+-- Signs of edges, and one edge more out of a state.
 use Rattle.std.proofs.Common.{◌≡◌, ◌≢◌, ℕ, ◌+◌, ◌-◌, ◌%◌, ◌<◌, ◌∙◌, List, ◌++◌, sym, ap, arith, Option, None}
 use Rattle.std.specs.Prelude.{nat_eq, if◌then◌else◌, slice_index_or}
 use Rattle.std.proofs.lemmas.Bool.Decides.{nat_tests}
 use Rattle.kh_types.specs.Bits.{bit, ones}
-use Rattle.kh_types.specs.Generators.{Generator}
 use Rattle.kh_types.proofs.BitLemmas.{ones-more}
 use Rattle.kh_types.proofs.Ranges.{flat_map-range_more}
 use Rattle.circle_smoothing.specs.declared.change.Edge.{Edge}
-use Rattle.sparse_block.specs.declared.entry.Entry.{Entry}
-use Rattle.cube_signs.specs.Columns.{column_to, edge_entries, sign_at, step_entries}
+use Rattle.cube_signs.specs.Columns.{out_along, outs_at, outs_to, sign_at}
+use Rattle.cube_signs.specs.declared.outs.Out.{Out}
 
 -- -1 to a power, modulo p
 abbrev sign_of : ℕ → ℕ → ℕ
@@ -35,12 +34,11 @@ pub sign-below : (p state place : ℕ) → 1 < p → sign_at p state place < p
 sign-below p state place above = grind (arith, nat_tests)
 
 -- one edge more
-pub column-more : (p : ℕ) (steps : List (Option Edge)) (bases ranks : List ℕ) (tail : Generator) (place sign : ℕ) (made next : List Entry)
-    → made ≡ column_to p steps bases ranks tail place → sign ≡ sign_at p tail.state place
-    → next ≡ made ++ step_entries sign bases ranks tail place (slice_index_or steps place None)
-    → next ≡ column_to p steps bases ranks tail (place + 1)
-unfolding edge_entries
-column-more p steps bases ranks tail place sign made next is_made is_sign is_next =
-    is_next ∙ ap (λ (xs : List Entry). xs ++ step_entries sign bases ranks tail place (slice_index_or steps place None)) is_made
-    ∙ ap (λ s. column_to p steps bases ranks tail place ++ step_entries s bases ranks tail place (slice_index_or steps place None)) is_sign
-    ∙ sym (flat_map-range_more (edge_entries p steps bases ranks tail) 0 place place (omega arith))
+pub outs-more : (p : ℕ) (steps : List (Option Edge)) (bases : List ℕ) (state place sign : ℕ) (made next : List Out)
+    → made ≡ outs_to p steps bases state place → sign ≡ sign_at p state place
+    → next ≡ made ++ out_along sign bases state place (slice_index_or steps place None) → next ≡ outs_to p steps bases state (place + 1)
+unfolding outs_at
+outs-more p steps bases state place sign made next is_made is_sign is_next =
+    is_next ∙ ap (λ (xs : List Out). xs ++ out_along sign bases state place (slice_index_or steps place None)) is_made
+    ∙ ap (λ s. outs_to p steps bases state place ++ out_along s bases state place (slice_index_or steps place None)) is_sign
+    ∙ sym (flat_map-range_more (outs_at p steps bases state) 0 place place (omega arith))

@@ -1,5 +1,5 @@
 -- The columns of a block, as they are read off the edges out of a state, and what they denote.
-use Rattle.std.specs.Prelude.{◌≡◌, ℕ, ◌+◌, ◌-◌, ◌%◌, ◌^◌, ◌<◌, ℤ, pos, neg_ℤ, ◌+ℤ◌, ◌≤ℤ◌, List, [], length, map, nat_eq, if◌then◌else◌, slice_index, slice_index_or, Option, None, Some, Bool, not, All}
+use Rattle.std.specs.Prelude.{◌≡◌, ℕ, ◌+◌, ◌-◌, ◌%◌, ◌^◌, ◌<◌, ℤ, pos, neg_ℤ, ◌+ℤ◌, ◌≤ℤ◌, List, [], ◌∷◌, length, map, nat_eq, if◌then◌else◌, slice_index, slice_index_or, Option, None, Some, Bool, not, All}
 use Rattle.std.specs.List.{flat_map, range_with_len}
 use Rattle.kh_types.specs.declared.limits.TheConstants.{CIRCLES}
 use Rattle.kh_types.specs.Bits.{ones}
@@ -13,9 +13,11 @@ use Rattle.circle_smoothing.specs.declared.change.Edge.{Edge}
 use Rattle.sparse_block.specs.declared.entry.Entry.{Entry}
 use Rattle.sparse_block.specs.Entries.{entry_at, value_at, AreEntries}
 use Rattle.sparse_block.specs.Complexes.{sparse_complex, HaveEntries, SquaresToZero}
-use Rattle.cube_signs.specs.declared.limits.TheConstants.{DEGREES}
+use Rattle.cube_signs.specs.declared.limits.TheConstants.{DEGREES, PLACES}
+use Rattle.cube_signs.specs.declared.outs.Out.{Out}
 use Rattle.cube_signs.specs.Blocks.{named_block}
 use Rattle.cube_signs.specs.Heads.{labels_behind}
+use Rattle.cube_signs.specs.Steps.{HasSteps}
 
 -- the sign of the edge at the crossing of a place, as `edge_sign` of the crossing: by how many crossings before it have their
 -- 1-smoothing
@@ -27,20 +29,27 @@ sign_at p state place = if nat_eq (ones place state % 2) 0 then 1 else p - 1
 abbrev pub head_entry : ℕ → List ℕ → ℕ → ℕ → Entry
 head_entry base ranks sign label = entry_at (base + slice_index ranks label, sign)
 
--- the entries along the edge at a place, if one begins there
-abbrev pub step_entries : ℕ → List ℕ → List ℕ → Generator → ℕ → Option Edge → List Entry
-step_entries sign bases ranks tail place None = []
-step_entries sign bases ranks tail place (Some change) =
-    map (head_entry (slice_index bases (tail.state + 2 ^ place)) ranks sign) (labels_behind change tail.label)
+-- the edge out of a state at a place, if one begins there, with the place of the first generator of the state behind it, and its sign
+abbrev pub out_along : ℕ → List ℕ → ℕ → ℕ → Option Edge → List Out
+out_along sign bases state place None = []
+out_along sign bases state place (Some change) =
+    record { change = change; base = slice_index bases (state + 2 ^ place); sign = sign } ∷ []
 
 -- the same, of the edges in a list
-unfoldable pub edge_entries : ℕ → List (Option Edge) → List ℕ → List ℕ → Generator → ℕ → List Entry
-edge_entries p steps bases ranks tail place =
-    step_entries (sign_at p tail.state place) bases ranks tail place (slice_index_or steps place None)
+unfoldable pub outs_at : ℕ → List (Option Edge) → List ℕ → ℕ → ℕ → List Out
+outs_at p steps bases state place = out_along (sign_at p state place) bases state place (slice_index_or steps place None)
 
--- the entries along all edges before a place
-abbrev pub column_to : ℕ → List (Option Edge) → List ℕ → List ℕ → Generator → ℕ → List Entry
-column_to p steps bases ranks tail count = flat_map (edge_entries p steps bases ranks tail) (range_with_len 0 count)
+-- those at all places before one
+abbrev pub outs_to : ℕ → List (Option Edge) → List ℕ → ℕ → ℕ → List Out
+outs_to p steps bases state count = flat_map (outs_at p steps bases state) (range_with_len 0 count)
+
+-- the entries along an edge out of a label's generator
+abbrev pub out_entries : List ℕ → ℕ → Out → List Entry
+out_entries ranks label out = map (head_entry out.base ranks out.sign) (labels_behind out.change label)
+
+-- the entries along edges out of it, one edge after another
+abbrev pub column_along : List ℕ → ℕ → List Out → List Entry
+column_along ranks label outs = flat_map (out_entries ranks label) outs
 
 -- the numbers of circles that edges name are small
 abbrev pub IsSmall : Option Edge → Type 0
@@ -49,6 +58,22 @@ IsSmall (Some change) = HasNumbersBelow CIRCLES change
 
 pub record AreSmall (steps : List (Option Edge)) : Type 0 where
   pub each : (place : ℕ) → place < length steps → IsSmall (slice_index_or steps place None)
+
+-- so are those of an edge out of a state, and the place behind it
+pub record IsSmallOut (out : Out) : Type 0 where
+  pub numbers : HasNumbersBelow CIRCLES out.change
+  pub base : out.base < PLACES
+
+-- the edges are those out of a state, in the order of their places
+pub record AreOuts (p : ℕ) (code : Code) (bases : List ℕ) (state : ℕ) (outs : List Out) : Type 0 where
+  pub steps : List (Option Edge)
+  pub of_steps : HasSteps code state (length code.crossings) steps
+  pub are : outs ≡ outs_to p steps bases state (length steps)
+  pub small : All IsSmallOut outs
+
+-- the edges that were found last are those out of their state, if it is a state
+abbrev pub AreFound : ℕ → Code → List ℕ → ℕ → List Out → Type 0
+AreFound p code bases state outs = state < 2 ^ length code.crossings → AreOuts p code bases state outs
 
 -- entries are the column of a generator of the degrees i and j: those of its coefficients to the generators of the next degree
 pub record IsColumn (p : ℕ) (code : Code) (i j : ℤ) (tail : Generator) (entries : List Entry) : Type 0 where

@@ -12,13 +12,14 @@ ghost use Rattle.circle_smoothing.specs.declared.limits.TheConstants.{GENERATORS
 ghost use Rattle.sparse_block.specs.Inside.{entries_in, lines_in, lists_in};
 ghost use Rattle.cube_signs.specs.Blocks.{block_degrees, named_block};
 ghost use Rattle.cube_signs.specs.Columns.{flags_of, generators_from, AreAllColumns, AreColumns};
-ghost use Rattle.cube_signs.specs.Columns.{AreParts};
+ghost use Rattle.cube_signs.specs.Columns.{AreFound, AreOuts, AreParts};
 ghost use Rattle.cube_signs.specs.Tables.{own_base, HaveSizes};
 ghost use Rattle.cube_signs.specs.declared.limits.TheConstants.{DEGREES, PLACES};
 
-use crate::columns::{Column, Heads, column};
+use crate::columns::{Column, column};
 use crate::cube::Cube;
 use crate::names::Degrees;
+use crate::outs::{Out, find_outs};
 use kh_types::{Diagram, NoMemory};
 use prime_field::PrimeField;
 use prime_field::laws::element_laws;
@@ -39,6 +40,25 @@ struct Parts {
     least: Degrees,
     names: Vec<Vec<Generator>>,
     columns: Vec<Vec<Column>>,
+}
+
+/// A state, and the edges out of it that were found last.
+#[derive(Drop)]
+struct Around {
+    state: u32,
+    outs: Vec<Out>,
+}
+
+impl Around {
+    /// No state has such a number.
+    fn nowhere(alloc: Global) -> Around
+        ensures state { result.state + 1 ≡ 2 ^ 32 }
+    {
+        Around {
+            state: u32::MAX,
+            outs: Vec::new(alloc),
+        }
+    }
 }
 
 impl Cube {
@@ -89,16 +109,38 @@ impl Cube {
         ensures { IfOk result (λ columns.
             AreColumns p self.now at.i at.j (length names.now) (entries_in columns.items)) }
     {
-        let heads = Heads {
-            bases,
-            ranks: self.ranks(),
-        };
+        let ranks = self.ranks();
+        let mut around = Around::nowhere(alloc);
         let mut columns = Vec::with_capacity(alloc, names.len())?;
         'names: for k in 0..names.len() {
             let tail = names[k];
-            columns.push(column(alloc, p, self.steps(state_of(tail)), heads, tail)?)?;
+            self.go_to(p, bases, &mut around, tail.state)?;
+            columns.push(column(alloc, &around.outs, ranks, tail.label)?)?;
         }
         Ok(columns)
+    }
+
+    /// Finds the edges out of a state, where they are not those that were found last.
+    fn go_to(&self, p: u8, bases: &[u32], around: &mut Around, state: u32) -> Result<(), NoMemory>
+        requires prime { 1 < p }
+        requires state { state < 2 ^ length self.now.crossings }
+        requires bases { All (λ base. base < PLACES) bases.now }
+        requires found { AreFound p self.now bases.now around.old.state around.old.outs.items }
+        ensures state { OnOk result (around.new.state ≡ state) }
+        ensures outs { OnOk result
+            (AreOuts p self.now bases.now state around.new.outs.items) }
+    {
+        if around.state != state {
+            find_outs(
+                &mut around.outs,
+                p,
+                self.steps(state as usize),
+                bases,
+                state,
+            )?;
+            around.state = state;
+        }
+        Ok(())
     }
 
     /// The columns of the generators of each degree from a least one on, which are given.
@@ -243,11 +285,4 @@ fn first_true(flags: &[bool]) -> Option<usize>
     ensures { result ≡ position (λ flag. flag) flags.now }
 {
     flags.iter().position(|flag| *flag)
-}
-
-/// The state of a generator.
-fn state_of(generator: Generator) -> usize
-    ensures { result ≡ generator.state }
-{
-    generator.state as usize
 }

@@ -11,6 +11,7 @@ pub mod laws;
 mod levels;
 mod limits;
 mod names;
+mod outs;
 mod places;
 mod quantum_degrees;
 mod shape;

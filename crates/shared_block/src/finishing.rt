@@ -8,10 +8,11 @@ ghost use Rattle.shared_block.specs.Commits.{with_pivot};
 
 use crate::SharedBlock;
 use crate::laws::block_laws;
-use cancel_step::{Found, Pivot, cancel_in_place, find};
+use cancel_step::{Found, Pivot, cancel_with, find};
 use kh_types::NoMemory;
 use prime_field::PrimeField;
 use prime_field::laws::element_laws;
+use sparse_block::Entry;
 use std::alloc::Global;
 
 impl<F: PrimeField> SharedBlock<F> {
@@ -25,11 +26,12 @@ impl<F: PrimeField> SharedBlock<F> {
     {
         element_laws::<F>();
         block_laws(self);
+        let mut scratch = Vec::new(alloc);
         let mut hint = 0;
         'turns: while let Some(found) = self.next(hint) {
             block_laws(self);
             hint = found.hint;
-            self.cancel(alloc, found.pivot)?;
+            self.cancel(&mut scratch, found.pivot)?;
         }
         Ok(())
     }
@@ -42,14 +44,15 @@ impl<F: PrimeField> SharedBlock<F> {
         find(&self.complex, hint)
     }
 
-    /// Cancels a pivot, which enters the history. The block is unchanged where memory runs out.
-    fn cancel(&mut self, alloc: Global, pivot: Pivot) -> Result<(), NoMemory>
+    /// Cancels a pivot, which enters the history, with memory in which lines are made. The block is
+    /// unchanged where memory runs out.
+    fn cancel(&mut self, scratch: &mut Vec<Entry>, pivot: Pivot) -> Result<(), NoMemory>
         requires { IsPivot (complex_of F.P self.old) pivot }
         ensures ok { OnOk result (self.new ≡ with_pivot self.old pivot) }
         ensures unchanged { OnErr result (self.new ≡ self.old) }
     {
         element_laws::<F>();
-        cancel_in_place(alloc, &mut self.complex, pivot)?;
+        cancel_with(scratch, &mut self.complex, pivot)?;
         self.history.push_reserved(pivot);
         Ok(())
     }

@@ -23,7 +23,7 @@ invariant_of-self-2 g c =
     let inside = c.self.inside in
     let held = block_with inside.diagram inside.degree inside.history.items in
     kept-pivot p held (vec_capacity inside.history) inside.complex.complex c.args.pivot c.push_reserved.new.self.items
-    (vec_capacity c.push_reserved.new.self) c.cancel_in_place.new.complex.complex
+    (vec_capacity c.push_reserved.new.self) c.cancel_with.new.complex.complex
     c.element_laws.ensures.field c.self.invariant
     (pivot-inside p held c.args.self.now inside.complex.complex c.args.pivot c.self.invariant.replayed c.self.view_is c.requires)
-    c.push_reserved.ensures.items c.push_reserved.ensures.capacity c.in_ok-cancel_in_place.ensures.ok
+    c.push_reserved.ensures.items c.push_reserved.ensures.capacity c.in_ok-cancel_with.ensures.ok

@@ -1,7 +1,7 @@
 use Rattle.std.proofs.Common.{◌∙◌, ap}
 use Rattle.kh_types.specs.Bits.{bit}
 use Rattle.cube_signs.proofs.SignLemmas.{sign-same, sign-turned}
-use Rattle.cube_signs.proofs.columns.next_sign.Goals as goal
+use Rattle.cube_signs.proofs.outs.next_sign.Goals as goal
 
 pub returns-then-bit-eq0 : goal.returns-then-bit-eq0
 returns-then-bit-eq0 c =
