@@ -8,6 +8,8 @@ mod braids;
 #[cfg(test)]
 mod components;
 #[cfg(test)]
+mod degenerate_moves;
+#[cfg(test)]
 mod edits;
 #[cfg(test)]
 mod faces;

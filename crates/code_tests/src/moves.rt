@@ -6,10 +6,10 @@ use kh_types::Diagram;
 use known_links::{CURL, FIGURE_EIGHT, HOPF, TREFOIL, WHITEHEAD, diagram_of};
 
 /// A circle that lies over another.
-const OVER_CIRCLE: &[[u8; 4]] = &[[1, 4, 2, 3], [2, 4, 1, 3]];
+pub(crate) const OVER_CIRCLE: &[[u8; 4]] = &[[1, 4, 2, 3], [2, 4, 1, 3]];
 
 /// Twenty curls, each a component of its own.
-const TWENTY_CURLS: &[[u8; 4]] = &[
+pub(crate) const TWENTY_CURLS: &[[u8; 4]] = &[
     [1, 1, 2, 2],
     [3, 3, 4, 4],
     [5, 5, 6, 6],
@@ -197,7 +197,7 @@ fn side(is_left: bool) -> Side {
     if is_left { Side::Left } else { Side::Right }
 }
 
-fn kink_add(arc: u8) -> Move {
+pub(crate) fn kink_add(arc: u8) -> Move {
     Move::KinkAdd {
         arc,
         under_first: true,
@@ -205,7 +205,7 @@ fn kink_add(arc: u8) -> Move {
     }
 }
 
-fn finger_add(over: u8, over_side: Side, under: u8, under_side: Side) -> Move {
+pub(crate) fn finger_add(over: u8, over_side: Side, under: u8, under_side: Side) -> Move {
     Move::FingerAdd {
         over,
         over_side,
@@ -214,7 +214,7 @@ fn finger_add(over: u8, over_side: Side, under: u8, under_side: Side) -> Move {
     }
 }
 
-fn slide(first: u8, second: u8, third: u8) -> Move {
+pub(crate) fn slide(first: u8, second: u8, third: u8) -> Move {
     Move::Slide {
         first,
         second,
@@ -223,7 +223,7 @@ fn slide(first: u8, second: u8, third: u8) -> Move {
 }
 
 /// Whether a move of a code leaves another.
-fn leaves(arcs: &[[u8; 4]], change: Move, wanted: &[[u8; 4]], loops: u8) -> bool {
+pub(crate) fn leaves(arcs: &[[u8; 4]], change: Move, wanted: &[[u8; 4]], loops: u8) -> bool {
     match (diagram_of(arcs, 0), diagram_of(wanted, loops)) {
         (Ok(diagram), Ok(new)) => apply_move(&diagram, change) == Ok(new),
         _ => false,
@@ -231,7 +231,7 @@ fn leaves(arcs: &[[u8; 4]], change: Move, wanted: &[[u8; 4]], loops: u8) -> bool
 }
 
 /// Whether a move of a code is refused by a fault.
-fn refuses(arcs: &[[u8; 4]], loops: u8, change: Move, fault: MoveFault) -> bool {
+pub(crate) fn refuses(arcs: &[[u8; 4]], loops: u8, change: Move, fault: MoveFault) -> bool {
     match diagram_of(arcs, loops) {
         Ok(diagram) => apply_move(&diagram, change) == Err(fault),
         Err(_) => false,
