@@ -82,6 +82,8 @@ ROWS = [
     ("the crossings 20 and 21", curls(19), "r2 add 1 left 3 left", "refused crossings 21 of 20"),
     ("the crossings 20 and 21 on one arc", curls(19), "r2 add 1 left 1 left", "refused crossings 21 of 20"),
     ("the crossings 21 and 22", curls(20), "r2 add 40 left 1 right", "refused crossings 22 of 20"),
+    ("the crossings 21 and 22 on a loop", with_more(curls(20), "Loop[1]"), "r2 add 41 left 1 right", "refused crossings 22 of 20"),
+    ("the crossings 20 and 21 on a loop", with_more(curls(19), "Loop[1]"), "r2 add 1 left 39 right", "refused crossings 21 of 20"),
     ("the last of twenty curls", curls(20), "r1 drop 20", with_more(curls(19), "Loop[39]")),
 ]
 

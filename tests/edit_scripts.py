@@ -227,6 +227,24 @@ def nine_loops(program):
         yield asked(program, ["edit"], f"{hand.curls(9)};{script}{line}", (moves.MOVE_REFUSED, wrote + f"12 refused {why}\n"))
 
 
+def bad_lines(program):
+    """A line that is no command is found before any is carried out, and too many lines before that."""
+    for line in draws.BAD_LINES:
+        yield asked(program, ["edit"], f"{hand.CURL};undo\n{line}", (moves.CODE_REFUSED, "refused line 2\n"))
+    for count, wanted in ((4096, (moves.CODE_REFUSED, "refused line 4096\n")), (4097, (moves.LIMIT, "limit lines 4097 of 4096\n"))):
+        yield asked(program, ["edit"], hand.CURL + ";" + "\n" * (count - 1) + "turn", wanted)
+
+
+def kept_diagrams(program):
+    """Of three hundred changes the last 256 can be taken back, and made again."""
+    curled, curl = "PD[X[3, 1, 4, 4], X[1, 3, 2, 2]]", "PD[X[1, 1, 2, 2]]"
+    changes = "r1 add 1 under plus\nr1 drop 2\n" * 150
+    for steps, why in (("undo\n" * 257, "undo"), ("undo\n" * 256 + "redo\n" * 257, "redo")):
+        last = 300 + steps.count("\n")
+        wrote = "".join(f"{number} {curled if number % 2 else curl}\n" for number in range(1, last))
+        yield asked(program, ["edit"], f"{curl};{changes}{steps}", (moves.MOVE_REFUSED, wrote + f"{last} refused nothing to {why}\n"))
+
+
 def equal_tables(program):
     """The codes of two links before and after a move have one table each."""
     for field in "23":
@@ -238,7 +256,7 @@ def groups():
     """The name of each group of cases, and what gives them for a program."""
     for name, *it in hand.ROWS:
         yield f"by hand, {name}", by_hand(name, *it)
-    yield "nine loops", nine_loops
+    yield from {"nine loops": nine_loops, "bad lines": bad_lines, "kept diagrams": kept_diagrams}.items()
     yield "tables of equal links", equal_tables
     chains = [Chain(*it) for it in diagrams()]
     for what in ("moves", "acceptance", "polynomials", "tables"):
