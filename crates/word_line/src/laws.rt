@@ -7,6 +7,14 @@ ghost use Rattle.word_line.specs.declared.command.Command.{Command};
 ghost use Rattle.word_line.specs.declared.command.Form.TheVariants.{Pd, Gauss};
 ghost use Rattle.word_line.specs.declared.command.Task.TheVariants.{Bench, Homology, Convert, Jones};
 
+use crate::limits::{NUMBER_DIGITS, WORKERS_DIGITS};
+
+/// The values of the limits, which the definitions name and do not write out.
+pub fn limits_of_words()
+    ensures number { NUMBER_DIGITS ≡ 7 }
+    ensures workers { WORKERS_DIGITS ≡ 2 }
+{}
+
 /// Words mean one command at most.
 pub fn words_mean_one_command()
     ensures one { (words : List (List ℕ)) (first second : Command)
