@@ -5,7 +5,7 @@ use Rattle.std.specs.Io.KnownBytes.{Consumes, IsAtEnd}
 use Rattle.kh_io.proofs.KnownBytes.{Consumes-length}
 use Rattle.kh_types.specs.declared.limits.TheConstants.{INPUT_BYTES}
 use Rattle.kh_types.specs.Code.{Code}
-use Rattle.std.specs.Prelude.{true, false, is_none, nat_lt, IsTrue}
+use Rattle.std.specs.Prelude.{false, is_none, nat_lt, IsTrue}
 use Rattle.std.proofs.lemmas.Grind.{common_steps}
 use Rattle.kh_types.specs.Acceptance.{accepted, first_fault}
 use Rattle.kh_types.specs.Table.{table, table_text}
@@ -40,7 +40,7 @@ use Rattle.braid_maker.specs.Closures.{code_of_number}
 use Rattle.braid_maker.specs.declared.limits.TheConstants.{NUMBERS}
 use Rattle.jones_sum.specs.Tables.{total_of}
 use Rattle.kh_work.specs.Bench.{bench_counts, bench_lines, bench_reply, bench_text}
-use Rattle.kh_work.specs.Answer.{IsBlindReply, IsIntakeReply, IsNumberReply, IsLimitedReply, IsCommandReply, IsAnswer, ReadsNothing, ReadsUpTo}
+use Rattle.kh_work.specs.Answer.{IsBlindReply, IsIntakeReply, IsNumberReply, IsLimitedReply, IsCommandReply, IsAnswer, ReadsUpTo}
 use Rattle.kh_work.specs.declared.draft.Draft.{Draft}
 use Rattle.kh_work.specs.Drafts.{reply_in}
 use Rattle.kh_work.specs.Runs.{IsBlindAnswer}

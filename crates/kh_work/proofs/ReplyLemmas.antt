@@ -37,7 +37,7 @@ use Rattle.kh_replies.proofs.ReplyStatuses.{diagram_reply-status, status-of}
 use Rattle.kh_work.specs.declared.draft.Draft.{Draft}
 use Rattle.kh_work.specs.Drafts.{reply_in}
 use Rattle.kh_work.specs.Homology.{homology_reply, homology_text}
-use Rattle.kh_work.specs.Schedule.{IsScheduleReply, IsScriptReply, schedule_reply, schedule_text}
+use Rattle.kh_work.specs.Schedule.{IsScriptReply, schedule_reply, schedule_text}
 use Rattle.kh_work.specs.Edit.{IsEditedReply, edit_reply, edit_status, edits_in}
 use Rattle.kh_work.specs.Bench.{bench_counts, bench_lines, bench_reply, bench_text}
 use Rattle.kh_work.specs.Answer.{IsBlindReply, IsCodeReply, IsNumberReply, IsScriptedReply, IsIntakeReply, IsLimitedReply, IsCommandReply}
@@ -182,6 +182,25 @@ code_reply-status Schedule command code reply is = absurd is
 code_reply-status Edit command code reply is = absurd is
 code_reply-status Bench command code reply is = absurd is
 
+scripted_reply-status : (task : Task) (command : Command) (script : List ℕ) (code : Code) (reply : Reply)
+    → IsScriptedReply task command script code reply → IsReplyStatus reply.status
+scripted_reply-status Homology command script code reply is = absurd is
+scripted_reply-status Convert command script code reply is = absurd is
+scripted_reply-status Check command script code reply is = absurd is
+scripted_reply-status Jones command script code reply is = absurd is
+scripted_reply-status Schedule command script code reply is = script-status command.field code is.reading reply is.answered
+scripted_reply-status Edit command script code reply is = edited-status code is.reading reply is.answered
+scripted_reply-status Bench command script code reply is = absurd is
+
+-- what answers a code and a script has a status of a reply
+pub scripted-status : {E : Type 0} (result : Result Draft E) (command : Command) (text script : List ℕ)
+    → IfOk result (λ draft. IsDiagramReply (IsScriptedReply command.task command script) text (reply_in draft))
+    → IfOk result (λ draft. IsReplyStatus (reply_in draft).status)
+scripted-status (Ok draft) command text script replied =
+    diagram_reply-status (IsScriptedReply command.task command script) (scripted_reply-status command.task command script) text
+    (reply_in draft) replied
+scripted-status (Err stop) command text script replied = tt
+
 intake_reply-status : (task : Task) (command : Command) (bytes : List ℕ) (reply : Reply)
     → IsIntakeReply (intake_of task) task command bytes reply → IsReplyStatus reply.status
 intake_reply-status Homology command bytes = diagram_reply-status (IsCodeReply Homology command) (code_reply-status Homology command) bytes
@@ -189,11 +208,11 @@ intake_reply-status Convert command bytes = diagram_reply-status (IsCodeReply Co
 intake_reply-status Check command bytes = diagram_reply-status (IsCodeReply Check command) (code_reply-status Check command) bytes
 intake_reply-status Jones command bytes = diagram_reply-status (IsCodeReply Jones command) (code_reply-status Jones command) bytes
 intake_reply-status Schedule command bytes =
-    diagram_reply-status (IsScriptedReply Schedule command (script_part bytes))
-    (λ code reply is. script-status command.field code is.reading reply is.answered) (code_part bytes)
+    diagram_reply-status (IsScriptedReply Schedule command (script_part bytes)) (scripted_reply-status Schedule command (script_part bytes))
+    (code_part bytes)
 intake_reply-status Edit command bytes =
-    diagram_reply-status (IsScriptedReply Edit command (script_part bytes))
-    (λ code reply is. edited-status code is.reading reply is.answered) (code_part bytes)
+    diagram_reply-status (IsScriptedReply Edit command (script_part bytes)) (scripted_reply-status Edit command (script_part bytes))
+    (code_part bytes)
 intake_reply-status Bench command bytes = number_reply-status command.field command.number
 
 limited-status : (limit : Option ℕ) (bytes : List ℕ) (Answers : Reply → Type 0) (reply : Reply)

@@ -1,5 +1,5 @@
 -- What a command answers does not depend on the number of its workers.
-use Rattle.std.proofs.Common.{◌≡◌, ℕ, inl, inr, List, subst, ap, None, Some}
+use Rattle.std.proofs.Common.{◌≡◌, ℕ, inl, inr, List, subst, None, Some}
 use Rattle.std.specs.Prelude.{Option}
 use Rattle.word_line.specs.declared.command.Task.{Task}
 use Rattle.word_line.specs.declared.command.Task.TheVariants.{Homology, Convert, Check, Jones, Schedule, Edit, Bench}

@@ -8,7 +8,7 @@ use Rattle.kh_replies.specs.declared.status.Status.{Status}
 use Rattle.kh_replies.specs.declared.status.Status.TheVariants.{Usage, ReadFault, WriteFault, NoMemory}
 use Rattle.kh_work.specs.Answer.{IsAnswer}
 use Rattle.kh_replies.specs.Replies.{Reply}
-use Rattle.kh_work.specs.Runs.{IsBlindAnswer, IsReplied, IsProgramRun, IsWritten, Seen}
+use Rattle.kh_work.specs.Runs.{IsReplied, IsProgramRun, IsWritten, Seen}
 use Rattle.kh_replies.specs.Statuses.{IsWhole}
 use Rattle.kh_work.specs.Told.{Gives, GivesPrefix, IsKnownAnswer}
 

@@ -112,12 +112,8 @@ fn draft_to_number(alloc: Global, command: Command) -> Result<Draft, NoMemory>
             Some(number) => draft_of_bench(alloc, command.field, command.workers, number),
             None => unreachable!(),
         },
-        Task::Homology
-        | Task::Convert
-        | Task::Check
-        | Task::Jones
-        | Task::Schedule
-        | Task::Edit => unreachable!(),
+        Task::Homology | Task::Convert | Task::Check | Task::Jones | Task::Schedule | Task::Edit =>
+            unreachable!(),
     }
 }
 

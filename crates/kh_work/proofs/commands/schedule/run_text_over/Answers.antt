@@ -1,4 +1,4 @@
-use Rattle.std.proofs.Common.{◌≡◌, ◌∙◌, ap}
+use Rattle.std.proofs.Common.{◌∙◌, ap}
 use Rattle.kh_types.specs.declared.limits.TheConstants.{WORKERS}
 use Rattle.commit_core.specs.Answering.{answers}
 use Rattle.kh_work.proofs.ScheduleLemmas.{events_of-workers, run_text-is}
