@@ -14,8 +14,7 @@ pub struct Pivot {
 }
 
 impl Model for Pivot {
-    ghost use Rattle.kh_types.specs.Complex.{Pivot as Plain};
-    ghost use Rattle.sparse_block.specs.Changes.{pivot_at};
+    ghost use Rattle.kh_types.specs.Complex.{Pivot as Plain, pivot_at};
 
     ghost Value = { Plain };
 

@@ -12,7 +12,7 @@ use Rattle.kh_types.specs.Components.{component_count, passes_of}
 use Rattle.kh_types.specs.Darts.{HasArcsTwice, arc_of, dart_at, dart_place, partner_at, IsDartOf}
 use Rattle.kh_types.specs.Directions.{is_positive, plus_count, minus_count}
 use Rattle.kh_types.specs.Faces.{face_count, planar_face_count}
-use Rattle.kh_types.specs.StateSum.{term_of}
+use Rattle.kh_types.specs.StateSum.{term_of, sum_with, term_with}
 use Rattle.kh_types.proofs.AcceptedLemmas.{HasArcsTwice-accepted, IsAccepted-is}
 use Rattle.kh_types.proofs.CircleBound.{ArcsBelow, ArcsBelow-slots, smoothings_of-below, passes_of-below}
 use Rattle.kh_types.proofs.ClassCounts.{class_count-components}
@@ -27,7 +27,6 @@ use Rattle.kinks_and_fingers.proofs.OldDarts.{dart_name-arc_of, dart_name-partne
 use Rattle.kinks_and_fingers.proofs.KinkClosing.{before}
 use Rattle.kinks_and_fingers.proofs.KinkDropSums.{count-later, sums-alike}
 use Rattle.kinks_and_fingers.proofs.ComponentDrops.{IsOfNames-passes, IsOfNames-smoothings, standing-classes}
-use Rattle.gluing.specs.Terms.{sum_with, term_with}
 use Rattle.slides.specs.Slid.{slid, slid_code}
 use Rattle.slides.specs.SlideCodes.{enters, HasHeadsAndTails}
 use Rattle.slides.specs.Triangles.{IsTriangle, has_heights}

@@ -8,10 +8,10 @@ use Rattle.kh_types.specs.Code.{Code, arc_in}
 use Rattle.kh_types.specs.Classes.{class_count}
 use Rattle.kh_types.specs.Circles.{smoothing_of, circle_count}
 use Rattle.kh_types.specs.Generators.{one_count}
-use Rattle.kh_types.specs.StateSum.{int_sum, signed_by_parity, circle_coefficient}
+use Rattle.kh_types.specs.StateSum.{int_sum, signed_by_parity, circle_coefficient, term_with, sum_with}
 use Rattle.kh_types.specs.StateSum as kh
 use Rattle.kh_types.proofs.EdgeBits.{bit-set_there, bit-set_other}
-use Rattle.gluing.specs.Terms.{term_of, signed_by, term_with, sum_with}
+use Rattle.gluing.specs.Terms.{term_of, signed_by}
 use Rattle.gluing.specs.Codes.{name_count}
 use Rattle.gluing.specs.Slides.{triangle_before, triangle_after, ends_joined, closed_inside, IsNoSide, rest_circles, is_tied}
 use Rattle.gluing.specs.SlidCodes.{outside_at, outside_of, HasTriangle, IsSlid}

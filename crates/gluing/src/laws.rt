@@ -2,9 +2,9 @@
 
 ghost use Rattle.std.specs.Prelude.{◌≡◌, ℕ, ◌<◌, ℤ, List};
 ghost use Rattle.kh_types.specs.Code.{Code};
+ghost use Rattle.kh_types.specs.StateSum.{sum_with};
 ghost use Rattle.gluing.specs.Codes.{HoldsArcs, IsRenumbered};
 ghost use Rattle.gluing.specs.SlidCodes.{IsSlid};
-ghost use Rattle.gluing.specs.Terms.{sum_with};
 
 /// A third Reidemeister move keeps the state sum, with any numbers of positive and negative crossings.
 pub fn slides_keep_the_sum()

@@ -92,6 +92,10 @@ pub record Pivot : Type 0 where
   pub column : ℕ
   pub row : ℕ
 
+-- the pivot at a degree, a column and a row
+abbrev pub pivot_at : ℤ → ℕ → ℕ → Pivot
+pivot_at degree column row = record { degree = degree; column = column; row = row }
+
 -- an entry that may be cancelled: one other than 0
 abbrev pub IsPivot : Complex → Pivot → Type 0
 IsPivot complex pivot = entry_of complex pivot.degree pivot.row pivot.column ≢ 0

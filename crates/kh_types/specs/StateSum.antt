@@ -37,14 +37,21 @@ term_of plus minus exponent r circles =
     signed_by (pos r -ℤ pos minus)
     (circle_coefficient circles ((exponent -ℤ pos (r + plus)) +ℤ pos (2 * minus)))
 
--- the same of a state of a code
-abbrev pub state_term : Code → ℤ → ℕ → ℤ
-state_term code exponent state =
-    term_of (plus_count code.crossings) (minus_count code.crossings) exponent (one_count code state) (circle_count code state)
+-- the same of a state of a code, at given numbers of positive and negative crossings
+abbrev pub term_with : ℕ → ℕ → Code → ℤ → ℕ → ℤ
+term_with plus minus code exponent state = term_of plus minus exponent (one_count code state) (circle_count code state)
 
--- the coefficient of q ^ e of the state sum: the sum over all states (Bar-Natan 2002, section 2, unnormalised)
+-- the same at the code's own numbers
+abbrev pub state_term : Code → ℤ → ℕ → ℤ
+state_term code exponent state = term_with (plus_count code.crossings) (minus_count code.crossings) code exponent state
+
+-- the coefficient of q ^ e of the state sum at given numbers of positive and negative crossings: the sum over all states
+abbrev pub sum_with : ℕ → ℕ → Code → ℤ → ℤ
+sum_with plus minus code exponent = int_sum (map (term_with plus minus code exponent) (states code))
+
+-- the coefficient of q ^ e of the state sum: that at the code's own numbers (Bar-Natan 2002, section 2, unnormalised)
 abbrev pub state_sum : Code → ℤ → ℤ
-state_sum code exponent = int_sum (map (state_term code exponent) (states code))
+state_sum code exponent = sum_with (plus_count code.crossings) (minus_count code.crossings) code exponent
 
 -- the coefficient of q ^ e of the graded Euler characteristic of a table: the signed sum of the dimensions with j = e
 -- (Bar-Natan 2002, section 3)

@@ -1,7 +1,7 @@
 -- Histories of the trefoil's block at the quantum degree -7, whose one matrix has the rows 0 1 1, 1 0 1 and 1 1 0.
 use Rattle.std.specs.Prelude.{ℕ, ℤ, pos, neg_ℤ, List, [], ◌∷◌}
 use Rattle.kh_types.specs.WorkedCodes.{hopf_link, trefoil}
-use Rattle.kh_types.specs.Complex.{Complex, Pivot}
+use Rattle.kh_types.specs.Complex.{Complex, Pivot, pivot_at}
 use Rattle.kh_types.specs.History.{block}
 
 -- that block
@@ -11,10 +11,6 @@ trefoil_block p = block p trefoil (neg_ℤ (pos 7))
 -- the block of the Hopf link at the quantum degree -4 over three elements
 abbrev pub hopf_block : Complex
 hopf_block = block 3 hopf_link (neg_ℤ (pos 4))
-
--- a pivot by its degree, its column and its row
-abbrev pub pivot_at : ℤ → ℕ → ℕ → Pivot
-pivot_at degree column row = record { degree = degree; column = column; row = row }
 
 -- a pivot of the trefoil's matrix
 abbrev pub pivot_of : ℕ → ℕ → Pivot

@@ -8,9 +8,9 @@ use Rattle.kh_types.specs.Code.{Code}
 use Rattle.kh_types.specs.Classes.{classes_of, class_count, AreBelow}
 use Rattle.kh_types.specs.Circles.{smoothing_of, smoothings_of, circles_of, circle_count}
 use Rattle.kh_types.specs.Generators.{one_count}
-use Rattle.kh_types.specs.StateSum.{int_sum}
+use Rattle.kh_types.specs.StateSum.{int_sum, term_with, sum_with}
 use Rattle.gluing.specs.Glue.{renamed}
-use Rattle.gluing.specs.Terms.{term_of, term_with, sum_with}
+use Rattle.gluing.specs.Terms.{term_of}
 use Rattle.gluing.specs.Codes.{dart_smoothings, arc_of_dart, name_count, HoldsArcs}
 use Rattle.gluing.proofs.Renamed.{AreBelow-renamed, AreBelow-append}
 use Rattle.gluing.proofs.KinkSums.{term_of-positive_kink, term_of-negative_kink, int_sum-doubled}

@@ -6,10 +6,9 @@ use Rattle.kh_types.specs.Code.{Code, arc_in, IsArc}
 use Rattle.kh_types.specs.Darts.{arc_of}
 use Rattle.kh_types.specs.Directions.{plus_count, minus_count}
 use Rattle.kh_types.specs.Acceptance.{accepted}
-use Rattle.kh_types.specs.StateSum.{state_sum}
+use Rattle.kh_types.specs.StateSum.{state_sum, sum_with}
 use Rattle.gluing.specs.Arcs.{arc_at}
 use Rattle.gluing.specs.Codes.{HoldsArcs}
-use Rattle.gluing.specs.Terms.{sum_with}
 use Rattle.kinks_and_fingers.specs.FingerAdd.{dart_with}
 use Rattle.kinks_and_fingers.specs.Strands.{slots_at, enters}
 use Rattle.kinks_and_fingers.specs.Drops.{positive_at}

@@ -7,14 +7,13 @@ use Rattle.kh_types.specs.Acceptance.{accepted}
 use Rattle.kh_types.specs.Code.{Code, IsArc}
 use Rattle.kh_types.specs.Darts.{dart_at, partner_at, HasArcsTwice}
 use Rattle.kh_types.specs.Directions.{plus_count, minus_count}
-use Rattle.kh_types.specs.StateSum.{state_sum}
+use Rattle.kh_types.specs.StateSum.{state_sum, sum_with}
 use Rattle.kh_types.proofs.DartPairs.{IsDart-at, IsOtherPlace-partner_at, partner_at-only}
 use Rattle.kh_types.proofs.AcceptedLemmas.{HasArcsTwice-accepted}
 use Rattle.gluing.specs.Arcs.{arc_at}
 use Rattle.gluing.specs.Codes.{name_count, HoldsArcs, IsRenumbered}
 use Rattle.gluing.specs.Slides.{quadruple_from, IsPlacedTriangle, IsNoSide}
 use Rattle.gluing.specs.SlidCodes.{Shows, IsSlid}
-use Rattle.gluing.specs.Terms.{sum_with}
 use Rattle.gluing.proofs.SlidSums.{sum_with-slide}
 use Rattle.gluing.proofs.Renumbered.{sum_with-renumbered}
 use Rattle.slides.specs.Triangles.{has_heights}

@@ -6,11 +6,11 @@ use Rattle.std.specs.Global.{Vec}
 use Rattle.std.proofs.lemmas.Bool.Decides.{eqb_tells}
 use Rattle.std.proofs.lemmas.List.Elements.{All-nil, All-cons, All-from_recursion}
 use Rattle.smallvec.specs.SmallVec.{SmallVec}
-use Rattle.kh_types.specs.Complex.{IsComplex, IsPivot, Pivot, cancel}
+use Rattle.kh_types.specs.Complex.{IsComplex, IsPivot, Pivot, cancel, pivot_at}
 use Rattle.kh_types.specs.Generators.{Generator}
 use Rattle.kh_types.proofs.ComplexLemmas.{complex-from_test}
 use Rattle.sparse_block.specs.declared.entry.Entry.{Entry}
-use Rattle.sparse_block.specs.Changes.{Exchange, PlacedLine, AreChanged, pivot_at, placed}
+use Rattle.sparse_block.specs.Changes.{Exchange, PlacedLine, AreChanged, placed}
 use Rattle.sparse_block.specs.Entries.{AreEntries, entry_at, entries_of}
 use Rattle.sparse_block.specs.Complexes.{HaveEntries, NamedComplex, SquaresToZero, column_of, place_count, row_of, sparse_complex}
 use Rattle.sparse_block.specs.Inside.{lists_in, lines_in, entries_in}

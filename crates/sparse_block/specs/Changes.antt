@@ -20,10 +20,6 @@ pub record Exchange : Type 0 where
   pub columns : List PlacedLine
   pub rows : List PlacedLine
 
--- the pivot at a degree, a column and a row
-abbrev pub pivot_at : ℤ → ℕ → ℕ → Pivot
-pivot_at degree column row = record { degree = degree; column = column; row = row }
-
 -- the places that lines name
 abbrev pub places_of : List PlacedLine → List ℕ
 places_of lines = map (λ line. line.place) lines

@@ -2,10 +2,11 @@
 -- rows of the first are 1 0 1 1 0 1, 1 1 1 1 1 1 and 0 2 0 0 2 0, and the second has one row x y z. The product is 0 where
 -- x + y and y + 2z are 0: over three elements with the row 2 1 1, and over five with 2 3 1.
 use Rattle.std.specs.Prelude.{ℕ, neg_ℤ, pos, List, [], ◌∷◌}
+use Rattle.kh_types.specs.Complex.{pivot_at}
 use Rattle.kh_types.specs.Generators.{Generator, generator_of}
 use Rattle.sparse_block.specs.declared.entry.Entry.{Entry}
 use Rattle.sparse_block.specs.Entries.{entry_at}
-use Rattle.sparse_block.specs.Changes.{Exchange, pivot_at, placed}
+use Rattle.sparse_block.specs.Changes.{Exchange, placed}
 use Rattle.sparse_block.specs.Complexes.{NamedComplex, sparse_complex}
 
 -- the names, which stand for nothing here

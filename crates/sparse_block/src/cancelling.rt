@@ -1,8 +1,8 @@
 //! Cancellations of a pivot.
 
 ghost use Rattle.std.specs.Prelude.{◌≡◌, ◌⊎◌, pos, ◌+ℤ◌, length};
-ghost use Rattle.kh_types.specs.Complex.{IsPivot, cancel};
-ghost use Rattle.sparse_block.specs.Changes.{AreChanged, pivot_at};
+ghost use Rattle.kh_types.specs.Complex.{IsPivot, cancel, pivot_at};
+ghost use Rattle.sparse_block.specs.Changes.{AreChanged};
 ghost use Rattle.sparse_block.specs.Complexes.{column_of, place_count, row_of};
 ghost use Rattle.sparse_block.specs.Entries.{entries_of};
 

@@ -37,7 +37,8 @@ pub struct Change {
 }
 
 impl Model for Change {
-    ghost use Rattle.sparse_block.specs.Changes.{Exchange, pivot_at};
+    ghost use Rattle.kh_types.specs.Complex.{pivot_at};
+    ghost use Rattle.sparse_block.specs.Changes.{Exchange};
 
     ghost Value = { Exchange };
 

@@ -2,10 +2,10 @@
 
 ghost use Rattle.std.specs.Prelude.{◌≡◌, ℕ, ◌<◌, ◌↔◌, IsTrue, ℤ, pos, neg_ℤ, [], ◌∷◌, length, map, slice_index_or, Bool, true, false};
 ghost use Rattle.kh_types.specs.WorkedCodes.{hopf_link, trefoil, figure_eight};
-ghost use Rattle.kh_types.specs.WorkedHistories.{trefoil_block, hopf_block, pivot_at, pivot_of, history_over_two, history_over_five};
+ghost use Rattle.kh_types.specs.WorkedHistories.{trefoil_block, hopf_block, pivot_of, history_over_two, history_over_five};
 ghost use Rattle.kh_types.specs.Differential.{differential};
 ghost use Rattle.kh_types.specs.Table.{dimension};
-ghost use Rattle.kh_types.specs.Complex.{Complex, IsComplex, Pivot, alive_count, cancel, cancelled_matrix, degree_of, dimension_of, is_zero};
+ghost use Rattle.kh_types.specs.Complex.{Complex, IsComplex, Pivot, alive_count, cancel, cancelled_matrix, degree_of, dimension_of, is_zero, pivot_at};
 ghost use Rattle.kh_types.specs.ComplexTests.{is_complex};
 ghost use Rattle.kh_types.specs.History.{block, IsLegal, replay};
 

@@ -1,8 +1,7 @@
 use Rattle.std.proofs.Common.{◌≡◌, ◌∙◌, ◌⊎◌, ℤ, ap, sym, subst, length, arith, to_z, of_z, w16}
 use Rattle.std.specs.Prelude.{IfNone, IfSome, Option}
 use Rattle.std.proofs.lemmas.Int.{ints}
-use Rattle.kh_types.specs.Complex.{IsPivot, Pivot}
-use Rattle.sparse_block.specs.Changes.{pivot_at}
+use Rattle.kh_types.specs.Complex.{IsPivot, Pivot, pivot_at}
 use Rattle.sparse_block.specs.Complexes.{column_of, row_of}
 use Rattle.sparse_block.specs.Entries.{entries_of}
 use Rattle.cancel_step.specs.Copies.{Copied, WasPatched, split_parts}

@@ -1,7 +1,7 @@
 use Rattle.std.proofs.Common.{◌≡◌, ◌∙◌, ℤ, pos, ◌+ℤ◌, List, sym, subst, ap, arith, to_z, of_z, w16}
 use Rattle.std.proofs.lemmas.Int.{ints}
-use Rattle.kh_types.specs.Complex.{Pivot, cancel}
-use Rattle.sparse_block.specs.Changes.{AreChanged, PlacedLine, pivot_at}
+use Rattle.kh_types.specs.Complex.{Pivot, cancel, pivot_at}
+use Rattle.sparse_block.specs.Changes.{AreChanged, PlacedLine}
 use Rattle.sparse_block.specs.Complexes.{column_of, place_count, row_of}
 use Rattle.cancel_step.proofs.ChangedLemmas.{columns-changed, rows-changed}
 use Rattle.cancel_step.proofs.applying.exchange.Goals as goal

@@ -1,7 +1,7 @@
 use Rattle.std.proofs.Common.{◌≡◌, ℤ, [], subst, arith, to_z, of_z, w16}
 use Rattle.std.specs.Prelude.{OnOk}
 use Rattle.std.proofs.lemmas.Int.{ints}
-use Rattle.sparse_block.specs.Changes.{pivot_at}
+use Rattle.kh_types.specs.Complex.{pivot_at}
 use Rattle.sparse_block.specs.Complexes.{column_of}
 use Rattle.sparse_block.specs.Entries.{entries_of}
 use Rattle.cancel_step.proofs.FinishLemmas.{comes-try, empty-try}

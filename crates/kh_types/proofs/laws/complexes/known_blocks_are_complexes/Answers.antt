@@ -1,7 +1,7 @@
 use Rattle.std.proofs.Common.{refl, sym, true≢false, arith, neg_ℤ, pos}
 use Rattle.kh_types.specs.WorkedCodes.{trefoil, figure_eight}
-use Rattle.kh_types.specs.WorkedHistories.{trefoil_block, hopf_block, pivot_at, history_over_two}
-use Rattle.kh_types.specs.Complex.{cancel}
+use Rattle.kh_types.specs.WorkedHistories.{trefoil_block, hopf_block, history_over_two}
+use Rattle.kh_types.specs.Complex.{cancel, pivot_at}
 use Rattle.kh_types.specs.History.{block, replay}
 use Rattle.kh_types.proofs.ComplexLemmas.{complex-from_test, test-from_complex}
 use Rattle.kh_types.proofs.laws.complexes.known_blocks_are_complexes.Goals as goal
