@@ -8,7 +8,7 @@ use Rattle.kh_types.proofs.AcceptedLemmas.{HasArcsTwice-directed, IsAccepted-is}
 use Rattle.circle_smoothing.specs.GeneratorCounts.{generator_count}
 use Rattle.orient_arcs.proofs.Bridge.{IsDirected-renumbered}
 use Rattle.orient_arcs.proofs.AlikeCrossings.{AreAlike-renumbered}
-use Rattle.braid_maker.specs.Braids.{passes_over, left_of}
+use Rattle.braid_maker.specs.Braids.{lower_left_is_over, left_of}
 use Rattle.braid_maker.specs.Closures.{AreLetters, closure, closure_parts, code_of_number, letters_of, straight_count}
 use Rattle.orient_arcs.specs.Parts.{ArePaired, Parts}
 use Rattle.orient_arcs.specs.Renumbered.{renumber}
@@ -27,13 +27,13 @@ pub record IsRenumbered (parts : Parts) : Type 0 where
 
 pub ArePaired-closure : (strands : ℕ) (letters : List ℤ) → ArePaired (closure_parts strands letters)
 ArePaired-closure strands letters =
-    ArePaired-named strands (length letters) (left_of letters) (passes_over letters) (straight_count strands letters)
+    ArePaired-named strands (length letters) (left_of letters) (lower_left_is_over letters) (straight_count strands letters)
 
 pub IsBraidCode-closure : (strands : ℕ) (letters : List ℤ) → AreLetters strands letters → IsRenumbered (closure_parts strands letters)
-    → IsBraidCode (length letters) (left_of letters) (passes_over letters) strands (closure strands letters)
+    → IsBraidCode (length letters) (left_of letters) (lower_left_is_over letters) strands (closure strands letters)
 IsBraidCode-closure strands letters are is = record {
   alike = AreAlike-then _ _ _
-      (AreAlike-named strands (length letters) (left_of letters) (passes_over letters) (straight_count strands letters)) is.alike;
+      (AreAlike-named strands (length letters) (left_of letters) (lower_left_is_over letters) (straight_count strands letters)) is.alike;
   twice = HasArcsTwice-directed (closure strands letters).crossings is.directed;
   first = λ place below. (are place below).0;
   last = λ place below. (are place below).1;
@@ -46,7 +46,7 @@ accepted-closure strands letters are few is =
     let code = closure strands letters in
     let n = length letters in
     let left = left_of letters in
-    let over = passes_over letters in
+    let over = lower_left_is_over letters in
     let braid = IsBraidCode-closure strands letters are is in
     let components = component_count-braid n left over strands code braid in
     (IsAccepted-is code).1
@@ -61,13 +61,13 @@ accepted-closure strands letters are few is =
 pub generators-closure : (strands : ℕ) (letters : List ℤ) → AreLetters strands letters → IsRenumbered (closure_parts strands letters)
     → generator_count (closure strands letters) ≤ 2 ^ strands * 3 ^ length letters
 generators-closure strands letters are is =
-    generator_count-braid (length letters) (left_of letters) (passes_over letters) strands (closure strands letters)
+    generator_count-braid (length letters) (left_of letters) (lower_left_is_over letters) strands (closure strands letters)
     (IsBraidCode-closure strands letters are is)
 
 pub components-closure : (strands : ℕ) (letters : List ℤ) → AreLetters strands letters → IsRenumbered (closure_parts strands letters)
     → component_count (closure strands letters).crossings + (closure strands letters).loops ≤ strands
 components-closure strands letters are is =
-    component_count-braid (length letters) (left_of letters) (passes_over letters) strands (closure strands letters)
+    component_count-braid (length letters) (left_of letters) (lower_left_is_over letters) strands (closure strands letters)
     (IsBraidCode-closure strands letters are is)
 
 -- the letters of a number

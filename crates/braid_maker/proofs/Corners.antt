@@ -3,7 +3,7 @@ use Rattle.std.proofs.Common.{◌≡◌, ℕ, zero, suc, ◌+◌, ◌-◌, ◌*�
 use Rattle.std.specs.Prelude.{nat_eq, slice_index, slice_index_or, if◌then◌else◌}
 use Rattle.std.proofs.lemmas.List.FromFn.{get_or-map-range_with_len, length-map-range_with_len}
 use Rattle.kh_types.specs.Darts.{arc_of, dart_at}
-use Rattle.braid_maker.specs.Words.{arc_below, crossing_of, closed_crossings}
+use Rattle.braid_maker.specs.Words.{arc_below, crossing_of_letter, closed_crossings}
 
 -- the arc at a corner: 0 is the lower left, 1 the lower right, 2 the upper right, 3 the upper left
 abbrev pub corner_arc : ℕ → (ℕ → ℕ) → ℕ → ℕ → ℕ
@@ -41,7 +41,7 @@ corner_of-place is_over place corner below =
     ∙ forth (is_over place) place corner below
 
 pub length-crossings : (n : ℕ) (left : ℕ → ℕ) (is_over : ℕ → Bool) → length (closed_crossings n left is_over) ≡ n
-length-crossings n left is_over = length-map-range_with_len (crossing_of n left is_over) 0 n
+length-crossings n left is_over = length-map-range_with_len (crossing_of_letter n left is_over) 0 n
 
 pick : (b : Bool) (lower_left lower_right upper_left upper_right corner : ℕ) → corner < 4
     → slice_index (if b then lower_right ∷ upper_right ∷ upper_left ∷ lower_left ∷ []
@@ -65,7 +65,7 @@ arc-corner n left is_over place corner below small =
     let at : dart / 4 + 1 - 1 ≡ place = omega arith in
     let slot : dart % 4 ≡ (corner + cond (is_over place) 3 0) % 4 = omega arith in
     ap (λ k. slice_index (slice_index_or (closed_crossings n left is_over) k []) (dart % 4)) at
-    ∙ ap (λ xs. slice_index xs (dart % 4)) (get_or-map-range_with_len (crossing_of n left is_over) 0 n place place [] below (omega arith))
-    ∙ ap (λ s. slice_index (crossing_of n left is_over place) s) slot
+    ∙ ap (λ xs. slice_index xs (dart % 4)) (get_or-map-range_with_len (crossing_of_letter n left is_over) 0 n place place [] below (omega arith))
+    ∙ ap (λ s. slice_index (crossing_of_letter n left is_over place) s) slot
     ∙ pick (is_over place) (arc_below n left (left place) place) (arc_below n left (left place + 1) place) (2 * place + 1)
     (2 * place + 2) corner small

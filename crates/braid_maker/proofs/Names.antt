@@ -9,8 +9,8 @@ use Rattle.kh_types.specs.Darts.{arc_of, dart_at}
 use Rattle.kh_types.proofs.DartPairs.{IsDart-at}
 use Rattle.orient_arcs.specs.Alike.{AreAlike}
 use Rattle.braid_maker.specs.Words.{closed_crossings, touches}
-use Rattle.orient_arcs.specs.Renumbered.{renamed}
-use Rattle.braid_maker.specs.Closures.{bottom_arc, is_bottom, name_of, named_parts}
+use Rattle.orient_arcs.specs.Renumbered.{renamed_crossing}
+use Rattle.braid_maker.specs.Closures.{bottom_arc, is_bottom, arc_name, named_parts}
 use Rattle.braid_maker.proofs.Partners.{HasArcsTwice-braid}
 
 -- what a search in a range says
@@ -34,8 +34,8 @@ Search-is test a (suc n) = elim (cases_Bool (test a)) [
 
 -- an arc's name is a position, through whose bottom the arc goes, or greater than all positions
 data Named (n : ℕ) (left : ℕ → ℕ) (strands arc : ℕ) : Type 0 where
-  position : (q : ℕ) → q ≤ strands → bottom_arc n left q ≡ arc → name_of n left strands arc ≡ q → Named n left strands arc
-  greater : name_of n left strands arc ≡ strands + arc → Named n left strands arc
+  position : (q : ℕ) → q ≤ strands → bottom_arc n left q ≡ arc → arc_name n left strands arc ≡ q → Named n left strands arc
+  greater : arc_name n left strands arc ≡ strands + arc → Named n left strands arc
 
 Named-is : (n : ℕ) (left : ℕ → ℕ) (strands arc : ℕ) → Named n left strands arc
 Named-is n left strands arc = elim (Search-is (is_bottom n left arc) 1 strands) [
@@ -46,7 +46,7 @@ Named-is n left strands arc = elim (Search-is (is_bottom n left arc) 1 strands) 
 ]
 
 name-apart : (n : ℕ) (left : ℕ → ℕ) (strands arc other : ℕ) → 1 ≤ arc → 1 ≤ other
-    → name_of n left strands arc ≡ name_of n left strands other → arc ≡ other
+    → arc_name n left strands arc ≡ arc_name n left strands other → arc ≡ other
 name-apart n left strands arc other positive other_positive same = elim (Named-is n left strands arc) [
   | position q few at is ↦ elim (Named-is n left strands other) [
     | position q' few' at' is' ↦
@@ -60,7 +60,7 @@ name-apart n left strands arc other positive other_positive same = elim (Named-i
 ]
 
 -- a slot of a crossing under new names
-renamed-slot : (f : ℕ → ℕ) (slots : List ℕ) (slot : ℕ) → slot < 4 → arc_in (renamed f slots) slot ≡ f (arc_in slots slot)
+renamed-slot : (f : ℕ → ℕ) (slots : List ℕ) (slot : ℕ) → slot < 4 → arc_in (renamed_crossing f slots) slot ≡ f (arc_in slots slot)
 renamed-slot f slots zero below = refl
 renamed-slot f slots (suc zero) below = refl
 renamed-slot f slots (suc (suc zero)) below = refl
@@ -68,19 +68,19 @@ renamed-slot f slots (suc (suc (suc zero))) below = refl
 renamed-slot f slots (suc (suc (suc (suc k)))) below = absurd (omega (arith, below))
 
 pub arc_of-renamed : (f : ℕ → ℕ) (crossings : List (List ℕ)) (dart : ℕ) → dart < 4 * length crossings
-    → arc_of (map (renamed f) crossings) (dart_at dart) ≡ f (arc_of crossings (dart_at dart))
+    → arc_of (map (renamed_crossing f) crossings) (dart_at dart) ≡ f (arc_of crossings (dart_at dart))
 arc_of-renamed f crossings dart below =
-    ap (λ slots. arc_in slots (dart % 4)) (get_or-map (renamed f) crossings (dart / 4 + 1 - 1) [] [] (omega (arith, below)))
+    ap (λ slots. arc_in slots (dart % 4)) (get_or-map (renamed_crossing f) crossings (dart / 4 + 1 - 1) [] [] (omega (arith, below)))
     ∙ renamed-slot f (get_or crossings (dart / 4 + 1 - 1) []) (dart % 4) (omega arith)
 
 pub AreAlike-named : (strands n : ℕ) (left : ℕ → ℕ) (is_over : ℕ → Bool) (loops : ℕ)
     → AreAlike (closed_crossings n left is_over) (named_parts strands n left is_over loops).crossings
 AreAlike-named strands n left is_over loops =
     let crossings = closed_crossings n left is_over in
-    let f : ℕ → ℕ = name_of n left strands in
+    let f : ℕ → ℕ = arc_name n left strands in
     let arcs = (HasArcsTwice-braid n left is_over).slots in
     record {
-      size = length-map crossings (renamed f);
+      size = length-map crossings (renamed_crossing f);
       onward = λ place other below other_below same.
           arc_of-renamed f crossings place below ∙ ap f same ∙ sym (arc_of-renamed f crossings other other_below);
       back = λ place other below other_below same.

@@ -13,12 +13,12 @@ abbrev pub left_of : List ℤ → ℕ → ℕ
 left_of letters place = nat_abs (letter_at letters place)
 
 -- whether the strand from the lower left is over
-abbrev pub passes_over : List ℤ → ℕ → Bool
-passes_over letters place = int_lt (pos 0) (letter_at letters place)
+abbrev pub lower_left_is_over : List ℤ → ℕ → Bool
+lower_left_is_over letters place = int_lt (pos 0) (letter_at letters place)
 
 -- the crossings of the closed braid of some letters, in their order
 abbrev pub braid_crossings : List ℤ → List (List ℕ)
-braid_crossings letters = closed_crossings (length letters) (left_of letters) (passes_over letters)
+braid_crossings letters = closed_crossings (length letters) (left_of letters) (lower_left_is_over letters)
 
 -- whether the strand at a position passes no crossing
 abbrev pub is_straight : List ℤ → ℕ → Bool

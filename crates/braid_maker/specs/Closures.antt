@@ -2,10 +2,10 @@
 use Rattle.std.specs.Prelude.{ℕ, zero, suc, ◌+◌, ◌/◌, ◌%◌, ◌<◌, ◌≤◌, ℤ, pos, neg_ℤ, List, [], ◌∷◌, length, map, nat_eq, nat_le, nat_lt, Bool, ◌&&◌, unwrap_or, if◌then◌else◌}
 use Rattle.std.specs.List.{count_by, find, list_all, list_any, range_with_len}
 use Rattle.kh_types.specs.Code.{Code}
-use Rattle.braid_maker.specs.Words.{arc_above, closed_crossings, crossing_of, last_below, touches}
-use Rattle.braid_maker.specs.Braids.{passes_over, is_straight, left_of}
+use Rattle.braid_maker.specs.Words.{arc_above, closed_crossings, crossing_of_letter, last_below, touches}
+use Rattle.braid_maker.specs.Braids.{lower_left_is_over, is_straight, left_of}
 use Rattle.orient_arcs.specs.Parts.{Parts}
-use Rattle.orient_arcs.specs.Renumbered.{renamed, renumber}
+use Rattle.orient_arcs.specs.Renumbered.{renamed_crossing, renumber}
 
 -- the arc through the bottom of a position: it leaves the last crossing there
 abbrev pub bottom_arc : ℕ → (ℕ → ℕ) → ℕ → ℕ
@@ -18,17 +18,17 @@ is_bottom n left arc position =
 
 -- the name of an arc: the arc through the bottom of a position has that position as its name, and the others have greater names; so
 -- a component begins at the bottom of its least position, and components stand in the order of these
-abbrev pub name_of : ℕ → (ℕ → ℕ) → ℕ → ℕ → ℕ
-name_of n left strands arc = unwrap_or (find (is_bottom n left arc) (range_with_len 1 strands)) (strands + arc)
+abbrev pub arc_name : ℕ → (ℕ → ℕ) → ℕ → ℕ → ℕ
+arc_name n left strands arc = unwrap_or (find (is_bottom n left arc) (range_with_len 1 strands)) (strands + arc)
 
 -- the crossing at a place under these names
 abbrev pub named_crossing : ℕ → ℕ → (ℕ → ℕ) → (ℕ → Bool) → ℕ → List ℕ
-named_crossing strands n left is_over place = renamed (name_of n left strands) (crossing_of n left is_over place)
+named_crossing strands n left is_over place = renamed_crossing (arc_name n left strands) (crossing_of_letter n left is_over place)
 
 -- the crossings of a closed braid under these names, with their directions; a strand without a crossing is a loop
 abbrev pub named_parts : ℕ → ℕ → (ℕ → ℕ) → (ℕ → Bool) → ℕ → Parts
 named_parts strands n left is_over loops = record {
-  crossings = map (renamed (name_of n left strands)) (closed_crossings n left is_over);
+  crossings = map (renamed_crossing (arc_name n left strands)) (closed_crossings n left is_over);
   positive = map is_over (range_with_len 0 n);
   loops = loops;
 }
@@ -40,7 +40,7 @@ straight_count strands letters = count_by (is_straight letters) (range_with_len 
 -- the crossings of the closed braid of some letters on some strands, under the names of their arcs, with directions and loops
 abbrev pub closure_parts : ℕ → List ℤ → Parts
 closure_parts strands letters =
-    named_parts strands (length letters) (left_of letters) (passes_over letters) (straight_count strands letters)
+    named_parts strands (length letters) (left_of letters) (lower_left_is_over letters) (straight_count strands letters)
 
 -- the code of the closed braid of some letters on some strands
 abbrev pub closure : ℕ → List ℤ → Code

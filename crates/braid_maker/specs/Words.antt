@@ -28,8 +28,8 @@ arc_below n left position place = arc_above left position (previous n (touches l
 
 -- the crossing at a place, counterclockwise from where the under strand comes in: from the lower right where the strand from the lower
 -- left is over, else from the lower left
-abbrev pub crossing_of : ℕ → (ℕ → ℕ) → (ℕ → Bool) → ℕ → List ℕ
-crossing_of n left is_over place =
+abbrev pub crossing_of_letter : ℕ → (ℕ → ℕ) → (ℕ → Bool) → ℕ → List ℕ
+crossing_of_letter n left is_over place =
     let lower_left = arc_below n left (left place) place in
     let lower_right = arc_below n left (left place + 1) place in
     let upper_left = 2 * place + 1 in
@@ -39,7 +39,7 @@ crossing_of n left is_over place =
 
 -- the crossings of a closed braid of n letters
 abbrev pub closed_crossings : ℕ → (ℕ → ℕ) → (ℕ → Bool) → List (List ℕ)
-closed_crossings n left is_over = map (crossing_of n left is_over) (range_with_len 0 n)
+closed_crossings n left is_over = map (crossing_of_letter n left is_over) (range_with_len 0 n)
 
 -- the number with given bits
 abbrev pub number_with : (ℕ → ℕ) → ℕ → ℕ

@@ -3,8 +3,8 @@
 ghost use Rattle.std.specs.Prelude.{◌≡◌, ◌≤◌, ◌<◌, ◌+◌, ◌*◌, length, IsTrue};
 ghost use Rattle.std.specs.List.{count_by, find, range_with_len};
 ghost use Rattle.kh_types.specs.Acceptance.{accepted};
-ghost use Rattle.braid_maker.specs.Braids.{is_straight, left_of, passes_over};
-ghost use Rattle.braid_maker.specs.Closures.{AreLetters, closure, closure_parts, is_bottom, name_of, named_crossing, straight_count};
+ghost use Rattle.braid_maker.specs.Braids.{is_straight, left_of, lower_left_is_over};
+ghost use Rattle.braid_maker.specs.Closures.{AreLetters, closure, closure_parts, is_bottom, arc_name, named_crossing, straight_count};
 ghost use Rattle.braid_maker.specs.declared.limits.TheConstants.{LETTERS, STRANDS};
 
 use crate::limits::{LETTERS, STRANDS};
@@ -53,7 +53,7 @@ fn named_crossing(strands: u8, letters: &[i8], place: usize) -> Crossing
     requires few { length letters.now ≤ LETTERS }
     requires place { place < length letters.now }
     ensures { result ≡ named_crossing strands (length letters.now) (left_of letters.now)
-        (passes_over letters.now) place }
+        (lower_left_is_over letters.now) place }
 {
     let slots = crossing_of(letters, place);
     Crossing([
@@ -69,7 +69,7 @@ fn name_of(strands: u8, letters: &[i8], arc: u8) -> u8
     requires strands { strands ≤ STRANDS }
     requires few { length letters.now ≤ LETTERS }
     requires arc { arc ≤ 2 * LETTERS }
-    ensures { result ≡ name_of (length letters.now) (left_of letters.now) strands arc }
+    ensures { result ≡ arc_name (length letters.now) (left_of letters.now) strands arc }
 {
     bottom_of(strands, letters, arc).unwrap_or(strands + arc)
 }

@@ -6,8 +6,8 @@
 
 ghost use Rattle.std.specs.Prelude.{◌≡◌, ◌≤◌, ◌<◌, ◌+◌, ◌*◌, length, All, IfSome};
 ghost use Rattle.std.specs.List.{list_any, range_with_len};
-ghost use Rattle.braid_maker.specs.Words.{arc_above, arc_below, crossing_of, last_below, previous, touches};
-ghost use Rattle.braid_maker.specs.Braids.{is_straight, left_of, passes_over};
+ghost use Rattle.braid_maker.specs.Words.{arc_above, arc_below, crossing_of_letter, last_below, previous, touches};
+ghost use Rattle.braid_maker.specs.Braids.{is_straight, left_of, lower_left_is_over};
 ghost use Rattle.braid_maker.specs.Closures.{bottom_arc, is_bottom};
 ghost use Rattle.braid_maker.specs.declared.limits.TheConstants.{LETTERS};
 
@@ -18,8 +18,8 @@ use kh_types::Crossing;
 pub fn crossing_of(letters: &[i8], place: usize) -> Crossing
     requires few { length letters.now ≤ LETTERS }
     requires place { place < length letters.now }
-    ensures crossing { result ≡ crossing_of (length letters.now) (left_of letters.now)
-        (passes_over letters.now) place }
+    ensures crossing { result ≡ crossing_of_letter (length letters.now) (left_of letters.now)
+        (lower_left_is_over letters.now) place }
     ensures small { All (λ arc. arc ≤ 2 * LETTERS) result }
 {
     let left = left_of(letters, place);
@@ -37,7 +37,7 @@ pub fn crossing_of(letters: &[i8], place: usize) -> Crossing
 /// Whether the strand from the lower left is over at the crossing of a letter.
 pub fn passes_over(letters: &[i8], place: usize) -> bool
     requires { place < length letters.now }
-    ensures { result ≡ passes_over letters.now place }
+    ensures { result ≡ lower_left_is_over letters.now place }
 {
     letters[place] > 0
 }

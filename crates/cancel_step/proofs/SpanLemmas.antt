@@ -8,7 +8,7 @@ use Rattle.std.proofs.lemmas.List.Elements.{All-head, All-tail}
 use Rattle.kh_types.specs.Complex.{Pivot}
 use Rattle.sparse_block.specs.declared.entry.Entry.{Entry}
 use Rattle.sparse_block.specs.Changes.{PlacedLine, placed}
-use Rattle.cancel_step.specs.Copies.{parts_of, split_parts}
+use Rattle.cancel_step.specs.Copies.{copied_parts, split_parts}
 use Rattle.cancel_step.specs.declared.copied_lines.Span.{Span}
 use Rattle.cancel_step.specs.Spans.{AreSpans, line_in, spanned_lines}
 
@@ -75,7 +75,7 @@ spans-behind spans now entries here count start are_spans are_entries is_start =
     ∙ sym (drop-map (line_in entries) count spans)
 
 pub parts-split : (pivot : Pivot) (count : ℕ) (columns rows all : List PlacedLine) → count ≡ length columns → all ≡ columns ++ rows
-    → split_parts pivot count all ≡ parts_of pivot columns rows
+    → split_parts pivot count all ≡ copied_parts pivot columns rows
 parts-split pivot count columns rows all is_count are_all =
     ap₂ (split_parts pivot) is_count are_all
-    ∙ ap₂ (parts_of pivot) (take-append_seam columns rows) (drop-append_seam columns rows)
+    ∙ ap₂ (copied_parts pivot) (take-append_seam columns rows) (drop-append_seam columns rows)

@@ -27,16 +27,16 @@ pub record Copied : Type 0 where
   pub rows : List PlacedLine
 
 -- these parts
-abbrev pub parts_of : Pivot → List PlacedLine → List PlacedLine → Copied
-parts_of pivot columns rows = record { pivot = pivot; columns = columns; rows = rows }
+abbrev pub copied_parts : Pivot → List PlacedLine → List PlacedLine → Copied
+copied_parts pivot columns rows = record { pivot = pivot; columns = columns; rows = rows }
 
 -- the parts whose columns are the first of some lines, so many, and whose rows are the others
 abbrev pub split_parts : Pivot → ℕ → List PlacedLine → Copied
-split_parts pivot count lines = parts_of pivot (take count lines) (drop count lines)
+split_parts pivot count lines = copied_parts pivot (take count lines) (drop count lines)
 
 -- the columns that have an entry in the pivot's row, and the rows that have one in its column
 abbrev pub copied : Complex → Pivot → Copied
-copied complex pivot = parts_of pivot (columns_across complex pivot complex) (rows_across complex pivot complex)
+copied complex pivot = copied_parts pivot (columns_across complex pivot complex) (rows_across complex pivot complex)
 
 -- there is a complex of which these are the copied parts, at a pivot of it
 pub record WasCopied (p : ℕ) (parts : Copied) : Type 0 where

@@ -22,7 +22,7 @@ use Rattle.kh_types.proofs.CircleBound.{ArcsBelow-slots, circle_count-within, sm
 use Rattle.kh_types.proofs.ClassCounts.{class_count-append, class_count-circles, class_count-wider}
 use Rattle.kh_types.proofs.QuantumDegrees.{one_count-le}
 use Rattle.circle_smoothing.specs.Branches.{HaveArcsBelow, branch_count, count_place, joins_of}
-use Rattle.circle_smoothing.specs.Kinds.{AreKinds, code_of_kinds, is_of_kind, kind_circles, kind_count, kind_of, kind_ones, name_count, state_kind, state_place}
+use Rattle.circle_smoothing.specs.Kinds.{AreKinds, code_of_kinds, is_of_kind, kind_circles, kind_count, kind_of, kind_ones, arc_and_loop_count, state_kind, state_place}
 use Rattle.circle_smoothing.specs.declared.branches.TheConstants.{COUNTS, JOINS, MEMBERS}
 use Rattle.circle_smoothing.specs.declared.kinds.StateKinds.TheInside.{Inside}
 
@@ -35,7 +35,7 @@ HaveArcsBelow-accepted code crossings same is few =
 
 -- the classes of arcs among the numbers below MEMBERS, among the arcs and loops, and among the arcs alone
 count-among : (code : Code) (state wide : ℕ) → IsAccepted code → arc_count code.crossings + 1 ≤ wide
-    → class_count (classes_of wide (smoothings_of code.crossings state)) + name_count code ≡ circle_count code state + wide
+    → class_count (classes_of wide (smoothings_of code.crossings state)) + arc_and_loop_count code ≡ circle_count code state + wide
 count-among code state wide is fits =
     let crossings = code.crossings in
     let narrow = arc_count crossings + 1 in
@@ -55,7 +55,7 @@ count-among code state wide is fits =
       class_count-circles code state all_below,
     )
 
-circle_count-le-names : (code : Code) (state : ℕ) → circle_count code state ≤ name_count code
+circle_count-le-names : (code : Code) (state : ℕ) → circle_count code state ≤ arc_and_loop_count code
 circle_count-le-names code state =
     let least = is_least (circles_of code state) in
     omega (
@@ -67,7 +67,7 @@ circle_count-le-names code state =
 
 -- each join makes one class fewer
 joins_of-state : (code : Code) (state : ℕ) → IsAccepted code → length code.crossings ≤ CROSSINGS
-    → joins_of code.crossings (range_with_len 0 MEMBERS) state ≡ name_count code - circle_count code state
+    → joins_of code.crossings (range_with_len 0 MEMBERS) state ≡ arc_and_loop_count code - circle_count code state
 joins_of-state code state is few =
     omega (arith, count-among code state MEMBERS is (omega (arith, few)), circle_count-le-names code state)
 
@@ -94,7 +94,7 @@ length-smoothings_from state place (slots ∷ crossings) =
 
 -- so there are at most two for each crossing
 joins-few : (code : Code) (state : ℕ) → IsAccepted code → length code.crossings ≤ CROSSINGS
-    → name_count code - circle_count code state ≤ JOINS
+    → arc_and_loop_count code - circle_count code state ≤ JOINS
 joins-few code state is few =
     let crossings = code.crossings in
     let narrow = arc_count crossings + 1 in
@@ -160,17 +160,17 @@ less-test all less wanted few wanted_few = elim (cases_eq less wanted) [
 
 -- states of a kind are those that are counted at its place
 pub is_of_kind-place : (code : Code) (state ones circles : ℕ) → IsAccepted code → length code.crossings ≤ CROSSINGS
-    → circles ≤ name_count code → name_count code - circles ≤ JOINS
-    → nat_eq (state_place code state) (count_place ones (name_count code - circles)) ≡ is_of_kind code ones circles state
+    → circles ≤ arc_and_loop_count code → arc_and_loop_count code - circles ≤ JOINS
+    → nat_eq (state_place code state) (count_place ones (arc_and_loop_count code - circles)) ≡ is_of_kind code ones circles state
 is_of_kind-place code state ones circles is few within joins_within =
-    place_test (JOINS + 1) (one_count code state) (name_count code - circle_count code state) ones (name_count code - circles)
+    place_test (JOINS + 1) (one_count code state) (arc_and_loop_count code - circle_count code state) ones (arc_and_loop_count code - circles)
     (omega (arith, joins-few code state is few)) (omega (arith, joins_within))
     ∙ ap (λ b. nat_eq (one_count code state) ones && b)
-    (less-test (name_count code) (circle_count code state) circles (circle_count-le-names code state) within)
+    (less-test (arc_and_loop_count code) (circle_count code state) circles (circle_count-le-names code state) within)
 
 pub kind_count-place : (code : Code) (ones circles : ℕ) → IsAccepted code → length code.crossings ≤ CROSSINGS
-    → circles ≤ name_count code → name_count code - circles ≤ JOINS
-    → count_by (λ state. nat_eq (state_place code state) (count_place ones (name_count code - circles))) (states code)
+    → circles ≤ arc_and_loop_count code → arc_and_loop_count code - circles ≤ JOINS
+    → count_by (λ state. nat_eq (state_place code state) (count_place ones (arc_and_loop_count code - circles))) (states code)
     ≡ kind_count code ones circles
 kind_count-place code ones circles is few within joins_within =
     ap (λ (p : ℕ → Bool). count_by p (states code))
@@ -194,7 +194,7 @@ count_by-none p (x ∷ xs) none =
     sum_by-cons (λ y. cond (p y) 1 0) x xs ∙ ap₂ (λ b rest. cond b 1 0 + rest) (none x) (count_by-none p xs none)
 
 pub kind_count-none : (code : Code) (ones circles : ℕ) → IsAccepted code → length code.crossings ≤ CROSSINGS
-    → (ones ≤ CROSSINGS → circles ≤ name_count code → name_count code - circles ≤ JOINS → ⊥) → kind_count code ones circles ≡ 0
+    → (ones ≤ CROSSINGS → circles ≤ arc_and_loop_count code → arc_and_loop_count code - circles ≤ JOINS → ⊥) → kind_count code ones circles ≡ 0
 kind_count-none code ones circles is few none =
     count_by-none (is_of_kind code ones circles) (states code)
     (λ state. by_test (is_of_kind code ones circles state) (λ holds.
@@ -217,7 +217,7 @@ kind_count-le code ones circles few =
     )
 
 pub kind_count-nothing : (code : Code) (taken circles : ℕ) → IsAccepted code → length code.crossings ≤ CROSSINGS
-    → (taken ≤ CROSSINGS → circles ≤ name_count code → name_count code - circles ≤ JOINS → ⊥) → 0 ≡ kind_count code taken circles
+    → (taken ≤ CROSSINGS → circles ≤ arc_and_loop_count code → arc_and_loop_count code - circles ≤ JOINS → ⊥) → 0 ≡ kind_count code taken circles
 kind_count-nothing code taken circles is few none = sym (kind_count-none code taken circles is few none)
 
 pub slice_index-zeros : (n place : ℕ) → slice_index (replicate n 0) place ≡ 0
@@ -252,11 +252,11 @@ AreKinds-counted code crossings none counts taken classes is same few none_taken
 
 -- what is kept at the place of a kind
 pub kind_count-kept : (code : Code) (kinds : Inside) (taken circles names : ℕ) → code_of_kinds kinds ≡ code → AreKinds kinds
-    → names ≡ name_count code → taken ≤ CROSSINGS → circles ≤ names → names - circles ≤ JOINS
+    → names ≡ arc_and_loop_count code → taken ≤ CROSSINGS → circles ≤ names → names - circles ≤ JOINS
     → get_or kinds.counts (taken * (JOINS + 1) + (names - circles)) 0 ≡ kind_count code taken circles
 kind_count-kept code kinds taken circles names view kept are_names few within joins =
     let place = taken * (JOINS + 1) + (names - circles) in
-    let same_names : names ≡ name_count kinds.diagram = are_names ∙ ap name_count (sym view) in
+    let same_names : names ≡ arc_and_loop_count kinds.diagram = are_names ∙ ap arc_and_loop_count (sym view) in
     kept.counts place (omega (arith, few, joins))
     ∙ ap (λ m. count_by (λ state. nat_eq (state_place kinds.diagram state) (taken * (JOINS + 1) + (m - circles))) (states kinds.diagram))
     same_names

@@ -35,12 +35,12 @@ abbrev pub state_kind : Code → ℕ → ℕ
 state_kind code state = kind_of (one_count code state) (circle_count code state)
 
 -- the arcs and loops of a code; each join of two circles makes one circle fewer
-abbrev pub name_count : Code → ℕ
-name_count code = arc_count code.crossings + code.loops
+abbrev pub arc_and_loop_count : Code → ℕ
+arc_and_loop_count code = arc_count code.crossings + code.loops
 
 -- the place at which a state is counted
 abbrev pub state_place : Code → ℕ → ℕ
-state_place code state = count_place (one_count code state) (name_count code - circle_count code state)
+state_place code state = count_place (one_count code state) (arc_and_loop_count code - circle_count code state)
 
 -- contracts see the code of the diagram
 abbrev pub code_of_kinds : Inside → Code

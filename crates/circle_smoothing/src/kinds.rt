@@ -4,7 +4,7 @@ ghost use Rattle.std.specs.Prelude.{◌≡◌, ◌+◌, ◌*◌, ◌^◌, ◌<�
 ghost use Rattle.kh_types.specs.Acceptance.{accepted};
 ghost use Rattle.kh_types.specs.declared.limits.TheConstants.{CIRCLES, CROSSINGS};
 ghost use Rattle.circle_smoothing.specs.GeneratorCounts.{generator_count, kind_generators};
-ghost use Rattle.circle_smoothing.specs.Kinds.{kind_count, name_count};
+ghost use Rattle.circle_smoothing.specs.Kinds.{kind_count, arc_and_loop_count};
 ghost use Rattle.circle_smoothing.specs.declared.kinds.TheConstants.{KINDS};
 
 use crate::branches::{Branch, COUNTS, JOINS, count_branch};
@@ -93,7 +93,7 @@ impl StateKinds {
 
     /// The number of arcs and loops.
     fn name_count(&self) -> usize
-        ensures count { result ≡ name_count self.now }
+        ensures count { result ≡ arc_and_loop_count self.now }
         ensures code { IsTrue (accepted self.now) }
         ensures few { length self.now.crossings ≤ CROSSINGS }
     {

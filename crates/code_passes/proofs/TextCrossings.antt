@@ -8,12 +8,12 @@ use Rattle.kh_types.specs.Code.{arc_in, arc_count, slots_of, IsCrossing}
 use Rattle.kh_types.specs.Components.{passes_of}
 use Rattle.kh_types.proofs.PassPairs.{passes-all}
 use Rattle.code_passes.specs.Labels.{listed_number, bad_label}
-use Rattle.code_passes.specs.Passes.{Pass, all_passes, slots_between, slots_at, all_labels, crossings_in, crossings_of}
+use Rattle.code_passes.specs.Passes.{Pass, all_passes, slots_between, slots_by_passes, all_labels, crossings_in, crossings_of}
 use Rattle.code_passes.proofs.LabelCounts.{length-labels}
 use Rattle.code_passes.proofs.CrossingPasses.{under_pass, over_pass, under-holds, over-holds, all-passes_hold}
 
 pub length-crossings : (groups : List (List ℤ)) (signs : List ℤ) → length (crossings_of groups signs) ≡ crossings_in groups
-length-crossings groups signs = length-map-range_with_len (slots_at (all_passes 1 groups) signs) 0 (crossings_in groups)
+length-crossings groups signs = length-map-range_with_len (slots_by_passes (all_passes 1 groups) signs) 0 (crossings_in groups)
 
 -- there are as many arcs as labels
 pub arc_count-crossings : (groups : List (List ℤ)) (signs : List ℤ) → bad_label (all_labels groups) ≡ None
@@ -38,9 +38,9 @@ HasSlots-between under over sign =
     ]
 
 pub slots-at : (groups : List (List ℤ)) (signs : List ℤ) (place : ℕ) → place < crossings_in groups
-    → slice_index_or (crossings_of groups signs) place [] ≡ slots_at (all_passes 1 groups) signs place
+    → slice_index_or (crossings_of groups signs) place [] ≡ slots_by_passes (all_passes 1 groups) signs place
 slots-at groups signs place below =
-    get_or-map-range_with_len (slots_at (all_passes 1 groups) signs) 0 (crossings_in groups) place place [] below (omega arith)
+    get_or-map-range_with_len (slots_by_passes (all_passes 1 groups) signs) 0 (crossings_in groups) place place [] below (omega arith)
 
 pub HasSlots-at : (groups : List (List ℤ)) (signs : List ℤ) (place : ℕ) → place < crossings_in groups
     → HasSlots (under_pass groups place) (over_pass groups place) (slice_index_or (crossings_of groups signs) place [])

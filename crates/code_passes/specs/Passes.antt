@@ -57,8 +57,8 @@ slots_between under over sign =
     else under.enters ∷ over.enters ∷ under.leaves ∷ over.leaves ∷ []
 
 -- the slots of a crossing, given by its place
-abbrev pub slots_at : List Pass → List ℤ → ℕ → List ℕ
-slots_at passes signs at =
+abbrev pub slots_by_passes : List Pass → List ℤ → ℕ → List ℕ
+slots_by_passes passes signs at =
     slots_between (pass_of passes (neg_ℤ (pos (at + 1)))) (pass_of passes (pos (at + 1))) (listed_number signs at)
 
 -- the labels of some components
@@ -71,4 +71,4 @@ crossings_in groups = length (all_labels groups) / 2
 
 -- the crossings of some components and signs
 abbrev pub crossings_of : List (List ℤ) → List ℤ → List (List ℕ)
-crossings_of groups signs = map (slots_at (all_passes 1 groups) signs) (range_with_len 0 (crossings_in groups))
+crossings_of groups signs = map (slots_by_passes (all_passes 1 groups) signs) (range_with_len 0 (crossings_in groups))

@@ -13,7 +13,7 @@ use Rattle.cube_signs.specs.Blocks.{block_degrees}
 use Rattle.shared_block.specs.BlockHistories.{BlockHistory, block_with}
 use Rattle.shared_block.specs.Commits.{with_pivot}
 use Rattle.commit_core.specs.States.{Holding, CoreState, block_at, held_by, holding_of, opening_state, with_commit, with_held}
-use Rattle.commit_core.specs.Answering.{Count, Counts, commit_held, commit_to, count_at, count_held, count_of, counts_with, forget_held, with_count, look_at, opening_counts, outcome, outcome_of, raised, turns}
+use Rattle.commit_core.specs.Answering.{Count, Counts, commit_held, commit_to, count_at, count_held, count_of, counts_with, forget_held, with_count, look_at, opening_counts, outcome, outcome_of, version_raised, turns}
 use Rattle.commit_core.specs.Rows.{Commits, Forgets, ComesTo, LooksAt, turns_of}
 use Rattle.commit_core.specs.declared.event.Event.{Event}
 use Rattle.commit_core.specs.declared.event.Event.TheVariants.{Look, Commit, Forget}
@@ -78,7 +78,7 @@ counts-changed j pivot [] = refl
 counts-changed j pivot (held ∷ blocks) =
     ap₂ (λ (x : Count) (xs : List Count). x ∷ xs) (count-changed j pivot held) (counts-changed j pivot blocks)
 
-pub counted-with_commit : (state : CoreState) (j : ℤ) (pivot : Pivot) → counted (with_commit state j pivot) ≡ raised (counted state) j
+pub counted-with_commit : (state : CoreState) (j : ℤ) (pivot : Pivot) → counted (with_commit state j pivot) ≡ version_raised (counted state) j
 counted-with_commit state j pivot =
     ap (λ (blocks : List Count). counts_with blocks (map (option_map count_of_held) state.workers)) (counts-changed j pivot state.blocks)
 
@@ -144,12 +144,12 @@ commit-held before worker held block holds there =
 
 commits : (counts : Counts) (worker : ℕ) (looked count : Count) (test : Bool) → nat_eq looked.version count.version ≡ test
     → commit_to counts worker looked (Some count)
-    ≡ cond test (outcome_of (Committed (count.version + 1)) (with_count (raised counts count.block) worker None))
+    ≡ cond test (outcome_of (Committed (count.version + 1)) (with_count (version_raised counts count.block) worker None))
     (outcome_of (Stale looked.version count.version) (with_count counts worker None))
 commits counts worker looked count test is =
     ap
     (λ (b : Bool).
-    cond b (outcome_of (Committed (count.version + 1)) (with_count (raised counts count.block) worker None))
+    cond b (outcome_of (Committed (count.version + 1)) (with_count (version_raised counts count.block) worker None))
     (outcome_of (Stale looked.version count.version) (with_count counts worker None)))
     is
 
@@ -170,7 +170,7 @@ outcome-commit p code before worker (Committed version) after (held, block, hold
     ∙ commits (counted before) worker (count_of_held held) (count_of_block block) true
     (eq-eqb held.copy.version (length block.history) same)
     ∙ ap₂ (λ (v : ℕ) (c : Counts). outcome_of (Committed v) (with_count c worker None)) (sym more)
-    (ap (raised (counted before)) (block_at-place before held.block block there).3
+    (ap (version_raised (counted before)) (block_at-place before held.block block there).3
     ∙ sym (counted-with_commit before held.block held.copy.parts.pivot))
     ∙ same_outcome p (Committed version) middle after worker is
 outcome-commit p code before worker NoBlock after row = absurd row

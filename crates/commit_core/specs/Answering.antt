@@ -51,8 +51,8 @@ abbrev pub with_count : Counts → ℕ → Option Count → Counts
 with_count counts worker held = counts_with counts.blocks (slice_set counts.workers (worker - 1) held)
 
 -- the version of the block at a quantum degree is one more from now on
-abbrev pub raised : Counts → ℤ → Counts
-raised counts j =
+abbrev pub version_raised : Counts → ℤ → Counts
+version_raised counts j =
     counts_with (map (λ count. if int_eq count.block j then count_of count.block (count.version + 1) else count) counts.blocks) counts.workers
 
 -- an answer, and the counts behind it
@@ -76,7 +76,7 @@ abbrev pub commit_to : Counts → ℕ → Count → Option Count → Outcome
 commit_to counts worker looked None = outcome_of Idle counts
 commit_to counts worker looked (Some count) =
     if nat_eq looked.version count.version
-    then outcome_of (Committed (count.version + 1)) (with_count (raised counts count.block) worker None)
+    then outcome_of (Committed (count.version + 1)) (with_count (version_raised counts count.block) worker None)
     else outcome_of (Stale looked.version count.version) (with_count counts worker None)
 
 -- a worker commits what it holds, if it holds anything

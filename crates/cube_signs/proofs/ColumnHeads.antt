@@ -21,7 +21,7 @@ use Rattle.circle_smoothing.specs.declared.change.Edge.{Edge}
 use Rattle.kh_types.proofs.EdgeBits.{set-within}
 use Rattle.sparse_block.specs.declared.entry.Entry.{Entry}
 use Rattle.sparse_block.proofs.AscendingLemmas.{Ascend, ascend-earlier, entries-from_ascend}
-use Rattle.cube_signs.specs.Columns.{head_entry, sign_at, IsColumn}
+use Rattle.cube_signs.specs.Columns.{head_entry, edge_sign_at, IsColumn}
 use Rattle.cube_signs.proofs.EdgeEntries.{column_to, edge_entries, step_entries}
 use Rattle.cube_signs.specs.Heads.{labels_behind}
 use Rattle.cube_signs.specs.Steps.{HasSteps, IsStep}
@@ -53,12 +53,12 @@ record IsHead (p : ℕ) (code : Code) (i j : ℤ) (tail : Generator) (bases rank
   passes : is_label code (i +ℤ pos 1) j (tail.state + 2 ^ place) label ≡ true
   is : slice_index bases (tail.state + 2 ^ place) + slice_index ranks label
       ≡ place_from code (i +ℤ pos 1) j (tail.state + 2 ^ place) label
-  coefficient : coefficient p code tail (generator_of (tail.state + 2 ^ place) label) ≡ sign_at p tail.state place
+  coefficient : coefficient p code tail (generator_of (tail.state + 2 ^ place) label) ≡ edge_sign_at p tail.state place
 
-sign-crossing : (p state place : ℕ) → edge_sign p state (place + 1) ≡ sign_at p state place
+sign-crossing : (p state place : ℕ) → edge_sign p state (place + 1) ≡ edge_sign_at p state place
 sign-crossing p state place =
     let e : place_of (place + 1) ≡ place = omega arith in
-    ap (sign_at p state) e
+    ap (edge_sign_at p state) e
 
 -- the degrees of what a coefficient leads to
 next-degrees : (p : ℕ) (code : Code) (i j : ℤ) (tail head : Generator) → IsTrue (accepted code)
@@ -78,7 +78,7 @@ along-place : (p : ℕ) (code : Code) (tail : Generator) (place label : ℕ) (ch
     → place < length code.crossings → bit tail.state place ≡ 0 → IsEdge code tail.state (place + 1) change
     → tail.label < 2 ^ circle_count code tail.state → label < 2 ^ circle_count code (tail.state + 2 ^ place)
     → coefficient p code tail (generator_of (tail.state + 2 ^ place) label)
-    ≡ cond (list_any (nat_eq label) (labels_behind change tail.label)) (sign_at p tail.state place) 0
+    ≡ cond (list_any (nat_eq label) (labels_behind change tail.label)) (edge_sign_at p tail.state place) 0
 along-place p code tail place label change is below zero_bit does tail_small small =
     let e = state_behind-place tail.state place in
     let there = subst (λ (s : ℕ). label < 2 ^ circle_count code s) (sym e) small in
@@ -108,9 +108,9 @@ heads-at p code i j tail steps bases ranks around place label change below zero_
     let behind_below = set-within tail.state place n below around.tail_below zero_bit in
     let small = labels-small code tail place label change around.is_code below zero_bit does around.label_below has in
     let found = (list_any-decides (labels_behind change tail.label) label).1 has in
-    let is_sign : coefficient p code tail (generator_of behind label) ≡ sign_at p tail.state place =
+    let is_sign : coefficient p code tail (generator_of behind label) ≡ edge_sign_at p tail.state place =
     along-place p code tail place label change around.is_code below zero_bit does around.label_below small
-    ∙ ap (λ b. cond b (sign_at p tail.state place) 0) found in
+    ∙ ap (λ b. cond b (edge_sign_at p tail.state place) 0) found in
     let positive = sign-positive p tail.state place around.prime in
     let passes = next-degrees p code i j tail (generator_of behind label) around.is_code around.passes (omega arith) in
     let first = int_eq (homological_degree code (generator_of behind label)) (i +ℤ pos 1) in
@@ -136,11 +136,11 @@ IsRight p code i j tail e =
 step-right : (p : ℕ) (code : Code) (i j : ℤ) (tail : Generator) (steps : List (Option Edge)) (bases ranks : List ℕ)
     → AreAround p code i j tail steps bases ranks → (place : ℕ) → place < length code.crossings → (step : Option Edge)
     → IsStep code tail.state place step
-    → All (IsRight p code i j tail) (step_entries (sign_at p tail.state place) bases ranks tail place step)
+    → All (IsRight p code i j tail) (step_entries (edge_sign_at p tail.state place) bases ranks tail place step)
 step-right p code i j tail steps bases ranks around place below None is = All-nil (IsRight p code i j tail)
 step-right p code i j tail steps bases ranks around place below (Some change) is =
     let behind = tail.state + 2 ^ place in
-    let entry = head_entry (slice_index bases behind) ranks (sign_at p tail.state place) in
+    let entry = head_entry (slice_index bases behind) ranks (edge_sign_at p tail.state place) in
     let labels = labels_behind change tail.label in
     All-map (IsRight p code i j tail) entry labels
     (All-elements (λ label. IsRight p code i j tail (entry label)) labels
@@ -157,12 +157,12 @@ step-ascend : (p : ℕ) (code : Code) (i j : ℤ) (tail : Generator) (steps : Li
     → AreAround p code i j tail steps bases ranks → (place : ℕ) → place < length code.crossings → (step : Option Edge)
     → IsStep code tail.state place step
     → Ascend p (base_of code (i +ℤ pos 1) j (tail.state + 2 ^ place)) (base_of code (i +ℤ pos 1) j (tail.state + 2 ^ place + 1))
-    (step_entries (sign_at p tail.state place) bases ranks tail place step)
+    (step_entries (edge_sign_at p tail.state place) bases ranks tail place step)
 step-ascend p code i j tail steps bases ranks around place below None is = tt
 step-ascend p code i j tail steps bases ranks around place below (Some change) is =
     let next = i +ℤ pos 1 in
     let behind = tail.state + 2 ^ place in
-    let sign = sign_at p tail.state place in
+    let sign = edge_sign_at p tail.state place in
     let entry = head_entry (slice_index bases behind) ranks sign in
     let labels = labels_behind change tail.label in
     let at = λ (label : ℕ) (has : Contains labels label).
@@ -187,12 +187,12 @@ step-has : (p : ℕ) (code : Code) (i j : ℤ) (tail : Generator) (steps : List 
     → AreAround p code i j tail steps bases ranks → (place label : ℕ) → place < length code.crossings → (step : Option Edge)
     → IsStep code tail.state place step → bit tail.state place ≡ 0 → label < 2 ^ circle_count code (tail.state + 2 ^ place)
     → coefficient p code tail (generator_of (tail.state + 2 ^ place) label) ≢ 0
-    → Contains (map (λ (e : Entry). e.place) (step_entries (sign_at p tail.state place) bases ranks tail place step))
+    → Contains (map (λ (e : Entry). e.place) (step_entries (edge_sign_at p tail.state place) bases ranks tail place step))
     (place_from code (i +ℤ pos 1) j (tail.state + 2 ^ place) label)
 step-has p code i j tail steps bases ranks around place label below None is zero_bit small some = absurd (omega (arith, is, zero_bit))
 step-has p code i j tail steps bases ranks around place label below (Some change) is zero_bit small some =
     let behind = tail.state + 2 ^ place in
-    let sign = sign_at p tail.state place in
+    let sign = edge_sign_at p tail.state place in
     let entry = head_entry (slice_index bases behind) ranks sign in
     let labels = labels_behind change tail.label in
     let is_sign = along-place p code tail place label change around.is_code below zero_bit is.1 around.label_below small in
@@ -228,7 +228,7 @@ column-ascend p code i j tail steps bases ranks around (suc count) place all =
     joined : (step : Option Edge) → IsStep code tail.state place step → (rest : List Entry)
         → Ascend p (base_of code (i +ℤ pos 1) j (tail.state + 2 ^ (place + 1))) (length (generators_at code (i +ℤ pos 1) j)) rest
         → Ascend p (base_of code (i +ℤ pos 1) j (tail.state + 2 ^ place)) (length (generators_at code (i +ℤ pos 1) j))
-        (step_entries (sign_at p tail.state place) bases ranks tail place step ++ rest)
+        (step_entries (edge_sign_at p tail.state place) bases ranks tail place step ++ rest)
     joined None is rest later =
         ascend-earlier p (base_of code (i +ℤ pos 1) j (tail.state + 2 ^ place))
         (base_of code (i +ℤ pos 1) j (tail.state + 2 ^ (place + 1))) (length (generators_at code (i +ℤ pos 1) j)) rest
@@ -239,7 +239,7 @@ column-ascend p code i j tail steps bases ranks around (suc count) place all =
         let size = length (generators_at code next j) in
         let below = set-within tail.state place (length code.crossings) (omega (arith, all)) around.tail_below is.0 in
         ascend-append p (base_of code next j behind) (base_of code next j (behind + 1)) size
-        (step_entries (sign_at p tail.state place) bases ranks tail place (Some change)) rest
+        (step_entries (edge_sign_at p tail.state place) bases ranks tail place (Some change)) rest
         (step-ascend p code i j tail steps bases ranks around place (omega (arith, all)) (Some change) is)
         (ascend-earlier p (base_of code next j (behind + 1)) (base_of code next j (tail.state + 2 ^ (place + 1))) size rest
         (base-le code next j (behind + 1) (tail.state + 2 ^ (place + 1)) (omega (arith, power place))) later)

@@ -7,7 +7,7 @@ use Rattle.std.proofs.lemmas.List.{append-nil}
 use Rattle.kh_types.specs.Generators.{Generator}
 use Rattle.circle_smoothing.specs.declared.change.Edge.{Edge}
 use Rattle.sparse_block.specs.declared.entry.Entry.{Entry}
-use Rattle.cube_signs.specs.Columns.{column_along, head_entry, out_along, out_entries, outs_at, outs_to, sign_at}
+use Rattle.cube_signs.specs.Columns.{column_along, head_entry, out_along, out_entries, outs_at, outs_to, edge_sign_at}
 use Rattle.cube_signs.specs.Heads.{labels_behind}
 
 -- the entries along the edge at a place, if one begins there
@@ -19,7 +19,7 @@ step_entries sign bases ranks tail place (Some change) =
 -- the same, of the edges in a list
 unfoldable pub edge_entries : ℕ → List (Option Edge) → List ℕ → List ℕ → Generator → ℕ → List Entry
 edge_entries p steps bases ranks tail place =
-    step_entries (sign_at p tail.state place) bases ranks tail place (slice_index_or steps place None)
+    step_entries (edge_sign_at p tail.state place) bases ranks tail place (slice_index_or steps place None)
 
 -- the entries along all edges before a place
 abbrev pub column_to : ℕ → List (Option Edge) → List ℕ → List ℕ → Generator → ℕ → List Entry
@@ -39,7 +39,7 @@ along-range p steps bases ranks tail a zero = refl
 along-range p steps bases ranks tail a (suc n) =
     flat_map-append (out_entries ranks tail.label) (outs_at p steps bases tail.state a)
     (flat_map (outs_at p steps bases tail.state) (range_with_len (a + 1) n))
-    ∙ ap₂ (λ (x y : List Entry). x ++ y) (along (sign_at p tail.state a) bases ranks tail a (slice_index_or steps a None))
+    ∙ ap₂ (λ (x y : List Entry). x ++ y) (along (edge_sign_at p tail.state a) bases ranks tail a (slice_index_or steps a None))
     (along-range p steps bases ranks tail (a + 1) n)
 
 pub column-along : (p : ℕ) (steps : List (Option Edge)) (bases ranks : List ℕ) (tail : Generator) (count : ℕ)

@@ -6,7 +6,7 @@ use Rattle.kh_types.specs.Bits.{bit, ones}
 use Rattle.kh_types.proofs.BitLemmas.{ones-more}
 use Rattle.kh_types.proofs.Ranges.{flat_map-range_more}
 use Rattle.circle_smoothing.specs.declared.change.Edge.{Edge}
-use Rattle.cube_signs.specs.Columns.{out_along, outs_at, outs_to, sign_at}
+use Rattle.cube_signs.specs.Columns.{out_along, outs_at, outs_to, edge_sign_at}
 use Rattle.cube_signs.specs.declared.outs.Out.{Out}
 
 -- -1 to a power, modulo p
@@ -16,26 +16,26 @@ sign_of p count = if nat_eq (count % 2) 0 then 1 else p - 1
 turned : (p count : ℕ) → 1 < p → p - sign_of p count ≡ sign_of p (count + 1)
 turned p count above = grind (arith, nat_tests)
 
-pub sign-same : (p sign state place b : ℕ) → sign ≡ sign_at p state place → b ≡ bit state place → b ≡ 0 → sign ≡ sign_at p state (place + 1)
+pub sign-same : (p sign state place b : ℕ) → sign ≡ edge_sign_at p state place → b ≡ bit state place → b ≡ 0 → sign ≡ edge_sign_at p state (place + 1)
 sign-same p sign state place b is is_bit zero =
     let same : ones place state ≡ ones (place + 1) state = omega (arith, ones-more place state) in
     is ∙ ap (sign_of p) same
 
-pub sign-turned : (p sign state place b : ℕ) → 1 < p → sign ≡ sign_at p state place → b ≡ bit state place → b < 2 → b ≢ 0
-    → p - sign ≡ sign_at p state (place + 1)
+pub sign-turned : (p sign state place b : ℕ) → 1 < p → sign ≡ edge_sign_at p state place → b ≡ bit state place → b < 2 → b ≢ 0
+    → p - sign ≡ edge_sign_at p state (place + 1)
 sign-turned p sign state place b above is is_bit few some =
     let more : ones place state + 1 ≡ ones (place + 1) state = omega (arith, ones-more place state) in
     ap (λ s. p - s) is ∙ turned p (ones place state) above ∙ ap (sign_of p) more
 
-pub sign-positive : (p state place : ℕ) → 1 < p → 0 < sign_at p state place
+pub sign-positive : (p state place : ℕ) → 1 < p → 0 < edge_sign_at p state place
 sign-positive p state place above = grind (arith, nat_tests)
 
-pub sign-below : (p state place : ℕ) → 1 < p → sign_at p state place < p
+pub sign-below : (p state place : ℕ) → 1 < p → edge_sign_at p state place < p
 sign-below p state place above = grind (arith, nat_tests)
 
 -- one edge more
 pub outs-more : (p : ℕ) (steps : List (Option Edge)) (bases : List ℕ) (state place sign : ℕ) (made next : List Out)
-    → made ≡ outs_to p steps bases state place → sign ≡ sign_at p state place
+    → made ≡ outs_to p steps bases state place → sign ≡ edge_sign_at p state place
     → next ≡ made ++ out_along sign bases state place (slice_index_or steps place None) → next ≡ outs_to p steps bases state (place + 1)
 unfolding outs_at
 outs-more p steps bases state place sign made next is_made is_sign is_next =

@@ -21,8 +21,8 @@ use Rattle.cube_signs.specs.Steps.{HasSteps}
 
 -- the sign of the edge at the crossing of a place, as `edge_sign` of the crossing: by how many crossings before it have their
 -- 1-smoothing
-abbrev pub sign_at : ℕ → ℕ → ℕ → ℕ
-sign_at p state place = if nat_eq (ones place state % 2) 0 then 1 else p - 1
+abbrev pub edge_sign_at : ℕ → ℕ → ℕ → ℕ
+edge_sign_at p state place = if nat_eq (ones place state % 2) 0 then 1 else p - 1
 
 -- the entry of a generator behind an edge: it stands after the generators of the states before its own, and those of its own state
 -- with a lesser label
@@ -37,7 +37,7 @@ out_along sign bases state place (Some change) =
 
 -- the same, of the edges in a list
 unfoldable pub outs_at : ℕ → List (Option Edge) → List ℕ → ℕ → ℕ → List Out
-outs_at p steps bases state place = out_along (sign_at p state place) bases state place (slice_index_or steps place None)
+outs_at p steps bases state place = out_along (edge_sign_at p state place) bases state place (slice_index_or steps place None)
 
 -- those at all places before one
 abbrev pub outs_to : ℕ → List (Option Edge) → List ℕ → ℕ → ℕ → List Out

@@ -2,7 +2,7 @@
 
 ghost use Rattle.std.specs.Prelude.{◌≡◌, ◌+◌, ◌<◌, ◌≤◌, ◌++◌, length, slice_index, All, OnOk};
 ghost use Rattle.kh_types.specs.declared.limits.TheConstants.{CROSSINGS};
-ghost use Rattle.cube_signs.specs.Columns.{out_along, outs_to, sign_at, AreSmall, IsSmall};
+ghost use Rattle.cube_signs.specs.Columns.{out_along, outs_to, edge_sign_at, AreSmall, IsSmall};
 ghost use Rattle.cube_signs.specs.Columns.{IsSmallOut};
 ghost use Rattle.cube_signs.specs.declared.limits.TheConstants.{PLACES};
 
@@ -82,8 +82,8 @@ fn push_out(
 fn next_sign(p: u8, sign: u8, state: u32, place: usize) -> u8
     requires prime { 1 < p }
     requires place { place < CROSSINGS }
-    requires sign { sign ≡ sign_at p state place }
-    ensures sign { result ≡ sign_at p state (place + 1) }
+    requires sign { sign ≡ edge_sign_at p state place }
+    ensures sign { result ≡ edge_sign_at p state (place + 1) }
 {
     if bit(u64::from(state), place) == 0 {
         sign

@@ -18,7 +18,7 @@ use Rattle.kinks_and_fingers.specs.KinkAdds.{with_kink}
 use Rattle.kinks_and_fingers.proofs.FingerAccepted.{accepted-fingered, AreFingerable-accepted}
 use Rattle.kinks_and_fingers.proofs.KinkFaces.{accepted-kinked}
 use Rattle.diagram_moves.specs.AddSteps.{IsTakenArc, AreTakenArcs, kinked_there, kinked_to, fingered_to}
-use Rattle.diagram_moves.specs.MoveFaults.{kink_add_fault, finger_place_fault, no_arc, crossing_limit, on_loop, same_arc, wrong_genus}
+use Rattle.diagram_moves.specs.MoveFaults.{kink_add_fault, finger_place_fault, no_arc, crossing_limit_fault, on_loop, same_arc, wrong_genus}
 use Rattle.diagram_moves.specs.declared.fault.MoveFault.TheVariants.{NoArc, CrossingLimit, OnLoop, SameArc, Genus}
 use Rattle.diagram_moves.proofs.FaultLemmas.{both-none, none-above, none-apart, none-same, none-within}
 
@@ -42,8 +42,8 @@ accepted_kinked code a over positive holds taken = accepted-kinked code a over p
 
 pub kinks_are_taken : (code : Code) (a : ℕ) → kink_add_fault code a ≡ None → IsTakenArc code a
 kinks_are_taken code a none =
-    let first = both-none (no_arc code a) (option_or (crossing_limit code 1) (on_loop code a)) none in
-    let second = both-none (crossing_limit code 1) (on_loop code a) first.1 in
+    let first = both-none (no_arc code a) (option_or (crossing_limit_fault code 1) (on_loop code a)) none in
+    let second = both-none (crossing_limit_fault code 1) (on_loop code a) first.1 in
     record {
       is_arc = record {
         positive = (none-within a (arc_count code.crossings + code.loops) (NoArc a) first.0).0;
@@ -57,10 +57,10 @@ fingers_are_taken code a b none =
     let last = same_arc a b in
     let fourth = option_or (on_loop code b) last in
     let third = option_or (on_loop code a) fourth in
-    let second = option_or (crossing_limit code 2) third in
+    let second = option_or (crossing_limit_fault code 2) third in
     let from_a = both-none (no_arc code a) (option_or (no_arc code b) second) none in
     let from_b = both-none (no_arc code b) second from_a.1 in
-    let from_room = both-none (crossing_limit code 2) third from_b.1 in
+    let from_room = both-none (crossing_limit_fault code 2) third from_b.1 in
     let from_loop = both-none (on_loop code a) fourth from_room.1 in
     let from_other = both-none (on_loop code b) last from_loop.1 in
     record {

@@ -25,7 +25,7 @@ use Rattle.diagram_moves.specs.declared.fault.MoveFault.TheVariants.{NoArc, NoCr
 use Rattle.diagram_moves.specs.Joinable.{numbered}
 use Rattle.diagram_moves.specs.Kept.{HasComponents}
 use Rattle.diagram_moves.specs.Moved.{answered, is_left, moved, slid_at, HasWrongFaces, JoinsPieces, LeavesSphere}
-use Rattle.diagram_moves.specs.MoveFaults.{no_arc, no_crossing, crossing_limit, on_loop, same_arc, no_kink, no_bigon, no_triangle, no_heights, wrong_genus, refused_where, kink_add_fault, kink_drop_fault, finger_place_fault, finger_add_fault, finger_drop_fault, slide_fault}
+use Rattle.diagram_moves.specs.MoveFaults.{no_arc, no_crossing, crossing_limit_fault, on_loop, same_arc, no_kink, no_bigon, no_triangle, no_heights, wrong_genus, refused_where, kink_add_fault, kink_drop_fault, finger_place_fault, finger_add_fault, finger_drop_fault, slide_fault}
 use Rattle.diagram_moves.proofs.AddLemmas.{fingers_are_taken, kinks_are_taken, sum-fingered}
 use Rattle.diagram_moves.proofs.DropLemmas.{components-finger_dropped, components-kink_dropped, finger-dropped, kink-dropped}
 use Rattle.diagram_moves.proofs.SlideLemmas.{components-slid_at, sum-slid_at}
@@ -122,7 +122,7 @@ crossing-other : (code : Code) (crossing faces wanted : ℕ) → ¬ (no_crossing
 crossing-other code crossing faces wanted =
     other-fault (nat_eq crossing 0 || nat_lt (length code.crossings) crossing) (NoCrossing crossing) faces wanted (λ same. absurd (cc))
 
-limit-other : (code : Code) (more faces wanted : ℕ) → ¬ (crossing_limit code more ≡ Some (Genus faces wanted))
+limit-other : (code : Code) (more faces wanted : ℕ) → ¬ (crossing_limit_fault code more ≡ Some (Genus faces wanted))
 limit-other code more faces wanted =
     other-fault (nat_lt CROSSINGS (length code.crossings + more)) (CrossingLimit (length code.crossings + more)) faces wanted
     (λ same. absurd (cc))
@@ -139,14 +139,14 @@ place-other code over under faces wanted =
     let last = neither-fault (on_loop code under) (same_arc over under) genus (loop-other code under faces wanted) same in
     let loops = neither-fault (on_loop code over) (option_or (on_loop code under) (same_arc over under)) genus
     (loop-other code over faces wanted) last in
-    let limit = neither-fault (crossing_limit code 2)
+    let limit = neither-fault (crossing_limit_fault code 2)
     (option_or (on_loop code over) (option_or (on_loop code under) (same_arc over under))) genus (limit-other code 2 faces wanted) loops in
     let second = neither-fault (no_arc code under)
-    (option_or (crossing_limit code 2) (option_or (on_loop code over) (option_or (on_loop code under) (same_arc over under)))) genus
+    (option_or (crossing_limit_fault code 2) (option_or (on_loop code over) (option_or (on_loop code under) (same_arc over under)))) genus
     (arc-other code under faces wanted) limit in
     neither-fault (no_arc code over)
     (option_or (no_arc code under)
-    (option_or (crossing_limit code 2) (option_or (on_loop code over) (option_or (on_loop code under) (same_arc over under))))) genus
+    (option_or (crossing_limit_fault code 2) (option_or (on_loop code over) (option_or (on_loop code under) (same_arc over under))))) genus
     (arc-other code over faces wanted) second
 
 -- the fault of the faces, with the two numbers of the code that results
@@ -198,10 +198,10 @@ pub moves_leave_the_sphere : (code : Code) (change : Move) (faces wanted : ℕ)
     → (moved code change ≡ Err (Genus faces wanted)) ↔ LeavesSphere code change faces wanted
 unfolding moved
 moves_leave_the_sphere code (KinkAdd arc under_first positive) faces wanted =
-    let last = neither-fault (crossing_limit code 1) (on_loop code arc) (Genus faces wanted) (limit-other code 1 faces wanted)
+    let last = neither-fault (crossing_limit_fault code 1) (on_loop code arc) (Genus faces wanted) (limit-other code 1 faces wanted)
     (loop-other code arc faces wanted) in
     no-genus (kink_add_fault code arc) (with_kink (not under_first) positive arc code) faces wanted
-    (neither-fault (no_arc code arc) (option_or (crossing_limit code 1) (on_loop code arc)) (Genus faces wanted)
+    (neither-fault (no_arc code arc) (option_or (crossing_limit_fault code 1) (on_loop code arc)) (Genus faces wanted)
     (arc-other code arc faces wanted) last)
 moves_leave_the_sphere code (KinkDrop crossing) faces wanted =
     no-genus (kink_drop_fault code crossing) (numbered (without_kink code (place_of crossing))) faces wanted

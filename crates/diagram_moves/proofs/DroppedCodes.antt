@@ -13,7 +13,7 @@ use Rattle.kh_types.proofs.AcceptedLemmas.{HasArcsTwice-accepted, IsAccepted-is}
 use Rattle.kh_types.proofs.JoinedClasses.{IsNamed-classes_of}
 use Rattle.kinks_and_fingers.specs.Strands.{name_at, slots_at}
 use Rattle.kinks_and_fingers.specs.Drops.{dropped, kept_places, kept_crossings, positive_at, straight_names, straight_pairs, is_of_two, without_kink, without_finger}
-use Rattle.kinks_and_fingers.specs.Dropping.{HasKinkAt, HasBigonAt, IsSound}
+use Rattle.kinks_and_fingers.specs.Dropping.{HasKinkAt, HasBigonAt, IsPlanarRest}
 use Rattle.kinks_and_fingers.specs.DropCircles.{strand_sum}
 use Rattle.kinks_and_fingers.specs.Pulls.{early, late}
 use Rattle.kinks_and_fingers.proofs.KeptCodes.{length-kept, kept-slots, kept-sign, renamed_slots-at, name_at-below, straight-below}
@@ -25,12 +25,12 @@ use Rattle.kinks_and_fingers.proofs.ComponentDrops.{components-dropped}
 use Rattle.kinks_and_fingers.proofs.Smoothed.{IsPermutation-late}
 use Rattle.kinks_and_fingers.proofs.Sound.{IsSound-kink, IsSound-finger}
 use Rattle.diagram_moves.specs.Joinable.{numbered, IsJoinable}
-use Rattle.diagram_moves.specs.Kept.{IsKept}
+use Rattle.diagram_moves.specs.Kept.{IsKeptCode}
 use Rattle.diagram_moves.proofs.Numbered.{IsAccepted-numbered, components-numbered, sign-numbered, state_sum-numbered}
 
 IsJoinable-dropped : (code : Code) (gone : ℕ → Bool) (kept : ℕ → ℕ) (k : ℕ) → HasArcsTwice code.crossings
     → kept_places code.crossings gone ≡ map kept (range_with_len 0 k) → ((i : ℕ) → i < k → kept i < length code.crossings)
-    → IsSound (dropped code gone) → IsJoinable (arc_count code.crossings + 1) (dropped code gone)
+    → IsPlanarRest (dropped code gone) → IsJoinable (arc_count code.crossings + 1) (dropped code gone)
 IsJoinable-dropped code gone kept k twice places kept_below sound =
     let names = straight_names code.crossings gone in
     let named = IsNamed-classes_of (arc_count code.crossings + 1) (straight_pairs code.crossings gone) (straight-below code.crossings gone twice) in
@@ -55,9 +55,9 @@ IsJoinable-dropped code gone kept k twice places kept_below sound =
 -- what is dropped from an accepted code, with its state sum
 IsKept-dropped : (code : Code) (gone : ℕ → Bool) (kept : ℕ → ℕ) (k : ℕ) → IsTrue (accepted code)
     → kept_places code.crossings gone ≡ map kept (range_with_len 0 k) → ((i : ℕ) → i < k → kept i < length code.crossings)
-    → IsSound (dropped code gone)
+    → IsPlanarRest (dropped code gone)
     → ((exponent : ℤ) → strand_sum (arc_count code.crossings + 1) (dropped code gone) exponent ≡ state_sum code exponent)
-    → IsKept code (numbered (dropped code gone)) kept k
+    → IsKeptCode code (numbered (dropped code gone)) kept k
 IsKept-dropped code gone kept k is places kept_below sound sums =
     let twice = HasArcsTwice-accepted code is in
     let joinable = IsJoinable-dropped code gone kept k twice places kept_below sound in
@@ -80,7 +80,7 @@ early-low : (n c k i : ℕ) → n ≡ k + 1 → c ≤ k → i < k → early c k 
 early-low n c k i size within below = grind (arith, nat_tests)
 
 pub IsKept-kink : (code : Code) (c p : ℕ) → IsTrue (accepted code) → HasKinkAt code.crossings c p
-    → IsKept code (numbered (without_kink code c)) (early c (length code.crossings - 1)) (length code.crossings - 1)
+    → IsKeptCode code (numbered (without_kink code c)) (early c (length code.crossings - 1)) (length code.crossings - 1)
 IsKept-kink code c p is kink =
     let size : length code.crossings ≡ length code.crossings - 1 + 1 = omega (arith, kink.below) in
     let within : c ≤ length code.crossings - 1 = omega (arith, kink.below) in
@@ -93,7 +93,7 @@ two_below : (n c d : ℕ) → c < n → d < n → c ≢ d → n ≡ n - 2 + 1 + 
 two_below n c d c_below d_below apart = omega (arith, c_below, d_below, apart)
 
 pub IsKept-finger : (code : Code) (c d p q : ℕ) → IsTrue (accepted code) → HasBigonAt code.crossings c d p q
-    → IsKept code (numbered (without_finger code c d))
+    → IsKeptCode code (numbered (without_finger code c d))
     (λ i. early c (length code.crossings - 2 + 1) (early (late c (length code.crossings - 2 + 1) d) (length code.crossings - 2) i))
     (length code.crossings - 2)
 IsKept-finger code c d p q is bigon =

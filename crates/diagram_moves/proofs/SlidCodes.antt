@@ -28,7 +28,7 @@ use Rattle.kinks_and_fingers.proofs.KinkClosing.{before}
 use Rattle.kinks_and_fingers.proofs.KinkDropSums.{count-later, sums-alike}
 use Rattle.kinks_and_fingers.proofs.ComponentDrops.{IsOfNames-passes, IsOfNames-smoothings, standing-classes}
 use Rattle.slides.specs.Slid.{slid, slid_code}
-use Rattle.slides.specs.SlideCodes.{enters, HasHeadsAndTails}
+use Rattle.slides.specs.SlideCodes.{is_head_with, HasHeadsAndTails}
 use Rattle.slides.specs.Triangles.{IsTriangle, has_heights}
 use Rattle.slides.proofs.Sides.{HasSides-triangle}
 use Rattle.slides.proofs.SlidArcs.{length-slid, HasArcsTwice-slid}
@@ -37,7 +37,7 @@ use Rattle.slides.proofs.SlidHeads.{HasHeadsAndTails-slid}
 use Rattle.slides.proofs.SlidTriangle.{sum_with-slid}
 use Rattle.slides.proofs.Passes.{component_count-slid}
 use Rattle.diagram_moves.specs.Joinable.{numbered, IsJoinable}
-use Rattle.diagram_moves.specs.Kept.{IsKept, slid_strands}
+use Rattle.diagram_moves.specs.Kept.{IsKeptCode, slid_strands}
 use Rattle.diagram_moves.proofs.Standing.{standing-count}
 use Rattle.diagram_moves.proofs.Numbered.{IsAccepted-numbered, components-numbered, sign-numbered, state_sum-numbered}
 
@@ -58,7 +58,7 @@ HasTwoEnds-arcs : (crossings : List (List ℕ)) (positive : ℕ → Bool) (signs
     → HasHeadsAndTails crossings positive → AreSigns signs positive (length crossings) → HasTwoEnds crossings signs
 HasTwoEnds-arcs crossings positive signs twice ends are =
     let n = length crossings in
-    let head : (x : ℕ) → x < 4 * length crossings → is_head_at signs x ≡ enters positive (dart_at x) =
+    let head : (x : ℕ) → x < 4 * length crossings → is_head_at signs x ≡ is_head_with positive (dart_at x) =
     λ x below. ap (λ b. strand_enters b (x % 4)) (are (x / 4) (omega (arith, below))) in
     let arc : (x : ℕ) → x < 4 * length crossings → IsArc crossings (dart_name crossings x) =
     λ x below. subst (λ (a : ℕ). IsArc crossings a) (dart_name-arc_of crossings x) (twice.slots (dart_at x) (IsDart-at crossings x below)) in
@@ -78,9 +78,9 @@ HasTwoEnds-arcs crossings positive signs twice ends are =
       one_tail = λ x y x_below y_below x_tail y_tail same.
           let one = (ends (dart_name crossings x) (arc x x_below)).1 in
           back x y
-          (one.1.only (dart_at x) (own x x_below) (not_true (enters positive (dart_at x)) (sym (head x x_below) ∙ x_tail))
+          (one.1.only (dart_at x) (own x x_below) (not_true (is_head_with positive (dart_at x)) (sym (head x x_below) ∙ x_tail))
           ∙ sym
-          (one.1.only (dart_at y) (of_name x y y_below same) (not_true (enters positive (dart_at y)) (sym (head y y_below) ∙ y_tail))));
+          (one.1.only (dart_at y) (of_name x y y_below same) (not_true (is_head_with positive (dart_at y)) (sym (head y y_below) ∙ y_tail))));
       tail_of = λ x below is_head.
           let one = (ends (dart_name crossings x) (arc x below)).1 in
           let y = dart_place one.0 in
@@ -88,7 +88,7 @@ HasTwoEnds-arcs crossings positive signs twice ends are =
           let at = dart_at-place crossings one.0 one.1.is.within in (
             y,
             y_below,
-            head (dart_place one.0) y_below ∙ ap (enters positive) at ∙ not_false (enters positive one.0) one.1.kind_of,
+            head (dart_place one.0) y_below ∙ ap (is_head_with positive) at ∙ not_false (is_head_with positive one.0) one.1.kind_of,
             sym (sym (dart_name-arc_of crossings (dart_place one.0)) ∙ ap (arc_of crossings) at ∙ one.1.is.on_arc),
           );
       head_of = λ x below is_tail.
@@ -98,7 +98,7 @@ HasTwoEnds-arcs crossings positive signs twice ends are =
           let at = dart_at-place crossings one.0 one.1.is.within in (
             y,
             y_below,
-            head (dart_place one.0) y_below ∙ ap (enters positive) at ∙ one.1.kind_of,
+            head (dart_place one.0) y_below ∙ ap (is_head_with positive) at ∙ one.1.kind_of,
             sym (sym (dart_name-arc_of crossings (dart_place one.0)) ∙ ap (arc_of crossings) at ∙ one.1.is.on_arc),
           );
     }
@@ -178,7 +178,7 @@ HasTwoEnds-slid code x y z is triangle =
     (HasHeadsAndTails-slid code x y z is sides) (λ place below. signs-slid code.crossings place (omega (arith, below, size)))
 
 pub IsKept-slid : (code : Code) (x y z : ℕ) → IsTrue (accepted code) → IsTriangle code.crossings x y z → has_heights x y z ≡ true
-    → IsKept code (numbered (slid_strands code x y z)) (λ place. place) (length code.crossings)
+    → IsKeptCode code (numbered (slid_strands code x y z)) (λ place. place) (length code.crossings)
 IsKept-slid code x y z is triangle heights =
     let old_twice = HasArcsTwice-accepted code is in
     let sides = HasSides-triangle code.crossings x y z old_twice triangle in

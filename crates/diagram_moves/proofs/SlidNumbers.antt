@@ -28,7 +28,7 @@ use Rattle.orient_arcs.proofs.Members.{IsIn}
 use Rattle.orient_arcs.proofs.PairedPasses.{heads_of, All-flat_map_range, entering-at, entering-enters, entering-holds}
 use Rattle.orient_arcs.proofs.PlacedNumbers.{HasOverLabels, IsPlaced, placed-numbers}
 use Rattle.slides.specs.Slid.{arc_there, on, slid, source}
-use Rattle.slides.specs.SlideCodes.{enters}
+use Rattle.slides.specs.SlideCodes.{is_head_with}
 use Rattle.slides.specs.Triangles.{IsTriangle}
 use Rattle.slides.proofs.Corners.{four, at_places, on-below, on-on, on-zero, source-below, source-outside, source-rotated, source-x}
 use Rattle.slides.proofs.Passes.{KeepsPass-slid, arc-behind, passes-arcs, respects-behind}
@@ -144,7 +144,7 @@ module _ (code : Code) (x y z : ℕ) (holds : IsTrue (accepted code)) (triangle 
 
   -- passes go on to the next arc
 
-  old-next : (dart : ℕ) → dart < 4 * length code.crossings → enters (is_positive code.crossings) (dart_at dart) ≡ true
+  old-next : (dart : ℕ) → dart < 4 * length code.crossings → is_head_with (is_positive code.crossings) (dart_at dart) ≡ true
       → arc_there code.crossings (on dart 2) ≡ next code.crossings (arc_there code.crossings dart)
   old-next dart below head =
       let crossing = dart / 4 + 1 in
@@ -165,7 +165,7 @@ module _ (code : Code) (x y z : ℕ) (holds : IsTrue (accepted code)) (triangle 
       both true crossing pass = pass.follows
       both false crossing pass = pass.follows
 
-  new-next : (dart : ℕ) → dart < 4 * length code.crossings → enters (is_positive code.crossings) (dart_at dart) ≡ true
+  new-next : (dart : ℕ) → dart < 4 * length code.crossings → is_head_with (is_positive code.crossings) (dart_at dart) ≡ true
       → arc_there (slid code.crossings x y z) (on dart 2) ≡ next code.crossings (arc_there (slid code.crossings x y z) dart)
   new-next dart below head =
       let kept = KeepsPass-slid code x y z holds sides dart below in
@@ -190,7 +190,7 @@ module _ (code : Code) (x y z : ℕ) (holds : IsTrue (accepted code)) (triangle 
       let dart = 4 * place + slot in
       let p : (4 * place + slot) / 4 ≡ place = omega (arith, slot_below) in
       let s : (4 * place + slot) % 4 ≡ slot = omega (arith, slot_below) in
-      let is_head : enters (is_positive code.crossings) (dart_at (4 * place + slot)) ≡ true =
+      let is_head : is_head_with (is_positive code.crossings) (dart_at (4 * place + slot)) ≡ true =
       ap₂ (λ k l. nat_eq l 0 || nat_eq l (if is_positive code.crossings (k + 1) then 3 else 1)) p s ∙ head in
       sym (arc-behind (slid code.crossings x y z) dart ∙ ap₂ (λ k l. arc_in (slice_index_or (slid code.crossings x y z) k []) ((l + 2) % 4)) p s)
       ∙ new-next dart (omega (arith, below, slot_below)) is_head ∙ ap (next code.crossings) (slot-there place slot slot_below)

@@ -31,7 +31,7 @@ use Rattle.diagram_moves.specs.declared.change.Move.TheVariants.{KinkAdd, KinkDr
 use Rattle.diagram_moves.specs.declared.fault.MoveFault.{MoveFault}
 use Rattle.diagram_moves.specs.declared.fault.MoveFault.TheVariants.{NoCrossing}
 use Rattle.diagram_moves.specs.Joinable.{numbered}
-use Rattle.diagram_moves.specs.Kept.{IsKept}
+use Rattle.diagram_moves.specs.Kept.{IsKeptCode}
 use Rattle.diagram_moves.specs.Moved.{answered, is_left, moved, slid_at, slid_from}
 use Rattle.diagram_moves.specs.MoveFaults.{kink_add_fault, kink_drop_fault, finger_place_fault, finger_add_fault, finger_drop_fault, no_crossing, no_kink, slide_fault, wrong_genus}
 use Rattle.diagram_moves.specs.Writhe.{writhe, writhe_change}
@@ -44,7 +44,7 @@ use Rattle.diagram_moves.proofs.SlideLemmas.{IsPlaced-none}
 use Rattle.diagram_moves.proofs.SlidCodes.{IsKept-slid}
 
 -- the positive crossings of what a move keeps are those among the crossings that stay
-plus-of_kept : (old new : Code) (kept : ℕ → ℕ) (k : ℕ) → IsKept old new kept k
+plus-of_kept : (old new : Code) (kept : ℕ → ℕ) (k : ℕ) → IsKeptCode old new kept k
     → plus_count new.crossings ≡ count_by (λ i. positive_at old.crossings (kept i)) (range_with_len 0 k)
 plus-of_kept old new kept k is =
     let e : 0 + 1 ≡ 1 = omega arith in
@@ -54,7 +54,7 @@ plus-of_kept old new kept k is =
     ∙ count_by-alike (λ x. is_positive new.crossings (x + 1)) (λ i. positive_at old.crossings (kept i)) 0 k
     (λ i from below. is.signs i (omega (arith, below)))
 
-plus-dropped : (code new : Code) (gone : ℕ → Bool) (kept : ℕ → ℕ) (k : ℕ) → IsKept code new kept k
+plus-dropped : (code new : Code) (gone : ℕ → Bool) (kept : ℕ → ℕ) (k : ℕ) → IsKeptCode code new kept k
     → kept_places code.crossings gone ≡ map kept (range_with_len 0 k)
     → plus_count new.crossings ≡ strand_plus (dropped code gone)
 plus-dropped code new gone kept k is places =

@@ -12,7 +12,7 @@ use Rattle.slides.specs.Slid.{slid}
 
 -- a code whose crossings are those at some places of another, in that order, is accepted, with its components and loops together, their
 -- signs, and its state sum
-pub record IsKept (old new : Code) (kept : ℕ → ℕ) (k : ℕ) : Type 0 where
+pub record IsKeptCode (old new : Code) (kept : ℕ → ℕ) (k : ℕ) : Type 0 where
   pub accepted_too : IsTrue (accepted new)
   pub size : length new.crossings ≡ k
   pub components : component_count new.crossings + new.loops ≡ component_count old.crossings + old.loops

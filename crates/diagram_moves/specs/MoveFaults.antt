@@ -23,8 +23,9 @@ abbrev pub no_crossing : Code → ℕ → Option MoveFault
 no_crossing code crossing = refused_where (nat_eq crossing 0 || nat_lt (length code.crossings) crossing) (NoCrossing crossing)
 
 -- so many crossings more are too many
-abbrev pub crossing_limit : Code → ℕ → Option MoveFault
-crossing_limit code more = refused_where (nat_lt CROSSINGS (length code.crossings + more)) (CrossingLimit (length code.crossings + more))
+abbrev pub crossing_limit_fault : Code → ℕ → Option MoveFault
+crossing_limit_fault code more =
+    refused_where (nat_lt CROSSINGS (length code.crossings + more)) (CrossingLimit (length code.crossings + more))
 
 -- an arc is a loop: it is above the arcs that meet crossings
 abbrev pub on_loop : Code → ℕ → Option MoveFault
@@ -60,7 +61,7 @@ wrong_genus crossings =
 
 -- the first fault of a kink that is added
 abbrev pub kink_add_fault : Code → ℕ → Option MoveFault
-kink_add_fault code arc = option_or (no_arc code arc) (option_or (crossing_limit code 1) (on_loop code arc))
+kink_add_fault code arc = option_or (no_arc code arc) (option_or (crossing_limit_fault code 1) (on_loop code arc))
 
 -- of a kink that is dropped
 abbrev pub kink_drop_fault : Code → ℕ → Option MoveFault
@@ -71,7 +72,7 @@ abbrev pub finger_place_fault : Code → ℕ → ℕ → Option MoveFault
 finger_place_fault code over under =
     option_or (no_arc code over)
     (option_or (no_arc code under)
-    (option_or (crossing_limit code 2)
+    (option_or (crossing_limit_fault code 2)
     (option_or (on_loop code over) (option_or (on_loop code under) (same_arc over under)))))
 
 -- of a finger that is added

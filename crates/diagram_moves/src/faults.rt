@@ -4,7 +4,7 @@ ghost use Rattle.std.specs.Prelude.{◌≡◌, ◌≤◌};
 ghost use Rattle.std.specs.Option.{option_or};
 ghost use Rattle.kh_types.specs.Code.{IsCrossing, slots_of};
 ghost use Rattle.kinks_and_fingers.specs.Drops.{is_kink};
-ghost use Rattle.diagram_moves.specs.MoveFaults.{crossing_limit, finger_drop_fault, finger_place_fault, kink_add_fault, kink_drop_fault, no_arc, no_bigon, no_crossing, no_heights, no_kink, no_triangle, on_loop, refused_where, same_arc, slide_fault, wrong_genus};
+ghost use Rattle.diagram_moves.specs.MoveFaults.{crossing_limit_fault, finger_drop_fault, finger_place_fault, kink_add_fault, kink_drop_fault, no_arc, no_bigon, no_crossing, no_heights, no_kink, no_triangle, on_loop, refused_where, same_arc, slide_fault, wrong_genus};
 
 use crate::bigons::is_bigon;
 use crate::fault::MoveFault;
@@ -105,7 +105,7 @@ fn no_crossing(diagram: &Diagram, crossing: u8) -> Option<MoveFault>
 
 fn crossing_limit(diagram: &Diagram, more: u8) -> Option<MoveFault>
     requires { more ≤ 2 }
-    ensures { result ≡ crossing_limit diagram.now more }
+    ensures { result ≡ crossing_limit_fault diagram.now more }
 {
     let count = diagram.count() + more;
     refused_where(

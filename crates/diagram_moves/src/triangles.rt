@@ -3,7 +3,7 @@
 ghost use Rattle.std.specs.Prelude.{◌≡◌, ◌<◌, ◌&&◌, ◌||◌, IfSome, nat_eq, not, unwrap_or};
 ghost use Rattle.kh_types.specs.Code.{IsCrossing};
 ghost use Rattle.kh_types.specs.Darts.{dart_count};
-ghost use Rattle.slides.specs.Triangles.{dart_at_slot, has_heights, has_triangle, is_at, is_slidable_at, is_triangle, slide_slot, step};
+ghost use Rattle.slides.specs.Triangles.{dart_at_slot, has_heights, has_triangle, is_at_crossing, is_slidable_at, is_triangle, slide_slot, step};
 
 use kh_types::{Diagram, turned};
 
@@ -119,8 +119,8 @@ fn are_apart(corners: Corners) -> bool
 // Whether two darts are at the second and the third of three crossings, in either order.
 fn are_at(y: u8, z: u8, corners: Corners) -> bool
     ensures { result
-        ≡ ((is_at y corners.second && is_at z corners.third)
-        || (is_at y corners.third && is_at z corners.second)) }
+        ≡ ((is_at_crossing y corners.second && is_at_crossing z corners.third)
+        || (is_at_crossing y corners.third && is_at_crossing z corners.second)) }
 {
     let in_order = are_at_two(y, z, corners.second, corners.third);
     let turned_round = are_at_two(y, z, corners.third, corners.second);
@@ -129,7 +129,7 @@ fn are_at(y: u8, z: u8, corners: Corners) -> bool
 
 // Whether the first of two darts is at one crossing and the second at another.
 fn are_at_two(y: u8, z: u8, crossing: u8, other: u8) -> bool
-    ensures { result ≡ (is_at y crossing && is_at z other) }
+    ensures { result ≡ (is_at_crossing y crossing && is_at_crossing z other) }
 {
     let first = is_at(y, crossing);
     let second = is_at(z, other);
@@ -159,7 +159,7 @@ pub(crate) fn step(diagram: &Diagram, dart: u8) -> u8
 
 // Whether a dart is at a crossing.
 fn is_at(dart: u8, crossing: u8) -> bool
-    ensures { result ≡ is_at dart crossing }
+    ensures { result ≡ is_at_crossing dart crossing }
 {
     dart / 4 == crossing.saturating_sub(1)
 }

@@ -11,7 +11,7 @@ use Rattle.kh_types.proofs.JoinedClasses.{joined-together, classes_of-same, clas
 use Rattle.kh_types.proofs.Lists.{AllByRecursion-append, AllByRecursion-first, AllByRecursion-second}
 use Rattle.kh_types.proofs.RangeCounts.{but, count_by-but, count_by-alike}
 use Rattle.kh_types.specs.Permutations.{IsExchange, AreJoined}
-use Rattle.face_walk.specs.AddedArcs.{is_open, open_dart_count, with_arc, HasArcMore, JoinsPieces, StaysInPiece}
+use Rattle.face_walk.specs.AddedArcs.{is_open, open_dart_count, with_arc, HasArcMore, UnitesPieces, StaysInPiece}
 use Rattle.kh_types.proofs.RangeImages.{all-map_range, map_range-at}
 use Rattle.kh_types.proofs.ExchangedCycles.{AreJoined-apart, AreJoined-split}
 use Rattle.face_walk.proofs.OpenFaces.{face_back, crossing-below, IsPermutation-face_step, piece_pairs-below, open_faces-in_pieces}
@@ -182,7 +182,7 @@ open_pieces-more n before after dart other pairing more =
 pub JoinsPieces-apart : (n : ℕ) (before after : ℕ → ℕ) (dart other : ℕ) → IsPairing (4 * n) before
     → HasArcMore (4 * n) before after dart other
     → slice_index (open_pieces n before) (dart / 4) ≢ slice_index (open_pieces n before) (other / 4)
-    → JoinsPieces n before after dart other
+    → UnitesPieces n before after dart other
 JoinsPieces-apart n before after dart other pairing more apart = record {
   pieces = record { apart = apart; one = open_pieces-more n before after dart other pairing more };
   faces = open_faces-join n before after dart other pairing more

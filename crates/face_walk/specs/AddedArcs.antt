@@ -47,7 +47,7 @@ pub record HasArcMore (m : ℕ) (before after : ℕ → ℕ) (dart other : ℕ) 
   pub others : (place : ℕ) → place < m → place ≢ dart → place ≢ other → after place ≡ before place
 
 -- an arc between two pieces makes one piece of the two, and one face of two
-pub record JoinsPieces (n : ℕ) (before after : ℕ → ℕ) (dart other : ℕ) : Type 0 where
+pub record UnitesPieces (n : ℕ) (before after : ℕ → ℕ) (dart other : ℕ) : Type 0 where
   pub pieces : AreJoined (open_pieces n before) (open_pieces n after) (dart / 4) (other / 4)
   pub faces : AreJoined (open_faces n before) (open_faces n after) dart other
 

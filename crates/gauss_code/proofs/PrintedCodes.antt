@@ -14,7 +14,7 @@ use Rattle.kh_types.proofs.PassPairs.{IsArc-at}
 use Rattle.kh_types.proofs.Heads.{HasNoSingleArcs-accepted, IsPass-over, IsPass-under}
 use Rattle.gauss_code.specs.Listings.{groups_of, crossing_count, loop_group_count}
 use Rattle.gauss_code.specs.Grammar.{number_places}
-use Rattle.code_passes.specs.Passes.{Pass, all_passes, pass_of, slots_at, slots_between}
+use Rattle.code_passes.specs.Passes.{Pass, all_passes, pass_of, slots_by_passes, slots_between}
 use Rattle.gauss_code.specs.Codes.{listed_code}
 use Rattle.code_passes.specs.ComponentLabels.{component_labels, label_at, entering_label, labels_of_code}
 use Rattle.gauss_code.specs.Printing.{body_of, gauss_text}
@@ -106,7 +106,7 @@ between crossings oriented crossing is =
 
 -- the crossing at a place
 slots_at-code : (crossings : List (List ℕ)) → IsOriented crossings → (at : ℕ) → at < length crossings → length (get_or crossings at []) ≡ 4
-    → slots_at (listed crossings) (signs crossings) at ≡ get_or crossings at []
+    → slots_by_passes (listed crossings) (signs crossings) at ≡ get_or crossings at []
 slots_at-code crossings oriented at below four =
     let crossing = at + 1 in
     let place : at + 1 - 1 ≡ at = omega arith in
@@ -119,14 +119,14 @@ slots_at-code crossings oriented at below four =
     ∙ here
 
 crossings-code : (crossings : List (List ℕ)) → IsOriented crossings → All (λ slots. length slots ≡ 4) crossings
-    → map (slots_at (listed crossings) (signs crossings)) (range_with_len 0 (length crossings)) ≡ crossings
+    → map (slots_by_passes (listed crossings) (signs crossings)) (range_with_len 0 (length crossings)) ≡ crossings
 crossings-code crossings oriented four =
-    let made = map (slots_at (listed crossings) (signs crossings)) (range_with_len 0 (length crossings)) in
-    let count = length-map-range_with_len (slots_at (listed crossings) (signs crossings)) 0 (length crossings) in
+    let made = map (slots_by_passes (listed crossings) (signs crossings)) (range_with_len 0 (length crossings)) in
+    let count = length-map-range_with_len (slots_by_passes (listed crossings) (signs crossings)) 0 (length crossings) in
     ext_get_or [] made crossings count
     (λ at within.
     let below : at < length crossings = omega (arith, within, count) in
-    get_or-map-range_with_len (slots_at (listed crossings) (signs crossings)) 0 (length crossings) at at [] below (omega arith)
+    get_or-map-range_with_len (slots_by_passes (listed crossings) (signs crossings)) 0 (length crossings) at at [] below (omega arith)
     ∙ slots_at-code crossings oriented at below (four at [] below))
 
 -- a code by its parts
@@ -145,8 +145,8 @@ listed_code-listing code oriented four =
     ap (λ groups. all_passes 1 groups) (groups_of-body_of components code.loops each) ∙ all_passes-code crossings oriented code.loops in
     let count : crossing_count body ≡ length crossings =
     ap (λ ls. length ls / 2) (labels_of-body_of components code.loops each ∙ labels-code crossings oriented) ∙ half-arc_labels crossings in
-    sym (ap (λ ps. made (map (slots_at ps (signs crossings)) (range_with_len 0 (crossing_count body))) (loop_group_count body)) passes
-    ∙ ap (λ n. made (map (slots_at (listed crossings) (signs crossings)) (range_with_len 0 n)) (loop_group_count body)) count
+    sym (ap (λ ps. made (map (slots_by_passes ps (signs crossings)) (range_with_len 0 (crossing_count body))) (loop_group_count body)) passes
+    ∙ ap (λ n. made (map (slots_by_passes (listed crossings) (signs crossings)) (range_with_len 0 n)) (loop_group_count body)) count
     ∙ ap (λ xs. made xs (loop_group_count body)) (crossings-code crossings oriented four)
     ∙ ap (λ n. made crossings n) (loop_group_count-body_of components code.loops each))
 

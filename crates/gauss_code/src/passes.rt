@@ -7,7 +7,7 @@ ghost use Rattle.kh_types.specs.declared.limits.TheConstants.{CROSSINGS};
 ghost use Rattle.gauss_code.specs.declared.listing.TheConstants.{LABELS};
 ghost use Rattle.gauss_code.specs.Held.{labels_held, numbers_of};
 ghost use Rattle.code_passes.specs.Labels.{listed_number};
-ghost use Rattle.code_passes.specs.Passes.{all_passes, no_pass, pass_at, pass_of, passes_from, slots_at, slots_between, turned_labels};
+ghost use Rattle.code_passes.specs.Passes.{all_passes, no_pass, pass_at, pass_of, passes_from, slots_by_passes, slots_between, turned_labels};
 
 use crate::labels::listed_number;
 use crate::listing::LABELS;
@@ -106,7 +106,7 @@ fn place_before_turning(labels: &[i32], at: usize) -> usize
 /// The crossing at a place.
 pub fn crossing_at(passes: &[Pass], signs: &[i32], at: usize) -> Crossing
     requires { at < CROSSINGS }
-    ensures { result ≡ slots_at passes.now signs.now at }
+    ensures { result ≡ slots_by_passes passes.now signs.now at }
 {
     let under = pass_of(passes, under_label(at));
     let over = pass_of(passes, over_label(at));

@@ -4,7 +4,7 @@ ghost use Rattle.std.specs.Prelude.{◌≡◌, ◌≢◌, ◌≤◌, Err, IfOk, 
 ghost use Rattle.std.specs.List.{range_with_len};
 ghost use Rattle.gauss_code.specs.Faults.{signs_of};
 ghost use Rattle.gauss_code.specs.Listings.{crossing_count, loop_group_count};
-ghost use Rattle.code_passes.specs.Passes.{slots_at};
+ghost use Rattle.code_passes.specs.Passes.{slots_by_passes};
 ghost use Rattle.gauss_code.specs.Codes.{listed_code};
 ghost use Rattle.gauss_code.specs.Reading.{IsGaussReading};
 
@@ -55,7 +55,7 @@ fn listed_code(listing: &Listing) -> RawCode
 #[tactic(auto, using(kh_types::proofs::Ranges::range_steps))]
 fn crossings_of(passes: &[Pass], signs: &[i32], count: usize) -> ArrayVec<Crossing, CROSSINGS>
     requires { count ≤ CROSSINGS }
-    ensures { result.items ≡ map (slots_at passes.now signs.now) (range_with_len 0 count) }
+    ensures { result.items ≡ map (slots_by_passes passes.now signs.now) (range_with_len 0 count) }
 {
     let mut crossings = ArrayVec::new();
     for at in 0..count {

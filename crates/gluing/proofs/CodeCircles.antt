@@ -11,7 +11,7 @@ use Rattle.kh_types.specs.Code.{Code, arc_in}
 use Rattle.kh_types.specs.Classes.{is_least, class_count, AreBelow}
 use Rattle.kh_types.specs.Circles.{smoothing_of, smoothings_of, circles_of, circle_count}
 use Rattle.kh_types.proofs.Ranges.{sum_by-range_more}
-use Rattle.gluing.specs.Arcs.{arc_at}
+use Rattle.gluing.specs.Arcs.{arc_by_place}
 use Rattle.kh_types.proofs.JoinedClasses.{IsNamed-classes_of}
 use Rattle.gluing.proofs.OldLemmas.{own_passes}
 use Rattle.kh_types.proofs.EdgeBits.{bit-set_there, bit-set_other}
@@ -81,8 +81,8 @@ smoothings-from arc state at (x ∷ xs) same =
 pub smoothings_of-darts : (crossings : List (List ℕ)) (state : ℕ)
     → smoothings_of crossings state ≡ renamed (arc_of_dart crossings) (dart_smoothings (length crossings) state)
 smoothings_of-darts crossings state =
-    smoothings-from (arc_at crossings) state 0 crossings
-    (λ k slot below slot_below. let e : k ≡ 0 + k = omega arith in ap (λ j. arc_at crossings j slot) e)
+    smoothings-from (arc_by_place crossings) state 0 crossings
+    (λ k slot below slot_below. let e : k ≡ 0 + k = omega arith in ap (λ j. arc_by_place crossings j slot) e)
 
 dart_smoothings-from : (n state at count : ℕ) → at + count ≤ n
     → AreBelow (4 * n) (flat_map (λ place. smoothing_of (bit state place) (darts_of place)) (range_with_len at count))

@@ -7,7 +7,7 @@ use Rattle.std.proofs.lemmas.Int.{ints}
 use Rattle.std.proofs.lemmas.List.{map-append}
 use Rattle.kh_types.specs.StateSum.{int_sum, circle_coefficient}
 use Rattle.kh_types.proofs.Ranges.{range-append}
-use Rattle.gluing.specs.Terms.{term_of, signed_by}
+use Rattle.gluing.specs.Terms.{term_at, signed_by_count}
 
 -- one circle more
 circle_coefficient-more : (k : ℕ) (x : ℤ)
@@ -23,7 +23,7 @@ pub sign_by-add : (even : Bool) (x y : ℕ) → sign_by even (x + y) ≡ sign_by
 sign_by-add true x y = omega (arith, ints)
 sign_by-add false x y = omega (arith, ints)
 
-pub signed_by-add : (k x y : ℕ) → signed_by k (x + y) ≡ signed_by k x +ℤ signed_by k y
+pub signed_by-add : (k x y : ℕ) → signed_by_count k (x + y) ≡ signed_by_count k x +ℤ signed_by_count k y
 signed_by-add k x y = sign_by-add (nat_eq (k % 2) 0) x y
 
 parity-next : (k : ℕ)
@@ -31,7 +31,7 @@ parity-next : (k : ℕ)
     ⊎ ((nat_eq (k % 2) 0 ≡ false) × (nat_eq ((k + 1) % 2) 0 ≡ true))
 parity-next k = grind (arith, nat_tests)
 
-pub signed_by-next : (k x : ℕ) → signed_by (k + 1) x ≡ neg_ℤ (signed_by k x)
+pub signed_by-next : (k x : ℕ) → signed_by_count (k + 1) x ≡ neg_ℤ (signed_by_count k x)
 signed_by-next k x = elim (parity-next k) [
   | inl even ↦ ap (λ a. sign_by a x) even.1 ∙ sym (ap (λ a. neg_ℤ (sign_by a x)) even.0)
   | inr odd ↦ ap (λ a. sign_by a x) odd.1 ∙ (let twice : pos x ≡ neg_ℤ (neg_ℤ (pos x)) = omega (arith, ints) in twice)
@@ -40,38 +40,38 @@ signed_by-next k x = elim (parity-next k) [
 
 -- the two terms of a kink, the one with the closed circle and the one without, where u is the term without its shift
 two_terms : (k : ℕ) (x y z : ℤ) (c : ℕ) → y ≡ x -ℤ pos 1 → z ≡ x -ℤ pos 2
-    → signed_by k (circle_coefficient (c + 1) y) +ℤ signed_by (k + 1) (circle_coefficient c z) ≡ signed_by k (circle_coefficient c x)
+    → signed_by_count k (circle_coefficient (c + 1) y) +ℤ signed_by_count (k + 1) (circle_coefficient c z) ≡ signed_by_count k (circle_coefficient c x)
 two_terms k x y z c is_y is_z =
     let low : y -ℤ pos 1 ≡ z = omega (arith, ints) in
     let high : y +ℤ pos 1 ≡ x = omega (arith, ints) in
     ap₂ (λ s t. s +ℤ t)
-    (ap (λ n. signed_by k n)
+    (ap (λ n. signed_by_count k n)
     (circle_coefficient-more c y ∙ ap₂ (λ v w. circle_coefficient c v + circle_coefficient c w) low high)
     ∙ signed_by-add k (circle_coefficient c z) (circle_coefficient c x))
     (signed_by-next k (circle_coefficient c z))
-    ∙ cancelled (signed_by k (circle_coefficient c z)) (signed_by k (circle_coefficient c x))
+    ∙ cancelled (signed_by_count k (circle_coefficient c z)) (signed_by_count k (circle_coefficient c x))
   where
     cancelled : (s t : ℤ) → s +ℤ t +ℤ neg_ℤ s ≡ t
     cancelled s t = omega (arith, ints)
 
 two_terms_back : (k : ℕ) (x y z : ℤ) (c : ℕ) → y ≡ x +ℤ pos 2 → z ≡ x +ℤ pos 1
-    → signed_by (k + 1) (circle_coefficient c y) +ℤ signed_by (k + 2) (circle_coefficient (c + 1) z)
-    ≡ signed_by k (circle_coefficient c x)
+    → signed_by_count (k + 1) (circle_coefficient c y) +ℤ signed_by_count (k + 2) (circle_coefficient (c + 1) z)
+    ≡ signed_by_count k (circle_coefficient c x)
 two_terms_back k x y z c is_y is_z =
     let low : z -ℤ pos 1 ≡ x = omega (arith, ints) in
     let high : z +ℤ pos 1 ≡ y = omega (arith, ints) in
     let e : k + 2 ≡ k + 1 + 1 = omega arith in
     let split = circle_coefficient-more c z ∙ ap₂ (λ v w. circle_coefficient c v + circle_coefficient c w) low high in
-    let last : signed_by (k + 2) (circle_coefficient (c + 1) z)
-    ≡ signed_by k (circle_coefficient c x) +ℤ signed_by k (circle_coefficient c y) =
-    ap (λ n. signed_by n (circle_coefficient (c + 1) z)) e
+    let last : signed_by_count (k + 2) (circle_coefficient (c + 1) z)
+    ≡ signed_by_count k (circle_coefficient c x) +ℤ signed_by_count k (circle_coefficient c y) =
+    ap (λ n. signed_by_count n (circle_coefficient (c + 1) z)) e
     ∙ signed_by-next (k + 1) (circle_coefficient (c + 1) z)
     ∙ ap neg_ℤ (signed_by-next k (circle_coefficient (c + 1) z))
-    ∙ twice (signed_by k (circle_coefficient (c + 1) z))
-    ∙ ap (λ n. signed_by k n) split
+    ∙ twice (signed_by_count k (circle_coefficient (c + 1) z))
+    ∙ ap (λ n. signed_by_count k n) split
     ∙ signed_by-add k (circle_coefficient c x) (circle_coefficient c y) in
     ap₂ (λ s t. s +ℤ t) (signed_by-next k (circle_coefficient c y)) last
-    ∙ cancelled (signed_by k (circle_coefficient c y)) (signed_by k (circle_coefficient c x))
+    ∙ cancelled (signed_by_count k (circle_coefficient c y)) (signed_by_count k (circle_coefficient c x))
   where
     twice : (s : ℤ) → neg_ℤ (neg_ℤ s) ≡ s
     twice s = omega (arith, ints)
@@ -81,27 +81,27 @@ two_terms_back k x y z c is_y is_z =
 
 -- a positive kink: at its 0-smoothing there is one circle more, at its 1-smoothing one 1 more
 pub term_of-positive_kink : (plus minus r circles : ℕ) (exponent : ℤ)
-    → term_of (plus + 1) minus exponent r (circles + 1) +ℤ term_of (plus + 1) minus exponent (r + 1) circles
-    ≡ term_of plus minus exponent r circles
+    → term_at (plus + 1) minus exponent r (circles + 1) +ℤ term_at (plus + 1) minus exponent (r + 1) circles
+    ≡ term_at plus minus exponent r circles
 term_of-positive_kink plus minus r circles exponent =
     let x = (exponent -ℤ pos (r + plus)) +ℤ pos (2 * minus) in
     let y = (exponent -ℤ pos (r + (plus + 1))) +ℤ pos (2 * minus) in
     let z = (exponent -ℤ pos (r + 1 + (plus + 1))) +ℤ pos (2 * minus) in
     let e : r + 1 + minus ≡ r + minus + 1 = omega arith in
-    ap (λ k. signed_by (r + minus) (circle_coefficient (circles + 1) y) +ℤ signed_by k (circle_coefficient circles z)) e
+    ap (λ k. signed_by_count (r + minus) (circle_coefficient (circles + 1) y) +ℤ signed_by_count k (circle_coefficient circles z)) e
     ∙ two_terms (r + minus) x y z circles (omega (arith, ints)) (omega (arith, ints))
 
 -- a negative kink: at its 0-smoothing there are as many circles, at its 1-smoothing one circle and one 1 more
 pub term_of-negative_kink : (plus minus r circles : ℕ) (exponent : ℤ)
-    → term_of plus (minus + 1) exponent r circles +ℤ term_of plus (minus + 1) exponent (r + 1) (circles + 1)
-    ≡ term_of plus minus exponent r circles
+    → term_at plus (minus + 1) exponent r circles +ℤ term_at plus (minus + 1) exponent (r + 1) (circles + 1)
+    ≡ term_at plus minus exponent r circles
 term_of-negative_kink plus minus r circles exponent =
     let x = (exponent -ℤ pos (r + plus)) +ℤ pos (2 * minus) in
     let y = (exponent -ℤ pos (r + plus)) +ℤ pos (2 * (minus + 1)) in
     let z = (exponent -ℤ pos (r + 1 + plus)) +ℤ pos (2 * (minus + 1)) in
     let first : r + (minus + 1) ≡ r + minus + 1 = omega arith in
     let second : r + 1 + (minus + 1) ≡ r + minus + 2 = omega arith in
-    ap₂ (λ k l. signed_by k (circle_coefficient circles y) +ℤ signed_by l (circle_coefficient (circles + 1) z)) first second
+    ap₂ (λ k l. signed_by_count k (circle_coefficient circles y) +ℤ signed_by_count l (circle_coefficient (circles + 1) z)) first second
     ∙ two_terms_back (r + minus) x y z circles (omega (arith, ints)) (omega (arith, ints))
 
 -- sums over states

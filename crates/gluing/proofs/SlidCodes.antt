@@ -7,7 +7,7 @@ use Rattle.kh_types.specs.Bits.{bit, ones}
 use Rattle.kh_types.specs.Code.{Code, arc_in}
 use Rattle.kh_types.specs.Classes.{classes_of, Respects, AreBelow}
 use Rattle.kh_types.specs.Circles.{smoothing_of, smoothings_of, circles_of}
-use Rattle.gluing.specs.Arcs.{arc_at}
+use Rattle.gluing.specs.Arcs.{arc_by_place}
 use Rattle.kh_types.proofs.JoinedClasses.{classes_of-same}
 use Rattle.gluing.proofs.OldLemmas.{all_from}
 use Rattle.gluing.specs.Glue.{renamed}
@@ -87,7 +87,7 @@ smoothings-hold code state holds =
 -- what holds at the arcs of all other crossings, holds of what they join
 pub all_outside : (P : ℕ → Type 0) (code : Code) (c d e state : ℕ)
     → ((place slot : ℕ) → place < length code.crossings → place ≢ c → place ≢ d → place ≢ e → slot < 4
-    → P (arc_at code.crossings place slot))
+    → P (arc_by_place code.crossings place slot))
     → AllByRecursion (λ pair. P pair.0 × P pair.1) (outside_of code.crossings c d e state)
 all_outside P code c d e state holds =
     all_from (λ pair. P pair.0 × P pair.1) (outside_at c d e state) 0 code.crossings

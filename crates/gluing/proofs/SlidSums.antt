@@ -11,9 +11,9 @@ use Rattle.kh_types.specs.Generators.{one_count}
 use Rattle.kh_types.specs.StateSum.{int_sum, signed_by_parity, circle_coefficient, term_with, sum_with}
 use Rattle.kh_types.specs.StateSum as kh
 use Rattle.kh_types.proofs.EdgeBits.{bit-set_there, bit-set_other}
-use Rattle.gluing.specs.Terms.{term_of, signed_by}
+use Rattle.gluing.specs.Terms.{term_at, signed_by_count}
 use Rattle.gluing.specs.Codes.{name_count}
-use Rattle.gluing.specs.Slides.{triangle_before, triangle_after, ends_joined, closed_inside, IsNoSide, rest_circles, is_tied}
+use Rattle.gluing.specs.Slides.{triangle_before, triangle_after, ends_joined, closed_inside, IsNoSide, rest_circles, is_tied_throughout}
 use Rattle.gluing.specs.SlidCodes.{outside_at, outside_of, HasTriangle, IsSlid}
 use Rattle.gluing.proofs.CodeCircles.{class_count-circles, smoothing_by-same}
 use Rattle.gluing.proofs.TiedTable.{IsTied-state, is_tied-slots}
@@ -52,7 +52,7 @@ circles_of_rest n arcs outer joined = rest_circles n arcs outer joined - 1
 
 circle_count-inside : (code : Code) (t0 t1 t2 : List ℕ) (arcs : ℕ → ℕ) (n c d e base state inside : ℕ)
     → HasTriangle code (t0 ∷ t1 ∷ t2 ∷ []) arcs c d e → c < length code.crossings → d < length code.crossings → e < length code.crossings
-    → is_tied (t0 ∷ t1 ∷ t2 ∷ []) ≡ true → inside < 8 → AtInside n c d e base state inside
+    → is_tied_throughout (t0 ∷ t1 ∷ t2 ∷ []) ≡ true → inside < 8 → AtInside n c d e base state inside
     → circle_count code state
     ≡ closed_inside (t0 ∷ t1 ∷ t2 ∷ []) inside
     + circles_of_rest (name_count code) arcs (outside_of code.crossings c d e base) (ends_joined (t0 ∷ t1 ∷ t2 ∷ []) inside)
@@ -152,13 +152,13 @@ eight-inside t u n c d e base c_below d_below e_below c_d c_e d_e at_c at_d at_e
     ∙ eight-listed (u 0) (u 1) (u 2) (u 3) (u 4) (u 5) (u 6) (u 7)
 
 -- a term with the sign by a sum, not by a difference
-signed_by-difference : (r minus x : ℕ) → kh.signed_by (pos r -ℤ pos minus) x ≡ signed_by (r + minus) x
+signed_by-difference : (r minus x : ℕ) → kh.signed_by (pos r -ℤ pos minus) x ≡ signed_by_count (r + minus) x
 signed_by-difference r minus x = by_parity (pos r -ℤ pos minus) r minus x refl
   where
     same_parity : (i k x : ℕ) → i % 2 ≡ k % 2 → signed_by_parity i x ≡ signed_by_parity k x
     same_parity i k x same = ap (λ p. cond (nat_eq p 0) (pos x) (neg_ℤ (pos x))) same
 
-    by_parity : (z : ℤ) (r minus x : ℕ) → z ≡ pos r -ℤ pos minus → kh.signed_by z x ≡ signed_by (r + minus) x
+    by_parity : (z : ℤ) (r minus x : ℕ) → z ≡ pos r -ℤ pos minus → kh.signed_by z x ≡ signed_by_count (r + minus) x
     by_parity (pos i) r minus x is =
         let e : i + minus ≡ r = omega (arith, ints, is) in
         same_parity i (r + minus) x (omega (arith, e))
@@ -167,7 +167,7 @@ signed_by-difference r minus x = by_parity (pos r -ℤ pos minus) r minus x refl
         same_parity (suc i) (r + minus) x (omega (arith, e))
 
 pub term_with-is : (plus minus : ℕ) (code : Code) (exponent : ℤ) (state : ℕ)
-    → term_with plus minus code exponent state ≡ term_of plus minus exponent (one_count code state) (circle_count code state)
+    → term_with plus minus code exponent state ≡ term_at plus minus exponent (one_count code state) (circle_count code state)
 term_with-is plus minus code exponent state =
     signed_by-difference (one_count code state) minus
     (circle_coefficient (circle_count code state) ((exponent -ℤ pos (one_count code state + plus)) +ℤ pos (2 * minus)))
@@ -175,7 +175,7 @@ term_with-is plus minus code exponent state =
 -- the eight terms of a code with a triangle
 eight-triangle : (code : Code) (t0 t1 t2 : List ℕ) (arcs : ℕ → ℕ) (plus minus c d e base : ℕ) (exponent : ℤ)
     → HasTriangle code (t0 ∷ t1 ∷ t2 ∷ []) arcs c d e → c < length code.crossings → d < length code.crossings → e < length code.crossings
-    → c ≢ d → c ≢ e → d ≢ e → is_tied (t0 ∷ t1 ∷ t2 ∷ []) ≡ true → bit base c ≡ 0 → bit base d ≡ 0 → bit base e ≡ 0
+    → c ≢ d → c ≢ e → d ≢ e → is_tied_throughout (t0 ∷ t1 ∷ t2 ∷ []) ≡ true → bit base c ≡ 0 → bit base d ≡ 0 → bit base e ≡ 0
     → eight c d e (term_with plus minus code exponent) base
     ≡ int_sum (map (inside_term plus minus exponent (ones (length code.crossings) base)
     (circles_of_rest (name_count code) arcs (outside_of code.crossings c d e base)) (t0 ∷ t1 ∷ t2 ∷ [])) (range_with_len 0 8))
@@ -186,7 +186,7 @@ eight-triangle code t0 t1 t2 arcs plus minus c d e base exponent has c_below d_b
     eight-inside (term_with plus minus code exponent) (inside_term plus minus exponent (ones n base) rest triangle) n c d e base c_below
     d_below e_below c_d c_e d_e at_c at_d at_e
     (λ state inside inside_below at. term_with-is plus minus code exponent state
-    ∙ ap₂ (λ r k. term_of plus minus exponent r k) at.ones
+    ∙ ap₂ (λ r k. term_at plus minus exponent r k) at.ones
     (circle_count-inside code t0 t1 t2 arcs n c d e base state inside has c_below d_below e_below all_tied inside_below at))
 
 -- a third Reidemeister move keeps the state sum

@@ -9,7 +9,7 @@ use Rattle.std.proofs.lemmas.Slice.Eq.{bytes_eq-Decides}
 use Rattle.std.proofs.lemmas.Int.{ints}
 use Rattle.std.proofs.lemmas.List.{map-append}
 use Rattle.kh_types.specs.StateSum.{int_sum}
-use Rattle.gluing.specs.Slides.{InsideTerm, inside_value, inside_sum, Tally, is_counted_by, one_if, counted_at, counted, tallies_of, opposite, have_one_sum, inside_terms, triangle_before, triangle_after, is_slidable}
+use Rattle.gluing.specs.Slides.{InsideTerm, inside_value, inside_sum, Tally, is_counted_by, zero_or_one, counted_at, counted, tallies_of, opposite, have_one_sum, inside_terms, triangle_before, triangle_after, is_slidable}
 use Rattle.gluing.proofs.KinkSums.{int_sum-append}
 use Rattle.gluing.proofs.SlideTable.{have_one_sum-slide}
 
@@ -33,7 +33,7 @@ tally_sum rest tallies = int_sum (map (tally_value rest) tallies)
 
 -- a tally that one more term is counted at
 one_more : (is_minus : Bool) (plus minus : ℕ) (x : ℤ)
-    → times (plus + one_if (not is_minus)) x -ℤ times (minus + one_if is_minus) x
+    → times (plus + zero_or_one (not is_minus)) x -ℤ times (minus + zero_or_one is_minus) x
     ≡ cond is_minus (neg_ℤ x) x +ℤ (times plus x -ℤ times minus x)
 one_more true plus minus x =
     ap₂ (λ s t. s -ℤ t) (times-same plus x) (times-more minus x) ∙ moved (times plus x) (times minus x) x
@@ -47,7 +47,7 @@ one_more false plus minus x =
     moved s t x = omega (arith, ints)
 
 -- a new tally
-first_count : (is_minus : Bool) (x : ℤ) → times (one_if (not is_minus)) x -ℤ times (one_if is_minus) x ≡ cond is_minus (neg_ℤ x) x
+first_count : (is_minus : Bool) (x : ℤ) → times (zero_or_one (not is_minus)) x -ℤ times (zero_or_one is_minus) x ≡ cond is_minus (neg_ℤ x) x
 first_count true x = omega (arith, ints)
 first_count false x = omega (arith, ints)
 

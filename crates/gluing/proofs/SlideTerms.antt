@@ -7,8 +7,8 @@ use Rattle.std.proofs.lemmas.Int.{ints}
 use Rattle.std.proofs.lemmas.List.{map-append}
 use Rattle.kh_types.specs.Bits.{ones}
 use Rattle.kh_types.specs.StateSum.{int_sum, circle_coefficient}
-use Rattle.gluing.specs.Terms.{term_of, signed_by}
-use Rattle.gluing.specs.Slides.{inside_sum, terms_of_state, spread, ends_joined, closed_inside, is_slidable, triangle_before, triangle_after}
+use Rattle.gluing.specs.Terms.{term_at, signed_by_count}
+use Rattle.gluing.specs.Slides.{inside_sum, terms_of_state, term_exponents, ends_joined, closed_inside, is_slidable, triangle_before, triangle_after}
 use Rattle.gluing.proofs.KinkSums.{signed_by-add, signed_by-next, int_sum-append}
 use Rattle.gluing.proofs.SlideSums.{inside_sum-append, inside_sum-slide}
 
@@ -16,30 +16,30 @@ use Rattle.gluing.proofs.SlideSums.{inside_sum-append, inside_sum-slide}
 -- ends are joined
 abbrev pub rest_value : ℕ → ℕ → ℤ → ℕ → (List ℕ → ℕ) → List ℕ → ℤ → ℤ
 rest_value plus minus exponent ones circles joined shift =
-    signed_by (ones + minus)
+    signed_by_count (ones + minus)
     (circle_coefficient (circles joined) (((exponent -ℤ pos (ones + plus)) +ℤ pos (2 * minus)) -ℤ shift))
 
 -- a term with some circles more, written out
 int_sum-spread : (m k : ℕ) (x : ℤ) (c : ℕ) (z : ℤ)
-    → int_sum (map (λ shift. signed_by m (circle_coefficient k (x -ℤ shift))) (spread c z))
-    ≡ signed_by m (circle_coefficient (c + k) (x -ℤ z))
+    → int_sum (map (λ shift. signed_by_count m (circle_coefficient k (x -ℤ shift))) (term_exponents c z))
+    ≡ signed_by_count m (circle_coefficient (c + k) (x -ℤ z))
 int_sum-spread m k x zero z =
     let e : k ≡ zero + k = omega arith in
-    plus_zero (signed_by m (circle_coefficient k (x -ℤ z))) ∙ ap (λ j. signed_by m (circle_coefficient j (x -ℤ z))) e
+    plus_zero (signed_by_count m (circle_coefficient k (x -ℤ z))) ∙ ap (λ j. signed_by_count m (circle_coefficient j (x -ℤ z))) e
   where
     plus_zero : (x : ℤ) → x +ℤ pos 0 ≡ x
     plus_zero x = omega (arith, ints)
 int_sum-spread m k x (suc c) z =
-    let g : ℤ → ℤ = λ shift. signed_by m (circle_coefficient k (x -ℤ shift)) in
+    let g : ℤ → ℤ = λ shift. signed_by_count m (circle_coefficient k (x -ℤ shift)) in
     let e : suc (c + k) ≡ suc c + k = omega arith in
     let low : x -ℤ (z +ℤ pos 1) ≡ (x -ℤ z) -ℤ pos 1 = omega (arith, ints) in
     let high : x -ℤ (z -ℤ pos 1) ≡ (x -ℤ z) +ℤ pos 1 = omega (arith, ints) in
-    ap int_sum (map-append g (spread c (z +ℤ pos 1)) (spread c (z -ℤ pos 1)))
-    ∙ int_sum-append (map g (spread c (z +ℤ pos 1))) (map g (spread c (z -ℤ pos 1)))
+    ap int_sum (map-append g (term_exponents c (z +ℤ pos 1)) (term_exponents c (z -ℤ pos 1)))
+    ∙ int_sum-append (map g (term_exponents c (z +ℤ pos 1))) (map g (term_exponents c (z -ℤ pos 1)))
     ∙ ap₂ (λ s t. s +ℤ t) (int_sum-spread m k x c (z +ℤ pos 1)) (int_sum-spread m k x c (z -ℤ pos 1))
-    ∙ ap₂ (λ s t. signed_by m (circle_coefficient (c + k) s) +ℤ signed_by m (circle_coefficient (c + k) t)) low high
+    ∙ ap₂ (λ s t. signed_by_count m (circle_coefficient (c + k) s) +ℤ signed_by_count m (circle_coefficient (c + k) t)) low high
     ∙ sym (signed_by-add m (circle_coefficient (c + k) ((x -ℤ z) -ℤ pos 1)) (circle_coefficient (c + k) ((x -ℤ z) +ℤ pos 1)))
-    ∙ ap (λ j. signed_by m (circle_coefficient j (x -ℤ z))) e
+    ∙ ap (λ j. signed_by_count m (circle_coefficient j (x -ℤ z))) e
 
 -- terms of one sign
 inside_sum-signed : (rest : List ℕ → ℤ → ℤ) (is_minus : Bool) (joined : List ℕ) (shifts : List ℤ)
@@ -62,34 +62,34 @@ parity-sum : (k r : ℕ)
 parity-sum k r = grind (arith, nat_tests)
 
 -- more ones turn the sign round where their number is odd
-signed_by-more : (k r x : ℕ) → cond (nat_eq (r % 2) 1) (neg_ℤ (signed_by k x)) (signed_by k x) ≡ signed_by (k + r) x
+signed_by-more : (k r x : ℕ) → cond (nat_eq (r % 2) 1) (neg_ℤ (signed_by_count k x)) (signed_by_count k x) ≡ signed_by_count (k + r) x
 signed_by-more k r x = elim (parity-sum k r) [
   | inl odd ↦
-      ap (λ b. cond b (neg_ℤ (signed_by k x)) (signed_by k x)) odd.0 ∙ sym (signed_by-next k x)
+      ap (λ b. cond b (neg_ℤ (signed_by_count k x)) (signed_by_count k x)) odd.0 ∙ sym (signed_by-next k x)
       ∙ sym (ap (λ b. cond b (pos x) (neg_ℤ (pos x))) odd.1)
   | inr even ↦
-      ap (λ b. cond b (neg_ℤ (signed_by k x)) (signed_by k x)) even.0
+      ap (λ b. cond b (neg_ℤ (signed_by_count k x)) (signed_by_count k x)) even.0
       ∙ sym (ap (λ b. cond b (pos x) (neg_ℤ (pos x))) even.1)
 ]
 
 -- the term of a state of the whole diagram is what the terms of the state inside add
 pub term_of-spread : (plus minus : ℕ) (exponent : ℤ) (r : ℕ) (circles : List ℕ → ℕ) (joined : List ℕ) (closed inner : ℕ)
     → inside_sum (rest_value plus minus exponent r circles)
-    (map (λ shift. record { is_minus = nat_eq (inner % 2) 1; joined = joined; shift = shift }) (spread closed (pos inner)))
-    ≡ term_of plus minus exponent (r + inner) (closed + circles joined)
+    (map (λ shift. record { is_minus = nat_eq (inner % 2) 1; joined = joined; shift = shift }) (term_exponents closed (pos inner)))
+    ≡ term_at plus minus exponent (r + inner) (closed + circles joined)
 term_of-spread plus minus exponent r circles joined closed inner =
     let k = circles joined in
     let x = (exponent -ℤ pos (r + plus)) +ℤ pos (2 * minus) in
     let e : r + minus + inner ≡ r + inner + minus = omega arith in
     let shifted : x -ℤ pos inner ≡ (exponent -ℤ pos (r + inner + plus)) +ℤ pos (2 * minus) = omega (arith, ints) in
-    inside_sum-signed (rest_value plus minus exponent r circles) (nat_eq (inner % 2) 1) joined (spread closed (pos inner))
+    inside_sum-signed (rest_value plus minus exponent r circles) (nat_eq (inner % 2) 1) joined (term_exponents closed (pos inner))
     ∙ ap (λ s. cond (nat_eq (inner % 2) 1) (neg_ℤ s) s) (int_sum-spread (r + minus) k x closed (pos inner))
     ∙ signed_by-more (r + minus) inner (circle_coefficient (closed + k) (x -ℤ pos inner))
-    ∙ ap₂ (λ m z. signed_by m (circle_coefficient (closed + k) z)) e shifted
+    ∙ ap₂ (λ m z. signed_by_count m (circle_coefficient (closed + k) z)) e shifted
 
 term_of-inside : (plus minus : ℕ) (exponent : ℤ) (r : ℕ) (circles : List ℕ → ℕ) (crossings : List (List ℕ)) (state : ℕ)
     → inside_sum (rest_value plus minus exponent r circles) (terms_of_state crossings state)
-    ≡ term_of plus minus exponent (r + ones 3 state) (closed_inside crossings state + circles (ends_joined crossings state))
+    ≡ term_at plus minus exponent (r + ones 3 state) (closed_inside crossings state + circles (ends_joined crossings state))
 term_of-inside plus minus exponent r circles crossings state =
     term_of-spread plus minus exponent r circles (ends_joined crossings state) (closed_inside crossings state) (ones 3 state)
 
@@ -109,7 +109,7 @@ int_sum-alike f g same (x ∷ xs) = ap₂ (λ a b. a +ℤ b) (same x) (int_sum-a
 -- what the eight states of a triangle add to the state sum, with one state of the rest
 abbrev pub inside_term : ℕ → ℕ → ℤ → ℕ → (List ℕ → ℕ) → List (List ℕ) → ℕ → ℤ
 inside_term plus minus exponent r circles crossings state =
-    term_of plus minus exponent (r + ones 3 state) (closed_inside crossings state + circles (ends_joined crossings state))
+    term_at plus minus exponent (r + ones 3 state) (closed_inside crossings state + circles (ends_joined crossings state))
 
 -- the same before and after a third Reidemeister move
 pub int_sum-slide : (p q r : ℕ) → p < 4 → q < 4 → r < 4 → is_slidable p q r ≡ true

@@ -9,20 +9,20 @@ use Rattle.std.proofs.lemmas.List.FromFn.{length-range_with_len, get_or-range_wi
 use Rattle.std.proofs.lemmas.List.{get_or-map}
 use Rattle.kh_types.specs.Classes.{classes_of, class_count, AreBelow}
 use Rattle.kh_types.specs.Circles.{smoothings_of}
-use Rattle.gluing.specs.Slides.{triangle_before, triangle_after, is_tied, is_tied_at, are_below, ties_of, ends_joined, closed_inside, inside_classes}
+use Rattle.gluing.specs.Slides.{triangle_before, triangle_after, is_tied_throughout, is_tied_at, are_below, ties_of, ends_joined, closed_inside, inside_classes}
 use Rattle.gluing.proofs.SlideTable.{both_true, list_all-range}
 
-all_slots : list_all (λ p. list_all (λ q. list_all (λ r. is_tied (triangle_before p q r) && is_tied (triangle_after p q r)) (range_with_len 0 4))
+all_slots : list_all (λ p. list_all (λ q. list_all (λ r. is_tied_throughout (triangle_before p q r) && is_tied_throughout (triangle_after p q r)) (range_with_len 0 4))
     (range_with_len 0 4)) (range_with_len 0 4) ≡ true
 all_slots = refl
 
-pub is_tied-slots : (p q r : ℕ) → p < 4 → q < 4 → r < 4 → (is_tied (triangle_before p q r) ≡ true) × (is_tied (triangle_after p q r) ≡ true)
+pub is_tied-slots : (p q r : ℕ) → p < 4 → q < 4 → r < 4 → (is_tied_throughout (triangle_before p q r) ≡ true) × (is_tied_throughout (triangle_after p q r) ≡ true)
 is_tied-slots p q r p_below q_below r_below =
-    both_true (is_tied (triangle_before p q r)) (is_tied (triangle_after p q r))
-    (list_all-range (λ z. is_tied (triangle_before p q z) && is_tied (triangle_after p q z)) 0 4 r
-    (list_all-range (λ y. list_all (λ z. is_tied (triangle_before p y z) && is_tied (triangle_after p y z)) (range_with_len 0 4)) 0 4 q
+    both_true (is_tied_throughout (triangle_before p q r)) (is_tied_throughout (triangle_after p q r))
+    (list_all-range (λ z. is_tied_throughout (triangle_before p q z) && is_tied_throughout (triangle_after p q z)) 0 4 r
+    (list_all-range (λ y. list_all (λ z. is_tied_throughout (triangle_before p y z) && is_tied_throughout (triangle_after p y z)) (range_with_len 0 4)) 0 4 q
     (list_all-range
-    (λ x. list_all (λ y. list_all (λ z. is_tied (triangle_before x y z) && is_tied (triangle_after x y z)) (range_with_len 0 4))
+    (λ x. list_all (λ y. list_all (λ z. is_tied_throughout (triangle_before x y z) && is_tied_throughout (triangle_after x y z)) (range_with_len 0 4))
     (range_with_len 0 4)) 0 4 p
     all_slots (omega arith) (omega arith))
     (omega arith) (omega arith))
@@ -59,7 +59,7 @@ values-same f g n x same below =
 is_same : (x y : ℕ) → nat_eq x y ≡ true → x ≡ y
 is_same x y test = grind (arith, nat_tests)
 
-pub IsTied-state : (crossings : List (List ℕ)) → is_tied crossings ≡ true → (state : ℕ) → state < 8 → IsTied crossings state
+pub IsTied-state : (crossings : List (List ℕ)) → is_tied_throughout crossings ≡ true → (state : ℕ) → state < 8 → IsTied crossings state
 IsTied-state crossings all state state_below =
     let ties = ties_of (ends_joined crossings state) in
     let here = list_all-range (is_tied_at crossings) 0 8 state all (omega arith) (omega arith) in

@@ -4,7 +4,7 @@ use Rattle.std.specs.List.{flat_map, enumerate_from}
 use Rattle.kh_types.specs.Bits.{bit}
 use Rattle.kh_types.specs.Code.{Code, arc_in}
 use Rattle.kh_types.specs.Circles.{smoothing_of}
-use Rattle.gluing.specs.Arcs.{arc_at}
+use Rattle.gluing.specs.Arcs.{arc_by_place}
 use Rattle.gluing.specs.Codes.{name_count, HoldsArcs}
 use Rattle.gluing.specs.Slides.{triangle_before, triangle_after, is_slidable, IsPlacedTriangle, IsNoSide}
 
@@ -32,7 +32,7 @@ pub record HasTriangle (code : Code) (triangle : List (List ℕ)) (arcs : ℕ �
   pub second : Shows arcs (slice_index_or code.crossings d []) (slice_index_or triangle 1 [])
   pub third : Shows arcs (slice_index_or code.crossings e []) (slice_index_or triangle 2 [])
   pub sides : (place slot : ℕ) → place < length code.crossings → place ≢ c → place ≢ d → place ≢ e → slot < 4
-      → IsNoSide arcs (arc_at code.crossings place slot)
+      → IsNoSide arcs (arc_by_place code.crossings place slot)
 
 -- a code after a third Reidemeister move at the slots p, q and r of the crossings at the places c, d and e: there its crossings have
 -- become those of the other triangle, and the other crossings stay, and the loops
@@ -51,5 +51,5 @@ pub record IsSlid (old new : Code) (c d e p q r : ℕ) (arcs : ℕ → ℕ) : Ty
   pub after : HasTriangle new (triangle_after p q r) arcs c d e
   pub size : length new.crossings ≡ length old.crossings
   pub others : (place slot : ℕ) → place < length old.crossings → slot < 4 → place ≢ c → place ≢ d → place ≢ e
-      → arc_at new.crossings place slot ≡ arc_at old.crossings place slot
+      → arc_by_place new.crossings place slot ≡ arc_by_place old.crossings place slot
   pub loops : new.loops ≡ old.loops

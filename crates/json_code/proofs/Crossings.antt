@@ -8,11 +8,11 @@ use Rattle.json_code.specs.declared.stop.JsonStop.{JsonStop}
 use Rattle.json_code.specs.declared.stop.JsonStop.TheVariants.{Shape, JsonText, CrossingLimit, NoMemory}
 use Rattle.json_code.specs.Values.{array_of, whole_number, array_of_numbers}
 use Rattle.json_code.specs.Reading.{HoldsNumber, IsNoArray, IsWrongAt, IsWrongSlot, json_arc_named}
-use Rattle.json_code.specs.Steps.{and_then, json_arc_at, json_arcs_at, crossing_of, elements_of, if_four, number_in}
+use Rattle.json_code.specs.Steps.{and_then, json_arc_at, json_arcs_at, crossing_in_element, elements_of, if_four, number_of_value}
 use Rattle.json_code.proofs.Elements.{elements_of-items_of, items_of-elements_of}
 
 -- a value that is a number is a whole one
-pub number_in-whole_number : (value : Data) (n : ℕ) → number_in value ≡ Some n → value ≡ whole_number n
+pub number_in-whole_number : (value : Data) (n : ℕ) → number_of_value value ≡ Some n → value ≡ whole_number n
 number_in-whole_number null n e = cc
 number_in-whole_number (boolean b) n e = cc
 number_in-whole_number (number (unsigned m)) n e = let same : m ≡ n = cc in ap whole_number same
@@ -23,17 +23,17 @@ number_in-whole_number (array items) n e = cc
 number_in-whole_number (object entries) n e = cc
 
 -- a whole number is a number
-pub whole_number-number_in : (value : Data) (n : ℕ) → value ≡ whole_number n → number_in value ≡ Some n
-whole_number-number_in value n is = ap number_in is
+pub whole_number-number_in : (value : Data) (n : ℕ) → value ≡ whole_number n → number_of_value value ≡ Some n
+whole_number-number_in value n is = ap number_of_value is
 
 -- a member that is looked for is a number, and the slot holds it
-found-holds : (member : Option Data) (n : ℕ) → option_and_then number_in member ≡ Some n → member ≡ Some (whole_number n)
+found-holds : (member : Option Data) (n : ℕ) → option_and_then number_of_value member ≡ Some n → member ≡ Some (whole_number n)
 found-holds None n e = cc
 found-holds (Some value) n e = ap Some (number_in-whole_number value n e)
 
 -- or it is none
-found-none : (member : Option Data) → option_and_then number_in member ≡ None → (n : ℕ) → member ≢ Some (whole_number n)
-found-none member none n is = let some : option_and_then number_in member ≡ Some n = ap (option_and_then number_in) is in cc
+found-none : (member : Option Data) → option_and_then number_of_value member ≡ None → (n : ℕ) → member ≢ Some (whole_number n)
+found-none member none n is = let some : option_and_then number_of_value member ≡ Some n = ap (option_and_then number_of_value) is in cc
 
 -- four slots that hold numbers, and no more, are all members
 four_members : (members : List Data) (i j k l : ℕ) → slice_get members 0 ≡ Some (whole_number i) → slice_get members 1 ≡ Some (whole_number j) → slice_get members 2 ≡ Some (whole_number k) → slice_get members 3 ≡ Some (whole_number l)
@@ -54,7 +54,7 @@ AreArcs crossing members (Err _) = ⊥
 module _ (crossing : ℕ) (members : List Data) where
   -- the number at a slot
   abbrev at : ℕ → Option ℕ
-  at slot = option_and_then number_in (slice_get members slot)
+  at slot = option_and_then number_of_value (slice_get members slot)
 
   -- the arc of a number that was looked for
   abbrev arc_of_found : ℕ → Option ℕ → Result ℕ JsonStop
@@ -119,7 +119,7 @@ pub as_array-none : (value : Data) → as_array value ≡ None → IsNoArray val
 as_array-none value none elements is = let some : as_array value ≡ as_array (array_of elements) = ap as_array is in cc
 
 -- what is computed of an element is a crossing, or where it is wrong
-pub crossing_of-sound : (crossing : ℕ) (element : Data) → IsElementRead crossing element (crossing_of crossing element)
+pub crossing_of-sound : (crossing : ℕ) (element : Data) → IsElementRead crossing element (crossing_in_element crossing element)
 crossing_of-sound crossing (array items) =
     subst (λ e. IsElementRead crossing e (json_arcs_at crossing (elements_of items))) (ap array (items_of-elements_of items))
     (of_members crossing (elements_of items) (json_arcs_at crossing (elements_of items)) (json_arcs_at-sound crossing (elements_of items)))
@@ -178,7 +178,7 @@ right_not_wrong numbers slot four (inr x) =
     four_right numbers slot four (subst (λ m. IsWrongSlot m slot) same x.2)
 
 -- four numbers are read as their arcs
-pub crossing_of-numbers : (crossing : ℕ) (numbers : List ℕ) → length numbers ≡ 4 → crossing_of crossing (array_of_numbers numbers) ≡ Ok (map json_arc_named numbers)
+pub crossing_of-numbers : (crossing : ℕ) (numbers : List ℕ) → length numbers ≡ 4 → crossing_in_element crossing (array_of_numbers numbers) ≡ Ok (map json_arc_named numbers)
 crossing_of-numbers crossing [] four = absurd (omega arith)
 crossing_of-numbers crossing (i ∷ []) four = absurd (omega arith)
 crossing_of-numbers crossing (i ∷ j ∷ []) four = absurd (omega arith)
@@ -187,8 +187,8 @@ crossing_of-numbers crossing (i ∷ j ∷ k ∷ l ∷ []) four = refl
 crossing_of-numbers crossing (i ∷ j ∷ k ∷ l ∷ m ∷ more) four = absurd (omega arith)
 
 -- a wrong element is read as where it is wrong
-pub crossing_of-wrong : (crossing : ℕ) (element : Data) (slot : ℕ) → IsWrongAt element slot → crossing_of crossing element ≡ Err (Shape crossing slot)
-crossing_of-wrong crossing element slot wrong = go (crossing_of crossing element) (crossing_of-sound crossing element)
+pub crossing_of-wrong : (crossing : ℕ) (element : Data) (slot : ℕ) → IsWrongAt element slot → crossing_in_element crossing element ≡ Err (Shape crossing slot)
+crossing_of-wrong crossing element slot wrong = go (crossing_in_element crossing element) (crossing_of-sound crossing element)
   where
     go : (r : Result (List ℕ) JsonStop) → IsElementRead crossing element r → r ≡ Err (Shape crossing slot)
     go (Ok arcs) found = absurd (right_not_wrong found.0 slot found.1 (subst (λ e. IsWrongAt e slot) found.2 wrong))

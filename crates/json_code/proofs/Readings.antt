@@ -14,7 +14,7 @@ use Rattle.json_code.specs.declared.stop.JsonStop.{JsonStop}
 use Rattle.json_code.specs.declared.stop.JsonStop.TheVariants.{JsonText, Shape, CrossingLimit, NoMemory}
 use Rattle.json_code.specs.Values.{IsJson, array_of, array_of_numbers}
 use Rattle.json_code.specs.Reading.{HasFour, IsNoArray, IsNoJson, IsJsonReading, IsWrongAt, json_arc_named}
-use Rattle.json_code.specs.Steps.{and_then, json_code_of, code_of_crossings, code_of_elements, crossing_of, crossings_from, elements_of, preceded_by, json_reading_of}
+use Rattle.json_code.specs.Steps.{and_then, json_code_of, code_of_crossings, code_of_elements, crossing_in_element, crossings_from, elements_of, after_crossings, json_reading_of}
 use Rattle.json_code.proofs.Crossings.{IsElementRead, as_array-none, crossing_of-numbers, crossing_of-sound, crossing_of-wrong}
 use Rattle.json_code.proofs.Elements.{elements_of-items_of, items_of-elements_of}
 
@@ -38,7 +38,7 @@ AreCrossings first elements (Err _) = ⊥
 
 -- a quadruple comes before others
 next_crossing : (first : ℕ) (element : Data) (elements : List Data) (arcs : List ℕ) (r : Result (List (List ℕ)) JsonStop) → IsElementRead first element (Ok arcs)
-    → AreCrossings (first + 1) elements r → AreCrossings first (element ∷ elements) (preceded_by (arcs ∷ []) r)
+    → AreCrossings (first + 1) elements r → AreCrossings first (element ∷ elements) (after_crossings (arcs ∷ []) r)
 next_crossing first element elements arcs (Ok crossings) made found =
     (made.0 ∷ found.0, All-cons HasFour made.0 found.0 made.1 found.1, cc (made.2, found.2), cc (made.3, found.3))
 next_crossing first element elements arcs (Err (Shape crossing slot)) made found = record {
@@ -56,7 +56,7 @@ next_crossing first element elements arcs (Err NoMemory) made found = found
 
 -- the first element is a quadruple, or it is wrong
 first_crossing : (first : ℕ) (element : Data) (elements : List Data) (r : Result (List ℕ) JsonStop) → IsElementRead first element r → AreCrossings (first + 1) elements (crossings_from (first + 1) elements)
-    → AreCrossings first (element ∷ elements) (and_then (λ arcs. preceded_by (arcs ∷ []) (crossings_from (first + 1) elements)) r)
+    → AreCrossings first (element ∷ elements) (and_then (λ arcs. after_crossings (arcs ∷ []) (crossings_from (first + 1) elements)) r)
 first_crossing first element elements (Ok arcs) made found = next_crossing first element elements arcs (crossings_from (first + 1) elements) made found
 first_crossing first element elements (Err (Shape crossing slot)) made found = record {
   quadruples = [];
@@ -74,7 +74,7 @@ first_crossing first element elements (Err NoMemory) made found = made
 crossings_from-sound : (first : ℕ) (elements : List Data) → AreCrossings first elements (crossings_from first elements)
 crossings_from-sound first [] = ([], All-nil HasFour, refl, refl)
 crossings_from-sound first (element ∷ elements) =
-    first_crossing first element elements (crossing_of first element) (crossing_of-sound first element) (crossings_from-sound (first + 1) elements)
+    first_crossing first element elements (crossing_in_element first element) (crossing_of-sound first element) (crossings_from-sound (first + 1) elements)
 
 -- the crossings of few enough elements give the reading
 of_crossings : (text : List ℕ) (elements : List Data) → IsJson text (array_of elements) → length elements ≤ CROSSINGS → (r : Result (List (List ℕ)) JsonStop)
@@ -122,26 +122,26 @@ json_code_of-sound text (object entries) json = of_other text (object entries) j
 -- ---- nothing else is a reading
 
 -- nothing comes before nothing
-preceded_by-nil : (r : Result (List (List ℕ)) JsonStop) → preceded_by [] r ≡ r
+preceded_by-nil : (r : Result (List (List ℕ)) JsonStop) → after_crossings [] r ≡ r
 preceded_by-nil (Ok crossings) = refl
 preceded_by-nil (Err stop) = refl
 
 -- one crossing comes before others
-preceded_by-cons : (arcs : List ℕ) (front : List (List ℕ)) (r : Result (List (List ℕ)) JsonStop) → preceded_by (arcs ∷ []) (preceded_by front r) ≡ preceded_by (arcs ∷ front) r
+preceded_by-cons : (arcs : List ℕ) (front : List (List ℕ)) (r : Result (List (List ℕ)) JsonStop) → after_crossings (arcs ∷ []) (after_crossings front r) ≡ after_crossings (arcs ∷ front) r
 preceded_by-cons arcs front (Ok crossings) = refl
 preceded_by-cons arcs front (Err stop) = refl
 
 -- quadruples are read as their arcs, and then what comes behind them, which has the next number
 crossings_from-quadruples : (first next : ℕ) (quadruples : List (List ℕ)) (later : List Data) → next ≡ length quadruples + first → All HasFour quadruples
-    → crossings_from first (map array_of_numbers quadruples ++ later) ≡ preceded_by (map (map json_arc_named) quadruples) (crossings_from next later)
+    → crossings_from first (map array_of_numbers quadruples ++ later) ≡ after_crossings (map (map json_arc_named) quadruples) (crossings_from next later)
 crossings_from-quadruples first next [] later e fours =
     let same : first ≡ next = omega arith in
     ap (λ n. crossings_from n later) same ∙ sym (preceded_by-nil (crossings_from next later))
 crossings_from-quadruples first next (numbers ∷ quadruples) later e fours =
-    let made : crossing_of first (array_of_numbers numbers) ≡ Ok (map json_arc_named numbers) = crossing_of-numbers first numbers (fours 0 [] (omega arith)) in
+    let made : crossing_in_element first (array_of_numbers numbers) ≡ Ok (map json_arc_named numbers) = crossing_of-numbers first numbers (fours 0 [] (omega arith)) in
     let others = crossings_from-quadruples (first + 1) next quadruples later (omega arith) (λ k d lt. fours (suc k) d (omega arith)) in
-    ap (and_then (λ arcs. preceded_by (arcs ∷ []) (crossings_from (first + 1) (map array_of_numbers quadruples ++ later)))) made
-    ∙ ap (preceded_by (map json_arc_named numbers ∷ [])) others ∙ preceded_by-cons (map json_arc_named numbers) (map (map json_arc_named) quadruples) (crossings_from next later)
+    ap (and_then (λ arcs. after_crossings (arcs ∷ []) (crossings_from (first + 1) (map array_of_numbers quadruples ++ later)))) made
+    ∙ ap (after_crossings (map json_arc_named numbers ∷ [])) others ∙ preceded_by-cons (map json_arc_named numbers) (map (map json_arc_named) quadruples) (crossings_from next later)
 
 -- the code of an array is that of its elements
 json_code_of-array : (elements : List Data) → json_code_of (array_of elements) ≡ code_of_elements elements
@@ -178,7 +178,7 @@ crossings_from-wrong : (crossing slot : ℕ) (quadruples : List (List ℕ)) (ele
     → crossings_from 1 (map array_of_numbers quadruples ++ element ∷ later) ≡ Err (Shape crossing slot)
 crossings_from-wrong crossing slot quadruples element later numbered fours wrong =
     crossings_from-quadruples 1 crossing quadruples (element ∷ later) numbered fours
-    ∙ ap (λ r. preceded_by (map (map json_arc_named) quadruples) (and_then (λ arcs. preceded_by (arcs ∷ []) (crossings_from (crossing + 1) later)) r)) (crossing_of-wrong crossing element slot wrong)
+    ∙ ap (λ r. after_crossings (map (map json_arc_named) quadruples) (and_then (λ arcs. after_crossings (arcs ∷ []) (crossings_from (crossing + 1) later)) r)) (crossing_of-wrong crossing element slot wrong)
 
 -- the array of few enough elements is read as they are
 json_code_of-few : (elements : List Data) (r : Result (List (List ℕ)) JsonStop) → length elements ≤ CROSSINGS → crossings_from 1 elements ≡ r → json_code_of (array_of elements) ≡ and_then code_of_crossings r

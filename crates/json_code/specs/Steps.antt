@@ -27,13 +27,13 @@ and_then next (Ok value) = next value
 and_then next (Err stop) = Err stop
 
 -- the number that a value is, if it is one
-abbrev pub number_in : Data → Option ℕ
-number_in value = option_and_then as_u64 (as_number value)
+abbrev pub number_of_value : Data → Option ℕ
+number_of_value value = option_and_then as_u64 (as_number value)
 
 -- the arc at a slot of the members of a crossing
 abbrev pub json_arc_at : ℕ → ℕ → List Data → Result ℕ JsonStop
 json_arc_at crossing slot members =
-    ok_or (option_map json_arc_named (option_and_then number_in (slice_get members slot))) (Shape crossing slot)
+    ok_or (option_map json_arc_named (option_and_then number_of_value (slice_get members slot))) (Shape crossing slot)
 
 -- the arcs, unless there is a fifth member
 abbrev pub if_four : ℕ → List Data → List ℕ → Result (List ℕ) JsonStop
@@ -46,20 +46,20 @@ json_arcs_at crossing members =
     (json_arc_at crossing 3 members)) (json_arc_at crossing 2 members)) (json_arc_at crossing 1 members)) (json_arc_at crossing 0 members)
 
 -- the crossing that an element is
-abbrev pub crossing_of : ℕ → Data → Result (List ℕ) JsonStop
-crossing_of crossing element =
+abbrev pub crossing_in_element : ℕ → Data → Result (List ℕ) JsonStop
+crossing_in_element crossing element =
     option_map_or (λ items. json_arcs_at crossing (elements_of items)) (as_array element) (Err (Shape crossing 0))
 
 -- crossings before others
-abbrev pub preceded_by : List (List ℕ) → Result (List (List ℕ)) JsonStop → Result (List (List ℕ)) JsonStop
-preceded_by earlier (Ok crossings) = Ok (earlier ++ crossings)
-preceded_by earlier (Err stop) = Err stop
+abbrev pub after_crossings : List (List ℕ) → Result (List (List ℕ)) JsonStop → Result (List (List ℕ)) JsonStop
+after_crossings earlier (Ok crossings) = Ok (earlier ++ crossings)
+after_crossings earlier (Err stop) = Err stop
 
 -- the crossings that elements are, numbered from a number on
 abbrev pub crossings_from : ℕ → List Data → Result (List (List ℕ)) JsonStop
 crossings_from number [] = Ok []
 crossings_from number (element ∷ elements) =
-    and_then (λ crossing. preceded_by (crossing ∷ []) (crossings_from (number + 1) elements)) (crossing_of number element)
+    and_then (λ crossing. after_crossings (crossing ∷ []) (crossings_from (number + 1) elements)) (crossing_in_element number element)
 
 -- the code of crossings
 abbrev pub code_of_crossings : List (List ℕ) → Result Code JsonStop

@@ -3,7 +3,7 @@
 ghost use Rattle.std.specs.Prelude.{◌≡◌, map};
 ghost use Rattle.serde_json.specs.View.{view};
 ghost use Rattle.json_code.specs.Reading.{json_arc_named};
-ghost use Rattle.json_code.specs.Steps.{json_arc_at, json_arcs_at, crossing_of};
+ghost use Rattle.json_code.specs.Steps.{json_arc_at, json_arcs_at, crossing_in_element};
 
 use crate::stop::JsonStop;
 use kh_types::Crossing;
@@ -11,7 +11,7 @@ use serde_json::Value;
 
 /// The crossing that an element is, or its first wrong slot. The number of the crossing is counted from 1.
 pub fn crossing_of(element: &Value, crossing: u32) -> Result<Crossing, JsonStop>
-    ensures { result ≡ crossing_of crossing (view element.now) }
+    ensures { result ≡ crossing_in_element crossing (view element.now) }
 {
     match element.as_array() {
         Some(members) => json_arcs_at(members, crossing),

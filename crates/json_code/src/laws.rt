@@ -4,7 +4,7 @@ ghost use Rattle.std.specs.Prelude.{◌≡◌, ◌↔◌, ℕ, List, [], ◌∷�
 ghost use Rattle.kh_types.specs.Code.{Code};
 ghost use Rattle.json_code.specs.declared.stop.JsonStop.{JsonStop};
 ghost use Rattle.json_code.specs.Reading.{IsJsonReading};
-ghost use Rattle.json_code.specs.Steps.{number_in, json_reading_of};
+ghost use Rattle.json_code.specs.Steps.{number_of_value, json_reading_of};
 ghost use Rattle.json_code.specs.Values.{whole_number};
 ghost use Rattle.serde_json.specs.Data.{Data};
 
@@ -19,7 +19,7 @@ pub fn each_text_has_one_reading()
 
 /// `as_u64` gives a number for that whole number alone, so it gives none for any value that is no whole number.
 pub fn as_u64_gives_whole_numbers()
-    ensures { (value : Data) (n : ℕ) → (number_in value ≡ Some n) ↔ (value ≡ whole_number n) }
+    ensures { (value : Data) (n : ℕ) → (number_of_value value ≡ Some n) ↔ (value ≡ whole_number n) }
 {}
 
 /// What some texts read as: the trefoil, no crossing, large numbers, wrong slots, too many elements, no array, no JSON.

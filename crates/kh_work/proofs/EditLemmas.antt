@@ -17,7 +17,7 @@ use Rattle.undo_stack.proofs.EditedParts.{AreDone, AreDone-begin, AreDone-end, A
 use Rattle.kh_replies.specs.declared.status.Status.TheVariants.{Done, MoveRefused}
 use Rattle.kh_replies.specs.Replies.{Reply, reply_of}
 use Rattle.kh_replies.specs.Refusals.{refused_line, too_many_lines}
-use Rattle.kh_work.specs.Edit.{IsEditReply, IsEditedReply, diagram_line, diagram_lines, edit_reply, edits_in, number_at, outcome_reply, refusal_line}
+use Rattle.kh_work.specs.Edit.{IsEditReply, IsEditedReply, diagram_line, diagram_lines, edit_reply, edits_in, line_number_at, outcome_reply, refusal_line}
 
 -- what a script was read as is answered once
 IsEditedReply-some : (code : Code) (text : List ℕ) (reading : Result (List (ℕ × EditLine)) ScriptStop) → IsEdit text reading
@@ -61,7 +61,7 @@ edit-at script place line other within is =
     get_or-map (λ (l : ℕ × EditLine). l.1) script place other line.1 within ∙ ap (λ (l : ℕ × EditLine). l.1) (sym is)
 
 number_at-line : (script : List (ℕ × EditLine)) (place : ℕ) (line other : ℕ × EditLine) → place < length script
-    → line ≡ get_or script place other → line.0 ≡ number_at script place
+    → line ≡ get_or script place other → line.0 ≡ line_number_at script place
 number_at-line script place line other within is = sym
     (get_or-map (λ (l : ℕ × EditLine). l.0) script place other 0 within ∙ ap (λ (l : ℕ × EditLine). l.0) (sym is))
 
@@ -86,7 +86,7 @@ IsEditSoFar-line code script place now next text more line other within is_line 
           (ap₂ (λ (n : ℕ) (d : Code). diagram_line n d) (number_at-line script place line other within is_line) (sym diagram))
           ∙ sym
           (flat_map-range_more
-          (λ k. diagram_line (number_at script k) (diagram_after (edits_in script) code (k + 1))) 0 place place (omega arith));
+          (λ k. diagram_line (line_number_at script k) (diagram_after (edits_in script) code (k + 1))) 0 place place (omega arith));
     }
 
 -- a line is refused

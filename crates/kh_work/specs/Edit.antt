@@ -47,8 +47,8 @@ abbrev pub edits_in : List (ℕ × EditLine) → List EditLine
 edits_in script = map (λ line. line.1) script
 
 -- the number of the line of a script at a place
-abbrev pub number_at : List (ℕ × EditLine) → ℕ → ℕ
-number_at script place = get_or (map (λ line. line.0) script) place 0
+abbrev pub line_number_at : List (ℕ × EditLine) → ℕ → ℕ
+line_number_at script place = get_or (map (λ line. line.0) script) place 0
 
 -- a number, a space, words and a line feed
 abbrev pub numbered_line : ℕ → List ℕ → List ℕ
@@ -65,7 +65,7 @@ refusal_line number fault = numbered_line number (codes "refused " ++ edit_refus
 -- for the lines of a script before a place: the number of each, and the diagram after it
 abbrev pub diagram_lines : Code → List (ℕ × EditLine) → ℕ → List ℕ
 diagram_lines code script count =
-    flat_map (λ place. diagram_line (number_at script place) (diagram_after (edits_in script) code (place + 1)))
+    flat_map (λ place. diagram_line (line_number_at script place) (diagram_after (edits_in script) code (place + 1)))
     (range_with_len 0 count)
 
 -- the line that is refused, if one is, with a number
@@ -82,7 +82,7 @@ edit_status (Some fault) = MoveRefused
 abbrev pub outcome_reply : Code → List (ℕ × EditLine) → EditOutcome → Reply
 outcome_reply code script outcome =
     reply_of (edit_status outcome.fault)
-    (diagram_lines code script outcome.count ++ refusal_lines (number_at script outcome.count) outcome.fault)
+    (diagram_lines code script outcome.count ++ refusal_lines (line_number_at script outcome.count) outcome.fault)
 
 -- the reply to a script: that with what comes of its lines
 unfoldable pub edit_reply : Code → List (ℕ × EditLine) → Reply

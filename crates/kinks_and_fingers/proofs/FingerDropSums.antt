@@ -18,7 +18,7 @@ use Rattle.kh_types.proofs.AcceptedLemmas.{HasArcsTwice-accepted}
 use Rattle.kh_types.proofs.Heads.{HasNoSingleArcs-accepted}
 use Rattle.kh_types.proofs.Lists.{count_by-map}
 use Rattle.kh_types.proofs.RangeCounts.{count_by-alike}
-use Rattle.gluing.specs.Terms.{term_of}
+use Rattle.gluing.specs.Terms.{term_at}
 use Rattle.kinks_and_fingers.specs.Strands.{enters}
 use Rattle.kinks_and_fingers.specs.Drops.{positive_at, kept_places, kept_signs, kept_crossings, is_of_two, without_finger}
 use Rattle.kinks_and_fingers.specs.Dropping.{HasBigonAt, is_code_head}
@@ -291,20 +291,20 @@ four_terms : (plus minus new_plus new_minus : ℕ) (exponent : ℤ) (r0 c0 r1 c1
     → r0 ≡ s0 → c0 ≡ d0 → r1 ≡ s1 → c1 ≡ d1 → r2 ≡ s2 → c2 ≡ d2 → r3 ≡ s3 → c3 ≡ d3
     → kh.term_of plus minus exponent r0 c0 +ℤ kh.term_of plus minus exponent r1 c1
     +ℤ (kh.term_of plus minus exponent r2 c2 +ℤ kh.term_of plus minus exponent r3 c3)
-    ≡ term_of new_plus new_minus exponent s0 d0 +ℤ term_of new_plus new_minus exponent s1 d1
-    +ℤ (term_of new_plus new_minus exponent s2 d2 +ℤ term_of new_plus new_minus exponent s3 d3)
+    ≡ term_at new_plus new_minus exponent s0 d0 +ℤ term_at new_plus new_minus exponent s1 d1
+    +ℤ (term_at new_plus new_minus exponent s2 d2 +ℤ term_at new_plus new_minus exponent s3 d3)
 four_terms plus minus new_plus new_minus exponent r0 c0 r1 c1 r2 c2 r3 c3 s0 d0 s1 d1 s2 d2 s3 d3 plus_is minus_is r0_is c0_is r1_is c1_is r2_is c2_is r3_is c3_is =
-    let one : (r c s d : ℕ) → r ≡ s → c ≡ d → kh.term_of plus minus exponent r c ≡ term_of new_plus new_minus exponent s d =
+    let one : (r c s d : ℕ) → r ≡ s → c ≡ d → kh.term_of plus minus exponent r c ≡ term_at new_plus new_minus exponent s d =
     λ r c s d r_is c_is.
     term_is plus minus new_plus new_minus exponent r c s d plus_is minus_is r_is c_is in
     ap₂ (λ x y. x +ℤ y) (ap₂ (λ x y. x +ℤ y) (one r0 c0 s0 d0 r0_is c0_is) (one r1 c1 s1 d1 r1_is c1_is))
     (ap₂ (λ x y. x +ℤ y) (one r2 c2 s2 d2 r2_is c2_is) (one r3 c3 s3 d3 r3_is c3_is))
   where
     term_is : (plus minus new_plus new_minus : ℕ) (exponent : ℤ) (r c s d : ℕ) → plus ≡ new_plus → minus ≡ new_minus → r ≡ s → c ≡ d
-        → kh.term_of plus minus exponent r c ≡ term_of new_plus new_minus exponent s d
+        → kh.term_of plus minus exponent r c ≡ term_at new_plus new_minus exponent s d
     term_is plus minus new_plus new_minus exponent r c s d plus_is minus_is r_is c_is =
-        term-is plus minus exponent r c ∙ ap₂ (λ p m. term_of p m exponent r c) plus_is minus_is
-        ∙ ap₂ (λ t u. term_of new_plus new_minus exponent t u) r_is c_is
+        term-is plus minus exponent r c ∙ ap₂ (λ p m. term_at p m exponent r c) plus_is minus_is
+        ∙ ap₂ (λ t u. term_at new_plus new_minus exponent t u) r_is c_is
 
 one_of_two : (b : Bool) → one_if b + one_if (not b) ≡ 1
 one_of_two true = omega arith

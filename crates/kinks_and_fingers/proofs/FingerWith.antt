@@ -9,7 +9,7 @@ use Rattle.kh_types.specs.Code.{Code, arc_in, crossing_numbers, arc_count, IsArc
 use Rattle.kh_types.specs.Darts.{arc_of}
 use Rattle.kh_types.specs.Directions.{is_head}
 use Rattle.kinks_and_fingers.specs.FingerAdd.{opened, head_number, moved_arc, dart_with, moved_slots, moved_crossings, first_crossing, second_crossing, fingered, AreFingerable}
-use Rattle.gluing.specs.Arcs.{arc_at}
+use Rattle.gluing.specs.Arcs.{arc_by_place}
 use Rattle.gluing.specs.Codes.{arc_of_dart, name_count}
 use Rattle.gluing.specs.SlidCodes.{Shows}
 use Rattle.kinks_and_fingers.specs.Fingers.{finger, AreAmong}
@@ -188,18 +188,18 @@ shows-second false false over under spare = below_four (λ s. arc_in (second_cro
 
 -- the arc at a slot of an old crossing, before and after
 
-old-arc : (crossings : List (List ℕ)) (place slot : ℕ) → arc_of crossings (dart_with (place + 1) slot) ≡ arc_at crossings place slot
-old-arc crossings place slot = let e : place + 1 - 1 ≡ place = omega arith in ap (λ p. arc_at crossings p slot) e
+old-arc : (crossings : List (List ℕ)) (place slot : ℕ) → arc_of crossings (dart_with (place + 1) slot) ≡ arc_by_place crossings place slot
+old-arc crossings place slot = let e : place + 1 - 1 ≡ place = omega arith in ap (λ p. arc_by_place crossings p slot) e
 
 -- the number of an arc's tail or of its head
 abbrev IsEndOf : ℕ → ℕ → ℕ → ℕ → Type 0
 IsEndOf a b x y = (y ≡ opened a b x) ⊎ (y ≡ head_number a b x)
 
 moved-end : (crossings : List (List ℕ)) (a b place slot : ℕ) → place < length crossings → slot < 4
-    → IsEndOf a b (arc_at crossings place slot) (arc_at (moved_crossings crossings a b) place slot)
+    → IsEndOf a b (arc_by_place crossings place slot) (arc_by_place (moved_crossings crossings a b) place slot)
 moved-end crossings a b place slot below slot_below =
     let dart = dart_with (place + 1) slot in
-    let at : arc_at (moved_crossings crossings a b) place slot ≡ moved_arc crossings a b dart =
+    let at : arc_by_place (moved_crossings crossings a b) place slot ≡ moved_arc crossings a b dart =
     ap (λ s. arc_in s slot)
     (get_or-map (moved_slots crossings a b) (crossing_numbers crossings) place 0 [] (omega (arith, below, length-range_with_len 1 (length crossings)))
     ∙ ap (λ c. moved_slots crossings a b c)
@@ -290,33 +290,33 @@ IsWithFinger-fingered code a b positive ordered can =
       over_below = omega (arith, over_head, over_is);
       under_below = omega (arith, under_head, under_is);
     } in
-    let old_arc : (place slot : ℕ) → place < length crossings → slot < 4 → IsArc crossings (arc_at crossings place slot) =
+    let old_arc : (place slot : ℕ) → place < length crossings → slot < 4 → IsArc crossings (arc_by_place crossings place slot) =
     λ place slot below slot_below.
     subst (λ (x : ℕ). IsArc crossings x) (old-arc crossings place slot)
     (can.directed.slots (dart_with (place + 1) slot)
     (record { crossing = record { positive = omega arith; within = omega (arith, below) }; slot = slot_below })) in
-    let moved_within : (place slot : ℕ) → place < length crossings → slot < 4 → arc_at moved place slot ≤ arc_count crossings + 4 =
+    let moved_within : (place slot : ℕ) → place < length crossings → slot < 4 → arc_by_place moved place slot ≤ arc_count crossings + 4 =
     λ place slot below slot_below.
-    let x = arc_at crossings place slot in
+    let x = arc_by_place crossings place slot in
     let head = head_number-within a b x (arc_count crossings) can.apart can.over.within can.under.within (old_arc place slot below slot_below).within in
     elim (moved-end crossings a b place slot below slot_below) [
       | inl is ↦ omega (arith, is, head, opened-le-head_number a b x)
       | inr is ↦ omega (arith, is, head)
     ] in
-    let no_over : (place slot : ℕ) → place < length crossings → slot < 4 → arc_at moved place slot ≢ over + 1 =
+    let no_over : (place slot : ℕ) → place < length crossings → slot < 4 → arc_by_place moved place slot ≢ over + 1 =
     λ place slot below slot_below.
-    end-no_middle a b (arc_at crossings place slot) (arc_at moved place slot) a can.apart (inl refl) (moved-end crossings a b place slot below slot_below) in
-    let no_under : (place slot : ℕ) → place < length crossings → slot < 4 → arc_at moved place slot ≢ under + 1 =
+    end-no_middle a b (arc_by_place crossings place slot) (arc_by_place moved place slot) a can.apart (inl refl) (moved-end crossings a b place slot below slot_below) in
+    let no_under : (place slot : ℕ) → place < length crossings → slot < 4 → arc_by_place moved place slot ≢ under + 1 =
     λ place slot below slot_below.
-    end-no_middle a b (arc_at crossings place slot) (arc_at moved place slot) b can.apart (inr refl) (moved-end crossings a b place slot below slot_below) in
-    let no_spare : (place slot : ℕ) → place < length crossings → slot < 4 → arc_at moved place slot ≢ spare =
+    end-no_middle a b (arc_by_place crossings place slot) (arc_by_place moved place slot) b can.apart (inr refl) (moved-end crossings a b place slot below slot_below) in
+    let no_spare : (place slot : ℕ) → place < length crossings → slot < 4 → arc_by_place moved place slot ≢ spare =
     λ place slot below slot_below same. omega (arith, moved_within place slot below slot_below, same) in
     let lowered : (place slot : ℕ) → place < length crossings → slot < 4
-    → lowered_to a b spare (arc_at moved place slot) ≡ arc_at crossings place slot =
+    → lowered_to a b spare (arc_by_place moved place slot) ≡ arc_by_place crossings place slot =
     λ place slot below slot_below.
-    lowered_to-other a b spare (arc_at moved place slot) (no_over place slot below slot_below) (no_under place slot below slot_below)
+    lowered_to-other a b spare (arc_by_place moved place slot) (no_over place slot below slot_below) (no_under place slot below slot_below)
     (no_spare place slot below slot_below)
-    ∙ end-low a b (arc_at crossings place slot) (arc_at moved place slot) can.apart (moved-end crossings a b place slot below slot_below) in
+    ∙ end-low a b (arc_by_place crossings place slot) (arc_by_place moved place slot) can.apart (moved-end crossings a b place slot below slot_below) in
     let end_at : (x y : ℕ) → IsOneOf a b x → (y ≡ opened a b x) ⊎ (y ≡ opened a b x + 2) → lowered_to a b spare y ≡ x =
     λ x y one either.
     let end : IsEndOf a b x y =
@@ -357,7 +357,7 @@ IsWithFinger-fingered code a b positive ordered can =
           omega (arith, is.within, old-arc new.crossings place slot);
       moved_holds = λ place slot below slot_below. omega (arith, moved_within place slot below slot_below);
       sides = λ place slot below slot_below side from side_below.
-          below_ten (λ side. 7 ≤ side → arc_at moved place slot ≢ arcs side)
+          below_ten (λ side. 7 ≤ side → arc_by_place moved place slot ≢ arcs side)
           (λ f. absurd (omega (arith, f))) (λ f. absurd (omega (arith, f))) (λ f. absurd (omega (arith, f))) (λ f. absurd (omega (arith, f)))
           (λ f. absurd (omega (arith, f))) (λ f. absurd (omega (arith, f))) (λ f. absurd (omega (arith, f)))
           (λ f. no_over place slot below slot_below) (λ f. no_under place slot below slot_below) (λ f. no_spare place slot below slot_below)

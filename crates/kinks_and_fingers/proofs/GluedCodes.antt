@@ -14,9 +14,9 @@ use Rattle.kh_types.specs.Directions.{plus_count, minus_count}
 use Rattle.kh_types.specs.StateSum.{int_sum, circle_coefficient, state_term, state_sum}
 use Rattle.gluing.proofs.SlidSums.{term_with-is}
 use Rattle.gluing.specs.Glue.{renamed, Places}
-use Rattle.gluing.specs.Terms.{signed_by, term_of}
+use Rattle.gluing.specs.Terms.{signed_by_count, term_at}
 use Rattle.gluing.specs.Codes.{dart_smoothings, arc_of_dart, name_count}
-use Rattle.gluing.specs.Slides.{InsideTerm, inside_sum, ends_joined, closed_inside, spread, rest_circles, IsNoSide, TouchNoSide}
+use Rattle.gluing.specs.Slides.{InsideTerm, inside_sum, ends_joined, closed_inside, term_exponents, rest_circles, IsNoSide, TouchNoSide}
 use Rattle.kinks_and_fingers.specs.Fingers.{finger, straight_joined, straight_term}
 use Rattle.kinks_and_fingers.specs.FingerCodes.{IsWithFinger}
 use Rattle.gluing.proofs.Renamed.{renamed-same, class_count-renamed, AreBelow-renamed}
@@ -213,16 +213,16 @@ inside_sum-flat_map rest g (x ∷ xs) =
 -- -q times the value of the rest is the term without the finger
 straight-term_of : (plus minus r : ℕ) (exponent : ℤ) (circles : List ℕ → ℕ)
     → inside_sum (rest_value (plus + 1) (minus + 1) exponent r circles) (straight_term ∷ [])
-    ≡ term_of plus minus exponent r (circles straight_joined)
+    ≡ term_at plus minus exponent r (circles straight_joined)
 straight-term_of plus minus r exponent circles =
     let k = circles straight_joined in
     let z = ((exponent -ℤ pos (r + (plus + 1))) +ℤ pos (2 * (minus + 1))) -ℤ pos 1 in
     let x = (exponent -ℤ pos (r + plus)) +ℤ pos (2 * minus) in
     let same : z ≡ x = omega (arith, ints) in
     let e : r + (minus + 1) ≡ r + minus + 1 = omega arith in
-    ap₂ (λ m y. neg_ℤ (signed_by m (circle_coefficient k y)) +ℤ pos 0) e same
+    ap₂ (λ m y. neg_ℤ (signed_by_count m (circle_coefficient k y)) +ℤ pos 0) e same
     ∙ ap (λ y. neg_ℤ y +ℤ pos 0) (signed_by-next (r + minus) (circle_coefficient k x))
-    ∙ twice (signed_by (r + minus) (circle_coefficient k x))
+    ∙ twice (signed_by_count (r + minus) (circle_coefficient k x))
   where
     twice : (x : ℤ) → neg_ℤ (neg_ℤ x) +ℤ pos 0 ≡ x
     twice x = omega (arith, ints)
@@ -246,7 +246,7 @@ terms-finger is_positive in_order old new arcs low with_finger exponent base bel
     let rest = rest_value (plus + 1) (minus + 1) exponent (ones n base) left in
     let group = λ (inside : ℕ).
     map (λ shift. let t : InsideTerm = record { is_minus = nat_eq (ones 2 inside % 2) 1; joined = ends_joined crossings inside; shift = shift } in t)
-    (spread (closed_inside crossings inside - 1) (pos (ones 2 inside))) in
+    (term_exponents (closed_inside crossings inside - 1) (pos (ones 2 inside))) in
     let double = power_doubled n in
     let s0 = AtFinger-none n base below in
     let s1 = AtFinger-first n base below in
@@ -256,8 +256,8 @@ terms-finger is_positive in_order old new arcs low with_finger exponent base bel
     let told : (state inside : ℕ) → inside < 4 → AtFinger n base state inside → state_term new exponent state ≡ inside_sum rest (group inside) =
     λ state inside inside_below at.
     term_with-is (plus_count new.crossings) (minus_count new.crossings) new exponent state
-    ∙ ap₂ (λ p m. term_of p m exponent (ones (length new.crossings) state) (circle_count new state)) with_finger.plus with_finger.minus
-    ∙ ap₂ (λ r c. term_of (plus + 1) (minus + 1) exponent r c) (ap (λ k. ones k state) size ∙ at.ones)
+    ∙ ap₂ (λ p m. term_at p m exponent (ones (length new.crossings) state) (circle_count new state)) with_finger.plus with_finger.minus
+    ∙ ap₂ (λ r c. term_at (plus + 1) (minus + 1) exponent r c) (ap (λ k. ones k state) size ∙ at.ones)
     (circle_count-finger is_positive in_order old new arcs low with_finger base state inside inside_below at)
     ∙ sym (term_of-spread (plus + 1) (minus + 1) exponent (ones n base) left (ends_joined crossings inside)
     (closed_inside crossings inside - 1) (ones 2 inside)) in
@@ -268,7 +268,7 @@ terms-finger is_positive in_order old new arcs low with_finger exponent base bel
     ∙ sym (inside_sum-flat_map rest group (range_with_len 0 4))
     ∙ inside_sum-finger is_positive in_order rest
     ∙ straight-term_of plus minus (ones n base) exponent left
-    ∙ ap (λ c. term_of plus minus exponent (ones n base) c) (circles_left-straight is_positive in_order old new arcs low with_finger base)
+    ∙ ap (λ c. term_at plus minus exponent (ones n base) c) (circles_left-straight is_positive in_order old new arcs low with_finger base)
     ∙ sym (term_with-is plus minus old exponent base)
 
 -- a finger keeps the state sum

@@ -1,10 +1,10 @@
 -- The table of the second Reidemeister move, computed.
 use Rattle.std.proofs.Common.{◌≡◌, ℕ, Bool, true, false, refl, ℤ, List, [], ◌∷◌}
-use Rattle.gluing.specs.Slides.{is_tied, have_one_sum, inside_sum}
+use Rattle.gluing.specs.Slides.{is_tied_throughout, have_one_sum, inside_sum}
 use Rattle.kinks_and_fingers.specs.Fingers.{finger, finger_terms, straight_term}
 use Rattle.gluing.proofs.SlideSums.{inside_sum-same}
 
-pub is_tied-finger : (is_positive in_order : Bool) → is_tied (finger is_positive in_order) ≡ true
+pub is_tied-finger : (is_positive in_order : Bool) → is_tied_throughout (finger is_positive in_order) ≡ true
 is_tied-finger true true = refl
 is_tied-finger true false = refl
 is_tied-finger false true = refl

@@ -17,7 +17,7 @@ use Rattle.kh_types.proofs.AcceptedLemmas.{HasArcsTwice-accepted}
 use Rattle.kh_types.proofs.Heads.{HasNoSingleArcs-accepted}
 use Rattle.kh_types.proofs.Lists.{count_by-map}
 use Rattle.kh_types.proofs.RangeCounts.{count_by-alike, count_by-one_more}
-use Rattle.gluing.specs.Terms.{term_of, signed_by}
+use Rattle.gluing.specs.Terms.{term_at, signed_by_count}
 use Rattle.kinks_and_fingers.specs.Strands.{enters}
 use Rattle.kinks_and_fingers.specs.Drops.{positive_at, kept_places, kept_signs, kept_crossings, without_kink}
 use Rattle.kinks_and_fingers.specs.Dropping.{HasKinkAt, is_code_head}
@@ -149,13 +149,13 @@ plus-kept code c below =
 
 -- terms
 
-signed_by-difference : (r minus x : ℕ) → kh.signed_by (pos r -ℤ pos minus) x ≡ signed_by (r + minus) x
+signed_by-difference : (r minus x : ℕ) → kh.signed_by (pos r -ℤ pos minus) x ≡ signed_by_count (r + minus) x
 signed_by-difference r minus x = by_parity (pos r -ℤ pos minus) r minus x refl
   where
     same_parity : (i k x : ℕ) → i % 2 ≡ k % 2 → signed_by_parity i x ≡ signed_by_parity k x
     same_parity i k x same = ap (λ p. cond (nat_eq p 0) (pos x) (neg_ℤ (pos x))) same
 
-    by_parity : (z : ℤ) (r minus x : ℕ) → z ≡ pos r -ℤ pos minus → kh.signed_by z x ≡ signed_by (r + minus) x
+    by_parity : (z : ℤ) (r minus x : ℕ) → z ≡ pos r -ℤ pos minus → kh.signed_by z x ≡ signed_by_count (r + minus) x
     by_parity (pos i) r minus x is =
         let e : i + minus ≡ r = omega (arith, ints, is) in
         same_parity i (r + minus) x (omega (arith, e))
@@ -163,7 +163,7 @@ signed_by-difference r minus x = by_parity (pos r -ℤ pos minus) r minus x refl
         let e : i + 1 + r ≡ minus = omega (arith, ints, is) in
         same_parity (suc i) (r + minus) x (omega (arith, e))
 
-pub term-is : (plus minus : ℕ) (exponent : ℤ) (r circles : ℕ) → kh.term_of plus minus exponent r circles ≡ term_of plus minus exponent r circles
+pub term-is : (plus minus : ℕ) (exponent : ℤ) (r circles : ℕ) → kh.term_of plus minus exponent r circles ≡ term_at plus minus exponent r circles
 term-is plus minus exponent r circles =
     signed_by-difference r minus (circle_coefficient circles ((exponent -ℤ pos (r + plus)) +ℤ pos (2 * minus)))
 
@@ -259,10 +259,10 @@ state_sum-without_kink code c p is kink exponent =
     four_terms : (plus minus new_plus new_minus : ℕ) (exponent : ℤ) (r0 c0 r1 c1 s0 s1 d0 d1 : ℕ) → plus ≡ new_plus → minus ≡ new_minus
         → r0 ≡ s0 → r1 ≡ s1 → c0 ≡ d0 → c1 ≡ d1
         → kh.term_of plus minus exponent r0 c0 +ℤ kh.term_of plus minus exponent r1 c1
-        ≡ term_of new_plus new_minus exponent s0 d0 +ℤ term_of new_plus new_minus exponent s1 d1
+        ≡ term_at new_plus new_minus exponent s0 d0 +ℤ term_at new_plus new_minus exponent s1 d1
     four_terms plus minus new_plus new_minus exponent r0 c0 r1 c1 s0 s1 d0 d1 plus_is minus_is r0_is r1_is c0_is c1_is =
         ap₂ (λ x y. x +ℤ y)
-        (term-is plus minus exponent r0 c0 ∙ ap₂ (λ p m. term_of p m exponent r0 c0) plus_is minus_is
-        ∙ ap₂ (λ r c. term_of new_plus new_minus exponent r c) r0_is c0_is)
-        (term-is plus minus exponent r1 c1 ∙ ap₂ (λ p m. term_of p m exponent r1 c1) plus_is minus_is
-        ∙ ap₂ (λ r c. term_of new_plus new_minus exponent r c) r1_is c1_is)
+        (term-is plus minus exponent r0 c0 ∙ ap₂ (λ p m. term_at p m exponent r0 c0) plus_is minus_is
+        ∙ ap₂ (λ r c. term_at new_plus new_minus exponent r c) r0_is c0_is)
+        (term-is plus minus exponent r1 c1 ∙ ap₂ (λ p m. term_at p m exponent r1 c1) plus_is minus_is
+        ∙ ap₂ (λ r c. term_at new_plus new_minus exponent r c) r1_is c1_is)

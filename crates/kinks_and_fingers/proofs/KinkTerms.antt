@@ -10,7 +10,7 @@ use Rattle.kh_types.specs.Circles.{smoothing_of, smoothings_of, circles_of, circ
 use Rattle.kh_types.specs.Generators.{one_count}
 use Rattle.kh_types.specs.StateSum.{int_sum, term_with, sum_with}
 use Rattle.gluing.specs.Glue.{renamed}
-use Rattle.gluing.specs.Terms.{term_of}
+use Rattle.gluing.specs.Terms.{term_at}
 use Rattle.gluing.specs.Codes.{dart_smoothings, arc_of_dart, name_count, HoldsArcs}
 use Rattle.gluing.proofs.Renamed.{AreBelow-renamed, AreBelow-append}
 use Rattle.gluing.proofs.KinkSums.{term_of-positive_kink, term_of-negative_kink, int_sum-doubled}
@@ -136,13 +136,13 @@ circle_count-through a is_over is_positive old new kink old_state state holds a_
 
 -- a term by its numbers
 term_of-same : (p m r c plus minus ones circles : ℕ) (exponent : ℤ) → p ≡ plus → m ≡ minus → r ≡ ones → c ≡ circles
-    → term_of p m exponent r c ≡ term_of plus minus exponent ones circles
+    → term_at p m exponent r c ≡ term_at plus minus exponent ones circles
 term_of-same p m r c plus minus ones circles exponent is_plus is_minus is_ones is_circles =
-    ap₂ (λ k l. term_of k l exponent r c) is_plus is_minus ∙ ap₂ (λ k l. term_of plus minus exponent k l) is_ones is_circles
+    ap₂ (λ k l. term_at k l exponent r c) is_plus is_minus ∙ ap₂ (λ k l. term_at plus minus exponent k l) is_ones is_circles
 
 -- a term of the new code
 term_with-same : (p m plus minus r c state : ℕ) (code : Code) (exponent : ℤ) → p ≡ plus → m ≡ minus → one_count code state ≡ r
-    → circle_count code state ≡ c → term_with p m code exponent state ≡ term_of plus minus exponent r c
+    → circle_count code state ≡ c → term_with p m code exponent state ≡ term_at plus minus exponent r c
 term_with-same p m plus minus r c state code exponent is_plus is_minus is_ones is_circles =
     term_with-is p m code exponent state
     ∙ term_of-same p m (one_count code state) (circle_count code state) plus minus r c exponent is_plus is_minus is_ones is_circles

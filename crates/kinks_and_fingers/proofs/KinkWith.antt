@@ -7,7 +7,7 @@ use Rattle.kh_types.specs.Darts.{arc_of}
 use Rattle.kh_types.specs.Directions.{plus_count, minus_count}
 use Rattle.kh_types.specs.Acceptance.{accepted}
 use Rattle.kh_types.specs.StateSum.{state_sum, sum_with}
-use Rattle.gluing.specs.Arcs.{arc_at}
+use Rattle.gluing.specs.Arcs.{arc_by_place}
 use Rattle.gluing.specs.Codes.{HoldsArcs}
 use Rattle.kinks_and_fingers.specs.FingerAdd.{dart_with}
 use Rattle.kinks_and_fingers.specs.Strands.{slots_at, enters}
@@ -30,11 +30,11 @@ IsWithKink-kinked code a over positive = record {
   size = length-moved code.crossings a;
   crossings = refl;
   arcs = λ place slot below slot_below.
-      let is : arc_at (moved_crossings a code.crossings) place slot
-      ≡ kinked_name a (enters (positive_at code.crossings place) slot) (arc_at code.crossings place slot) =
+      let is : arc_by_place (moved_crossings a code.crossings) place slot
+      ≡ kinked_name a (enters (positive_at code.crossings place) slot) (arc_by_place code.crossings place slot) =
       ap (λ slots. arc_in slots slot) (slots_at-moved code.crossings a place below)
       ∙ arc_in-kinked a (positive_at code.crossings place) (slots_at code.crossings place) slot slot_below in
-      elim (kinked-cases a (enters (positive_at code.crossings place) slot) (arc_at code.crossings place slot)) [
+      elim (kinked-cases a (enters (positive_at code.crossings place) slot) (arc_by_place code.crossings place slot)) [
         | inl risen ↦ inl (is ∙ risen)
         | inr end ↦ inr (end.0, is ∙ end.1)
       ];
@@ -46,8 +46,8 @@ HoldsArcs-kinkable code a can place slot below slot_below =
     let at = can.directed.slots (dart_with (place + 1) slot)
     (record { crossing = record { positive = omega arith; within = omega (arith, below) }; slot = slot_below }) in
     let e : place + 1 - 1 ≡ place = omega arith in
-    let same : arc_of code.crossings (dart_with (place + 1) slot) ≡ arc_at code.crossings place slot =
-    ap (λ p. arc_at code.crossings p slot) e in
+    let same : arc_of code.crossings (dart_with (place + 1) slot) ≡ arc_by_place code.crossings place slot =
+    ap (λ p. arc_by_place code.crossings p slot) e in
     omega (arith, at.within, same)
 
 pub state_sum-kinked : (code : Code) (a : ℕ) (over positive : Bool) → IsTrue (accepted code) → IsArc code.crossings a → (exponent : ℤ)

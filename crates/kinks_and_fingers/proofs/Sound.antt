@@ -11,12 +11,12 @@ use Rattle.kh_types.proofs.DartColours.{IsColoured-accepted}
 use Rattle.kinks_and_fingers.specs.Strands.{slots_at}
 use Rattle.kinks_and_fingers.specs.Drops.{after, is_kink, is_kink_at, is_bigon, is_bigon_at, is_of_two, without_kink, without_finger}
 use Rattle.kinks_and_fingers.specs.Pulls.{early, late, smoothed}
-use Rattle.kinks_and_fingers.specs.Dropping.{HasKinkAt, HasBigonAt, IsSound}
+use Rattle.kinks_and_fingers.specs.Dropping.{HasKinkAt, HasBigonAt, IsPlanarRest}
 use Rattle.kinks_and_fingers.proofs.Dropped.{HasTwoEnds-dropped, HasColours-dropped, IsPlanarBy-dropped}
 use Rattle.kinks_and_fingers.proofs.KinkDrops.{IsDropped-kink}
 use Rattle.kinks_and_fingers.proofs.FingerDrops.{IsDropped-finger}
 
-pub IsSound-kink : (code : Code) (c p : ℕ) → IsTrue (accepted code) → HasKinkAt code.crossings c p → IsSound (without_kink code c)
+pub IsSound-kink : (code : Code) (c p : ℕ) → IsTrue (accepted code) → HasKinkAt code.crossings c p → IsPlanarRest (without_kink code c)
 IsSound-kink code c p is kink =
     let k = length code.crossings - 1 in
     let coloured = IsColoured-accepted code is in
@@ -36,7 +36,7 @@ two_below : (n c d : ℕ) → c < n → d < n → c ≢ d → n ≡ n - 2 + 1 + 
 two_below n c d c_below d_below apart = omega (arith, c_below, d_below, apart)
 
 pub IsSound-finger : (code : Code) (c d p q : ℕ) → IsTrue (accepted code) → HasBigonAt code.crossings c d p q
-    → IsSound (without_finger code c d)
+    → IsPlanarRest (without_finger code c d)
 IsSound-finger code c d p q is bigon =
     let k = length code.crossings - 2 in
     let coloured = IsColoured-accepted code is in

@@ -51,7 +51,7 @@ pub record HasBigonAt (crossings : List (List ℕ)) (c d p q : ℕ) : Type 0 whe
   pub odd : (p + q) % 2 ≡ 1
 
 -- what is left where crossings are dropped: each arc has a head and a tail, there are two colours, and as many faces as on the sphere
-pub record IsSound (strands : Strands) : Type 0 where
+pub record IsPlanarRest (strands : Strands) : Type 0 where
   pub ends : HasTwoEnds strands.crossings strands.signs
   pub choice : ℕ → ℕ
   pub colours : HasColours strands.crossings choice

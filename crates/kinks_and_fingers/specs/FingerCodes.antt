@@ -2,7 +2,7 @@
 use Rattle.std.specs.Prelude.{◌≡◌, ℕ, ◌+◌, ◌*◌, ◌<◌, List, [], ◌∷◌, ◌++◌, length, slice_index_or, Bool}
 use Rattle.kh_types.specs.Code.{Code}
 use Rattle.kh_types.specs.Directions.{plus_count, minus_count}
-use Rattle.gluing.specs.Arcs.{arc_at}
+use Rattle.gluing.specs.Arcs.{arc_by_place}
 use Rattle.gluing.specs.Codes.{name_count, arc_of_dart, HoldsArcs}
 use Rattle.gluing.specs.Slides.{IsPlacedTriangle, IsNoSide}
 use Rattle.kinks_and_fingers.specs.Fingers.{finger, HasFinger}
@@ -21,8 +21,8 @@ pub record IsWithFinger (is_positive in_order : Bool) (old new : Code) (arcs low
   pub placed : IsPlacedTriangle (name_count old + 5) arcs
   pub holds : HoldsArcs old
   pub new_holds : HoldsArcs new
-  pub moved_holds : (place slot : ℕ) → place < length old.crossings → slot < 4 → arc_at moved place slot < name_count old + 5
-  pub sides : (place slot : ℕ) → place < length old.crossings → slot < 4 → IsNoSide arcs (arc_at moved place slot)
+  pub moved_holds : (place slot : ℕ) → place < length old.crossings → slot < 4 → arc_by_place moved place slot < name_count old + 5
+  pub sides : (place slot : ℕ) → place < length old.crossings → slot < 4 → IsNoSide arcs (arc_by_place moved place slot)
   pub arcs_lowered : HasFinger (4 * length old.crossings) arcs low (arc_of_dart old.crossings) (arc_of_dart moved)
   pub loops : new.loops ≡ old.loops
   pub plus : plus_count new.crossings ≡ plus_count old.crossings + 1

@@ -2,7 +2,7 @@
 use Rattle.std.specs.Prelude.{◌≡◌, ◌≢◌, ◌⊎◌, ◌<◌, ◌≤◌, ℕ, ◌-◌, ◌%◌, pos, List, [], ◌∷◌, map, nat_eq, Bool, true, not, if◌then◌else◌}
 use Rattle.std.specs.List.{flat_map, range_with_len}
 use Rattle.kh_types.specs.Bits.{ones}
-use Rattle.gluing.specs.Slides.{InsideTerm, ends_joined, closed_inside, spread}
+use Rattle.gluing.specs.Slides.{InsideTerm, ends_joined, closed_inside, term_exponents}
 
 -- the ends are numbered as those of a triangle: 1 and 2 are the tail and the head of the over arc, 3 and 4 those of the under arc, 5
 -- and 6 stand for nothing; of the sides 7 is the over arc's middle, 8 the under arc's, and 9 is a number that nothing touches
@@ -24,7 +24,7 @@ abbrev pub finger_terms : List (List ℕ) → List InsideTerm
 finger_terms crossings =
     flat_map
     (λ state. map (λ shift. record { is_minus = nat_eq (ones 2 state % 2) 1; joined = ends_joined crossings state; shift = shift })
-    (spread (closed_inside crossings state - 1) (pos (ones 2 state))))
+    (term_exponents (closed_inside crossings state - 1) (pos (ones 2 state))))
     (range_with_len 0 4)
 
 -- without the finger both arcs go straight on

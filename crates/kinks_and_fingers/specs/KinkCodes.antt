@@ -3,7 +3,7 @@ use Rattle.std.specs.Prelude.{◌≡◌, ℕ, ◌⊎◌, ◌+◌, ◌<◌, List,
 use Rattle.kh_types.specs.Code.{Code, IsArc}
 use Rattle.kh_types.specs.Accepted.{IsDirected}
 use Rattle.kh_types.specs.Directions.{HasNoSingleArcs}
-use Rattle.gluing.specs.Arcs.{arc_at}
+use Rattle.gluing.specs.Arcs.{arc_by_place}
 use Rattle.kinks_and_fingers.specs.KinkAdds.{raised, kink_crossing, moved_crossings}
 
 -- the crossings with a kink on the arc a, whose first pass is over or under, and which is positive or negative
@@ -23,8 +23,8 @@ pub record IsWithKink (a : ℕ) (is_over is_positive : Bool) (old new : Code) : 
   pub size : length moved ≡ length old.crossings
   pub crossings : new.crossings ≡ moved ++ kink_crossing is_over is_positive a ∷ []
   pub arcs : (place slot : ℕ) → place < length old.crossings → slot < 4
-      → (arc_at moved place slot ≡ raised a (arc_at old.crossings place slot))
-      ⊎ ((arc_at old.crossings place slot ≡ a) × (arc_at moved place slot ≡ a + 2))
+      → (arc_by_place moved place slot ≡ raised a (arc_by_place old.crossings place slot))
+      ⊎ ((arc_by_place old.crossings place slot ≡ a) × (arc_by_place moved place slot ≡ a + 2))
   pub loops : new.loops ≡ old.loops
 
 -- the ends below m stand on old arcs, and after a kink was added to arc a on new ones: those numbers have risen, and of the two ends

@@ -4,7 +4,7 @@ ghost use Rattle.std.specs.Prelude.{◌≡◌, ℕ, ◌<◌, List, IsTrue, true,
 ghost use Rattle.kh_types.specs.Acceptance.{accepted};
 ghost use Rattle.kh_types.specs.Code.{Code};
 ghost use Rattle.kinks_and_fingers.specs.Drops.{is_bigon, is_kink, without_finger, without_kink};
-ghost use Rattle.kinks_and_fingers.specs.Dropping.{HasBigonAt, HasKinkAt, IsSound};
+ghost use Rattle.kinks_and_fingers.specs.Dropping.{HasBigonAt, HasKinkAt, IsPlanarRest};
 ghost use Rattle.kinks_and_fingers.specs.Strands.{slots_at};
 ghost use Rattle.kinks_and_fingers.specs.WorkedDrops.{curl_fingered, curl_kinked};
 
@@ -14,7 +14,7 @@ pub fn kinks_are_dropped()
     ensures found { (crossings : List (List ℕ)) (c : ℕ) → c < length crossings
         → is_kink (slots_at crossings c) ≡ true → (p : ℕ) × HasKinkAt crossings c p }
     ensures sound { (code : Code) (c p : ℕ) → IsTrue (accepted code) → HasKinkAt code.crossings c p
-        → IsSound (without_kink code c) }
+        → IsPlanarRest (without_kink code c) }
     ensures worked { HasKinkAt curl_kinked.crossings 1 2 }
 {}
 
@@ -25,6 +25,6 @@ pub fn bigons_are_dropped()
         → is_bigon crossings c d ≡ true → (p : ℕ) × (q : ℕ) × HasBigonAt crossings c d p q }
     ensures sound { (code : Code) (c d p q : ℕ) → IsTrue (accepted code)
         → HasBigonAt code.crossings c d p q
-        → IsSound (without_finger code c d) }
+        → IsPlanarRest (without_finger code c d) }
     ensures worked { HasBigonAt curl_fingered.crossings 0 1 1 0 }
 {}

@@ -22,7 +22,7 @@ use Rattle.code_passes.proofs.DirectedText.{IsDirected-crossings}
 use Rattle.code_passes.proofs.OverPasses.{GoodText}
 use Rattle.code_passes.proofs.TextSigns.{is_positive-listed}
 use Rattle.orient_arcs.specs.Parts.{Parts, ArePaired, passes_through, slots_in, is_positive_at, under_pass, over_pass}
-use Rattle.orient_arcs.specs.Renumbered.{entering, follows, label_entered, bound_of, all_of, named_components, order_of, number_in, renamed, renumber}
+use Rattle.orient_arcs.specs.Renumbered.{entering, follows, label_entered, bound_of, all_of, named_components, order_of, number_in, renamed_crossing, renumber}
 use Rattle.orient_arcs.proofs.Members.{IsIn, AreDistinct, length-among, position-get, get-IsIn}
 use Rattle.orient_arcs.proofs.AllComponents.{AreSoFar, AreSoFar-fold}
 use Rattle.orient_arcs.proofs.PairedPasses.{heads_of, heads-distinct, length-heads, AreNext-passes, label-within, label-once, entering-at, heads-at}
@@ -44,7 +44,7 @@ map-as_range f (x ∷ xs) a g same =
     (λ k below. let e : a + 1 + k ≡ a + suc k = omega arith in ap g e ∙ same (suc k) (omega (arith, below))))
 
 pub renamed-slot : (number : ℕ → ℕ) (slots : List ℕ) (slot : ℕ) → slot < 4
-    → arc_in (renamed number slots) slot ≡ number (arc_in slots slot)
+    → arc_in (renamed_crossing number slots) slot ≡ number (arc_in slots slot)
 renamed-slot number slots zero below = refl
 renamed-slot number slots (suc zero) below = refl
 renamed-slot number slots (suc (suc zero)) below = refl
@@ -61,7 +61,7 @@ pub slot-renumbered : (parts : Parts) (crossing slot : ℕ) → IsCrossing parts
     ≡ number_in (order_of (passes_through parts)) (arc_in (slots_of parts.crossings crossing) slot)
 slot-renumbered parts crossing slot is slot_below =
     ap (λ (new : List ℕ). arc_in new slot)
-    (get_or-map (renamed (number_in (order_of (passes_through parts)))) parts.crossings (crossing - 1) [] []
+    (get_or-map (renamed_crossing (number_in (order_of (passes_through parts)))) parts.crossings (crossing - 1) [] []
     (omega (arith, is.positive, is.within)))
     ∙ renamed-slot (number_in (order_of (passes_through parts))) (slots_of parts.crossings crossing) slot slot_below
 
@@ -193,7 +193,7 @@ module _ (parts : Parts) (paired : ArePaired parts) where
       (label-over groups_of no-bad place within) (entering-at parts paired place below).1.0 (heads-at parts paired place below).1.0
 
   slots-are : (place : ℕ) → place < length parts.crossings
-      → gauss.slots_at (all_passes 1 groups_of) signs_of place ≡ renamed (number_in order) (slots_in parts.crossings place)
+      → gauss.slots_by_passes (all_passes 1 groups_of) signs_of place ≡ renamed_crossing (number_in order) (slots_in parts.crossings place)
   slots-are place below =
       let under = passing.under_pass groups_of place in
       let over = passing.over_pass groups_of place in
@@ -208,7 +208,7 @@ module _ (parts : Parts) (paired : ArePaired parts) where
           → over.leaves ≡ number_in (order_of (passes_through parts)) (arc_in slots (if b then 1 else 3))
           → (if test then under.enters ∷ over.leaves ∷ under.leaves ∷ over.enters ∷ []
           else under.enters ∷ over.enters ∷ under.leaves ∷ over.leaves ∷ [])
-          ≡ renamed (number_in (order_of (passes_through parts))) slots
+          ≡ renamed_crossing (number_in (order_of (passes_through parts))) slots
       by true test is under over slots at_under enters leaves =
           ap (λ t. if t then under.enters ∷ over.leaves ∷ under.leaves ∷ over.enters ∷ []
           else under.enters ∷ over.enters ∷ under.leaves ∷ over.leaves ∷ []) is
@@ -224,11 +224,11 @@ module _ (parts : Parts) (paired : ArePaired parts) where
 
   pub crossings-are : crossings_of groups_of signs_of ≡ (renumber parts).crossings
   crossings-are =
-      ap (λ n. map (gauss.slots_at (all_passes 1 groups_of) signs_of) (range_with_len 0 n)) crossings-in
-      ∙ map-as_range (renamed (number_in order)) parts.crossings 0 (gauss.slots_at (all_passes 1 groups_of) signs_of)
+      ap (λ n. map (gauss.slots_by_passes (all_passes 1 groups_of) signs_of) (range_with_len 0 n)) crossings-in
+      ∙ map-as_range (renamed_crossing (number_in order)) parts.crossings 0 (gauss.slots_by_passes (all_passes 1 groups_of) signs_of)
       (λ place below.
       let e : 0 + place ≡ place = omega arith in
-      ap (gauss.slots_at (all_passes 1 groups_of) signs_of) e ∙ slots-are place below)
+      ap (gauss.slots_by_passes (all_passes 1 groups_of) signs_of) e ∙ slots-are place below)
 
   pub IsDirected-renumbered : IsDirected (renumber parts).crossings
   IsDirected-renumbered =
@@ -236,11 +236,11 @@ module _ (parts : Parts) (paired : ArePaired parts) where
 
   -- a crossing under its new numbers
   pub length-renumbered : length (renumber parts).crossings ≡ length parts.crossings
-  length-renumbered = length-map parts.crossings (renamed (number_in order))
+  length-renumbered = length-map parts.crossings (renamed_crossing (number_in order))
 
   renamed-at : (place : ℕ) → place < length parts.crossings
-      → slice_index_or (renumber parts).crossings place [] ≡ renamed (number_in order) (slots_in parts.crossings place)
-  renamed-at place below = get_or-map (renamed (number_in order)) parts.crossings place [] [] below
+      → slice_index_or (renumber parts).crossings place [] ≡ renamed_crossing (number_in order) (slots_in parts.crossings place)
+  renamed-at place below = get_or-map (renamed_crossing (number_in order)) parts.crossings place [] [] below
 
   -- an over pass goes on to the next
   over-next : (place : ℕ) → place < length parts.crossings

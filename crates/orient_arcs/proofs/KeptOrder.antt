@@ -19,7 +19,7 @@ use Rattle.code_passes.proofs.LeastArcs.{IsFirstOf-directed}
 use Rattle.code_passes.proofs.CutArcs.{IsFirst, IsFirst-next, size, component-in, end-within, size-positive}
 use Rattle.code_passes.proofs.TwoArcComponents.{ascending}
 use Rattle.orient_arcs.specs.Parts.{Parts, ArePaired, parts_of, passes_through, passes_at, slots_in, is_positive_at, under_pass, over_pass}
-use Rattle.orient_arcs.specs.Renumbered.{follows, label_entered, walk, turned_names, is_in, bound_of, order_of, number_in, renamed, renumber}
+use Rattle.orient_arcs.specs.Renumbered.{follows, label_entered, walk, turned_names, is_in, bound_of, order_of, number_in, renamed_crossing, renumber}
 use Rattle.orient_arcs.specs.Steps.{order_below, is_new}
 use Rattle.orient_arcs.specs.OtherNames.{IsNamedBy, IsOverCircle, KeepsComponents}
 use Rattle.orient_arcs.proofs.Members.{IsIn, is_in-true, true-is_in, is_in-false, neq-eqb, position-get, AreDistinct}
@@ -66,7 +66,7 @@ turned-map f label own (a ∷ b ∷ c ∷ names) same = refl
 -- a list under names that are its own again
 own-again : (number : ℕ → ℕ) (xs ys : List (List ℕ)) → length xs ≡ length ys → AllByRecursion (λ (slots : List ℕ). length slots ≡ 4) ys
     → ((k slot : ℕ) → k < length ys → slot < 4 → number (arc_in (slice_index_or xs k []) slot) ≡ arc_in (slice_index_or ys k []) slot)
-    → map (renamed number) xs ≡ ys
+    → map (renamed_crossing number) xs ≡ ys
 own-again number [] [] alike four each = refl
 own-again number [] (y ∷ ys) alike four each = absurd (omega (arith, alike))
 own-again number (x ∷ xs) [] alike four each = absurd (omega (arith, alike))
@@ -75,7 +75,7 @@ own-again number (x ∷ xs) (y ∷ ys) alike four each =
     (own-again number xs ys (omega (arith, alike)) four.1 (λ k slot below slot_below. each (suc k) slot (omega (arith, below)) slot_below))
   where
     quad : (number : ℕ → ℕ) (old new : List ℕ) → length new ≡ 4 → ((slot : ℕ) → slot < 4 → number (arc_in old slot) ≡ arc_in new slot)
-        → renamed number old ≡ new
+        → renamed_crossing number old ≡ new
     quad number old [] four each = absurd (omega (arith, four))
     quad number old (i ∷ []) four each = absurd (omega (arith, four))
     quad number old (i ∷ j ∷ []) four each = absurd (omega (arith, four))

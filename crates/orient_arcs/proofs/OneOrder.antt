@@ -6,7 +6,7 @@ use Rattle.std.proofs.lemmas.Bool.{cases_eq, eq-eqb}
 use Rattle.std.proofs.lemmas.Grind.{same_number_lists}
 use Rattle.std.proofs.lemmas.List.Sums.{sum_by-append, sum_by-cons}
 use Rattle.orient_arcs.specs.Parts.{Parts, ArePaired, passes_through}
-use Rattle.orient_arcs.specs.Renumbered.{AreInOrder, AreOrdered, all_of, follows, label_entered, name_at, order_of, turned_names}
+use Rattle.orient_arcs.specs.Renumbered.{AreInOrder, AreOrdered, all_of, follows, label_entered, name_in_component, order_of, turned_names}
 use Rattle.orient_arcs.proofs.Members.{IsIn, AreDistinct, neq-eqb, IsIn-left, IsIn-parts, IsIn-get, get-IsIn, position-get}
 use Rattle.orient_arcs.proofs.Ordered.{AreOrdered-components}
 
@@ -90,12 +90,12 @@ module _ (next : ℕ → ℕ) where
   record AreSorted (components : List (List ℕ)) : Type 0 where
     some : (at : ℕ) → at < length components → 1 ≤ length (slice_index_or components at [])
     onward : (at place : ℕ) → at < length components → place + 1 < length (slice_index_or components at [])
-        → next (name_at components at place) ≡ name_at components at (place + 1)
+        → next (name_in_component components at place) ≡ name_in_component components at (place + 1)
     round : (at place : ℕ) → at < length components → place + 1 ≡ length (slice_index_or components at [])
-        → next (name_at components at place) ≡ name_at components at 0
+        → next (name_in_component components at place) ≡ name_in_component components at 0
     least : (at place : ℕ) → at < length components → place < length (slice_index_or components at [])
-        → name_at components at 0 ≤ name_at components at place
-    ascending : (at later : ℕ) → at < later → later < length components → name_at components at 0 < name_at components later 0
+        → name_in_component components at 0 ≤ name_in_component components at place
+    ascending : (at later : ℕ) → at < later → later < length components → name_in_component components at 0 < name_in_component components later 0
 
   sorted-rest : (x : List ℕ) (xs : List (List ℕ)) → AreSorted (x ∷ xs) → AreSorted xs
   sorted-rest x xs sorted = record {
@@ -115,7 +115,7 @@ module _ (next : ℕ → ℕ) where
         round = λ place ends. sorted.round 0 place here ends;
       }
 
-  above-all : (bound : ℕ) (xs : List (List ℕ)) → AreSorted xs → ((at : ℕ) → at < length xs → bound ≤ name_at xs at 0)
+  above-all : (bound : ℕ) (xs : List (List ℕ)) → AreSorted xs → ((at : ℕ) → at < length xs → bound ≤ name_in_component xs at 0)
       → (y : ℕ) → IsIn y (all_of xs) → bound ≤ y
   above-all bound [] sorted above y is = absurd is
   above-all bound (x ∷ xs) sorted above y is = elim (IsIn-parts y x (all_of xs) is) [
@@ -130,7 +130,7 @@ module _ (next : ℕ → ℕ) where
   first-least : (x : List ℕ) (xs : List (List ℕ)) → AreSorted (x ∷ xs) → (y : ℕ) → IsIn y (all_of (x ∷ xs)) → slice_index x 0 ≤ y
   first-least x xs sorted = above-all (slice_index x 0) (x ∷ xs) sorted each
     where
-      each : (at : ℕ) → at < length (x ∷ xs) → slice_index x 0 ≤ name_at (x ∷ xs) at 0
+      each : (at : ℕ) → at < length (x ∷ xs) → slice_index x 0 ≤ name_in_component (x ∷ xs) at 0
       each zero below = omega arith
       each (suc at) below = let later = sorted.ascending 0 (suc at) (omega arith) below in omega (arith, later)
 

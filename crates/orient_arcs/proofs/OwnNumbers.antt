@@ -21,7 +21,7 @@ use Rattle.code_passes.proofs.ArcLabels.{IsOriented}
 use Rattle.code_passes.proofs.CutArcs.{IsFirst, IsFirst-next, size, component-in, end-within, size-positive}
 use Rattle.code_passes.proofs.TwoArcComponents.{turned_labels-component}
 use Rattle.orient_arcs.specs.Parts.{Parts, ArePaired, parts_of, passes_through, passes_at, slots_in, is_positive_at, under_pass, over_pass}
-use Rattle.orient_arcs.specs.Renumbered.{follows, label_entered, walk, turned_names, is_in, bound_of, order_of, number_in, renamed, renumber}
+use Rattle.orient_arcs.specs.Renumbered.{follows, label_entered, walk, turned_names, is_in, bound_of, order_of, number_in, renamed_crossing, renumber}
 use Rattle.orient_arcs.specs.Steps.{order_below, is_new}
 use Rattle.orient_arcs.proofs.Members.{IsIn, is_in-true, is_in-false, neq-eqb, position-get, AreDistinct}
 use Rattle.orient_arcs.proofs.PairedPasses.{heads_of, entering-holds, entering-enters, label-once, length-heads, in-counted, counted-in, All-flat_map_range}
@@ -293,7 +293,7 @@ module _ (code : Code) (directed : IsDirected code.crossings) (moves : HasNoSing
       (record { crossing = record { positive = omega arith; within = omega (arith, below) }; slot = slot_below })))))
     where
       quad : (number : ℕ → ℕ) (slots : List ℕ) → length slots ≡ 4
-          → ((slot : ℕ) → slot < 4 → number (arc_in slots slot) ≡ arc_in slots slot) → renamed number slots ≡ slots
+          → ((slot : ℕ) → slot < 4 → number (arc_in slots slot) ≡ arc_in slots slot) → renamed_crossing number slots ≡ slots
       quad number [] size each = absurd (omega (arith, size))
       quad number (i ∷ []) size each = absurd (omega (arith, size))
       quad number (i ∷ j ∷ []) size each = absurd (omega (arith, size))
@@ -306,7 +306,7 @@ module _ (code : Code) (directed : IsDirected code.crossings) (moves : HasNoSing
       stay : (number : ℕ → ℕ) (xs : List (List ℕ)) (a : ℕ) → AllByRecursion (λ (slots : List ℕ). length slots ≡ 4) xs
           → ((k slot : ℕ) → k < length xs → slot < 4
           → number (arc_in (slice_index_or xs k []) slot) ≡ arc_in (slice_index_or xs k []) slot)
-          → map (renamed number) xs ≡ xs
+          → map (renamed_crossing number) xs ≡ xs
       stay number [] a four each = refl
       stay number (x ∷ xs) a four each =
           ap₂ (λ y ys. y ∷ ys) (quad number x four.0 (λ slot below. each 0 slot (omega arith) below))

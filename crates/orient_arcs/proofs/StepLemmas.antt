@@ -6,7 +6,7 @@ use Rattle.std.proofs.lemmas.List.{take_more, map_push}
 use Rattle.kh_types.proofs.Ranges.{flat_map-range_more}
 use Rattle.code_passes.specs.Passes.{Pass}
 use Rattle.orient_arcs.specs.Parts.{Parts, passes_at, passes_through}
-use Rattle.orient_arcs.specs.Renumbered.{bound_of, is_in, walk, number_in, order_of, renamed, renumber}
+use Rattle.orient_arcs.specs.Renumbered.{bound_of, is_in, walk, number_in, order_of, renamed_crossing, renumber}
 use Rattle.kh_types.specs.Code.{Code}
 
 pub bound_of_push : (passes : List Pass) (pass : Pass) → bound_of (passes ++ pass ∷ []) ≡ max (bound_of passes) (pass.enters + 1)
@@ -58,11 +58,11 @@ length_walk next first fuel less name size =
     omega (arith, some, ap (λ k. length (walk next first k name)) size)
 
 pub code_is : (parts : Parts) (passes : List Pass) (order : List ℕ) (crossings : List (List ℕ)) (loops : ℕ) → passes ≡ passes_through parts
-    → order ≡ order_of passes → crossings ≡ map (renamed (number_in order)) parts.crossings → loops ≡ parts.loops
+    → order ≡ order_of passes → crossings ≡ map (renamed_crossing (number_in order)) parts.crossings → loops ≡ parts.loops
     → (let code : Code = record { crossings = crossings; loops = loops } in code ≡ renumber parts)
 code_is parts passes order crossings loops are ordered made same =
     let code : List (List ℕ) → ℕ → Code = λ cs k. record { crossings = cs; loops = k } in
-    ap₂ code (made ∙ ap (λ os. map (renamed (number_in os)) parts.crossings) (ordered ∙ ap order_of are)) same
+    ap₂ code (made ∙ ap (λ os. map (renamed_crossing (number_in os)) parts.crossings) (ordered ∙ ap order_of are)) same
 
 pub bound_of_take : (passes : List Pass) (at bound : ℕ) (pass default : Pass) → at < length passes → get_or passes at default ≡ pass
     → bound ≡ bound_of (take at passes) → max bound (pass.enters + 1) ≡ bound_of (take (at + 1) passes)

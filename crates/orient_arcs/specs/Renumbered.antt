@@ -61,32 +61,33 @@ abbrev pub number_in : List ℕ → ℕ → ℕ
 number_in order name = position_or_len (nat_eq name) order + 1
 
 -- a crossing under its new numbers
-abbrev pub renamed : (ℕ → ℕ) → List ℕ → List ℕ
-renamed number slots =
+abbrev pub renamed_crossing : (ℕ → ℕ) → List ℕ → List ℕ
+renamed_crossing number slots =
     number (arc_in slots 0) ∷ number (arc_in slots 1) ∷ number (arc_in slots 2) ∷ number (arc_in slots 3) ∷ []
 
 -- the code of some parts
 abbrev pub renumber : Parts → Code
 renumber parts = record {
-  crossings = map (renamed (number_in (order_of (passes_through parts)))) parts.crossings;
+  crossings = map (renamed_crossing (number_in (order_of (passes_through parts)))) parts.crossings;
   loops = parts.loops;
 }
 
 -- the name at a place of a component
-abbrev pub name_at : List (List ℕ) → ℕ → ℕ → ℕ
-name_at components at place = slice_index (slice_index_or components at []) place
+abbrev pub name_in_component : List (List ℕ) → ℕ → ℕ → ℕ
+name_in_component components at place = slice_index (slice_index_or components at []) place
 
 -- components in order: none is empty; each goes round along the direction; its first name is its least; the first names ascend; and
 -- each name stands once where it is a head, and else not
 pub record AreOrdered (parts : Parts) (components : List (List ℕ)) : Type 0 where
   pub some : (at : ℕ) → at < length components → 1 ≤ length (slice_index_or components at [])
   pub onward : (at place : ℕ) → at < length components → place + 1 < length (slice_index_or components at [])
-      → follows (passes_through parts) (name_at components at place) ≡ name_at components at (place + 1)
+      → follows (passes_through parts) (name_in_component components at place) ≡ name_in_component components at (place + 1)
   pub round : (at place : ℕ) → at < length components → place + 1 ≡ length (slice_index_or components at [])
-      → follows (passes_through parts) (name_at components at place) ≡ name_at components at 0
+      → follows (passes_through parts) (name_in_component components at place) ≡ name_in_component components at 0
   pub least : (at place : ℕ) → at < length components → place < length (slice_index_or components at [])
-      → name_at components at 0 ≤ name_at components at place
-  pub ascending : (at later : ℕ) → at < later → later < length components → name_at components at 0 < name_at components later 0
+      → name_in_component components at 0 ≤ name_in_component components at place
+  pub ascending : (at later : ℕ) → at < later → later < length components
+      → name_in_component components at 0 < name_in_component components later 0
   pub once : (name : ℕ) → count_by (nat_eq name) (all_of components) ≡ head_count parts name
 
 -- names in order: those of components in order, one after another, each along its direction from its least name on; but one of two

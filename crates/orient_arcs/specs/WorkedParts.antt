@@ -19,8 +19,8 @@ abbrev pub turned_circle : Parts
 turned_circle = with_signs (slots_with 1 3 2 4 ∷ slots_with 2 3 1 4 ∷ []) (true ∷ false ∷ [])
 
 -- a kinked circle under a circle of two arcs, after a slide; the second arc of the circle enters its first listed crossing
-abbrev pub slid : Parts
-slid = with_signs (slots_with 2 5 3 6 ∷ slots_with 3 5 4 6 ∷ slots_with 1 1 2 4 ∷ []) (true ∷ false ∷ true ∷ [])
+abbrev pub slid_triangle : Parts
+slid_triangle = with_signs (slots_with 2 5 3 6 ∷ slots_with 3 5 4 6 ∷ slots_with 1 1 2 4 ∷ []) (true ∷ false ∷ true ∷ [])
 
 -- a curl
 abbrev pub curl_parts : Parts

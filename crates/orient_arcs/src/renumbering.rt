@@ -5,7 +5,7 @@ ghost use Rattle.std.specs.List.{find, position_or_len, list_any};
 ghost use Rattle.kh_types.specs.declared.limits.TheConstants.{ARCS, CROSSINGS};
 ghost use Rattle.code_passes.specs.Passes.{Pass, no_pass};
 ghost use Rattle.orient_arcs.specs.Parts.{ArePaired, is_positive_at, over_pass, passes_at, passes_through, slots_in, under_pass};
-ghost use Rattle.orient_arcs.specs.Renumbered.{bound_of, entering, follows, is_in, label_entered, number_in, order_of, renamed, renumber, walk};
+ghost use Rattle.orient_arcs.specs.Renumbered.{bound_of, entering, follows, is_in, label_entered, number_in, order_of, renamed_crossing, renumber, walk};
 ghost use Rattle.orient_arcs.specs.Steps.{is_new, is_turned, order_below, start_of};
 
 use crate::parts::Parts;
@@ -31,7 +31,7 @@ pub fn renumber(parts: &Parts) -> RawCode
 #[tactic(auto, using(crate::proofs::StepLemmas::map_take_more))]
 fn crossings_in(parts: &Parts, order: &[u8]) -> ArrayVec<Crossing, CROSSINGS>
     requires { length order.now ≤ ARCS }
-    ensures { result.items ≡ map (renamed (number_in order.now)) parts.now.crossings }
+    ensures { result.items ≡ map (renamed_crossing (number_in order.now)) parts.now.crossings }
 {
     let mut crossings = ArrayVec::new();
     'crossings: for at in 0..parts.crossings.len() {
@@ -43,7 +43,7 @@ fn crossings_in(parts: &Parts, order: &[u8]) -> ArrayVec<Crossing, CROSSINGS>
 // A crossing under its new numbers.
 fn renamed(order: &[u8], slots: Crossing) -> Crossing
     requires { length order.now ≤ ARCS }
-    ensures { result ≡ renamed (number_in order.now) slots }
+    ensures { result ≡ renamed_crossing (number_in order.now) slots }
 {
     Crossing([
         number_in(order, slots.0[0]),

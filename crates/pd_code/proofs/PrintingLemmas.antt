@@ -14,7 +14,7 @@ use Rattle.kh_lex.proofs.WrittenTexts.{IsWritten, Means-written, comma-written, 
 use Rattle.pd_code.specs.declared.item.Item.{Item}
 use Rattle.pd_code.specs.declared.item.Item.TheVariants.{Crossing, Loop}
 use Rattle.pd_code.specs.Grammar.{Spells, item_symbols, listed, next_symbols, pd_spelled}
-use Rattle.pd_code.specs.Items.{crossings_of, is_loop_item, loop_item_count, slots_of_item}
+use Rattle.pd_code.specs.Items.{crossings_among, is_loop_item, loop_item_count, slots_of_item}
 use Rattle.pd_code.specs.Printing.{HasFourSlots, crossing_item, item_text, items_of_code, listed_text, loop_item, loop_names, next_text, pd_text, text_of_items}
 use Rattle.pd_code.specs.Reading.{IsPdReading}
 
@@ -100,7 +100,7 @@ slots_of_item-crossing (i ∷ j ∷ k ∷ l ∷ []) is =
 slots_of_item-crossing (i ∷ j ∷ k ∷ l ∷ m ∷ arcs) is = let four = is.four in absurd (omega arith)
 
 -- no crossing is among loops, and each of them is one
-crossings_of-loops : (names : List ℕ) → crossings_of (map loop_item names) ≡ []
+crossings_of-loops : (names : List ℕ) → crossings_among (map loop_item names) ≡ []
 crossings_of-loops [] = refl
 crossings_of-loops (name ∷ names) = crossings_of-loops names
 
@@ -109,10 +109,10 @@ loops-loops [] = refl
 loops-loops (name ∷ names) = ap suc (loops-loops names)
 
 -- the crossings among the items of a code are the code's, and so many are the loops
-crossings_of-items : (crossings : List (List ℕ)) (names : List ℕ) → AllByRecursion HasFourSlots crossings → crossings_of (map crossing_item crossings ++ map loop_item names) ≡ crossings
+crossings_of-items : (crossings : List (List ℕ)) (names : List ℕ) → AllByRecursion HasFourSlots crossings → crossings_among (map crossing_item crossings ++ map loop_item names) ≡ crossings
 crossings_of-items [] names four = crossings_of-loops names
 crossings_of-items (arcs ∷ crossings) names four =
-    ap (λ first. cons_option first (crossings_of (map crossing_item crossings ++ map loop_item names))) (slots_of_item-crossing arcs four.0)
+    ap (λ first. cons_option first (crossings_among (map crossing_item crossings ++ map loop_item names))) (slots_of_item-crossing arcs four.0)
     ∙ ap (λ others. arcs ∷ others) (crossings_of-items crossings names four.1)
 
 loops-items : (crossings : List (List ℕ)) (names : List ℕ) → length (filter is_loop_item (map crossing_item crossings ++ map loop_item names)) ≡ length names
@@ -131,13 +131,13 @@ IsPdReading-pd_text code all few few_loops = record {
       (small_crossings code.crossings (map loop_item (loop_names code)) four (small_loops (arc_count code.crossings + 1) code.loops (omega arith)));
   crossings = rw same_crossings few;
   loops = rw same_loops few_loops;
-  same = ap (made code.loops) (sym same_crossings) ∙ ap (λ n. made n (crossings_of (items_of_code code))) (sym same_loops);
+  same = ap (made code.loops) (sym same_crossings) ∙ ap (λ n. made n (crossings_among (items_of_code code))) (sym same_loops);
 }
   where
     four : AllByRecursion HasFourSlots code.crossings
     four = recursion_from_All HasFourSlots code.crossings all
 
-    same_crossings : crossings_of (items_of_code code) ≡ code.crossings
+    same_crossings : crossings_among (items_of_code code) ≡ code.crossings
     same_crossings = crossings_of-items code.crossings (loop_names code) four
 
     same_loops : loop_item_count (items_of_code code) ≡ code.loops

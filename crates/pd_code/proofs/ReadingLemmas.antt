@@ -19,7 +19,7 @@ use Rattle.pd_code.specs.declared.machine.State.TheVariants.{Start, Done}
 use Rattle.pd_code.specs.declared.stop.PdStop.{PdStop}
 use Rattle.pd_code.specs.declared.stop.PdStop.TheVariants.{Text, Number, CrossingLimit, LoopLimit, NoMemory}
 use Rattle.pd_code.specs.Grammar.{IsPdText, Spells, pd_spelled}
-use Rattle.pd_code.specs.Items.{code_of_items, crossings_of, loop_item_count}
+use Rattle.pd_code.specs.Items.{code_of_items, crossings_among, loop_item_count}
 use Rattle.pd_code.specs.Limits.{code_within}
 use Rattle.pd_code.specs.Machine.{PdProgress, pd_advanced, is_pd_end, pd_progress}
 use Rattle.pd_code.specs.Reading.{HasManyCrossings, HasManyLoops, IsPdReading}
@@ -45,22 +45,22 @@ Spells-one text a b first second = pd_spelled-one a b (Means-one text (pd_spelle
 -- items that a text spells read as their code within the limits
 IsPdReading-pd_spelled : (text : List ℕ) (items : List Item) → Spells text items → IsPdReading text (code_within items)
 IsPdReading-pd_spelled text items spells =
-    go (nat_lt CROSSINGS (length (crossings_of items))) refl (nat_lt LOOPS (loop_item_count items)) refl
+    go (nat_lt CROSSINGS (length (crossings_among items))) refl (nat_lt LOOPS (loop_item_count items)) refl
   where
-    go : (crossings : Bool) → nat_lt CROSSINGS (length (crossings_of items)) ≡ crossings → (loops : Bool) → nat_lt LOOPS (loop_item_count items) ≡ loops
-        → IsPdReading text (cond crossings (Err (CrossingLimit (length (crossings_of items)))) (cond loops (Err (LoopLimit (loop_item_count items))) (Ok (code_of_items items))))
-    go true many loops _ = record { items = items; pd_spelled = spells; counted = refl; above = ltb-true CROSSINGS (length (crossings_of items)) many }
+    go : (crossings : Bool) → nat_lt CROSSINGS (length (crossings_among items)) ≡ crossings → (loops : Bool) → nat_lt LOOPS (loop_item_count items) ≡ loops
+        → IsPdReading text (cond crossings (Err (CrossingLimit (length (crossings_among items)))) (cond loops (Err (LoopLimit (loop_item_count items))) (Ok (code_of_items items))))
+    go true many loops _ = record { items = items; pd_spelled = spells; counted = refl; above = ltb-true CROSSINGS (length (crossings_among items)) many }
     go false few true many = record {
       items = items;
       pd_spelled = spells;
-      crossings = ltb-false CROSSINGS (length (crossings_of items)) few;
+      crossings = ltb-false CROSSINGS (length (crossings_among items)) few;
       counted = refl;
       above = ltb-true LOOPS (loop_item_count items) many;
     }
     go false few false few_loops = record {
       items = items;
       pd_spelled = spells;
-      crossings = ltb-false CROSSINGS (length (crossings_of items)) few;
+      crossings = ltb-false CROSSINGS (length (crossings_among items)) few;
       loops = ltb-false LOOPS (loop_item_count items) few_loops;
       same = refl;
     }
@@ -106,8 +106,8 @@ data Case (text : List ℕ) (reading : Result Code PdStop) : Type 0 where
   grammar_case : (place : ℕ) → LeavesGrammar IsPdText text place → reading ≡ Err (Text place) → Case text reading
   items_case : (items : List Item) → Spells text items → reading ≡ code_within items → Case text reading
 
-many_crossings : (text : List ℕ) (count : ℕ) (is : HasManyCrossings text count) → nat_lt CROSSINGS (length (crossings_of is.items)) ≡ true
-many_crossings text count is = lt-ltb CROSSINGS (length (crossings_of is.items)) (subst (λ n. CROSSINGS < n) is.counted is.above)
+many_crossings : (text : List ℕ) (count : ℕ) (is : HasManyCrossings text count) → nat_lt CROSSINGS (length (crossings_among is.items)) ≡ true
+many_crossings text count is = lt-ltb CROSSINGS (length (crossings_among is.items)) (subst (λ n. CROSSINGS < n) is.counted is.above)
 
 many_loops : (text : List ℕ) (count : ℕ) (is : HasManyLoops text count) → nat_lt LOOPS (loop_item_count is.items) ≡ true
 many_loops text count is = lt-ltb LOOPS (loop_item_count is.items) (subst (λ n. LOOPS < n) is.counted is.above)
@@ -115,14 +115,14 @@ many_loops text count is = lt-ltb LOOPS (loop_item_count is.items) (subst (λ n.
 -- which it is
 case_of : (text : List ℕ) (reading : Result Code PdStop) → IsPdReading text reading → Case text reading
 case_of text (Ok code) is = items_case is.items is.pd_spelled
-    (ap Ok is.same ∙ rw (le-ltb CROSSINGS (length (crossings_of is.items)) is.crossings, le-ltb LOOPS (loop_item_count is.items) is.loops) refl)
+    (ap Ok is.same ∙ rw (le-ltb CROSSINGS (length (crossings_among is.items)) is.crossings, le-ltb LOOPS (loop_item_count is.items) is.loops) refl)
 case_of text (Err (Text place)) (inl stops) = lexical_case (lexical.Bad place) stops refl
 case_of text (Err (Text place)) (inr leaves) = grammar_case place leaves refl
 case_of text (Err (Number place)) is = lexical_case (lexical.Number place) is refl
 case_of text (Err (CrossingLimit count)) is = items_case is.items is.pd_spelled
     (ap (λ n. Err (CrossingLimit n)) is.counted ∙ rw (many_crossings text count is) refl)
 case_of text (Err (LoopLimit count)) is = items_case is.items is.pd_spelled
-    (ap (λ n. Err (LoopLimit n)) is.counted ∙ rw (le-ltb CROSSINGS (length (crossings_of is.items)) is.crossings, many_loops text count is) refl)
+    (ap (λ n. Err (LoopLimit n)) is.counted ∙ rw (le-ltb CROSSINGS (length (crossings_among is.items)) is.crossings, many_loops text count is) refl)
 case_of text (Err NoMemory) is = absurd is
 
 -- two readings of a text are one

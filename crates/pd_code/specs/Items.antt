@@ -21,8 +21,8 @@ is_loop_item (Crossing i j k l) = false
 is_loop_item (Loop n) = true
 
 -- the crossings among items, in order
-abbrev pub crossings_of : List Item → List (List ℕ)
-crossings_of items = filter_map slots_of_item items
+abbrev pub crossings_among : List Item → List (List ℕ)
+crossings_among items = filter_map slots_of_item items
 
 -- how many loops there are among items; their numbers are not used
 abbrev pub loop_item_count : List Item → ℕ
@@ -30,4 +30,4 @@ loop_item_count items = count_by is_loop_item items
 
 -- the code that items stand for
 abbrev pub code_of_items : List Item → Code
-code_of_items items = record { crossings = crossings_of items; loops = loop_item_count items }
+code_of_items items = record { crossings = crossings_among items; loops = loop_item_count items }

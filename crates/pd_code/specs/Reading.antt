@@ -8,14 +8,14 @@ use Rattle.kh_lex.specs.Grammar.{LeavesGrammar}
 use Rattle.pd_code.specs.declared.item.Item.{Item}
 use Rattle.pd_code.specs.declared.stop.PdStop.{PdStop}
 use Rattle.pd_code.specs.declared.stop.PdStop.TheVariants.{Text, Number, CrossingLimit, LoopLimit, NoMemory}
-use Rattle.pd_code.specs.Items.{code_of_items, crossings_of, loop_item_count}
+use Rattle.pd_code.specs.Items.{code_of_items, crossings_among, loop_item_count}
 use Rattle.pd_code.specs.Grammar.{IsPdText, Spells}
 
 -- a text reads as a code: it spells items whose crossings and loops are within the limits, and the code is theirs
 pub record ReadsAsPd (text : List ℕ) (code : Code) : Type 0 where
   pub items : List Item
   pub pd_spelled : Spells text items
-  pub crossings : length (crossings_of items) ≤ CROSSINGS
+  pub crossings : length (crossings_among items) ≤ CROSSINGS
   pub loops : loop_item_count items ≤ LOOPS
   pub same : code ≡ code_of_items items
 
@@ -23,14 +23,14 @@ pub record ReadsAsPd (text : List ℕ) (code : Code) : Type 0 where
 pub record HasManyCrossings (text : List ℕ) (count : ℕ) : Type 0 where
   pub items : List Item
   pub pd_spelled : Spells text items
-  pub counted : count ≡ length (crossings_of items)
+  pub counted : count ≡ length (crossings_among items)
   pub above : CROSSINGS < count
 
 -- a text has too many loops: it spells items with so many, and these are above the limit, and the crossings within theirs
 pub record HasManyLoops (text : List ℕ) (count : ℕ) : Type 0 where
   pub items : List Item
   pub pd_spelled : Spells text items
-  pub crossings : length (crossings_of items) ≤ CROSSINGS
+  pub crossings : length (crossings_among items) ≤ CROSSINGS
   pub counted : count ≡ loop_item_count items
   pub above : LOOPS < count
 

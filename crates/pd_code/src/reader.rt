@@ -2,7 +2,7 @@
 
 ghost use Rattle.std.specs.Prelude.{◌≡◌, ◌≢◌, ◌++◌, ◌≤◌, Err, IfOk, length};
 ghost use Rattle.std.specs.Option.{option_to_list};
-ghost use Rattle.pd_code.specs.Items.{crossings_of, loop_item_count, slots_of_item};
+ghost use Rattle.pd_code.specs.Items.{crossings_among, loop_item_count, slots_of_item};
 ghost use Rattle.pd_code.specs.Limits.{code_within};
 ghost use Rattle.pd_code.specs.Reading.{IsPdReading};
 
@@ -54,7 +54,7 @@ fn code_within(items: &[Item]) -> Result<RawCode, PdStop>
 
 // The number of crossings among items.
 fn crossing_count(items: &[Item]) -> usize
-    ensures count { result ≡ length (crossings_of items.now) }
+    ensures count { result ≡ length (crossings_among items.now) }
     ensures within { result ≤ length items.now }
 {
     items.iter().filter_map(slots_of_item).count()
@@ -70,8 +70,8 @@ fn loop_item_count(items: &[Item]) -> usize
 
 // The crossings among items, of which there are few enough.
 fn crossings_of(items: &[Item]) -> ArrayVec<Crossing, CROSSINGS>
-    requires { length (crossings_of items.now) ≤ CROSSINGS }
-    ensures { result.items ≡ crossings_of items.now }
+    requires { length (crossings_among items.now) ≤ CROSSINGS }
+    ensures { result.items ≡ crossings_among items.now }
 {
     let mut crossings = ArrayVec::new();
     for item in items {

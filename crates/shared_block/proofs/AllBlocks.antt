@@ -8,7 +8,7 @@ use mathlib.Core.List.{IsPrefix}
 use Rattle.kh_types.specs.Code.{Code}
 use Rattle.cube_signs.specs.Blocks.{block_degrees}
 use Rattle.shared_block.specs.BlockHistories.{BlockHistory, block_with}
-use Rattle.shared_block.specs.AllBlocks.{AreBlocksOf, IsLaterOf, degrees_of, opening_blocks}
+use Rattle.shared_block.specs.AllBlocks.{AreBlocksOf, IsLaterOf, degrees_of_blocks, opening_blocks}
 use Rattle.kh_types.proofs.Prefixes.{prefix_self, prefix_trans}
 
 -- before any cancellation
@@ -81,7 +81,7 @@ diagrams-later code (x ∷ xs) [] later all = absurd later
 diagrams-later code (x ∷ xs) (y ∷ ys) later all = (later.0.diagram ∙ all.0, diagrams-later code xs ys later.1 all.1)
 
 degrees-later : (before after : List BlockHistory) → AllZip IsLaterOf before after
-    → degrees_of after ≡ degrees_of before
+    → degrees_of_blocks after ≡ degrees_of_blocks before
 degrees-later [] [] later = refl
 degrees-later [] (y ∷ ys) later = absurd later
 degrees-later (x ∷ xs) [] later = absurd later

@@ -18,7 +18,7 @@ use Rattle.jones_sum.specs.Tables.{IsTable}
 use Rattle.jones_sum.proofs.TableLemmas.{IsTable-table}
 use Rattle.cube_signs.specs.Blocks.{block_degrees, has_block}
 use Rattle.shared_block.specs.BlockHistories.{BlockHistory}
-use Rattle.shared_block.specs.AllBlocks.{degrees_of}
+use Rattle.shared_block.specs.AllBlocks.{degrees_of_blocks}
 use Rattle.shared_block.proofs.RowLists.{filter-none, filter-unless_any, flat_map-filter}
 
 generators_at-no_block : (code : Code) (i j : ℤ) → has_block code j ≡ false → generators_at code i j ≡ []
@@ -67,22 +67,22 @@ rows-all p code degrees k made is_made all is_degrees =
 -- the same of a list of blocks
 
 pub rows-block_more : (p : ℕ) (code : Code) (blocks : List BlockHistory) (k : ℕ) (held : BlockHistory) (made next : List Row)
-    → All (λ block. block.diagram ≡ code) blocks → made ≡ flat_map (rows_at p code) (take k (degrees_of blocks))
+    → All (λ block. block.diagram ≡ code) blocks → made ≡ flat_map (rows_at p code) (take k (degrees_of_blocks blocks))
     → k < length blocks → held ≡ get_or blocks k held → next ≡ made ++ rows_at p held.diagram held.degree
-    → next ≡ flat_map (rows_at p code) (take (k + 1) (degrees_of blocks))
+    → next ≡ flat_map (rows_at p code) (take (k + 1) (degrees_of_blocks blocks))
 rows-block_more p code blocks k held made next are is_made below is_held is_next =
     let degree : BlockHistory → ℤ = λ block. block.degree in
     let of_code : held.diagram ≡ code = ap (λ (block : BlockHistory). block.diagram) is_held ∙ are k held below in
-    rows-more p code held.diagram (degrees_of blocks) k held.degree held.degree made next is_made
+    rows-more p code held.diagram (degrees_of_blocks blocks) k held.degree held.degree made next is_made
     (omega (arith, below, length-map blocks degree)) (ap degree is_held ∙ sym (get_or-map degree blocks k held held.degree below)) refl
     of_code is_next
 
 pub rows-block_all : (p : ℕ) (code : Code) (blocks : List BlockHistory) (k : ℕ) (made : List Row)
-    → made ≡ flat_map (rows_at p code) (take k (degrees_of blocks)) → length blocks ≤ k → degrees_of blocks ≡ block_degrees code
+    → made ≡ flat_map (rows_at p code) (take k (degrees_of_blocks blocks)) → length blocks ≤ k → degrees_of_blocks blocks ≡ block_degrees code
     → made ≡ flat_map (rows_at p code) (block_degrees code)
 rows-block_all p code blocks k made is_made all is_degrees =
     let degree : BlockHistory → ℤ = λ block. block.degree in
-    rows-all p code (degrees_of blocks) k made is_made (omega (arith, all, length-map blocks degree)) is_degrees
+    rows-all p code (degrees_of_blocks blocks) k made is_made (omega (arith, all, length-map blocks degree)) is_degrees
 
 -- the table of these rows
 

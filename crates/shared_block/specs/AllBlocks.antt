@@ -11,14 +11,14 @@ abbrev pub opening_blocks : Code → List BlockHistory
 opening_blocks code = map (λ j. block_with code j []) (block_degrees code)
 
 -- the quantum degrees of blocks, one after another
-abbrev pub degrees_of : List BlockHistory → List ℤ
-degrees_of blocks = map (λ held. held.degree) blocks
+abbrev pub degrees_of_blocks : List BlockHistory → List ℤ
+degrees_of_blocks blocks = map (λ held. held.degree) blocks
 
 -- blocks are those of a diagram, whatever was cancelled in them: each is a block of this diagram, and their degrees are the quantum
 -- degrees that have a generator, ascending
 pub record AreBlocksOf (code : Code) (blocks : List BlockHistory) : Type 0 where
   pub diagram : All (λ held. held.diagram ≡ code) blocks
-  pub degrees : degrees_of blocks ≡ block_degrees code
+  pub degrees : degrees_of_blocks blocks ≡ block_degrees code
 
 -- a block after some cancellations, or none: diagram and degree stay, and the history goes on
 pub record IsLaterOf (before after : BlockHistory) : Type 0 where

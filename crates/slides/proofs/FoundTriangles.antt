@@ -7,7 +7,7 @@ use Rattle.kh_types.specs.Code.{IsCrossing, place_of}
 use Rattle.kh_types.specs.Darts.{dart_count}
 use Rattle.kh_types.proofs.Lists.{find-none}
 use Rattle.kh_types.proofs.Ranges.{list_any-found, list_any-below}
-use Rattle.slides.specs.Triangles.{step, dart_at_slot, is_at, is_triangle, has_heights, is_slidable_at, slide_slot, has_triangle, IsTriangle, IsTriangleAt, HasOneParity}
+use Rattle.slides.specs.Triangles.{step, dart_at_slot, is_at_crossing, is_triangle, has_heights, is_slidable_at, slide_slot, has_triangle, IsTriangle, IsTriangleAt, HasOneParity}
 use Rattle.slides.proofs.Corners.{eq_yes, eq_no}
 
 -- what a search finds passes, is in the range, and is the first
@@ -64,7 +64,7 @@ IsTriangle-is crossings c d e slot is_c is_d is_e below holds =
     let y = step crossings x in
     let z = step crossings y in
     let differ = not (nat_eq c d) && (not (nat_eq c e) && not (nat_eq d e)) in
-    let there = (is_at y d && is_at z e) || (is_at y e && is_at z d) in
+    let there = (is_at_crossing y d && is_at_crossing z e) || (is_at_crossing y e && is_at_crossing z d) in
     let parts = and_parts differ (nat_eq (step crossings z) x && there) holds in
     let first = and_parts (not (nat_eq c d)) (not (nat_eq c e) && not (nat_eq d e)) parts.0 in
     let second = and_parts (not (nat_eq c e)) (not (nat_eq d e)) first.1 in
@@ -75,9 +75,9 @@ IsTriangle-is crossings c d e slot is_c is_d is_e below holds =
     let x_at : x / 4 ≡ place_of c = omega (arith, below) in
     let third = eqb-true (step crossings z) x face.0 in
     let within : x < dart_count crossings = omega (arith, below, is_c.positive, is_c.within) in
-    elim (or_cases (is_at y d && is_at z e) (is_at y e && is_at z d) face.1) [
+    elim (or_cases (is_at_crossing y d && is_at_crossing z e) (is_at_crossing y e && is_at_crossing z d) face.1) [
       | inl holds_d ↦
-          let at = and_parts (is_at y d) (is_at z e) holds_d in
+          let at = and_parts (is_at_crossing y d) (is_at_crossing z e) holds_d in
           let y_at = eqb-true (y / 4) (place_of d) at.0 in
           let z_at = eqb-true (z / 4) (place_of e) at.1 in
           record {
@@ -90,7 +90,7 @@ IsTriangle-is crossings c d e slot is_c is_d is_e below holds =
             y_z = λ same. d_e (sym y_at ∙ same ∙ z_at);
           }
       | inr holds_e ↦
-          let at = and_parts (is_at y e) (is_at z d) holds_e in
+          let at = and_parts (is_at_crossing y e) (is_at_crossing z d) holds_e in
           let y_at = eqb-true (y / 4) (place_of e) at.0 in
           let z_at = eqb-true (z / 4) (place_of d) at.1 in
           record {
@@ -132,17 +132,17 @@ IsTriangleAt-is crossings c d e slot is_c is_d is_e below holds =
     let y = step crossings x in
     let z = step crossings y in
     let differ = not (nat_eq c d) && (not (nat_eq c e) && not (nat_eq d e)) in
-    let there = (is_at y d && is_at z e) || (is_at y e && is_at z d) in
+    let there = (is_at_crossing y d && is_at_crossing z e) || (is_at_crossing y e && is_at_crossing z d) in
     let parts = and_parts differ (nat_eq (step crossings z) x && there) holds in
     let face = and_parts (nat_eq (step crossings z) x) there parts.1 in
     record {
       triangle = IsTriangle-is crossings c d e slot is_c is_d is_e below holds;
-      corners = elim (or_cases (is_at y d && is_at z e) (is_at y e && is_at z d) face.1) [
+      corners = elim (or_cases (is_at_crossing y d && is_at_crossing z e) (is_at_crossing y e && is_at_crossing z d) face.1) [
         | inl holds_d ↦
-            let at = and_parts (is_at y d) (is_at z e) holds_d in
+            let at = and_parts (is_at_crossing y d) (is_at_crossing z e) holds_d in
             inl (eqb-true (y / 4) (place_of d) at.0, eqb-true (z / 4) (place_of e) at.1)
         | inr holds_e ↦
-            let at = and_parts (is_at y e) (is_at z d) holds_e in
+            let at = and_parts (is_at_crossing y e) (is_at_crossing z d) holds_e in
             inr (eqb-true (y / 4) (place_of e) at.0, eqb-true (z / 4) (place_of d) at.1)
       ];
     }
@@ -171,24 +171,24 @@ is_triangle-at crossings c d e slot below is =
     let triangle = is.triangle in
     let x_at : x / 4 ≡ place_of c = omega (arith, below) in
     let made = λ (differ_d : place_of c ≢ place_of d) (differ_e : place_of c ≢ place_of e) (differ : place_of d ≢ place_of e)
-    (there : ((is_at y d && is_at z e) || (is_at y e && is_at z d)) ≡ true).
+    (there : ((is_at_crossing y d && is_at_crossing z e) || (is_at_crossing y e && is_at_crossing z d)) ≡ true).
     and_both (not (nat_eq c d) && (not (nat_eq c e) && not (nat_eq d e)))
-    (nat_eq (step crossings z) x && ((is_at y d && is_at z e) || (is_at y e && is_at z d)))
+    (nat_eq (step crossings z) x && ((is_at_crossing y d && is_at_crossing z e) || (is_at_crossing y e && is_at_crossing z d)))
     (and_both (not (nat_eq c d)) (not (nat_eq c e) && not (nat_eq d e)) (numbers-differ c d differ_d)
     (and_both (not (nat_eq c e)) (not (nat_eq d e)) (numbers-differ c e differ_e) (numbers-differ d e differ)))
-    (and_both (nat_eq (step crossings z) x) ((is_at y d && is_at z e) || (is_at y e && is_at z d))
+    (and_both (nat_eq (step crossings z) x) ((is_at_crossing y d && is_at_crossing z e) || (is_at_crossing y e && is_at_crossing z d))
     (eq_yes (step crossings z) x triangle.third) there) in
     elim (is.corners) [
       | inl at ↦
           made (λ same. triangle.x_y (x_at ∙ same ∙ sym at.0)) (λ same. triangle.x_z (x_at ∙ same ∙ sym at.1))
           (λ same. triangle.y_z (at.0 ∙ same ∙ sym at.1))
-          (or_left (is_at y d && is_at z e) (is_at y e && is_at z d)
-          (and_both (is_at y d) (is_at z e) (eq_yes (y / 4) (place_of d) at.0) (eq_yes (z / 4) (place_of e) at.1)))
+          (or_left (is_at_crossing y d && is_at_crossing z e) (is_at_crossing y e && is_at_crossing z d)
+          (and_both (is_at_crossing y d) (is_at_crossing z e) (eq_yes (y / 4) (place_of d) at.0) (eq_yes (z / 4) (place_of e) at.1)))
       | inr at ↦
           made (λ same. triangle.x_z (x_at ∙ same ∙ sym at.1)) (λ same. triangle.x_y (x_at ∙ same ∙ sym at.0))
           (λ same. triangle.y_z (at.0 ∙ sym same ∙ sym at.1))
-          (or_right (is_at y d && is_at z e) (is_at y e && is_at z d)
-          (and_both (is_at y e) (is_at z d) (eq_yes (y / 4) (place_of e) at.0) (eq_yes (z / 4) (place_of d) at.1)))
+          (or_right (is_at_crossing y d && is_at_crossing z e) (is_at_crossing y e && is_at_crossing z d)
+          (and_both (is_at_crossing y e) (is_at_crossing z d) (eq_yes (y / 4) (place_of e) at.0) (eq_yes (z / 4) (place_of d) at.1)))
     ]
 
 pub is_triangle-exactly : (crossings : List (List ℕ)) (c d e slot : ℕ) → IsCrossing crossings c → IsCrossing crossings d

@@ -13,7 +13,7 @@ use Rattle.kh_types.proofs.JoinedClasses.{classes_of-same}
 use Rattle.kh_types.proofs.CircleBound.{ArcsBelow-slots, passes_of-below}
 use Rattle.kh_types.proofs.PassPairs.{passes-all}
 use Rattle.slides.specs.Slid.{on, arc_there, source, slid}
-use Rattle.slides.specs.SlideCodes.{enters, KeepsPass}
+use Rattle.slides.specs.SlideCodes.{is_head_with, KeepsPass}
 use Rattle.slides.proofs.Corners.{four, at_places, IsOutside, AreApart, AreApart-rotated, on-crossing, on-slot, on-on, on-zero, on-round, on-below, source-x, source-rotated, source-outside, source-source, source-below}
 use Rattle.slides.proofs.Sides.{HasSides}
 use Rattle.slides.proofs.SlidArcs.{length-slid, arc_there-slid, HasArcsTwice-slid}
@@ -143,5 +143,5 @@ KeepsPass-slid code x y z is sides place within =
       second = arc_there-slid crossings x y z (on place 2) (on-below n place 2 within)
           ∙ ap (arc_there crossings) (source-behind x y z sides.apart place);
       direction = sym
-          (kind-source n (partner_at crossings) (λ k. enters (is_positive crossings) (dart_at k)) x y z (IsKind-heads code is) sides place);
+          (kind-source n (partner_at crossings) (λ k. is_head_with (is_positive crossings) (dart_at k)) x y z (IsKind-heads code is) sides place);
     }

@@ -9,7 +9,7 @@ use Rattle.kh_types.specs.Acceptance.{accepted}
 use Rattle.kh_types.proofs.DartPairs.{dart_at-place, dart_place-at, dart_place-below, IsDart-at, partner-at_place}
 use Rattle.kh_types.proofs.Heads.{HasNoSingleArcs-accepted, HasEnds-accepted, is_head-partner}
 use Rattle.slides.specs.Slid.{on, source, slid}
-use Rattle.slides.specs.SlideCodes.{enters, IsOnlyDart, HasHeadsAndTails}
+use Rattle.slides.specs.SlideCodes.{is_head_with, IsOnlyDart, HasHeadsAndTails}
 use Rattle.slides.proofs.Corners.{four, at_places, on-crossing, on-slot, on-on, on-zero, source-x, source-rotated, source-outside, source-source, source-below}
 use Rattle.slides.proofs.Sides.{HasSides, HasSides-rotated}
 use Rattle.slides.proofs.SlidArcs.{length-slid, arc_of-slid}
@@ -59,7 +59,7 @@ unfolding enters_at
 across_at true = four (λ slot. enters_at true ((slot + 2) % 4) ≡ not (enters_at true slot)) refl refl refl refl
 across_at false = four (λ slot. enters_at false ((slot + 2) % 4) ≡ not (enters_at false slot)) refl refl refl refl
 
-enters-across : (signs : ℕ → Bool) (place : ℕ) → enters signs (dart_at (on place 2)) ≡ not (enters signs (dart_at place))
+enters-across : (signs : ℕ → Bool) (place : ℕ) → is_head_with signs (dart_at (on place 2)) ≡ not (is_head_with signs (dart_at place))
 unfolding enters_at
 enters-across signs place =
     let slot : place % 4 < 4 = omega arith in
@@ -68,7 +68,7 @@ enters-across signs place =
     ∙ across_at (signs (place / 4 + 1)) (place % 4) slot
 
 pub IsKind-heads : (code : Code) → IsTrue (accepted code)
-    → IsKind (length code.crossings) (partner_at code.crossings) (λ place. enters (is_positive code.crossings) (dart_at place))
+    → IsKind (length code.crossings) (partner_at code.crossings) (λ place. is_head_with (is_positive code.crossings) (dart_at place))
 IsKind-heads code is =
     let crossings = code.crossings in
     let moves = HasNoSingleArcs-accepted code is in
@@ -132,7 +132,7 @@ HasHeadsAndTails-slid code x y z is sides arc is_arc =
     let old_arc : IsArc crossings arc =
     record { positive = is_arc.positive; within = subst (λ (k : ℕ). arc ≤ 2 * k) size is_arc.within } in
     let ends = HasEnds-accepted code is arc old_arc in
-    let kind : Dart → Bool = enters (is_positive crossings) in
+    let kind : Dart → Bool = is_head_with (is_positive crossings) in
     let keeps = kind-source (length crossings) (partner_at crossings) (λ place. kind (dart_at place)) x y z (IsKind-heads code is) sides in
     let head : IsOnlyDart crossings kind arc (head_of crossings arc) =
     record { is = ends.head; kind_of = ends.enters; only = ends.one_head } in

@@ -10,7 +10,7 @@ use Rattle.kh_types.specs.Directions.{plus_count, minus_count}
 use Rattle.kh_types.specs.StateSum.{state_sum, sum_with}
 use Rattle.kh_types.proofs.DartPairs.{IsDart-at, IsOtherPlace-partner_at, partner_at-only}
 use Rattle.kh_types.proofs.AcceptedLemmas.{HasArcsTwice-accepted}
-use Rattle.gluing.specs.Arcs.{arc_at}
+use Rattle.gluing.specs.Arcs.{arc_by_place}
 use Rattle.gluing.specs.Codes.{name_count, HoldsArcs, IsRenumbered}
 use Rattle.gluing.specs.Slides.{quadruple_from, IsPlacedTriangle, IsNoSide}
 use Rattle.gluing.specs.SlidCodes.{Shows, IsSlid}
@@ -59,11 +59,11 @@ at_sides P at_7 at_8 at_9 side from below = elim (cases_eq side 7) [
 
 -- arcs of slots
 
-pub arc_at-there : (crossings : List (List ℕ)) (place slot : ℕ) → slot < 4 → arc_at crossings place slot ≡ arc_there crossings (4 * place + slot)
+pub arc_at-there : (crossings : List (List ℕ)) (place slot : ℕ) → slot < 4 → arc_by_place crossings place slot ≡ arc_there crossings (4 * place + slot)
 arc_at-there crossings place slot below =
     let crossing : place ≡ (4 * place + slot) / 4 = omega (arith, below) in
     let same_slot : slot ≡ (4 * place + slot) % 4 = omega (arith, below) in
-    ap₂ (λ k s. arc_at crossings k s) crossing same_slot
+    ap₂ (λ k s. arc_by_place crossings k s) crossing same_slot
 
 IsArc-there : (crossings : List (List ℕ)) (place : ℕ) → HasArcsTwice crossings → place < 4 * length crossings
     → IsArc crossings (arc_there crossings place)
@@ -212,7 +212,7 @@ Shows-from crossings arcs x around shows slot below =
     let crossing : x / 4 ≡ on x j / 4 = sym (on-crossing x j) in
     let here : slot ≡ on x j % 4 = sym (on-slot x j ∙ (let e : (x % 4 + (slot + 4 - x % 4) % 4) % 4 ≡ slot = omega (arith, below) in e)) in
     let plus_zero : 0 + slot ≡ slot = omega arith in
-    ap₂ (λ k s. arc_at crossings k s) crossing here ∙ shows j j_below
+    ap₂ (λ k s. arc_by_place crossings k s) crossing here ∙ shows j j_below
     ∙ sym (ap arcs (get_or-map-range_with_len (λ at. slice_index around ((at + 4 - x % 4) % 4)) 0 4 slot slot 0 below plus_zero))
 
 -- before and after
@@ -250,7 +250,7 @@ outside-places x y z place slot below not_x not_y not_z =
 
 outside_arcs : (crossings : List (List ℕ)) (x y z place slot : ℕ) → HasSides (length crossings) (partner_at crossings) x y z
     → place < length crossings → slot < 4 → place ≢ x / 4 → place ≢ y / 4 → place ≢ z / 4
-    → arc_at (slid crossings x y z) place slot ≡ arc_at crossings place slot
+    → arc_by_place (slid crossings x y z) place slot ≡ arc_by_place crossings place slot
 outside_arcs crossings x y z place slot sides below slot_below not_x not_y not_z =
     arc_at-there (slid crossings x y z) place slot slot_below
     ∙ arc_there-slid crossings x y z (4 * place + slot) (omega (arith, below, slot_below))
@@ -259,7 +259,7 @@ outside_arcs crossings x y z place slot sides below slot_below not_x not_y not_z
 
 outside_sides : (crossings : List (List ℕ)) (x y z place slot : ℕ) → HasArcsTwice crossings
     → HasSides (length crossings) (partner_at crossings) x y z → place < length crossings → slot < 4 → place ≢ x / 4 → place ≢ y / 4
-    → place ≢ z / 4 → IsNoSide (inside_arcs crossings x y z) (arc_at crossings place slot)
+    → place ≢ z / 4 → IsNoSide (inside_arcs crossings x y z) (arc_by_place crossings place slot)
 outside_sides crossings x y z place slot twice sides below slot_below not_x not_y not_z =
     let arcs = inside_arcs crossings x y z in
     let dart = 4 * place + slot in

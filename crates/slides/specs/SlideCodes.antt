@@ -6,8 +6,8 @@ use Rattle.kh_types.specs.declared.dart.Dart.{Dart}
 use Rattle.slides.specs.Slid.{on, arc_there}
 
 -- whether a dart is the head of its arc, where each crossing has a sign
-abbrev pub enters : (ℕ → Bool) → Dart → Bool
-enters is_positive dart = nat_eq dart.slot 0 || nat_eq dart.slot (if is_positive dart.crossing then 3 else 1)
+abbrev pub is_head_with : (ℕ → Bool) → Dart → Bool
+is_head_with is_positive dart = nat_eq dart.slot 0 || nat_eq dart.slot (if is_positive dart.crossing then 3 else 1)
 
 -- a dart of an arc that is the only one of its kind
 pub record IsOnlyDart (crossings : List (List ℕ)) (kind : Dart → Bool) (arc : ℕ) (dart : Dart) : Type 0 where
@@ -19,8 +19,8 @@ pub record IsOnlyDart (crossings : List (List ℕ)) (kind : Dart → Bool) (arc 
 abbrev pub HasHeadsAndTails : List (List ℕ) → (ℕ → Bool) → Type 0
 HasHeadsAndTails crossings is_positive =
     (arc : ℕ) → IsArc crossings arc
-    → ((head : Dart) × IsOnlyDart crossings (enters is_positive) arc head)
-    × ((tail : Dart) × IsOnlyDart crossings (λ dart. not (enters is_positive dart)) arc tail)
+    → ((head : Dart) × IsOnlyDart crossings (is_head_with is_positive) arc head)
+    × ((tail : Dart) × IsOnlyDart crossings (λ dart. not (is_head_with is_positive dart)) arc tail)
 
 -- what the rule of slides says of a side that joins the darts a and b: it comes to the slots behind them, and to the darts what
 -- stood behind the other
@@ -37,4 +37,4 @@ pub record KeepsPass (crossings after : List (List ℕ)) (is_positive : ℕ → 
   pub below : old < dart_count crossings
   pub first : arc_there after place ≡ arc_there crossings old
   pub second : arc_there after (on place 2) ≡ arc_there crossings (on old 2)
-  pub direction : enters is_positive (dart_at place) ≡ enters is_positive (dart_at old)
+  pub direction : is_head_with is_positive (dart_at place) ≡ is_head_with is_positive (dart_at old)

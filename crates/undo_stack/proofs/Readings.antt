@@ -12,7 +12,7 @@ use Rattle.undo_stack.specs.declared.stop.ScriptStop.{ScriptStop}
 use Rattle.undo_stack.specs.declared.stop.ScriptStop.TheVariants.{LineLimit, Line, NoMemory}
 use Rattle.kh_lex.specs.Lines.{CutsLines, lines_of}
 use Rattle.kh_lex.specs.LineWords.{CutsWords, has_words, is_gap, words_of}
-use Rattle.undo_stack.specs.Reading.{IsCommand, IsFirstWrong, IsNumbered, IsScriptReading, worded_lines}
+use Rattle.undo_stack.specs.Reading.{IsCommandLine, IsFirstWrong, IsNumbered, IsScriptReading, worded_lines}
 use Rattle.undo_stack.specs.Steps.{line_command, commands_from, then_lines, led_by, script_reading}
 use Rattle.kh_lex.proofs.LineCuts.{CutsLines-lines_of, lines_of-CutsLines}
 use Rattle.undo_stack.proofs.Loops.{led_by-none}
@@ -23,12 +23,12 @@ pub record IsMeaning {T : Type 0} (Spells : List (List ℕ) → T → Type 0) (m
   pub means : (words : List (List ℕ)) (command : T) → (meaning words ≡ Some command) ↔ Spells words command
 
 IsCommand-meaning : {T : Type 0} (Spells : List (List ℕ) → T → Type 0) (meaning : List (List ℕ) → Option T) → IsMeaning Spells meaning
-    → (line : List ℕ) (command : T) → meaning (words_of line) ≡ Some command → IsCommand Spells line command
+    → (line : List ℕ) (command : T) → meaning (words_of line) ≡ Some command → IsCommandLine Spells line command
 IsCommand-meaning Spells meaning m line command same =
     record { words = words_of line; cut = CutsWords-words_of line; spelled = (m.means (words_of line) command).0 same }
 
 meaning-IsCommand : {T : Type 0} (Spells : List (List ℕ) → T → Type 0) (meaning : List (List ℕ) → Option T) → IsMeaning Spells meaning
-    → (line : List ℕ) (command : T) → IsCommand Spells line command → meaning (words_of line) ≡ Some command
+    → (line : List ℕ) (command : T) → IsCommandLine Spells line command → meaning (words_of line) ≡ Some command
 meaning-IsCommand Spells meaning m line command is =
     (m.means (words_of line) command).1 (subst (λ words. Spells words command) (words_of-CutsWords line is.words is.cut) is.spelled)
 
@@ -58,7 +58,7 @@ AreLines Spells lines (Err NoMemory) = ⊥
 
 -- one more line before others
 AreLines-cons : {T : Type 0} (Spells : List (List ℕ) → T → Type 0) (number : ℕ) (line : List ℕ) (lines : List (ℕ × List ℕ)) (command : T)
-    (r : Result (List (ℕ × T)) ScriptStop) → IsCommand Spells line command → AreLines Spells lines r
+    (r : Result (List (ℕ × T)) ScriptStop) → IsCommandLine Spells line command → AreLines Spells lines r
     → AreLines Spells ((number, line) ∷ lines) (led_by ((number, command) ∷ []) r)
 AreLines-cons Spells number line lines command (Ok commands) is later = ((refl, is), later)
 AreLines-cons Spells number line lines command (Err (LineLimit count)) is later = later
@@ -147,20 +147,20 @@ commands_from-AreLines {T} Spells meaning m number (line ∷ lines) r are =
   where
     wrong-first : (wrong : ℕ) (bad : List ℕ) (after : List (ℕ × List ℕ)) (o : Option T) (word : List ℕ) (words : List (List ℕ))
         → words_of line ≡ word ∷ words → meaning (words_of line) ≡ o → (number, line) ∷ worded (number + 1) lines ≡ (wrong, bad) ∷ after
-        → ((command : T) → ¬ IsCommand Spells bad command) → commands_from meaning number (line ∷ lines) ≡ Err (Line wrong)
+        → ((command : T) → ¬ IsCommandLine Spells bad command) → commands_from meaning number (line ∷ lines) ≡ Err (Line wrong)
     wrong-first wrong bad after None word words some is parts none =
         ap (λ c. then_lines number c (commands_from meaning (number + 1) lines))
         (line_command-some meaning number word words (words_of line) None some is)
         ∙ ap (λ ls. Err (Line (first_line ls).0)) parts
     wrong-first wrong bad after (Some command) word words some is parts none =
         absurd (none command
-        (subst (λ l. IsCommand Spells l command) (ap (λ ls. (first_line ls).1) parts)
+        (subst (λ l. IsCommandLine Spells l command) (ap (λ ls. (first_line ls).1) parts)
         (IsCommand-meaning Spells meaning m line command is)))
 
     wrong-at : (wrong : ℕ) (bad : List ℕ) (before after : List (ℕ × List ℕ)) (commands : List (ℕ × T)) (word : List ℕ)
         (words : List (List ℕ))
         → words_of line ≡ word ∷ words → (number, line) ∷ worded (number + 1) lines ≡ before ++ (wrong, bad) ∷ after
-        → ((command : T) → ¬ IsCommand Spells bad command) → AllZip (IsNumbered Spells) before commands
+        → ((command : T) → ¬ IsCommandLine Spells bad command) → AllZip (IsNumbered Spells) before commands
         → (IsFirstWrong Spells (worded (number + 1) lines) wrong → commands_from meaning (number + 1) lines ≡ Err (Line wrong))
         → commands_from meaning number (line ∷ lines) ≡ Err (Line wrong)
     wrong-at wrong bad [] after commands word words some parts none earlier later =
@@ -169,7 +169,7 @@ commands_from-AreLines {T} Spells meaning m number (line ∷ lines) r are =
     wrong-at wrong bad (first ∷ before) after (command ∷ commands) word words some parts none earlier later =
         commands_from-cons meaning number line word words lines command.1 (Err (Line wrong)) some
         (meaning-IsCommand Spells meaning m line command.1
-        (subst (λ l. IsCommand Spells l command.1) (sym (ap (λ ls. (first_line ls).1) parts)) earlier.0.1))
+        (subst (λ l. IsCommandLine Spells l command.1) (sym (ap (λ ls. (first_line ls).1) parts)) earlier.0.1))
         (later (record {
           before = before;
           line = bad;

@@ -13,14 +13,14 @@ abbrev pub worded_lines : List (List ℕ) → List (ℕ × List ℕ)
 worded_lines lines = filter (λ line. has_words line.1) (enumerate_from 1 lines)
 
 -- a line is a command: words cut it, and they spell the command
-pub record IsCommand {T : Type 0} (Spells : List (List ℕ) → T → Type 0) (line : List ℕ) (command : T) : Type 0 where
+pub record IsCommandLine {T : Type 0} (Spells : List (List ℕ) → T → Type 0) (line : List ℕ) (command : T) : Type 0 where
   pub words : List (List ℕ)
   pub cut : CutsWords line words
   pub spelled : Spells words command
 
 -- a line with its number is a command with that number
 abbrev pub IsNumbered : {T : Type 0} → (List (List ℕ) → T → Type 0) → ℕ × List ℕ → ℕ × T → Type 0
-IsNumbered Spells line command = (command.0 ≡ line.0) × IsCommand Spells line.1 command.1
+IsNumbered Spells line command = (command.0 ≡ line.0) × IsCommandLine Spells line.1 command.1
 
 -- a text reads as commands: lines cut it, of which there are no more than the limit, and each line that has words is a
 -- command, in order and with its number
@@ -43,7 +43,7 @@ pub record IsFirstWrong {T : Type 0} (Spells : List (List ℕ) → T → Type 0)
   pub line : List ℕ
   pub after : List (ℕ × List ℕ)
   pub parts : lines ≡ before ++ (number, line) ∷ after
-  pub wrong : (command : T) → ¬ IsCommand Spells line command
+  pub wrong : (command : T) → ¬ IsCommandLine Spells line command
   pub commands : List (ℕ × T)
   pub earlier : AllZip (IsNumbered Spells) before commands
 

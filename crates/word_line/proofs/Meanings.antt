@@ -14,7 +14,7 @@ use Rattle.word_line.specs.declared.command.Command.{Command}
 use Rattle.kh_types.specs.declared.limits.TheConstants.{WORKERS}
 use Rattle.word_line.specs.declared.limits.TheConstants.{NUMBER_DIGITS, WORKERS_DIGITS}
 use Rattle.word_line.specs.Values.{HasNumber, IsGiven, NamesField, NamesForm, NamesNumber, NamesWorkers, form_name, task_name}
-use Rattle.word_line.specs.Reading.{field_of, finished_with, form_of, given_by, numbers_of, task_of, workers_of}
+use Rattle.word_line.specs.Reading.{field_of, finished_with, form_of, given_by, value_number, task_of, workers_of}
 use Rattle.kh_lex.specs.Numerals.{numeral_of}
 use Rattle.kh_lex.proofs.NumeralReads.{WritesNumber-numeral_of, numeral_of-WritesNumber}
 
@@ -101,14 +101,14 @@ pub read-NamesForm : (value : List ℕ) (form : Form) → NamesForm value form �
 read-NamesForm value form names = ap form_of names ∙ form_of-name form
 
 -- numbers
-pub NamesNumber-read : (value : List ℕ) (number : Option ℕ) → numbers_of value ≡ Some number → NamesNumber value number
+pub NamesNumber-read : (value : List ℕ) (number : Option ℕ) → value_number value ≡ Some number → NamesNumber value number
 NamesNumber-read value number same = go (numeral_of NUMBER_DIGITS value) refl same
   where
     go : (o : Option ℕ) → numeral_of NUMBER_DIGITS value ≡ o → option_map (λ n. Some n) o ≡ Some number → NamesNumber value number
     go None is same = absurd (none-some number same)
     go (Some n) is same = subst (NamesNumber value) (same_Some (Some n) number same) (WritesNumber-numeral_of NUMBER_DIGITS value n is)
 
-pub read-NamesNumber : (value : List ℕ) (number : Option ℕ) → NamesNumber value number → numbers_of value ≡ Some number
+pub read-NamesNumber : (value : List ℕ) (number : Option ℕ) → NamesNumber value number → value_number value ≡ Some number
 read-NamesNumber value None names = absurd names
 read-NamesNumber value (Some number) names = ap (option_map (λ n. Some n)) (numeral_of-WritesNumber NUMBER_DIGITS value number names)
 

@@ -24,7 +24,7 @@ use Rattle.word_line.specs.Commands.{IsCommand}
 use Rattle.word_line.specs.Line.{command_found, kh_line}
 use Rattle.word_line.specs.Pieces.{HasNoDash, IsLine, Key, Piece, key_name, positionals}
 use Rattle.word_line.specs.Pieces as key
-use Rattle.word_line.specs.Reading.{command_given, command_with, field_in, field_of, finished, form_in, form_of, number_in, numbers_of, task_of, workers_in, workers_of}
+use Rattle.word_line.specs.Reading.{command_given, command_with, field_in, field_of, finished, form_in, form_of, number_given, value_number, task_of, workers_in, workers_of}
 use Rattle.kh_lex.specs.Numerals.{WritesNumber}
 use Rattle.word_line.specs.Values.{AreWorkers, IsFieldSize, IsGiven, NamesField, NamesForm, NamesNumber, NamesWorkers, form_name, task_name, values_in}
 use Rattle.word_line.proofs.Lines.{Distinct, first_of-values, has-some, line_of, line_taken, taken_line, tasks_of-line, uses_behind, uses_of, values_of, values_of-line}
@@ -103,7 +103,7 @@ record Gives (name field workers to number : Option Text) (command : Command) : 
   of_field : field_in field ≡ Some command.field
   of_workers : workers_in workers ≡ Some command.workers
   of_to : form_in to ≡ Some command.to
-  of_number : number_in number ≡ Some command.number
+  of_number : number_given number ≡ Some command.number
   done : finished command ≡ Some command
 
 gives_command : (name field workers to number : Option Text) (command : Command) → Gives name field workers to number command
@@ -115,13 +115,13 @@ command_gives : (name field workers to number : Option Text) (command : Command)
     → Gives name field workers to number command
 command_gives name field workers to number command same =
     option_and_then_some (λ (t : Task). option_and_then (λ (f : ℕ). option_and_then (λ (w : ℕ). option_and_then (λ (o : Form). option_and_then (λ (n : Option ℕ).
-    finished (command_with t f w o n)) (number_in number)) (form_in to)) (workers_in workers)) (field_in field)) (option_and_then task_of name) command same (λ t is_t same.
+    finished (command_with t f w o n)) (number_given number)) (form_in to)) (workers_in workers)) (field_in field)) (option_and_then task_of name) command same (λ t is_t same.
     option_and_then_some (λ (f : ℕ). option_and_then (λ (w : ℕ). option_and_then (λ (o : Form). option_and_then (λ (n : Option ℕ).
-    finished (command_with t f w o n)) (number_in number)) (form_in to)) (workers_in workers)) (field_in field) command same (λ f is_f same.
+    finished (command_with t f w o n)) (number_given number)) (form_in to)) (workers_in workers)) (field_in field) command same (λ f is_f same.
     option_and_then_some (λ (w : ℕ). option_and_then (λ (o : Form). option_and_then (λ (n : Option ℕ).
-    finished (command_with t f w o n)) (number_in number)) (form_in to)) (workers_in workers) command same (λ w is_w same.
-    option_and_then_some (λ (o : Form). option_and_then (λ (n : Option ℕ). finished (command_with t f w o n)) (number_in number)) (form_in to) command same (λ o is_o same.
-    option_and_then_some (λ (n : Option ℕ). finished (command_with t f w o n)) (number_in number) command same (λ n is_n same.
+    finished (command_with t f w o n)) (number_given number)) (form_in to)) (workers_in workers) command same (λ w is_w same.
+    option_and_then_some (λ (o : Form). option_and_then (λ (n : Option ℕ). finished (command_with t f w o n)) (number_given number)) (form_in to) command same (λ o is_o same.
+    option_and_then_some (λ (n : Option ℕ). finished (command_with t f w o n)) (number_given number) command same (λ n is_n same.
     option_and_then_some task_of name t is_t (λ text is_text is_task.
     let end = HasNumber-read (command_with t f w o n) command t n same in
     subst (Gives name field workers to number) end.1 (record {
@@ -164,7 +164,7 @@ command_is words uses command took same =
       to = subst (λ v. IsGiven NamesForm Pd v command.to) (values key.to)
           (IsGiven-read NamesForm form_of Pd NamesForm-read (values_of (Some key.to) uses) command.to (line.distinct (Some key.to)) gives.of_to);
       number = subst (λ v. IsGiven NamesNumber None v command.number) (values key.number)
-          (IsGiven-read NamesNumber numbers_of None NamesNumber-read (values_of (Some key.number) uses) command.number (line.distinct (Some key.number)) gives.of_number);
+          (IsGiven-read NamesNumber value_number None NamesNumber-read (values_of (Some key.number) uses) command.number (line.distinct (Some key.number)) gives.of_number);
       needed = (HasNumber-read command command command.task command.number gives.done).0;
     }
 
@@ -209,8 +209,8 @@ command_of-line words command is =
           (read-IsGiven NamesWorkers workers_of 1 read-NamesWorkers (values_in key.workers is.pieces) command.workers is.workers);
       of_to = subst (λ v. form_in (slice_get v 0) ≡ Some command.to) (values key.to)
           (read-IsGiven NamesForm form_of Pd read-NamesForm (values_in key.to is.pieces) command.to is.to);
-      of_number = subst (λ v. number_in (slice_get v 0) ≡ Some command.number) (values key.number)
-          (read-IsGiven NamesNumber numbers_of None read-NamesNumber (values_in key.number is.pieces) command.number is.number);
+      of_number = subst (λ v. number_given (slice_get v 0) ≡ Some command.number) (values key.number)
+          (read-IsGiven NamesNumber value_number None read-NamesNumber (values_in key.number is.pieces) command.number is.number);
       done = read-HasNumber command command.task command.number is.needed;
     })
 

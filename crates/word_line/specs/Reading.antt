@@ -41,8 +41,8 @@ form_of value =
     if bytes_eq value (codes "pd") then Some Pd else if bytes_eq value (codes "gauss") then Some Gauss else None
 
 -- the number of a value
-abbrev pub numbers_of : List ℕ → Option (Option ℕ)
-numbers_of value = option_map (λ number. Some number) (numeral_of NUMBER_DIGITS value)
+abbrev pub value_number : List ℕ → Option (Option ℕ)
+value_number value = option_map (λ number. Some number) (numeral_of NUMBER_DIGITS value)
 
 -- what a value says, or the default where there is none
 abbrev pub given_by : {X : Type 0} → (List ℕ → Option X) → X → Option (List ℕ) → Option X
@@ -50,8 +50,8 @@ given_by reading default None = Some default
 given_by reading default (Some value) = reading value
 
 -- the text behind a reference
-abbrev pub text_in : Option (Bor (List ℕ)) → Option (List ℕ)
-text_in = option_map (λ s. s.now)
+abbrev pub word_behind : Option (Bor (List ℕ)) → Option (List ℕ)
+word_behind = option_map (λ s. s.now)
 
 -- the field of a value; of two elements where there is none
 abbrev pub field_in : Option (List ℕ) → Option ℕ
@@ -66,8 +66,8 @@ abbrev pub form_in : Option (List ℕ) → Option Form
 form_in = given_by form_of Pd
 
 -- the number of a value; none where there is no value
-abbrev pub number_in : Option (List ℕ) → Option (Option ℕ)
-number_in = given_by numbers_of None
+abbrev pub number_given : Option (List ℕ) → Option (Option ℕ)
+number_given = given_by value_number None
 
 -- a command, unless it lacks the number that its task needs
 abbrev pub finished_with : Command → Task → Option ℕ → Option Command
@@ -86,5 +86,5 @@ command_with task field workers to number =
 abbrev pub command_given : Option (List ℕ) → Option (List ℕ) → Option (List ℕ) → Option (List ℕ) → Option (List ℕ) → Option Command
 command_given name field workers to number =
     option_and_then (λ t. option_and_then (λ f. option_and_then (λ w. option_and_then (λ o. option_and_then (λ n.
-    finished (command_with t f w o n)) (number_in number)) (form_in to)) (workers_in workers)) (field_in field))
+    finished (command_with t f w o n)) (number_given number)) (form_in to)) (workers_in workers)) (field_in field))
     (option_and_then task_of name)

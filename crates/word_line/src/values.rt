@@ -1,7 +1,7 @@
 //! What the values of options mean.
 
 ghost use Rattle.std.specs.Prelude.{◌≡◌};
-ghost use Rattle.word_line.specs.Reading.{command_given, field_in, field_of, finished, form_in, form_of, number_in, numbers_of, task_of, text_in, workers_in, workers_of};
+ghost use Rattle.word_line.specs.Reading.{command_given, field_in, field_of, finished, form_in, form_of, number_given, value_number, task_of, word_behind, workers_in, workers_of};
 
 use crate::command::{Command, Form, Task};
 use crate::limits::{NUMBER_DIGITS, WORKERS_DIGITS};
@@ -25,8 +25,8 @@ pub struct Given<'a> {
 
 /// The command of the texts that a line gives.
 pub fn command_given(given: &Given<'_>) -> Option<Command>
-    ensures { result ≡ command_given (text_in given.now.task) (text_in given.now.field)
-        (text_in given.now.workers) (text_in given.now.to) (text_in given.now.number) }
+    ensures { result ≡ command_given (word_behind given.now.task) (word_behind given.now.field)
+        (word_behind given.now.workers) (word_behind given.now.to) (word_behind given.now.number) }
 {
     let task = task_of(given.task?)?;
     let field = field_in(given.field)?;
@@ -71,7 +71,7 @@ fn task_of(name: &str) -> Option<Task>
 
 // The field of a value; of two elements where there is none.
 fn field_in(value: Option<&str>) -> Option<u8>
-    ensures { result ≡ field_in (text_in value.entry) }
+    ensures { result ≡ field_in (word_behind value.entry) }
 {
     match value {
         Some(value) => field_of(value),
@@ -94,7 +94,7 @@ fn field_of(value: &str) -> Option<u8>
 
 // The number of workers of a value; one where there is none.
 fn workers_in(value: Option<&str>) -> Option<u32>
-    ensures { result ≡ workers_in (text_in value.entry) }
+    ensures { result ≡ workers_in (word_behind value.entry) }
 {
     match value {
         Some(value) => workers_of(value),
@@ -116,7 +116,7 @@ fn workers_of(value: &str) -> Option<u32>
 
 // The form of a value; that of planar diagram texts where there is none.
 fn form_in(value: Option<&str>) -> Option<Form>
-    ensures { result ≡ form_in (text_in value.entry) }
+    ensures { result ≡ form_in (word_behind value.entry) }
 {
     match value {
         Some(value) => form_of(value),
@@ -137,7 +137,7 @@ fn form_of(value: &str) -> Option<Form>
 
 // The number of a value; none where there is no value.
 fn number_in(value: Option<&str>) -> Option<Option<u32>>
-    ensures { result ≡ number_in (text_in value.entry) }
+    ensures { result ≡ number_given (word_behind value.entry) }
 {
     match value {
         Some(value) => numbers_of(value),
@@ -147,7 +147,7 @@ fn number_in(value: Option<&str>) -> Option<Option<u32>>
 
 // The number that a value writes.
 fn numbers_of(value: &str) -> Option<Option<u32>>
-    ensures { result ≡ numbers_of value.now }
+    ensures { result ≡ value_number value.now }
 {
     let number = number_of(value.as_bytes(), NUMBER_DIGITS)?;
     Some(Some(number))

@@ -7,7 +7,7 @@ ghost use Rattle.kh_types.specs.Code.{Code};
 ghost use Rattle.kh_types.specs.Darts.{HasArcsTwice, IsPairing, partner_at};
 ghost use Rattle.kh_types.specs.Faces.{face_count, open_faces, open_pieces, piece_count, planar_face_count};
 ghost use Rattle.kh_types.specs.WorkedCodes.{trefoil, virtual_trefoil};
-ghost use Rattle.face_walk.specs.AddedArcs.{bare, open_dart_count, open_face_count, open_piece_count, with_arc, HasArcMore, IsPart, IsPlanar, JoinsPieces, StaysInPiece};
+ghost use Rattle.face_walk.specs.AddedArcs.{bare, open_dart_count, open_face_count, open_piece_count, with_arc, HasArcMore, IsPart, IsPlanar, UnitesPieces, StaysInPiece};
 ghost use Rattle.kh_types.specs.Permutations.{IsExchange, AreJoined, IsPermutation, cycles_of};
 
 /// Where two images of a permutation are exchanged, its cycles are one fewer where the two numbers
@@ -43,7 +43,7 @@ pub fn arcs_are_added()
         → HasArcMore (4 * n) before after dart other
         → slice_index (open_pieces n before) (dart / 4)
         ≢ slice_index (open_pieces n before) (other / 4)
-        → JoinsPieces n before after dart other }
+        → UnitesPieces n before after dart other }
     ensures inside { (n : ℕ) (before after : ℕ → ℕ) (dart other : ℕ) → IsPairing (4 * n) before
         → HasArcMore (4 * n) before after dart other
         → slice_index (open_pieces n before) (dart / 4)

@@ -4,14 +4,14 @@ ghost use Rattle.std.specs.Prelude.{◌≡◌, ℕ, List, [], ◌∷◌};
 ghost use Rattle.kh_types.specs.WorkedCodes.{hopf_link, trefoil, slots_with};
 ghost use Rattle.orient_arcs.specs.Parts.{passes_through};
 ghost use Rattle.orient_arcs.specs.Renumbered.{renumber, order_of};
-ghost use Rattle.orient_arcs.specs.WorkedParts.{trefoil_parts, named_trefoil, turned_circle, slid, curl_parts, single, hopf_parts, mirrored, reversed};
+ghost use Rattle.orient_arcs.specs.WorkedParts.{trefoil_parts, named_trefoil, turned_circle, slid_triangle, curl_parts, single, hopf_parts, mirrored, reversed};
 
 /// The trefoil keeps its numbers, and has them under any names. A circle over another has the numbers of its two arcs exchanged.
 pub fn worked_parts()
     ensures trefoil { renumber trefoil_parts ≡ trefoil }
     ensures circle_order { order_of (passes_through turned_circle) ≡ 1 ∷ 2 ∷ 4 ∷ 3 ∷ [] }
     ensures circle { (renumber turned_circle).crossings ≡ slots_with 1 4 2 3 ∷ slots_with 2 4 1 3 ∷ [] }
-    ensures slid { (renumber slid).crossings ≡ slots_with 2 6 3 5 ∷ slots_with 3 6 4 5 ∷ slots_with 1 1 2 4 ∷ [] }
+    ensures slid { (renumber slid_triangle).crossings ≡ slots_with 2 6 3 5 ∷ slots_with 3 6 4 5 ∷ slots_with 1 1 2 4 ∷ [] }
     ensures curl { (renumber curl_parts).crossings ≡ slots_with 2 2 1 1 ∷ [] }
     ensures single { (renumber single).crossings ≡ slots_with 2 1 2 1 ∷ [] }
     ensures mirrored { (renumber mirrored).crossings
