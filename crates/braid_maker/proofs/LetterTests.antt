@@ -1,8 +1,7 @@
 -- The test of letters.
-use Rattle.std.proofs.Common.{◌≡◌, ℕ, ◌<◌, ◌≤◌, List, length, arith, Bool, true, nat_le, nat_lt}
+use Rattle.std.proofs.Common.{◌≡◌, ℕ, ◌∙◌, List, length, sym, arith, Bool, true, nat_le, nat_lt}
 use Rattle.std.specs.Prelude.{ℤ, IsTrue, ◌↔◌}
 use Rattle.std.proofs.lemmas.Bool.{and_parts, and_from, le-leb, leb-true, lt-ltb, ltb-true}
-use Rattle.std.proofs.Common.{◌∙◌, sym}
 use Rattle.kh_types.proofs.RangeCounts.{list_all-at, list_all-each}
 use Rattle.braid_maker.specs.Braids.{left_of}
 use Rattle.braid_maker.specs.Closures.{AreLetters, are_letters, is_letter}
