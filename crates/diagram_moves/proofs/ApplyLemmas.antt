@@ -1,6 +1,6 @@
 -- What moves keep, and when they leave the sphere.
-use Rattle.std.proofs.Common.{◌≡◌, ◌≢◌, ℕ, ◌+◌, ◌≤◌, ◌∙◌, ℤ, length, refl, sym, ap, subst, arith, Bool, not, true, false, IsTrue}
-use Rattle.std.specs.Prelude.{◌↔◌, nat_eq, nat_lt, ◌||◌, is_none, Option, Some, None, Result, Ok, Err, IfOk}
+use Rattle.std.proofs.Common.{◌≡◌, ◌≢◌, ℕ, ◌+◌, ◌∙◌, ℤ, length, refl, sym, ap, arith, Bool, not, true, false, IsTrue}
+use Rattle.std.specs.Prelude.{◌↔◌, nat_eq, nat_lt, ◌||◌, is_none, Option, Some, None, Result, Err, IfOk}
 use Rattle.std.specs.Option.{option_or}
 use Rattle.std.proofs.lemmas.Bool.Decides.{nat_tests}
 use Rattle.kh_types.specs.Acceptance.{accepted}

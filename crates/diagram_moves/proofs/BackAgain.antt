@@ -1,6 +1,6 @@
 -- What is dropped again after it was added leaves the code that was.
-use Rattle.std.proofs.Common.{◌≡◌, ℕ, ◌+◌, ◌-◌, ◌*◌, ◌<◌, ◌≤◌, ◌∙◌, List, length, map, refl, sym, ap, ap₂, subst, arith, Bool, true, IsTrue}
-use Rattle.std.specs.Prelude.{slice_index, nat_eq, Option, Some, None, Result, Ok, Err}
+use Rattle.std.proofs.Common.{◌≡◌, ℕ, ◌+◌, ◌<◌, ◌≤◌, ◌∙◌, List, length, map, refl, ap, ap₂, arith, Bool, true, IsTrue}
+use Rattle.std.specs.Prelude.{slice_index, Option, Some, None, Result, Ok}
 use Rattle.std.specs.List.{range_with_len, AllByRecursion}
 use Rattle.kh_types.specs.Acceptance.{accepted}
 use Rattle.kh_types.specs.Code.{Code, arc_in, arc_count}

@@ -1,5 +1,5 @@
 -- Crossings as they are dropped.
-use Rattle.std.proofs.Common.{◌≡◌, ℕ, ◌+◌, ◌-◌, ◌≤◌, ◌∙◌, ℤ, List, [], ◌∷◌, ◌++◌, length, map, refl, ap, ap₂, subst, sym, arith, Bool, true, false, IsTrue}
+use Rattle.std.proofs.Common.{◌≡◌, ℕ, ◌+◌, ◌∙◌, ℤ, List, [], ◌∷◌, ◌++◌, length, map, refl, ap, ap₂, subst, sym, arith, Bool, true, false, IsTrue}
 use Rattle.std.specs.Prelude.{None, nat_eq, ◌||◌, if◌then◌else◌}
 use Rattle.std.specs.Option.{option_or}
 use Rattle.std.specs.List.{count_by, filter, flat_map, range_with_len}

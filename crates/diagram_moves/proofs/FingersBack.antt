@@ -1,18 +1,18 @@
 -- A finger that is added and dropped leaves the code that was.
-use Rattle.std.proofs.Common.{◌≡◌, ◌≢◌, ℕ, zero, suc, ◌⊎◌, inl, inr, ◌+◌, ◌-◌, ◌*◌, ◌/◌, ◌%◌, ◌<◌, ◌≤◌, ◌∙◌, List, [], ◌∷◌, length, map, refl, sym, ap, ap₂, subst, arith, Bool, true, false, not, ◌&&◌, ◌||◌, eqb-true, eq-eqb, IsTrue}
-use Rattle.std.specs.Prelude.{slice_index, slice_index_or, nat_eq, nat_lt, if◌then◌else◌, Option, Some, None, Result, Ok}
+use Rattle.std.proofs.Common.{◌≡◌, ◌≢◌, ℕ, ◌⊎◌, inl, inr, ◌+◌, ◌-◌, ◌*◌, ◌/◌, ◌%◌, ◌<◌, ◌≤◌, ◌∙◌, List, length, refl, sym, ap, ap₂, subst, arith, Bool, true, false, not, ◌&&◌, ◌||◌, eqb-true, eq-eqb, IsTrue}
+use Rattle.std.specs.Prelude.{slice_index, nat_eq, if◌then◌else◌, Option, None, Result, Ok}
 use Rattle.std.specs.Option.{option_or}
 use Rattle.std.specs.List.{filter, list_any, range_with_len, AllByRecursion}
-use Rattle.std.proofs.lemmas.Bool.{and_from, cases_Bool}
+use Rattle.std.proofs.lemmas.Bool.{and_from}
 use Rattle.std.proofs.lemmas.Bool.Decides.{nat_tests}
 use Rattle.kh_types.specs.Acceptance.{accepted}
-use Rattle.kh_types.specs.Code.{Code, arc_in, arc_count, place_of, slots_of, IsArc}
+use Rattle.kh_types.specs.Code.{Code, arc_in, arc_count, place_of, IsArc}
 use Rattle.kh_types.specs.Darts.{HasArcsTwice, arc_of, partner_at}
 use Rattle.kh_types.specs.Directions.{is_head}
 use Rattle.kh_types.proofs.AcceptedLemmas.{HasArcsTwice-accepted}
 use Rattle.kh_types.proofs.Ranges.{list_any-below}
-use Rattle.kinks_and_fingers.specs.Strands.{dart_name, name_at, slots_at}
-use Rattle.kinks_and_fingers.specs.Drops.{after, is_bigon, is_bigon_at, is_of_two, positive_at, straight_names, without_finger}
+use Rattle.kinks_and_fingers.specs.Strands.{dart_name, name_at}
+use Rattle.kinks_and_fingers.specs.Drops.{after, is_bigon, is_bigon_at, is_of_two, straight_names, without_finger}
 use Rattle.kinks_and_fingers.specs.Dropping.{HasBigonAt}
 use Rattle.kinks_and_fingers.specs.FingerAdd.{crossing_with, dart_with, differ, fingered, first_crossing, head_number, opened, second_crossing, with_finger}
 use Rattle.kinks_and_fingers.specs.Pulls.{early, late}
@@ -24,14 +24,13 @@ use Rattle.kinks_and_fingers.proofs.KeptCodes.{name_at-below, straight-joined}
 use Rattle.kinks_and_fingers.proofs.OldDarts.{partner-named}
 use Rattle.kinks_and_fingers.proofs.Sound.{IsSound-finger}
 use Rattle.diagram_moves.specs.declared.change.Side.{Side}
-use Rattle.diagram_moves.specs.declared.change.Move.{Move}
 use Rattle.diagram_moves.specs.declared.change.Move.TheVariants.{FingerAdd, FingerDrop}
 use Rattle.diagram_moves.specs.declared.fault.MoveFault.{MoveFault}
 use Rattle.diagram_moves.specs.declared.fault.MoveFault.TheVariants.{NoBigon, NoCrossing}
 use Rattle.diagram_moves.specs.Joinable.{numbered}
 use Rattle.diagram_moves.specs.Kept.{HasComponents}
 use Rattle.diagram_moves.specs.Moved.{answered, is_left, moved}
-use Rattle.diagram_moves.specs.MoveFaults.{finger_add_fault, finger_drop_fault, finger_place_fault, no_bigon, no_crossing, wrong_genus}
+use Rattle.diagram_moves.specs.MoveFaults.{finger_add_fault, finger_drop_fault, finger_place_fault, wrong_genus}
 use Rattle.diagram_moves.proofs.AddLemmas.{fingers_are_taken, fingers_on_the_sphere_are_accepted}
 use Rattle.diagram_moves.proofs.BackAgain.{answered-ok, dropped-is, straight_names-are}
 use Rattle.diagram_moves.proofs.DropLemmas.{bigon-found, components-finger_dropped}

@@ -1,9 +1,8 @@
 -- A kink that is added and dropped leaves the code that was.
-use Rattle.std.proofs.Common.{◌≡◌, ℕ, ◌+◌, ◌-◌, ◌*◌, ◌<◌, ◌≤◌, ◌∙◌, List, [], ◌∷◌, length, map, refl, sym, ap, ap₂, subst, arith, Bool, true, false, not, ◌&&◌, ◌||◌, eqb-true, eq-eqb, IsTrue}
-use Rattle.std.specs.Prelude.{slice_index, slice_index_or, nat_eq, nat_lt, if◌then◌else◌, Option, Some, None, Result, Ok}
+use Rattle.std.proofs.Common.{◌≡◌, ℕ, ◌+◌, ◌<◌, ◌≤◌, ◌∙◌, List, [], length, refl, sym, ap, ap₂, subst, arith, Bool, true, false, not, ◌||◌, eqb-true, eq-eqb, IsTrue}
+use Rattle.std.specs.Prelude.{slice_index, slice_index_or, nat_eq, nat_lt, if◌then◌else◌, Option, None, Result, Ok}
 use Rattle.std.specs.Option.{option_or}
-use Rattle.std.specs.List.{range_with_len, AllByRecursion}
-use Rattle.std.proofs.lemmas.Bool.{cases_Bool}
+use Rattle.std.specs.List.{AllByRecursion}
 use Rattle.std.proofs.lemmas.Bool.Decides.{nat_tests}
 use Rattle.kh_types.specs.Acceptance.{accepted}
 use Rattle.kh_types.specs.Code.{Code, arc_in, arc_count, place_of, slots_of, IsArc}
@@ -22,14 +21,13 @@ use Rattle.kinks_and_fingers.proofs.KinkSigns.{sign-old}
 use Rattle.kinks_and_fingers.proofs.KinkSizes.{IsKinkable-accepted, component_count-kinked}
 use Rattle.kinks_and_fingers.proofs.KinkSlots.{arc_in-kinked, length-kinked, slots_at-old, slots_of-new}
 use Rattle.kinks_and_fingers.proofs.Sound.{IsSound-kink}
-use Rattle.diagram_moves.specs.declared.change.Move.{Move}
 use Rattle.diagram_moves.specs.declared.change.Move.TheVariants.{KinkAdd, KinkDrop}
 use Rattle.diagram_moves.specs.declared.fault.MoveFault.{MoveFault}
 use Rattle.diagram_moves.specs.declared.fault.MoveFault.TheVariants.{NoCrossing, NoKink}
 use Rattle.diagram_moves.specs.Joinable.{numbered}
 use Rattle.diagram_moves.specs.Kept.{HasComponents}
 use Rattle.diagram_moves.specs.Moved.{answered, moved}
-use Rattle.diagram_moves.specs.MoveFaults.{kink_add_fault, kink_drop_fault, no_crossing, no_kink, refused_where}
+use Rattle.diagram_moves.specs.MoveFaults.{kink_add_fault, kink_drop_fault, refused_where}
 use Rattle.diagram_moves.proofs.AddLemmas.{kinks_are_taken}
 use Rattle.diagram_moves.proofs.BackAgain.{answered-ok, dropped-is, straight_names-are}
 use Rattle.diagram_moves.proofs.DropLemmas.{components-kink_dropped, kink-found}

@@ -1,12 +1,12 @@
 -- The numbers that a slide leaves: each component keeps its numbers, and begins with its least arc, unless it is over at both its crossings.
-use Rattle.std.proofs.Common.{◌≡◌, ◌≢◌, ℕ, zero, suc, ◌⊎◌, inl, inr, ◌+◌, ◌-◌, ◌*◌, ◌/◌, ◌%◌, ◌<◌, ◌≤◌, ◌∙◌, List, [], ◌∷◌, length, refl, sym, ap, ap₂, subst, arith, Bool, true, false, not, ◌||◌, ℤ, pos, neg_ℤ, eqb-true, IsTrue}
+use Rattle.std.proofs.Common.{◌≡◌, ℕ, zero, suc, inl, inr, ◌+◌, ◌-◌, ◌*◌, ◌/◌, ◌%◌, ◌<◌, ◌≤◌, ◌∙◌, List, [], length, refl, sym, ap, ap₂, subst, arith, Bool, true, false, ◌||◌, pos, neg_ℤ, eqb-true, IsTrue}
 use Rattle.std.specs.Prelude.{nat_eq, if◌then◌else◌, slice_index_or, MatchBool}
 use Rattle.std.specs.List.{AllByRecursion}
 use Rattle.std.proofs.lemmas.Bool.{both_ways, cases_eq, cases_lt, cases_Bool}
 use Rattle.std.proofs.lemmas.Bool.Decides.{nat_tests}
 use Rattle.kh_types.specs.Acceptance.{accepted}
 use Rattle.kh_types.specs.Code.{Code, arc_in, slots_of, IsArc, IsCrossing}
-use Rattle.kh_types.specs.Components.{next, passes_of}
+use Rattle.kh_types.specs.Components.{next}
 use Rattle.kh_types.specs.Darts.{HasArcsTwice, arc_of, dart_at, dart_place, partner_at}
 use Rattle.kh_types.specs.Directions.{is_positive, head_of, HasNoSingleArcs, IsPass}
 use Rattle.kh_types.specs.Accepted.{IsDirected}
@@ -20,8 +20,8 @@ use Rattle.code_passes.specs.Passes.{Pass, is_over}
 use Rattle.code_passes.proofs.CutArcs.{IsFirst, size, component-in, end-within}
 use Rattle.code_passes.proofs.LabelCounts.{under_at-is}
 use Rattle.code_passes.proofs.LeastArcs.{IsFirstOf-directed}
-use Rattle.orient_arcs.specs.OtherNames.{IsOverCircle, KeepsComponents}
-use Rattle.orient_arcs.specs.Parts.{Parts, ArePaired, passes_through, passes_at, slots_in, is_positive_at, under_pass, over_pass}
+use Rattle.orient_arcs.specs.OtherNames.{KeepsComponents}
+use Rattle.orient_arcs.specs.Parts.{Parts, ArePaired, passes_through, passes_at, slots_in, is_positive_at}
 use Rattle.orient_arcs.specs.Renumbered.{follows, label_entered, number_in, order_of}
 use Rattle.orient_arcs.proofs.Bridge.{number-once, slot-head}
 use Rattle.orient_arcs.proofs.Members.{IsIn}
@@ -33,7 +33,7 @@ use Rattle.slides.specs.Triangles.{IsTriangle}
 use Rattle.slides.proofs.Corners.{four, at_places, on-below, on-on, on-zero, source-below, source-outside, source-rotated, source-x}
 use Rattle.slides.proofs.Passes.{KeepsPass-slid, arc-behind, passes-arcs, respects-behind}
 use Rattle.slides.proofs.Sides.{HasSides, HasSides-rotated, HasSides-triangle}
-use Rattle.slides.proofs.SlidArcs.{HasArcsTwice-slid, arc_of-at, arc_there-slid, length-slid}
+use Rattle.slides.proofs.SlidArcs.{arc_of-at, arc_there-slid, length-slid}
 use Rattle.slides.proofs.SlidHeads.{HasHeadsAndTails-slid}
 use Rattle.diagram_moves.specs.Joinable.{parts_in}
 use Rattle.diagram_moves.specs.Kept.{slid_strands}

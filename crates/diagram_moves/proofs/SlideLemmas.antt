@@ -1,11 +1,11 @@
 -- Slides as they are made.
-use Rattle.std.proofs.Common.{◌≡◌, ℕ, ◌<◌, ◌∙◌, ℤ, length, refl, sym, ap, subst, arith, Bool, true, false, not, IsTrue}
+use Rattle.std.proofs.Common.{◌≡◌, ℕ, ◌∙◌, ℤ, refl, sym, ap, subst, false, IsTrue}
 use Rattle.std.specs.Prelude.{List, [], ◌∷◌, None, Some, Option, is_none, unwrap_or}
 use Rattle.std.specs.Option.{option_or}
 use Rattle.kh_types.specs.Acceptance.{accepted}
 use Rattle.kh_types.specs.Code.{Code, IsCrossing}
 use Rattle.kh_types.specs.StateSum.{state_sum}
-use Rattle.slides.specs.Triangles.{IsTriangle, dart_at_slot, has_heights, slide_slot, step}
+use Rattle.slides.specs.Triangles.{dart_at_slot, slide_slot, step}
 use Rattle.slides.proofs.FoundTriangles.{IsTriangle-slot, has_heights-slot}
 use Rattle.diagram_moves.specs.Joinable.{AreReady, parts_in}
 use Rattle.diagram_moves.specs.Kept.{HasComponents, slid_strands}

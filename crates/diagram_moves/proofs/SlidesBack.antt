@@ -1,18 +1,17 @@
 -- A slide, and one at the triangle that it leaves, give the code that was.
-use Rattle.std.proofs.Common.{◌≡◌, ℕ, zero, suc, inl, inr, ◌+◌, ◌-◌, ◌*◌, ◌/◌, ◌%◌, ◌<◌, ◌≤◌, ◌∙◌, List, [], length, map, refl, sym, ap, ap₂, subst, arith, Bool, true, false, not, cond, IsTrue}
+use Rattle.std.proofs.Common.{◌≡◌, ℕ, zero, suc, inl, inr, ◌+◌, ◌-◌, ◌*◌, ◌/◌, ◌%◌, ◌<◌, ◌≤◌, ◌∙◌, List, [], length, sym, ap, ap₂, subst, arith, Bool, true, false, not, cond, IsTrue}
 use Rattle.std.specs.Prelude.{slice_index_or, nat_eq, is_none, Option, Some, None, Result, Ok, unwrap_or, ◌&&◌}
 use Rattle.std.specs.Option.{option_or}
 use Rattle.std.specs.List.{find, range_with_len, AllByRecursion}
 use Rattle.std.proofs.lemmas.Bool.{and_from, and_parts, both_ways, cases_Bool, cases_lt}
 use Rattle.kh_types.specs.Acceptance.{accepted}
-use Rattle.kh_types.specs.Code.{Code, arc_in, place_of, slots_of, IsCrossing}
+use Rattle.kh_types.specs.Code.{Code, arc_in, IsCrossing}
 use Rattle.kh_types.specs.Darts.{HasArcsTwice, partner_at, turned}
-use Rattle.kh_types.specs.Directions.{is_positive}
 use Rattle.kh_types.proofs.AcceptedLemmas.{HasArcsTwice-accepted}
 use Rattle.kh_types.proofs.Heads.{HasNoSingleArcs-accepted}
 use Rattle.kh_types.proofs.Ranges.{list_any-below}
 use Rattle.orient_arcs.specs.OtherNames.{IsNamedBy}
-use Rattle.orient_arcs.specs.Parts.{passes_through, slots_in}
+use Rattle.orient_arcs.specs.Parts.{passes_through}
 use Rattle.orient_arcs.specs.Renumbered.{number_in, order_of}
 use Rattle.orient_arcs.proofs.AlikeCrossings.{AreAlike-renumbered, partner_at-alike}
 use Rattle.orient_arcs.proofs.Bridge.{length-renumbered, slot-renumbered}
@@ -24,7 +23,6 @@ use Rattle.slides.proofs.FoundTriangles.{IsFirst-found, IsTriangleAt-is, is_tria
 use Rattle.slides.proofs.Sides.{HasSides, HasSides-slid, HasSides-triangle}
 use Rattle.slides.proofs.SlidArcs.{arc_there-slid, length-slid, partner_at-slid}
 use Rattle.slides.proofs.SlidBack.{source-across}
-use Rattle.diagram_moves.specs.declared.change.Move.{Move}
 use Rattle.diagram_moves.specs.declared.change.Move.TheVariants.{Slide}
 use Rattle.diagram_moves.specs.declared.fault.MoveFault.{MoveFault}
 use Rattle.diagram_moves.specs.declared.fault.MoveFault.TheVariants.{Heights, NoCrossing, NoTriangle}

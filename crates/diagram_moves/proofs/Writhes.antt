@@ -1,6 +1,6 @@
 -- What moves do to the writhe.
-use Rattle.std.proofs.Common.{◌≡◌, ◌≢◌, ℕ, ◌+◌, ◌-◌, ◌<◌, ◌≤◌, ◌∙◌, ◌%◌, ℤ, pos, neg_ℤ, ◌+ℤ◌, ◌-ℤ◌, List, length, map, refl, sym, ap, ap₂, subst, arith, Bool, true, false, not, cond, ◌||◌, IsTrue}
-use Rattle.std.specs.Prelude.{if◌then◌else◌, nat_eq, Option, Some, None, Result, Ok, Err, IfOk, unwrap_or}
+use Rattle.std.proofs.Common.{◌≡◌, ◌≢◌, ℕ, ◌+◌, ◌-◌, ◌<◌, ◌≤◌, ◌∙◌, ◌%◌, ℤ, pos, neg_ℤ, ◌+ℤ◌, ◌-ℤ◌, List, length, map, refl, sym, ap, subst, arith, Bool, true, false, not, cond, ◌||◌, IsTrue}
+use Rattle.std.specs.Prelude.{if◌then◌else◌, nat_eq, Option, None, Result, Ok, IfOk, unwrap_or}
 use Rattle.std.proofs.lemmas.Int.{ints}
 use Rattle.std.specs.List.{count_by, filter, range_with_len}
 use Rattle.kh_types.specs.Acceptance.{accepted}
@@ -11,20 +11,19 @@ use Rattle.kh_types.proofs.Lists.{count_by-map}
 use Rattle.kh_types.proofs.RangeCounts.{count_by-alike}
 use Rattle.kinks_and_fingers.specs.DropCircles.{strand_plus}
 use Rattle.kinks_and_fingers.specs.Drops.{dropped, kept_places, positive_at, is_of_two, without_finger, without_kink}
-use Rattle.kinks_and_fingers.specs.Dropping.{HasBigonAt, HasKinkAt}
 use Rattle.kinks_and_fingers.specs.FingerAdd.{with_finger, differ}
 use Rattle.kinks_and_fingers.specs.KinkAdds.{with_kink}
 use Rattle.kinks_and_fingers.specs.KinkCodes.{one_where}
 use Rattle.kinks_and_fingers.specs.Pulls.{early, late}
 use Rattle.kinks_and_fingers.proofs.FingerAccepted.{AreFingerable-accepted}
-use Rattle.kinks_and_fingers.proofs.FingerDrops.{places-two, late-below}
+use Rattle.kinks_and_fingers.proofs.FingerDrops.{places-two}
 use Rattle.kinks_and_fingers.proofs.FingerDropSums.{HasBigonAt-slots, bigon-signs, plus-kept_two}
 use Rattle.kinks_and_fingers.proofs.FingerSigns.{minus_count-fingered, plus_count-fingered}
 use Rattle.kinks_and_fingers.proofs.KinkClosing.{kept_are}
 use Rattle.kinks_and_fingers.proofs.KinkDropSums.{count-later, one_if, plus-kept}
 use Rattle.kinks_and_fingers.proofs.KinkSigns.{minus_count-kinked, plus_count-kinked}
 use Rattle.kinks_and_fingers.proofs.KinkSizes.{IsKinkable-accepted}
-use Rattle.slides.specs.Triangles.{dart_at_slot, slide_slot, step}
+use Rattle.slides.specs.Triangles.{dart_at_slot, step}
 use Rattle.slides.proofs.FoundTriangles.{IsTriangle-slot, has_heights-slot}
 use Rattle.diagram_moves.specs.declared.change.Move.{Move}
 use Rattle.diagram_moves.specs.declared.change.Move.TheVariants.{KinkAdd, KinkDrop, FingerAdd, FingerDrop, Slide}
@@ -32,7 +31,7 @@ use Rattle.diagram_moves.specs.declared.fault.MoveFault.{MoveFault}
 use Rattle.diagram_moves.specs.declared.fault.MoveFault.TheVariants.{NoCrossing}
 use Rattle.diagram_moves.specs.Joinable.{numbered}
 use Rattle.diagram_moves.specs.Kept.{IsKeptCode}
-use Rattle.diagram_moves.specs.Moved.{answered, is_left, moved, slid_at, slid_from}
+use Rattle.diagram_moves.specs.Moved.{is_left, moved, slid_at, slid_from}
 use Rattle.diagram_moves.specs.MoveFaults.{kink_add_fault, kink_drop_fault, finger_place_fault, finger_add_fault, finger_drop_fault, no_crossing, no_kink, slide_fault, wrong_genus}
 use Rattle.diagram_moves.specs.Writhe.{writhe, writhe_change}
 use Rattle.diagram_moves.proofs.AddLemmas.{fingers_are_taken, kinks_are_taken}

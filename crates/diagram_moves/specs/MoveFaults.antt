@@ -1,5 +1,5 @@
 -- What keeps a move from being made (this project's rules): ten faults, each by its own test.
-use Rattle.std.specs.Prelude.{ℕ, ◌+◌, List, [], ◌∷◌, length, nat_eq, nat_lt, Bool, not, ◌||◌, if◌then◌else◌, Option, Some, None, is_none}
+use Rattle.std.specs.Prelude.{ℕ, ◌+◌, List, length, nat_eq, nat_lt, Bool, not, ◌||◌, if◌then◌else◌, Option, Some, None, is_none}
 use Rattle.std.specs.Option.{option_or}
 use Rattle.kh_types.specs.Code.{Code, arc_count, place_of, slots_of}
 use Rattle.kh_types.specs.Faces.{face_count, planar_face_count}

@@ -1,5 +1,5 @@
 -- A code under other names, which keep the order of its components, has its own numbers when it is renumbered.
-use Rattle.std.proofs.Common.{◌≡◌, ◌≢◌, ℕ, zero, suc, ◌⊎◌, inl, inr, ◌+◌, ◌-◌, ◌*◌, ◌<◌, ◌≤◌, ◌∙◌, List, [], ◌∷◌, ◌++◌, length, map, get_or, refl, sym, ap, ap₂, subst, arith, Bool, true, false, not, ◌&&◌, ℤ, pos, negsuc}
+use Rattle.std.proofs.Common.{◌≡◌, ◌≢◌, ℕ, zero, suc, inl, inr, ◌+◌, ◌-◌, ◌*◌, ◌<◌, ◌≤◌, ◌∙◌, List, [], ◌∷◌, ◌++◌, length, map, get_or, refl, sym, ap, ap₂, subst, arith, Bool, true, false, not, ◌&&◌, ℤ, pos, negsuc}
 use Rattle.std.specs.Prelude.{nat_eq, if◌then◌else◌, slice_index_or, MatchBool, int_lt}
 use Rattle.std.specs.List.{position_or_len, range_with_len, AllByRecursion}
 use Rattle.std.proofs.lemmas.Bool.{cases_eq, cases_lt, cases_Bool, eq-eqb, and_from, and_parts, both_ways}
@@ -18,7 +18,7 @@ use Rattle.code_passes.specs.ComponentLabels.{label_at, entering_label}
 use Rattle.code_passes.proofs.LeastArcs.{IsFirstOf-directed}
 use Rattle.code_passes.proofs.CutArcs.{IsFirst, IsFirst-next, size, component-in, end-within, size-positive}
 use Rattle.code_passes.proofs.TwoArcComponents.{ascending}
-use Rattle.orient_arcs.specs.Parts.{Parts, ArePaired, parts_of, passes_through, passes_at, slots_in, is_positive_at, under_pass, over_pass}
+use Rattle.orient_arcs.specs.Parts.{Parts, ArePaired, parts_of, passes_through, passes_at, slots_in, is_positive_at, over_pass}
 use Rattle.orient_arcs.specs.Renumbered.{follows, label_entered, walk, turned_names, is_in, bound_of, order_of, number_in, renamed_crossing, renumber}
 use Rattle.orient_arcs.specs.Steps.{order_below, is_new}
 use Rattle.orient_arcs.specs.OtherNames.{IsNamedBy, IsOverCircle, KeepsComponents}

@@ -2,7 +2,7 @@
 use Rattle.std.proofs.Common.{◌≡◌, ℕ, zero, suc, ◌⊎◌, inl, inr, ◌+◌, ◌-◌, ◌*◌, ◌<◌, ◌≤◌, ◌∙◌, List, [], ◌∷◌, ◌++◌, length, map, get_or, refl, sym, ap, ap₂, subst, arith, Bool, true, false, not, ◌&&◌, ℤ, pos}
 use Rattle.std.specs.Prelude.{nat_eq, if◌then◌else◌, slice_index_or, MatchBool}
 use Rattle.std.specs.List.{position_or_len, range_with_len, AllByRecursion}
-use Rattle.std.proofs.lemmas.Bool.{cases_eq, cases_lt, eq-eqb, and_from}
+use Rattle.std.proofs.lemmas.Bool.{cases_eq, cases_lt, and_from}
 use Rattle.std.proofs.lemmas.List.{length-map}
 use Rattle.std.proofs.lemmas.List.FromFn.{length-range_with_len, get_or-range_with_len}
 use Rattle.kh_types.specs.Code.{Code, arc_in, slots_of, IsArc, IsCrossing}
@@ -10,7 +10,7 @@ use Rattle.kh_types.specs.Components.{next}
 use Rattle.kh_types.specs.Directions.{is_positive, HasNoSingleArcs, IsPass}
 use Rattle.kh_types.specs.Accepted.{IsDirected}
 use Rattle.kh_types.proofs.Heads.{IsPass-under, IsPass-over}
-use Rattle.kh_types.proofs.NextArcs.{component, HasPlace-directed}
+use Rattle.kh_types.proofs.NextArcs.{HasPlace-directed}
 use Rattle.kh_types.proofs.Ranges.{range-append}
 use Rattle.code_passes.proofs.LeastArcs.{IsFirstOf-directed}
 use Rattle.code_passes.specs.Passes as gauss
@@ -18,12 +18,12 @@ use Rattle.code_passes.specs.Passes.{Pass}
 use Rattle.code_passes.specs.ComponentLabels as printing
 use Rattle.code_passes.specs.ComponentLabels.{label_at, component_labels}
 use Rattle.code_passes.proofs.ArcLabels.{IsOriented}
-use Rattle.code_passes.proofs.CutArcs.{IsFirst, IsFirst-next, size, component-in, end-within, size-positive}
+use Rattle.code_passes.proofs.CutArcs.{IsFirst, IsFirst-next, size, end-within, size-positive}
 use Rattle.code_passes.proofs.TwoArcComponents.{turned_labels-component}
 use Rattle.orient_arcs.specs.Parts.{Parts, ArePaired, parts_of, passes_through, passes_at, slots_in, is_positive_at, under_pass, over_pass}
 use Rattle.orient_arcs.specs.Renumbered.{follows, label_entered, walk, turned_names, is_in, bound_of, order_of, number_in, renamed_crossing, renumber}
 use Rattle.orient_arcs.specs.Steps.{order_below, is_new}
-use Rattle.orient_arcs.proofs.Members.{IsIn, is_in-true, is_in-false, neq-eqb, position-get, AreDistinct}
+use Rattle.orient_arcs.proofs.Members.{IsIn, is_in-true, is_in-false, position-get, AreDistinct}
 use Rattle.orient_arcs.proofs.PairedPasses.{heads_of, entering-holds, entering-enters, label-once, length-heads, in-counted, counted-in, All-flat_map_range}
 use Rattle.orient_arcs.proofs.Labels.{turned-cases, turned-labels}
 use Rattle.orient_arcs.proofs.PairedCodes.{ArePaired-directed, positive-is, some-head, ends-arcs, arc-of}

@@ -1,9 +1,9 @@
 -- Parts whose names are the arcs of a code and follow one another as these do: each component keeps its numbers, and begins with its
 -- least arc, unless it is turned.
-use Rattle.std.proofs.Common.{◌≡◌, ◌≢◌, ℕ, zero, suc, ◌⊎◌, inl, inr, ◌+◌, ◌-◌, ◌*◌, ◌<◌, ◌≤◌, ◌∙◌, List, [], ◌∷◌, ◌++◌, length, map, get_or, refl, sym, ap, ap₂, subst, arith, Bool, true, false, not, ◌&&◌, cond, ℤ, length-append}
+use Rattle.std.proofs.Common.{◌≡◌, ◌≢◌, ℕ, zero, suc, ◌⊎◌, inl, inr, ◌+◌, ◌-◌, ◌*◌, ◌<◌, ◌≤◌, ◌∙◌, List, [], ◌∷◌, ◌++◌, length, get_or, refl, sym, ap, ap₂, subst, arith, Bool, true, false, not, ◌&&◌, cond, ℤ, length-append}
 use Rattle.std.specs.Prelude.{nat_eq, if◌then◌else◌, int_lt}
 use Rattle.std.specs.List.{position_or_len, range_with_len}
-use Rattle.std.proofs.lemmas.Bool.{cases_eq, cases_lt, cases_Bool, eq-eqb, and_from, and_parts, both_ways}
+use Rattle.std.proofs.lemmas.Bool.{cases_eq, cases_lt, eq-eqb, and_from, and_parts}
 use Rattle.std.proofs.lemmas.List.{length-map}
 use Rattle.std.proofs.lemmas.List.FromFn.{length-range_with_len}
 use Rattle.kh_types.specs.Code.{Code, IsArc}
@@ -16,7 +16,7 @@ use Rattle.code_passes.proofs.LeastArcs.{IsFirstOf-directed}
 use Rattle.orient_arcs.specs.Parts.{Parts, ArePaired, passes_through}
 use Rattle.orient_arcs.specs.Renumbered.{follows, label_entered, walk, turned_names, is_in, bound_of, order_of, number_in}
 use Rattle.orient_arcs.specs.Steps.{order_below, is_new}
-use Rattle.orient_arcs.proofs.Members.{IsIn, IsIn-left, IsIn-right, IsIn-parts, is_in-true, true-is_in, is_in-false, neq-eqb}
+use Rattle.orient_arcs.proofs.Members.{IsIn, IsIn-left, IsIn-right, IsIn-parts, is_in-true, is_in-false, neq-eqb}
 use Rattle.orient_arcs.proofs.PairedPasses.{heads_of, length-heads}
 use Rattle.orient_arcs.proofs.ArcWalks.{walk-arcs}
 use Rattle.orient_arcs.proofs.Bridge.{below-bound}
