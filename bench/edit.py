@@ -3,9 +3,9 @@
 
     bench/edit.py [RUNS]
 
-The diagram is a closed braid of 20 crossings; the lines are slides to and fro, undone and redone between, and so many undos and redos.
-It prints the least wall and user time of the whole process beside those of `true`, and at its end their difference, wall, as a part of
-30 ms. Build the program first, by `./build`. The gate does not run it.
+The diagram is a closed braid of 20 crossings; the lines are slides to and fro, undos and redos, and both by turns.
+It prints the least wall and processor time of the whole process beside those of `true`, and at its end the worst difference of both, as
+a part of 30 ms; wall time tells something on an idle machine alone. Build the program first, by `./build`. The gate does not run it.
 """
 import argparse
 import os
@@ -61,12 +61,12 @@ def main(arguments):
     text = planar_diagram(STRANDS, LETTERS)
     empty_wall, empty_used = least(arguments.runs, ["true"])
     print(f"true: {empty_wall * 1e3:.2f} ms wall, {empty_used * 1e3:.2f} ms of a processor")
-    most = 0
+    most, worst = 0, 0
     for name, lines in scripts(text):
         wall, used = least(arguments.runs, [PROGRAM, "edit"], (text + ";" + "".join(f"{it}\n" for it in lines)).encode())
-        most = max(most, wall - empty_wall)
-        print(f"{name}: {wall * 1e3:.2f} ms wall, {used * 1e3:.2f} ms of a processor, {(wall - empty_wall) / LINES * 1e6:.2f} us a line")
-    print(f"{most * 1e3:.2f} ms beyond true, ratio to {ALLOWED * 1e3:.0f} ms: {most / ALLOWED:.2f}")
+        most, worst = max(most, wall - empty_wall), max(worst, used - empty_used)
+        print(f"{name}: {wall * 1e3:.2f} ms wall, {used * 1e3:.2f} ms of a processor, {(used - empty_used) / LINES * 1e6:.2f} us a line")
+    print(f"beyond true, as parts of {ALLOWED * 1e3:.0f} ms: {most / ALLOWED:.2f} wall, {worst / ALLOWED:.2f} of a processor")
 
 
 if __name__ == "__main__":
