@@ -18,7 +18,6 @@ impl Parts {
 }
 
 // Whether each name on which a pass enters or leaves is paired.
-#[tactic(auto, using(crate::proofs::PairingTests::all_take_more))]
 fn all_are_paired(passes: &[Pass]) -> bool
     ensures { result ≡ all_are_paired passes.now }
 {
