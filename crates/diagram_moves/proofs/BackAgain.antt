@@ -13,7 +13,8 @@ use Rattle.kinks_and_fingers.specs.Drops.{dropped, kept_places, positive_at, str
 use Rattle.kinks_and_fingers.proofs.KeptCodes.{kept-sign, kept-slots, length-kept, renamed_slots-at, straight-below, straight-finest}
 use Rattle.orient_arcs.specs.Parts.{ArePaired}
 use Rattle.orient_arcs.specs.OtherNames.{IsNamedBy}
-use Rattle.orient_arcs.proofs.KeptOrder.{KeepsComponents-ascending, own-crossings}
+use Rattle.orient_arcs.proofs.AscendingNames.{KeepsComponents-ascending}
+use Rattle.orient_arcs.proofs.KeptOrder.{own-crossings}
 use Rattle.diagram_moves.specs.declared.fault.MoveFault.{MoveFault}
 use Rattle.diagram_moves.specs.Joinable.{numbered, parts_in}
 use Rattle.diagram_moves.specs.Kept.{HasComponents}

@@ -1,9 +1,8 @@
 -- A code under other names, which keep the order of its components, has its own numbers when it is renumbered.
-use Rattle.std.proofs.Common.{◌≡◌, ◌≢◌, ℕ, zero, suc, inl, inr, ◌+◌, ◌-◌, ◌*◌, ◌<◌, ◌≤◌, ◌∙◌, List, [], ◌∷◌, ◌++◌, length, map, get_or, refl, sym, ap, ap₂, subst, arith, Bool, true, false, not, ◌&&◌, ℤ, pos, negsuc}
-use Rattle.std.specs.Prelude.{nat_eq, if◌then◌else◌, slice_index_or, MatchBool, int_lt}
+use Rattle.std.proofs.Common.{◌≡◌, ◌≢◌, ℕ, zero, suc, inl, inr, ◌+◌, ◌-◌, ◌*◌, ◌<◌, ◌≤◌, ◌∙◌, List, [], ◌∷◌, ◌++◌, length, map, get_or, refl, sym, ap, ap₂, subst, arith, Bool, true, false, not, ◌&&◌}
+use Rattle.std.specs.Prelude.{nat_eq, if◌then◌else◌, MatchBool, int_lt}
 use Rattle.std.specs.List.{position_or_len, range_with_len, AllByRecursion}
 use Rattle.std.proofs.lemmas.Bool.{cases_eq, cases_lt, cases_Bool, eq-eqb, and_from, and_parts, both_ways}
-use Rattle.std.proofs.lemmas.Bool.Decides.{nat_tests}
 use Rattle.std.proofs.lemmas.List.{length-map, map-append}
 use Rattle.std.proofs.lemmas.List.FromFn.{length-range_with_len, get_or-map-range_with_len}
 use Rattle.kh_types.specs.Code.{Code, arc_in, slots_of, IsArc, IsCrossing}
@@ -11,7 +10,7 @@ use Rattle.kh_types.specs.Components.{next}
 use Rattle.kh_types.specs.Directions.{is_positive, head_of, HasNoSingleArcs, IsPass}
 use Rattle.kh_types.specs.Accepted.{IsDirected}
 use Rattle.kh_types.proofs.Heads.{IsPass-under, IsPass-over, HasEnds-directed}
-use Rattle.kh_types.proofs.NextArcs.{component, component-inside, HasPlace-directed, IsArc-next}
+use Rattle.kh_types.proofs.NextArcs.{component, HasPlace-directed, IsArc-next}
 use Rattle.kh_types.proofs.Ranges.{range-append}
 use Rattle.code_passes.specs.Passes.{Pass, is_over}
 use Rattle.code_passes.specs.ComponentLabels.{label_at, entering_label}
@@ -19,117 +18,17 @@ use Rattle.code_passes.proofs.LeastArcs.{IsFirstOf-directed}
 use Rattle.code_passes.proofs.CutArcs.{IsFirst, IsFirst-next, size, component-in, end-within, size-positive}
 use Rattle.code_passes.proofs.TwoArcComponents.{ascending}
 use Rattle.orient_arcs.specs.Parts.{Parts, ArePaired, parts_of, passes_through, passes_at, slots_in, is_positive_at, over_pass}
-use Rattle.orient_arcs.specs.Renumbered.{follows, label_entered, walk, turned_names, is_in, bound_of, order_of, number_in, renamed_crossing, renumber}
+use Rattle.orient_arcs.specs.Renumbered.{follows, label_entered, walk, turned_names, is_in, bound_of, order_of, number_in, renumber}
 use Rattle.orient_arcs.specs.Steps.{order_below, is_new}
 use Rattle.orient_arcs.specs.OtherNames.{IsNamedBy, IsOverCircle, KeepsComponents}
+use Rattle.orient_arcs.proofs.NamedLists.{IsIn-map, map-IsIn, own-again, rising, turned-map}
+use Rattle.orient_arcs.proofs.AscendingNames.{component-behind, component-from}
 use Rattle.orient_arcs.proofs.Members.{IsIn, is_in-true, true-is_in, is_in-false, neq-eqb, position-get, AreDistinct}
 use Rattle.orient_arcs.proofs.PairedPasses.{heads_of, entering-holds, entering-enters, label-once, length-heads, All-flat_map_range}
 use Rattle.orient_arcs.proofs.PairedCodes.{ArePaired-directed}
 use Rattle.orient_arcs.proofs.Bridge.{below-bound, distinct-order, slot-head}
 use Rattle.orient_arcs.proofs.ComponentSteps.{order-same, order-turned, walk-two}
 use Rattle.orient_arcs.proofs.OwnNumbers.{in-range, range-in, walk-range, turned-own, label-own, follows-next, arc-head}
-
--- members of images
-IsIn-map : (f : ℕ → ℕ) (x : ℕ) (xs : List ℕ) → IsIn x xs → IsIn (f x) (map f xs)
-IsIn-map f x [] is = absurd is
-IsIn-map f x (y ∷ ys) (inl same) = inl (ap f same)
-IsIn-map f x (y ∷ ys) (inr later) = inr (IsIn-map f x ys later)
-
-map-IsIn : (f : ℕ → ℕ) (z : ℕ) (xs : List ℕ) → IsIn z (map f xs) → (x : ℕ) × IsIn x xs × (z ≡ f x)
-map-IsIn f z [] is = absurd is
-map-IsIn f z (y ∷ ys) (inl same) = (y, inl refl, same)
-map-IsIn f z (y ∷ ys) (inr later) = let found = map-IsIn f z ys later in (found.0, inr found.1, found.2)
-
--- labels of two over passes, of which the second is not less than the first
-rising : (x y : ℤ) → is_over x ≡ true → is_over y ≡ true → int_lt y x ≡ false → x ≢ y → int_lt x y ≡ true
-rising (pos m) (pos n) x_over y_over not_less differ = rises m n not_less (λ same. differ (ap (λ (k : ℕ). pos k) same))
-  where
-    rises : (m n : ℕ) → int_lt (pos n) (pos m) ≡ false → m ≢ n → int_lt (pos m) (pos n) ≡ true
-    rises m n not_less differ = grind (arith, nat_tests)
-rising (pos m) (negsuc n) x_over y_over not_less differ = absurd (cc)
-rising (negsuc m) y x_over y_over not_less differ = absurd (cc)
-
--- names are turned as arcs are, where their labels are those of the arcs
-turned-map : (f : ℕ → ℕ) (label own : ℕ → ℤ) (names : List ℕ) → ((x : ℕ) → IsIn x names → label (f x) ≡ own x)
-    → turned_names label (map f names) ≡ map f (turned_names own names)
-turned-map f label own [] same = refl
-turned-map f label own (a ∷ []) same = refl
-turned-map f label own (a ∷ b ∷ []) same =
-    ap₂ (λ x y. if (is_over x && is_over y) && int_lt y x then f b ∷ f a ∷ [] else f a ∷ f b ∷ []) (same a (inl refl)) (same b (inr (inl refl)))
-    ∙ by ((is_over (own a) && is_over (own b)) && int_lt (own b) (own a))
-  where
-    by : (test : Bool) → (if test then f b ∷ f a ∷ [] else f a ∷ f b ∷ []) ≡ map f (if test then b ∷ a ∷ [] else a ∷ b ∷ [])
-    by true = refl
-    by false = refl
-turned-map f label own (a ∷ b ∷ c ∷ names) same = refl
-
--- a list under names that are its own again
-own-again : (number : ℕ → ℕ) (xs ys : List (List ℕ)) → length xs ≡ length ys → AllByRecursion (λ (slots : List ℕ). length slots ≡ 4) ys
-    → ((k slot : ℕ) → k < length ys → slot < 4 → number (arc_in (slice_index_or xs k []) slot) ≡ arc_in (slice_index_or ys k []) slot)
-    → map (renamed_crossing number) xs ≡ ys
-own-again number [] [] alike four each = refl
-own-again number [] (y ∷ ys) alike four each = absurd (omega (arith, alike))
-own-again number (x ∷ xs) [] alike four each = absurd (omega (arith, alike))
-own-again number (x ∷ xs) (y ∷ ys) alike four each =
-    ap₂ (λ z zs. z ∷ zs) (quad number x y four.0 (λ slot below. each 0 slot (omega arith) below))
-    (own-again number xs ys (omega (arith, alike)) four.1 (λ k slot below slot_below. each (suc k) slot (omega (arith, below)) slot_below))
-  where
-    quad : (number : ℕ → ℕ) (old new : List ℕ) → length new ≡ 4 → ((slot : ℕ) → slot < 4 → number (arc_in old slot) ≡ arc_in new slot)
-        → renamed_crossing number old ≡ new
-    quad number old [] four each = absurd (omega (arith, four))
-    quad number old (i ∷ []) four each = absurd (omega (arith, four))
-    quad number old (i ∷ j ∷ []) four each = absurd (omega (arith, four))
-    quad number old (i ∷ j ∷ k ∷ []) four each = absurd (omega (arith, four))
-    quad number old (i ∷ j ∷ k ∷ l ∷ []) four each =
-        ap₂ (λ x y. x ∷ y ∷ number (arc_in old 2) ∷ number (arc_in old 3) ∷ []) (each 0 (omega arith)) (each 1 (omega arith))
-        ∙ ap₂ (λ x y. i ∷ j ∷ x ∷ y ∷ []) (each 2 (omega arith)) (each 3 (omega arith))
-    quad number old (i ∷ j ∷ k ∷ l ∷ m ∷ more) four each = absurd (omega (arith, four))
-
--- arcs from the first of a component on are in it, or in a component behind it
-component-from : (crossings : List (List ℕ)) → IsDirected crossings → (first arc : ℕ) → IsFirst crossings first → IsArc crossings arc
-    → first ≤ arc → first ≤ component crossings arc
-component-from crossings directed first arc is arc_is from = elim (cases_lt (component crossings arc) first) [
-  | inr later ↦ later
-  | inl before ↦
-      let place = HasPlace-directed crossings directed arc arc_is in
-      let inside = component-inside crossings directed arc first arc_is (omega (arith, before)) (omega (arith, from, place.below)) in
-      absurd (omega (arith, inside, is.own, before))
-]
-
-component-behind : (crossings : List (List ℕ)) → IsDirected crossings → (first arc : ℕ) → IsFirst crossings first → IsArc crossings arc
-    → first + size crossings first ≤ arc → first < component crossings arc
-component-behind crossings directed first arc is arc_is behind =
-    let next_is = IsFirst-next crossings directed first is (omega (arith, behind, arc_is.within)) in
-    let from = component-from crossings directed (first + size crossings first) arc next_is arc_is behind in
-    omega (arith, from, size-positive crossings directed first is)
-
--- names that ascend keep all of this
-pub KeepsComponents-ascending : (f : ℕ → ℕ) (crossings : List (List ℕ)) → IsDirected crossings → ((x y : ℕ) → x < y → f x < f y)
-    → KeepsComponents f crossings
-KeepsComponents-ascending f crossings directed ascends = record {
-  apart = λ x y x_is y_is same. elim (cases_lt x y) [
-    | inl less ↦ let up = ascends x y less in absurd (omega (arith, up, same))
-    | inr not_less ↦ elim (cases_lt y x) [
-      | inl less ↦ let up = ascends y x less in absurd (omega (arith, up, same))
-      | inr neither ↦ omega (arith, not_less, neither)
-    ]
-  ];
-  across = λ x y x_is y_is behind. ascends x y
-      (elim (cases_lt x y) [
-        | inl less ↦ less
-        | inr not_less ↦
-            let x_place = HasPlace-directed crossings directed x x_is in
-            let y_place = HasPlace-directed crossings directed y y_is in
-            let inside = component-inside crossings directed x y x_is (omega (arith, behind, y_place.from)) (omega (arith, not_less, x_place.below)) in
-            absurd (omega (arith, inside, behind))
-      ]);
-  within = λ x is. inl (elim (cases_lt (component crossings x) x) [
-    | inl less ↦ let up = ascends (component crossings x) x less in omega (arith, up)
-    | inr not_less ↦
-        let place = HasPlace-directed crossings directed x is in
-        let same : component crossings x ≡ x = omega (arith, not_less, place.from) in omega (arith, ap f same)
-  ]);
-}
 
 module _ (code : Code) (directed : IsDirected code.crossings) (moves : HasNoSingleArcs code.crossings) (parts : Parts)
     (paired : ArePaired parts) (f : ℕ → ℕ) (named : IsNamedBy f code parts) (keeps : KeepsComponents f code.crossings) where

@@ -17,6 +17,8 @@ pub mod StepLemmas
 pub mod ComponentSteps
 pub mod OwnNumbers
 pub mod PairedAlike
+pub mod NamedLists
+pub mod AscendingNames
 pub mod KeptOrder
 pub mod ArcWalks
 pub mod PlacedNumbers

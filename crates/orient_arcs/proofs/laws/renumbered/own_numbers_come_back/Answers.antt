@@ -1,7 +1,8 @@
 use Rattle.std.proofs.Common.{◌≡◌, ℕ, List, length}
 use Rattle.std.proofs.lemmas.List.Elements.{recursion_from_All}
 use Rattle.kh_types.proofs.Heads.{HasNoSingleArcs-accepted}
-use Rattle.orient_arcs.proofs.KeptOrder.{KeepsComponents-ascending, own-crossings}
+use Rattle.orient_arcs.proofs.AscendingNames.{KeepsComponents-ascending}
+use Rattle.orient_arcs.proofs.KeptOrder.{own-crossings}
 use Rattle.orient_arcs.proofs.laws.renumbered.own_numbers_come_back.Goals as goal
 
 pub returns-clause-crossings : goal.returns-clause-crossings
