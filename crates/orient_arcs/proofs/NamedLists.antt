@@ -5,7 +5,7 @@ use Rattle.std.specs.List.{AllByRecursion}
 use Rattle.std.proofs.lemmas.Bool.Decides.{nat_tests}
 use Rattle.kh_types.specs.Code.{arc_in}
 use Rattle.code_passes.specs.Passes.{is_over}
-use Rattle.orient_arcs.specs.Renumbered.{turned_names, renamed}
+use Rattle.orient_arcs.specs.Renumbered.{turned_names, renamed_crossing}
 use Rattle.orient_arcs.proofs.Members.{IsIn}
 
 -- members of images
@@ -45,7 +45,7 @@ turned-map f label own (a ∷ b ∷ c ∷ names) same = refl
 -- a list under names that are its own again
 pub own-again : (number : ℕ → ℕ) (xs ys : List (List ℕ)) → length xs ≡ length ys → AllByRecursion (λ (slots : List ℕ). length slots ≡ 4) ys
     → ((k slot : ℕ) → k < length ys → slot < 4 → number (arc_in (slice_index_or xs k []) slot) ≡ arc_in (slice_index_or ys k []) slot)
-    → map (renamed number) xs ≡ ys
+    → map (renamed_crossing number) xs ≡ ys
 own-again number [] [] alike four each = refl
 own-again number [] (y ∷ ys) alike four each = absurd (omega (arith, alike))
 own-again number (x ∷ xs) [] alike four each = absurd (omega (arith, alike))
@@ -54,7 +54,7 @@ own-again number (x ∷ xs) (y ∷ ys) alike four each =
     (own-again number xs ys (omega (arith, alike)) four.1 (λ k slot below slot_below. each (suc k) slot (omega (arith, below)) slot_below))
   where
     quad : (number : ℕ → ℕ) (old new : List ℕ) → length new ≡ 4 → ((slot : ℕ) → slot < 4 → number (arc_in old slot) ≡ arc_in new slot)
-        → renamed number old ≡ new
+        → renamed_crossing number old ≡ new
     quad number old [] four each = absurd (omega (arith, four))
     quad number old (i ∷ []) four each = absurd (omega (arith, four))
     quad number old (i ∷ j ∷ []) four each = absurd (omega (arith, four))

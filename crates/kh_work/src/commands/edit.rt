@@ -1,4 +1,4 @@
-//! The command `edit`: the diagram after each line of a script, up to the first line that is refused.
+//! The command `edit`: the diagram after each line of a script, up to the first that is refused.
 
 ghost use Rattle.std.specs.Prelude.{◌≡◌, ◌≤◌, ◌++◌, IfOk, OnOk, Ok, Err, length, true, false};
 ghost use Rattle.kh_types.specs.declared.limits.TheConstants.{INPUT_BYTES};
@@ -13,7 +13,8 @@ use pd_code::print_pd;
 use std::alloc::Global;
 use undo_stack::{EditFault, EditLine, Editor, SCRIPT_LINES, ScriptStop, carry_out, read_edit};
 
-/// The reply to a diagram and the text of a script: the diagram after each line that has words, up to the first that is refused.
+/// The reply to a diagram and the text of a script: the diagram after each line that has words, up to
+/// the first that is refused.
 pub fn reply_to_edit(alloc: Global, diagram: &Diagram, script: &[u8]) -> Result<Reply, NoMemory>
     requires short { length script.now ≤ INPUT_BYTES }
     ensures { IfOk result (λ reply. IsEditReply diagram.now script.now reply) }
@@ -45,7 +46,8 @@ fn reply_to_lines(
     Ok(reply_made(Status::Done, text))
 }
 
-/// Carries out a line, and adds the diagram after it, or why it is refused; answers whether it is done.
+/// Carries out a line, and adds the diagram after it, or why it is refused; answers whether it is
+/// done.
 fn push_outcome(
     alloc: Global,
     text: &mut Vec<u8>,
