@@ -159,13 +159,11 @@ class Chain:
                 yield asked(program, ["edit"], f"{self.texts[place]};{line}", (moves.MOVE_REFUSED, f"1 refused {why}\n"))
 
     def acceptance(self, program):
-        """Each diagram is accepted with the directions that it has, and of some the program says so."""
+        """Each diagram is accepted with the directions that it has, by the second reading and by the program."""
         for diagram, text in self.readable():
             code = codes.code_of(diagram)
             fault = codes.fault_of(code) or ("" if codes.accepted(code) == diagram else "other directions")
-            yield Case(["the second reading"], text, (0, fault), (0, ""))
-        for diagram, text in self.readable()[::10]:
-            yield asked(program, ["check"], text, (moves.DONE, codes.counts(diagram)))
+            yield asked(program, ["check"], text, (moves.DONE, f"the second reading: {fault}" if fault else codes.counts(diagram)))
 
     def polynomials(self, program):
         """The diagrams of few crossings have the Jones polynomial of the first."""
@@ -180,7 +178,8 @@ class Chain:
             if len(diagram.crossings) <= HOMOLOGY_CROSSINGS and most_generators(diagram) <= HOMOLOGY_GENERATORS
         ]
         for field in "23":
-            yield from alike(program, ["homology", "--field", field], few[::10]) if few[:1] == self.texts[:1] else ()
+            some = few[:: min(10, max(1, len(few) // 2))]
+            yield from alike(program, ["homology", "--field", field], some) if few[:1] == self.texts[:1] else ()
 
 
 def code_text(draw, code):

@@ -25,8 +25,8 @@ pub fn added_fingers_are_dropped()
         → moved new (FingerDrop (length code.crossings + 1) (length code.crossings + 2)) ≡ Ok code }
 {}
 
-/// A slide leaves a triangle at the slot across. A slide at that one gives the diagram back; and so
-/// does the move, where it is made at that one, as where the slide left no other at the crossings.
+/// A slide at the slot across from that of a slide gives the diagram back; and so does the move,
+/// where it is made at that slot, as where the slide left no other triangle at its crossings.
 pub fn slides_are_taken_back()
     ensures across { (code : Code) (c d e slot : ℕ) → IsTrue (accepted code)
         → All (λ slots. length slots ≡ 4) code.crossings → IsCrossing code.crossings c

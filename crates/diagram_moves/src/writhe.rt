@@ -7,7 +7,8 @@ ghost use Rattle.diagram_moves.specs.Moved.{moved};
 ghost use Rattle.diagram_moves.specs.Writhe.{writhe, writhe_change};
 ghost use Rattle.diagram_moves.specs.declared.change.Move.{Move};
 
-/// A first Reidemeister move changes the writhe by the sign of its crossing; the others keep it.
+/// A kink that is added brings its sign to the writhe, one that is dropped takes it away; all other
+/// moves keep the writhe.
 #[tactic(auto, using(crate::proofs::Writhes::moves_change_the_writhe))]
 pub fn moves_change_the_writhe()
     ensures { (code new : Code) (change : Move) → IsTrue (accepted code)

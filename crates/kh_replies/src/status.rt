@@ -7,7 +7,7 @@ ghost use Rattle.std.specs.Prelude.{◌≡◌};
 pub enum Status {
     /// 0: the answer was written.
     Done,
-    /// 1: the input is no code of an accepted diagram.
+    /// 1: the input is no code of an accepted diagram, or a line of its script is no command.
     CodeRefused,
     /// 2: the words give no command.
     Usage,
@@ -19,7 +19,7 @@ pub enum Status {
     NoMemory,
     /// 6: the input is larger than the program takes.
     Limit,
-    /// 7: a script asks for a move that is refused.
+    /// 7: a script asks for a move, an undo or a redo that is refused.
     MoveRefused,
 }
 

@@ -7,7 +7,7 @@ use Rattle.code_passes.specs.ComponentLabels.{entering_label}
 use Rattle.code_passes.specs.Passes.{is_over}
 use Rattle.orient_arcs.specs.Parts.{Parts, slots_in, is_positive_at}
 
--- parts are those of a code, with its directions, each arc under the name that f gives it
+-- the crossings of parts are those of a code, with its directions, each arc under the name that f gives it
 pub record IsNamedBy (f : ℕ → ℕ) (code : Code) (parts : Parts) : Type 0 where
   pub size : length parts.crossings ≡ length code.crossings
   pub names : (place slot : ℕ) → place < length code.crossings → slot < 4

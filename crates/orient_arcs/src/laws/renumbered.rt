@@ -76,8 +76,8 @@ pub fn accepted_codes_are_renumbered()
         → state_sum (renumber parts) exponent ≡ state_sum code exponent }
 {}
 
-/// A code's own numbers come back from any names that keep the order of its components, and that of
-/// each least arc: so from all names that ascend with its arcs.
+/// A code's own numbers come back from any names, one for each arc, that keep the order of its components and give each component's
+/// least name to its least arc, circles over all that they meet excepted: so from all names that ascend with its arcs.
 pub fn own_numbers_come_back()
     ensures crossings { (f : ℕ → ℕ) (code : Code) (parts : Parts) → IsTrue (accepted code)
         → All (λ slots. length slots ≡ 4) code.crossings → ArePaired parts → IsNamedBy f code parts
