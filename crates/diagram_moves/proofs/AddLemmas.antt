@@ -1,12 +1,13 @@
 -- Kinks and fingers as they are added.
-use Rattle.std.proofs.Common.{◌≡◌, ℕ, ◌+◌, ◌∙◌, ℤ, List, [], ◌∷◌, ◌++◌, length, arith, Bool, IsTrue}
-use Rattle.std.specs.Prelude.{None}
+use Rattle.std.proofs.Common.{◌≡◌, ℕ, ◌+◌, ◌<◌, ◌∙◌, ℤ, List, [], ◌∷◌, ◌++◌, length, map, arith, Bool, false, IsTrue}
+use Rattle.std.specs.Prelude.{None, get_or}
 use Rattle.std.specs.Option.{option_or}
 use Rattle.std.specs.List.{range_with_len}
 use Rattle.std.proofs.lemmas.List.{length-map}
-use Rattle.std.proofs.lemmas.List.FromFn.{length-range_with_len, map-range_with_len_more}
+use Rattle.std.proofs.lemmas.List.FromFn.{get_or-map-range_with_len, length-map-range_with_len, length-range_with_len, map-range_with_len_more}
 use Rattle.kh_types.specs.Acceptance.{accepted}
 use Rattle.kh_types.specs.Code.{Code, arc_count}
+use Rattle.kh_types.specs.Directions.{positive_at}
 use Rattle.kh_types.specs.Faces.{face_count, planar_face_count}
 use Rattle.kh_types.specs.declared.limits.TheConstants.{CROSSINGS}
 use Rattle.gluing.specs.Codes.{name_count}
@@ -21,6 +22,14 @@ use Rattle.diagram_moves.specs.AddSteps.{IsTakenArc, AreTakenArcs, kinked_there,
 use Rattle.diagram_moves.specs.MoveFaults.{kink_add_fault, finger_place_fault, no_arc, crossing_limit_fault, on_loop, same_arc, wrong_genus}
 use Rattle.diagram_moves.specs.declared.fault.MoveFault.TheVariants.{NoArc, CrossingLimit, OnLoop, SameArc, Genus}
 use Rattle.diagram_moves.proofs.FaultLemmas.{both-none, none-above, none-apart, none-same, none-within}
+
+pub sign_there : (crossings : List (List ℕ)) (place : ℕ) → place < length crossings
+    → get_or (map (positive_at crossings) (range_with_len 0 (length crossings))) place false ≡ positive_at crossings place
+sign_there crossings place below = get_or-map-range_with_len (positive_at crossings) 0 (length crossings) place place false below (omega arith)
+
+pub length_signs : (crossings : List (List ℕ))
+    → length (map (positive_at crossings) (range_with_len 0 (length crossings))) ≡ length crossings
+length_signs crossings = length-map-range_with_len (positive_at crossings) 0 (length crossings)
 
 pub kinked_more : (crossings : List (List ℕ)) (a k : ℕ)
     → kinked_to crossings a (k + 1) ≡ kinked_to crossings a k ++ kinked_there crossings a k ∷ []

@@ -2,6 +2,7 @@
 use Rattle.std.proofs.Common.{◌≡◌, ℕ, ◌+◌, ◌<◌, ◌≤◌, ◌∙◌, List, length, map, refl, ap, ap₂, arith, Bool, true, IsTrue}
 use Rattle.std.specs.Prelude.{slice_index, Option, Some, None, Result, Ok}
 use Rattle.std.specs.List.{range_with_len, AllByRecursion}
+use Rattle.kh_types.specs.Directions.{positive_at}
 use Rattle.kh_types.specs.Acceptance.{accepted}
 use Rattle.kh_types.specs.Code.{Code, arc_in, arc_count}
 use Rattle.kh_types.specs.Components.{component_count}
@@ -9,7 +10,7 @@ use Rattle.kh_types.specs.Darts.{HasArcsTwice}
 use Rattle.kh_types.proofs.Heads.{HasNoSingleArcs-accepted}
 use Rattle.kh_types.proofs.JoinedClasses.{IsNamed-classes_of}
 use Rattle.kinks_and_fingers.specs.Strands.{name_at, slots_at}
-use Rattle.kinks_and_fingers.specs.Drops.{dropped, kept_places, positive_at, straight_names, straight_pairs}
+use Rattle.kinks_and_fingers.specs.Drops.{dropped, kept_places, straight_names, straight_pairs}
 use Rattle.kinks_and_fingers.proofs.KeptCodes.{kept-sign, kept-slots, length-kept, renamed_slots-at, straight-below, straight-finest}
 use Rattle.orient_arcs.specs.Parts.{ArePaired}
 use Rattle.orient_arcs.specs.OtherNames.{IsNamedBy}

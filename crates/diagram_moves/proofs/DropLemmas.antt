@@ -3,6 +3,7 @@ use Rattle.std.proofs.Common.{◌≡◌, ℕ, ◌+◌, ◌∙◌, ℤ, List, [],
 use Rattle.std.specs.Prelude.{None, nat_eq, ◌||◌, if◌then◌else◌}
 use Rattle.std.specs.Option.{option_or}
 use Rattle.std.specs.List.{count_by, filter, flat_map, range_with_len}
+use Rattle.kh_types.specs.Directions.{positive_at}
 use Rattle.orient_arcs.specs.Parts.{Parts}
 use Rattle.std.proofs.Math.Path.{fun_ext}
 use Rattle.kh_types.specs.Acceptance.{accepted}
@@ -11,7 +12,7 @@ use Rattle.kh_types.specs.Components.{passes_of}
 use Rattle.kh_types.specs.StateSum.{state_sum}
 use Rattle.std.proofs.lemmas.Grind.{flat_map-append}
 use Rattle.kh_types.proofs.Ranges.{filter-range_more}
-use Rattle.kinks_and_fingers.specs.Drops.{dropped, is_bigon, is_kink, is_of_two, kept_crossings, kept_signs, positive_at, renamed_slots, straight_names, without_finger, without_kink}
+use Rattle.kinks_and_fingers.specs.Drops.{dropped, is_bigon, is_kink, is_of_two, kept_crossings, kept_signs, renamed_slots, straight_names, without_finger, without_kink}
 use Rattle.kinks_and_fingers.specs.Dropping.{HasBigonAt, HasKinkAt}
 use Rattle.kinks_and_fingers.specs.Strands.{Strands, slots_at}
 use Rattle.kinks_and_fingers.proofs.Sound.{HasBigonAt-found, HasKinkAt-found, IsSound-finger, IsSound-kink}

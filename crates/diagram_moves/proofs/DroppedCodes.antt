@@ -5,6 +5,7 @@ use Rattle.std.specs.List.{filter, range_with_len}
 use Rattle.std.proofs.lemmas.Bool.Decides.{nat_tests}
 use Rattle.std.proofs.lemmas.List.{length-map}
 use Rattle.std.proofs.lemmas.List.FromFn.{length-map-range_with_len}
+use Rattle.kh_types.specs.Directions.{positive_at}
 use Rattle.kh_types.specs.Acceptance.{accepted}
 use Rattle.kh_types.specs.Code.{Code, arc_in, arc_count}
 use Rattle.kh_types.specs.Darts.{HasArcsTwice}
@@ -12,7 +13,7 @@ use Rattle.kh_types.specs.StateSum.{state_sum}
 use Rattle.kh_types.proofs.AcceptedLemmas.{HasArcsTwice-accepted, IsAccepted-is}
 use Rattle.kh_types.proofs.JoinedClasses.{IsNamed-classes_of}
 use Rattle.kinks_and_fingers.specs.Strands.{name_at, slots_at}
-use Rattle.kinks_and_fingers.specs.Drops.{dropped, kept_places, kept_crossings, positive_at, straight_names, straight_pairs, is_of_two, without_kink, without_finger}
+use Rattle.kinks_and_fingers.specs.Drops.{dropped, kept_places, kept_crossings, straight_names, straight_pairs, is_of_two, without_kink, without_finger}
 use Rattle.kinks_and_fingers.specs.Dropping.{HasKinkAt, HasBigonAt, IsPlanarRest}
 use Rattle.kinks_and_fingers.specs.DropCircles.{strand_sum}
 use Rattle.kinks_and_fingers.specs.Pulls.{early, late}

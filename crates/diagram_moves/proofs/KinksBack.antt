@@ -4,13 +4,14 @@ use Rattle.std.specs.Prelude.{slice_index, slice_index_or, nat_eq, nat_lt, if◌
 use Rattle.std.specs.Option.{option_or}
 use Rattle.std.specs.List.{AllByRecursion}
 use Rattle.std.proofs.lemmas.Bool.Decides.{nat_tests}
+use Rattle.kh_types.specs.Directions.{positive_at}
 use Rattle.kh_types.specs.Acceptance.{accepted}
 use Rattle.kh_types.specs.Code.{Code, arc_in, arc_count, place_of, slots_of, IsArc}
 use Rattle.kh_types.specs.Darts.{HasArcsTwice}
 use Rattle.kh_types.proofs.AcceptedLemmas.{HasArcsTwice-accepted}
 use Rattle.kh_types.proofs.Ranges.{list_any-below}
 use Rattle.kinks_and_fingers.specs.Strands.{enters, name_at, slots_at}
-use Rattle.kinks_and_fingers.specs.Drops.{after, is_kink, is_kink_at, positive_at, straight_names, without_kink}
+use Rattle.kinks_and_fingers.specs.Drops.{after, is_kink, is_kink_at, straight_names, without_kink}
 use Rattle.kinks_and_fingers.specs.Dropping.{HasKinkAt}
 use Rattle.kinks_and_fingers.specs.KinkAdds.{kink_crossing, kinked_name, raised, with_kink}
 use Rattle.kinks_and_fingers.specs.Pulls.{early}

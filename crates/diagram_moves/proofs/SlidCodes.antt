@@ -10,7 +10,7 @@ use Rattle.kh_types.specs.Circles.{circle_count, smoothings_of}
 use Rattle.kh_types.specs.Code.{Code, IsArc, arc_count}
 use Rattle.kh_types.specs.Components.{component_count, passes_of}
 use Rattle.kh_types.specs.Darts.{HasArcsTwice, arc_of, dart_at, dart_place, partner_at, IsDartOf}
-use Rattle.kh_types.specs.Directions.{is_positive, plus_count, minus_count}
+use Rattle.kh_types.specs.Directions.{is_positive, plus_count, minus_count, positive_at}
 use Rattle.kh_types.specs.Faces.{face_count, planar_face_count}
 use Rattle.kh_types.specs.StateSum.{term_of, sum_with, term_with}
 use Rattle.kh_types.proofs.AcceptedLemmas.{HasArcsTwice-accepted, IsAccepted-is}
@@ -20,7 +20,6 @@ use Rattle.kh_types.proofs.DartPairs.{IsDart-at, IsOtherPlace-partner_at, IsPair
 use Rattle.kh_types.proofs.Lists.{count_by-map}
 use Rattle.face_walk.proofs.FewFaces.{IsPlanar-twice}
 use Rattle.kinks_and_fingers.specs.Strands.{Strands, dart_name, sign_at, is_head_at, HasTwoEnds, IsPlanarBy}
-use Rattle.kinks_and_fingers.specs.Drops.{positive_at}
 use Rattle.kinks_and_fingers.specs.DropCircles.{strand_circle_count, strand_plus, strand_minus, strand_term, strand_sum}
 use Rattle.kinks_and_fingers.specs.DropComponents.{strand_component_count}
 use Rattle.kinks_and_fingers.proofs.OldDarts.{dart_name-arc_of, dart_name-partner, dart_name-below}

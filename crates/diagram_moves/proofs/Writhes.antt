@@ -5,12 +5,12 @@ use Rattle.std.proofs.lemmas.Int.{ints}
 use Rattle.std.specs.List.{count_by, filter, range_with_len}
 use Rattle.kh_types.specs.Acceptance.{accepted}
 use Rattle.kh_types.specs.Code.{Code, place_of}
-use Rattle.kh_types.specs.Directions.{is_positive, plus_count, minus_count, sign_of}
+use Rattle.kh_types.specs.Directions.{is_positive, plus_count, minus_count, sign_of, positive_at}
 use Rattle.kh_types.proofs.DirectionLemmas.{plus_count-le}
 use Rattle.kh_types.proofs.Lists.{count_by-map}
 use Rattle.kh_types.proofs.RangeCounts.{count_by-alike}
 use Rattle.kinks_and_fingers.specs.DropCircles.{strand_plus}
-use Rattle.kinks_and_fingers.specs.Drops.{dropped, kept_places, positive_at, is_of_two, without_finger, without_kink}
+use Rattle.kinks_and_fingers.specs.Drops.{dropped, kept_places, is_of_two, without_finger, without_kink}
 use Rattle.kinks_and_fingers.specs.FingerAdd.{with_finger, differ}
 use Rattle.kinks_and_fingers.specs.KinkAdds.{with_kink}
 use Rattle.kinks_and_fingers.specs.KinkCodes.{one_where}

@@ -1,10 +1,11 @@
 -- What is left where two crossings are dropped, place by place.
 use Rattle.std.specs.Prelude.{ℕ, List, map, nat_eq, Bool, not, ◌&&◌, ◌||◌}
 use Rattle.std.specs.List.{filter, flat_map, range_with_len}
+use Rattle.kh_types.specs.Directions.{positive_at}
 use Rattle.kh_types.specs.Classes.{is_least}
 use Rattle.kh_types.specs.Code.{arc_in}
 use Rattle.kh_types.specs.Components.{passes_of}
-use Rattle.kinks_and_fingers.specs.Drops.{is_of_two, positive_at, renamed_slots, stands_in}
+use Rattle.kinks_and_fingers.specs.Drops.{is_of_two, renamed_slots, stands_in}
 use Rattle.kinks_and_fingers.specs.Strands.{slots_at}
 
 -- the crossing at a place is neither of two

@@ -4,10 +4,9 @@ use Rattle.std.specs.List.{range_with_len}
 use Rattle.kh_types.specs.Code.{Code}
 use Rattle.kh_types.specs.Acceptance.{accepted}
 use Rattle.kh_types.specs.Components.{component_count}
-use Rattle.kh_types.specs.Directions.{is_positive}
+use Rattle.kh_types.specs.Directions.{is_positive, positive_at}
 use Rattle.kh_types.specs.StateSum.{state_sum}
 use Rattle.kinks_and_fingers.specs.Strands.{Strands}
-use Rattle.kinks_and_fingers.specs.Drops.{positive_at}
 use Rattle.slides.specs.Slid.{slid}
 
 -- a code whose crossings are those at some places of another, in that order, is accepted, with its components and loops together, their

@@ -13,10 +13,7 @@ pub(crate) fn accepted(raw: &RawCode) -> Diagram
     requires { IsTrue (accepted raw.now) }
     ensures { result ≡ raw.now }
 {
-    match Diagram::try_new(raw) {
-        Ok(diagram) => diagram,
-        Err(_) => unreachable!(),
-    }
+    Diagram::of_accepted(raw)
 }
 
 /// The diagram of crossings over names, whose code is accepted.

@@ -17,7 +17,7 @@ use kh_types::Diagram;
 /// The diagram after a Reidemeister move, or the least numbered fault. The state sum stays. Only a
 /// finger that is added can leave the sphere, and one between two pieces never does. Source:
 /// Reidemeister 1927; the numbers of arcs and the order of faults are this project's rule.
-#[tactic(auto, using(crate::proofs::ApplyLemmas::moves_keep_the_state_sum, crate::proofs::ApplyLemmas::moves_leave_the_sphere, crate::proofs::ApplyLemmas::joined_pieces_stay_on_the_sphere,))]
+#[tactic(auto, using(crate::proofs::ApplyLemmas::moves_leave_the_sphere, crate::proofs::ApplyLemmas::joined_pieces_stay_on_the_sphere,))]
 pub fn apply_move(diagram: &Diagram, change: Move) -> Result<Diagram, MoveFault>
     ensures moved { result ≡ moved diagram.now change }
     ensures sum { IfOk result (λ new. (exponent : ℤ)

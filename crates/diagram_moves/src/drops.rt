@@ -15,7 +15,7 @@ ghost use Rattle.diagram_moves.specs.Moved.{answered};
 use crate::accepted::renumbered;
 use crate::fault::MoveFault;
 use crate::faults::{finger_drop_fault, kink_drop_fault};
-use crate::kink_add::is_positive;
+use crate::kink_add::sign_there;
 use crate::pair::Pair;
 use arrayvec::ArrayVec;
 use kh_types::{ARCS, CLASS_MEMBERS, CROSSINGS, Crossing, Diagram, class_of, classes_of, is_least};
@@ -184,13 +184,11 @@ fn kept_signs(diagram: &Diagram, gone: Pair) -> ArrayVec<bool, CROSSINGS>
     ensures { result.items
         ≡ signs_to diagram.now.crossings gone.first gone.second (length diagram.now.crossings) }
 {
+    let all = diagram.signs();
     let mut signs = ArrayVec::new();
     'places: for place in 0..diagram.count() {
-        push_sign(
-            &mut signs,
-            stays(gone, place),
-            is_positive(diagram, place + 1),
-        );
+        let is_positive = sign_there(&all, diagram, place);
+        push_sign(&mut signs, stays(gone, place), is_positive);
     }
     signs
 }

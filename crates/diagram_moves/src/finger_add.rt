@@ -4,7 +4,7 @@ ghost use Rattle.std.specs.Prelude.{◌≡◌, ◌≢◌, ◌≤◌, ◌<◌, �
 ghost use Rattle.kh_types.specs.Acceptance.{accepted};
 ghost use Rattle.kh_types.specs.Code.{IsArc, IsCrossing};
 ghost use Rattle.kh_types.specs.Darts.{IsDart};
-ghost use Rattle.kh_types.specs.Directions.{is_head};
+ghost use Rattle.kh_types.specs.Directions.{is_positive};
 ghost use Rattle.kh_types.specs.declared.limits.TheConstants.{CROSSINGS, ARCS};
 ghost use Rattle.kinks_and_fingers.specs.FingerAdd.{crossing_with, differ, first_crossing, head_number, moved_arc, moved_crossings, moved_slots, opened, second_crossing, with_finger};
 ghost use Rattle.diagram_moves.specs.AddSteps.{AreTakenArcs};
@@ -15,7 +15,7 @@ use crate::accepted::accepted;
 use crate::change::Side;
 use crate::fault::MoveFault;
 use crate::faults::{finger_place_fault, wrong_genus};
-use crate::kink_add::is_positive;
+use crate::kink_add::{enters, sign_there};
 use arrayvec::ArrayVec;
 use kh_types::{ARCS, CROSSINGS, Crossing, Dart, Diagram, RawCode};
 
@@ -107,52 +107,44 @@ fn moved_crossings(diagram: &Diagram, finger: Finger) -> ArrayVec<Crossing, CROS
         ≡ moved_crossings diagram.now.crossings finger.over finger.under }
     ensures count { length result.items ≡ length diagram.now.crossings }
 {
+    let signs = diagram.signs();
     let mut crossings = ArrayVec::new();
     'crossings: for place in 0..diagram.count() {
-        crossings.push(moved_slots(diagram, finger, place + 1));
+        let positive = sign_there(&signs, diagram, place);
+        crossings.push(moved_slots(diagram, finger, place + 1, positive));
     }
     crossings
 }
 
-fn moved_slots(diagram: &Diagram, finger: Finger, crossing: u8) -> Crossing
+// A crossing on the new arcs.
+fn moved_slots(diagram: &Diagram, finger: Finger, crossing: u8, positive: bool) -> Crossing
     requires arcs { AreTakenArcs diagram.now finger.over finger.under }
     requires crossing { IsCrossing diagram.now.crossings crossing }
+    requires sign { positive ≡ is_positive diagram.now.crossings crossing }
     ensures { result ≡ moved_slots diagram.now.crossings finger.over finger.under crossing }
 {
     Crossing([
-        moved_arc(diagram, finger, Dart { crossing, slot: 0 }),
-        moved_arc(diagram, finger, Dart { crossing, slot: 1 }),
-        moved_arc(diagram, finger, Dart { crossing, slot: 2 }),
-        moved_arc(diagram, finger, Dart { crossing, slot: 3 }),
+        moved_arc(diagram, finger, Dart { crossing, slot: 0 }, positive),
+        moved_arc(diagram, finger, Dart { crossing, slot: 1 }, positive),
+        moved_arc(diagram, finger, Dart { crossing, slot: 2 }, positive),
+        moved_arc(diagram, finger, Dart { crossing, slot: 3 }, positive),
     ])
 }
 
-// The new arc at a dart of an old crossing.
-fn moved_arc(diagram: &Diagram, finger: Finger, dart: Dart) -> u8
+// The new arc at a dart of an old crossing that is positive or negative.
+fn moved_arc(diagram: &Diagram, finger: Finger, dart: Dart, positive: bool) -> u8
     requires arcs { AreTakenArcs diagram.now finger.over finger.under }
     requires dart { IsDart diagram.now.crossings dart }
+    requires sign { positive ≡ is_positive diagram.now.crossings dart.crossing }
     ensures { result ≡ moved_arc diagram.now.crossings finger.over finger.under dart }
 {
     let _count = diagram.count();
     let arc = diagram.arc_at(dart);
-    if is_head(diagram, dart) {
+    if enters(positive, dart.slot) {
         head_number(finger, arc)
     } else {
         opened(finger, arc)
     }
-}
-
-// Whether a dart is the head of its arc.
-fn is_head(diagram: &Diagram, dart: Dart) -> bool
-    requires { IsDart diagram.now.crossings dart }
-    ensures { result ≡ is_head diagram.now.crossings dart }
-{
-    let start = if is_positive(diagram, dart.crossing) {
-        3
-    } else {
-        1
-    };
-    dart.slot == 0 || dart.slot == start
 }
 
 // The number of an old arc, and of its tail.

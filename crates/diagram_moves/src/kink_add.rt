@@ -1,9 +1,10 @@
 //! A kink that is added.
 
-ghost use Rattle.std.specs.Prelude.{◌≡◌, ◌≤◌, ◌<◌, ◌+◌, length, not};
-ghost use Rattle.kh_types.specs.Code.{IsArc, IsCrossing};
+ghost use Rattle.std.specs.Prelude.{◌≡◌, ◌≤◌, ◌<◌, ◌+◌, length, map, not};
+ghost use Rattle.std.specs.List.{range_with_len};
+ghost use Rattle.kh_types.specs.Code.{IsArc};
 ghost use Rattle.kh_types.specs.Darts.{arc_of};
-ghost use Rattle.kh_types.specs.Directions.{is_positive};
+ghost use Rattle.kh_types.specs.Directions.{positive_at};
 ghost use Rattle.kh_types.specs.declared.limits.TheConstants.{CROSSINGS, ARCS};
 ghost use Rattle.kinks_and_fingers.specs.FingerAdd.{dart_with};
 ghost use Rattle.kinks_and_fingers.specs.KinkAdds.{kink_crossing, kinked_name, moved_crossings, with_kink};
@@ -66,21 +67,23 @@ fn moved_crossings(diagram: &Diagram, arc: u8) -> ArrayVec<Crossing, CROSSINGS>
     ensures crossings { result.items ≡ moved_crossings arc diagram.now.crossings }
     ensures count { length result.items ≡ length diagram.now.crossings }
 {
+    let signs = diagram.signs();
     let mut crossings = ArrayVec::new();
     'crossings: for place in 0..diagram.count() {
-        crossings.push(moved_slots(diagram, arc, place));
+        let is_positive = sign_there(&signs, diagram, place);
+        crossings.push(moved_slots(diagram, arc, place, is_positive));
     }
     crossings
 }
 
 // The crossing at a place, on the new arcs.
-fn moved_slots(diagram: &Diagram, arc: u8, place: u8) -> Crossing
+fn moved_slots(diagram: &Diagram, arc: u8, place: u8, is_positive: bool) -> Crossing
     requires arc { IsArc diagram.now.crossings arc }
     requires few { length diagram.now.crossings ≤ CROSSINGS }
     requires place { place < length diagram.now.crossings }
+    requires sign { is_positive ≡ positive_at diagram.now.crossings place }
     ensures { result ≡ kinked_there diagram.now.crossings arc place }
 {
-    let is_positive = is_positive(diagram, place + 1);
     Crossing([
         moved_name(diagram, arc, is_positive, place, 0),
         moved_name(diagram, arc, is_positive, place, 1),
@@ -89,12 +92,17 @@ fn moved_slots(diagram: &Diagram, arc: u8, place: u8) -> Crossing
     ])
 }
 
-/// Whether a crossing is positive.
-pub(crate) fn is_positive(diagram: &Diagram, crossing: u8) -> bool
-    requires { IsCrossing diagram.now.crossings crossing }
-    ensures { result ≡ is_positive diagram.now.crossings crossing }
+/// Whether the crossing at a place is positive, given this of each.
+#[tactic(auto, using(crate::proofs::AddLemmas::length_signs))]
+pub(crate) fn sign_there(signs: &[bool], diagram: &Diagram, place: u8) -> bool
+    requires signs { signs.now
+        ≡ map (positive_at diagram.now.crossings)
+        (range_with_len 0 (length diagram.now.crossings)) }
+    requires place { place < length diagram.now.crossings }
+    ensures { result ≡ positive_at diagram.now.crossings place }
 {
-    diagram.sign(crossing) == 1
+    let _count = diagram.count();
+    signs[usize::from(place)]
 }
 
 fn moved_name(diagram: &Diagram, arc: u8, is_positive: bool, place: u8, slot: u8) -> u8

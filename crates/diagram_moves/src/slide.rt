@@ -2,9 +2,9 @@
 
 ghost use Rattle.std.specs.Prelude.{◌≡◌, ◌≤◌, ◌<◌, ◌+◌, None, length, map, slice_index};
 ghost use Rattle.std.specs.List.{range_with_len};
+ghost use Rattle.kh_types.specs.Directions.{positive_at};
 ghost use Rattle.kh_types.specs.Code.{IsCrossing};
 ghost use Rattle.kh_types.specs.Darts.{dart_count};
-ghost use Rattle.kinks_and_fingers.specs.Drops.{positive_at};
 ghost use Rattle.slides.specs.Slid.{arc_there, corner, on, slid, slid_crossing, source, steps_from};
 ghost use Rattle.diagram_moves.specs.Joinable.{AreReady, parts_in};
 ghost use Rattle.diagram_moves.specs.Kept.{slid_strands};
@@ -15,7 +15,6 @@ ghost use Rattle.diagram_moves.specs.SlideSteps.{AreDarts, IsSlidable, slid_arc,
 use crate::accepted::renumbered;
 use crate::fault::MoveFault;
 use crate::faults::slide_fault;
-use crate::kink_add::is_positive;
 use crate::triangles::{Corners, dart_at_slot, step, taken_slot};
 use arrayvec::ArrayVec;
 use kh_types::{CROSSINGS, Crossing, Dart, Diagram};
@@ -69,21 +68,9 @@ fn slid_parts(diagram: &Diagram, triangle: Triangle) -> Parts
 {
     Parts {
         crossings: slid(diagram, triangle),
-        positive: signs(diagram),
+        positive: diagram.signs(),
         loops: diagram.loops(),
     }
-}
-
-#[tactic(auto, using(kh_types::proofs::Ranges::range_steps))]
-fn signs(diagram: &Diagram) -> ArrayVec<bool, CROSSINGS>
-    ensures { result.items ≡ map (positive_at diagram.now.crossings)
-        (range_with_len 0 (length diagram.now.crossings)) }
-{
-    let mut signs = ArrayVec::new();
-    'places: for place in 0..diagram.count() {
-        signs.push(is_positive(diagram, place + 1));
-    }
-    signs
 }
 
 #[tactic(auto, using(kh_types::proofs::Ranges::range_steps))]

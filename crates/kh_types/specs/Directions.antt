@@ -1,5 +1,5 @@
 -- The direction of over passes, and the signs of crossings.
-use Rattle.std.specs.Prelude.{◌≡◌, ◌≢◌, ℕ, ◌-◌, ℤ, pos, neg_ℤ, List, length, nat_eq, nat_lt, nat_le, Bool, IsTrue, not, ◌&&◌, ◌||◌, is_some, Option, unwrap_or, if◌then◌else◌}
+use Rattle.std.specs.Prelude.{◌+◌, ◌≡◌, ◌≢◌, ℕ, ◌-◌, ℤ, pos, neg_ℤ, List, length, nat_eq, nat_lt, nat_le, Bool, IsTrue, not, ◌&&◌, ◌||◌, is_some, Option, unwrap_or, if◌then◌else◌}
 use Rattle.std.specs.List.{find, count_by}
 use Rattle.kh_types.specs.Code.{arc_in, slots_of, crossing_numbers, IsArc}
 use Rattle.kh_types.specs.Darts.{dart_at, darts, arc_of, partner, IsDartOf}
@@ -59,6 +59,14 @@ is_positive_in crossings components crossing =
 -- whether a crossing is positive, with the components of all crossings
 abbrev pub is_positive : List (List ℕ) → ℕ → Bool
 is_positive crossings crossing = is_positive_in crossings (components_of crossings) crossing
+
+-- whether the crossing at a place of the list is positive, given the component of each arc
+abbrev pub positive_in_at : List (List ℕ) → List ℕ → ℕ → Bool
+positive_in_at crossings components place = is_positive_in crossings components (place + 1)
+
+-- whether the crossing at a place of the list is positive
+abbrev pub positive_at : List (List ℕ) → ℕ → Bool
+positive_at crossings place = positive_in_at crossings (components_of crossings) place
 
 -- the sign of a crossing, 1 or -1
 abbrev pub sign_of : List (List ℕ) → ℕ → ℤ

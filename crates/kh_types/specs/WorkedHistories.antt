@@ -1,5 +1,5 @@
 -- Histories of the trefoil's block at the quantum degree -7, whose one matrix has the rows 0 1 1, 1 0 1 and 1 1 0.
-use Rattle.std.specs.Prelude.{ℕ, ℤ, pos, neg_ℤ, List, [], ◌∷◌}
+use Rattle.std.specs.Prelude.{ℕ, pos, neg_ℤ, List, [], ◌∷◌}
 use Rattle.kh_types.specs.WorkedCodes.{hopf_link, trefoil}
 use Rattle.kh_types.specs.Complex.{Complex, Pivot, pivot_at}
 use Rattle.kh_types.specs.History.{block}

@@ -20,7 +20,7 @@ pub use components::{arcs_in, components_of, next_in};
 use directed::{components_fault, direction_fault};
 use faces::genus_fault;
 pub(crate) use faces::{face_count, planar_face_count};
-pub(crate) use signs::{is_positive, plus_count};
+pub(crate) use signs::{is_positive, plus_count, signs};
 
 /// The first rule that a code breaks.
 #[tactic(auto, unfolding(crate::specs::Acceptance::first_fault))]

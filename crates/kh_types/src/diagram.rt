@@ -1,12 +1,13 @@
 //! Accepted diagrams.
 
-ghost use Rattle.std.specs.Prelude.{◌≡◌, ◌≤◌, ◌<◌, ◌↔◌, length, IsTrue, IfOk, IsOk, if◌then◌else◌, pos, neg_ℤ};
+ghost use Rattle.std.specs.Prelude.{◌≡◌, ◌≤◌, ◌<◌, ◌↔◌, length, IsTrue, IfOk, IsOk, if◌then◌else◌, map, pos, neg_ℤ};
+ghost use Rattle.std.specs.List.{range_with_len};
 ghost use Rattle.std.specs.Result.{result_err};
 ghost use Rattle.kh_types.specs.Code.{IsCrossing, IsArc};
 ghost use Rattle.kh_types.specs.Darts.{IsDart, arc_of, dart_count, partner, partner_at};
 ghost use Rattle.kh_types.specs.Acceptance.{accepted, first_fault};
 ghost use Rattle.kh_types.specs.Filling.{filled};
-ghost use Rattle.kh_types.specs.Directions.{sign_of, plus_count, minus_count, head_of, tail_of};
+ghost use Rattle.kh_types.specs.Directions.{sign_of, plus_count, minus_count, positive_at, head_of, tail_of};
 
 use crate::acceptance::{self, darts, heads};
 use crate::code::{Crossing, RawCode};
@@ -56,7 +57,8 @@ impl Diagram {
         }
     }
 
-    fn of_accepted(raw: &RawCode) -> Diagram
+    /// The diagram of a code that is known to be accepted, which is not tested again.
+    pub fn of_accepted(raw: &RawCode) -> Diagram
         requires { IsTrue (accepted raw.now) }
         ensures { result ≡ raw.now }
     {
@@ -110,6 +112,14 @@ impl Diagram {
         ensures { result ≡ sign_of self.now.crossings crossing }
     {
         sign(acceptance::is_positive(self.crossings(), crossing))
+    }
+
+    /// Whether each crossing is positive, in their order.
+    pub fn signs(&self) -> ArrayVec<bool, CROSSINGS>
+        ensures { result.items ≡ map (positive_at self.now.crossings)
+            (range_with_len 0 (length self.now.crossings)) }
+    {
+        acceptance::signs(self.crossings())
     }
 
     /// The number of positive crossings, n+.

@@ -2,10 +2,11 @@
 use Rattle.std.proofs.Common.{◌≡◌, ℕ, ◌⊎◌, inl, inr, ◌+◌, ◌*◌, ◌/◌, ◌%◌, ◌<◌, ◌∙◌, List, sym, ap, subst, arith, refl, Bool, true, false, not, length}
 use Rattle.std.specs.Prelude.{nat_eq}
 use Rattle.std.proofs.lemmas.Bool.{both_ways}
+use Rattle.kh_types.specs.Directions.{positive_at}
 use Rattle.kh_types.specs.Bits.{bit}
 use Rattle.face_walk.specs.AddedArcs.{IsPlanar}
 use Rattle.kinks_and_fingers.specs.Strands.{dart_name, enters, is_head_at, HasTwoEnds, HasColours, IsPlanarBy}
-use Rattle.kinks_and_fingers.specs.Drops.{positive_at, kept_crossings, kept_signs}
+use Rattle.kinks_and_fingers.specs.Drops.{kept_crossings, kept_signs}
 use Rattle.kinks_and_fingers.specs.Dropping.{is_code_head, is_colour, dartwise, IsDropped}
 use Rattle.kinks_and_fingers.proofs.KeptCodes.{block_place, block_slot, length-kept, kept-name, kept-sign}
 

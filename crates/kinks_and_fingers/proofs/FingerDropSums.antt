@@ -11,7 +11,7 @@ use Rattle.kh_types.specs.Bits.{bit, ones}
 use Rattle.kh_types.specs.Circles.{circle_count}
 use Rattle.kh_types.specs.Code.{Code, arc_count}
 use Rattle.kh_types.specs.Darts.{partner_at}
-use Rattle.kh_types.specs.Directions.{is_positive, plus_count, minus_count}
+use Rattle.kh_types.specs.Directions.{is_positive, plus_count, minus_count, positive_at}
 use Rattle.kh_types.specs.StateSum.{int_sum, state_sum, state_term}
 use Rattle.kh_types.specs.StateSum as kh
 use Rattle.kh_types.proofs.AcceptedLemmas.{HasArcsTwice-accepted}
@@ -20,7 +20,7 @@ use Rattle.kh_types.proofs.Lists.{count_by-map}
 use Rattle.kh_types.proofs.RangeCounts.{count_by-alike}
 use Rattle.gluing.specs.Terms.{term_at}
 use Rattle.kinks_and_fingers.specs.Strands.{enters}
-use Rattle.kinks_and_fingers.specs.Drops.{positive_at, kept_places, kept_signs, kept_crossings, is_of_two, without_finger}
+use Rattle.kinks_and_fingers.specs.Drops.{kept_places, kept_signs, kept_crossings, is_of_two, without_finger}
 use Rattle.kinks_and_fingers.specs.Dropping.{HasBigonAt, is_code_head}
 use Rattle.kinks_and_fingers.specs.DropCircles.{closing_at, through_at, strand_circle_count, strand_plus, strand_minus, strand_term, strand_sum}
 use Rattle.kinks_and_fingers.specs.Insertions.{with_bit}

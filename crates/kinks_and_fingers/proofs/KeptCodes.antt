@@ -7,6 +7,7 @@ use Rattle.std.proofs.lemmas.Bool.Decides.{nat_tests}
 use Rattle.std.proofs.lemmas.List.{get_or-map, length-map, map-id, map-append}
 use Rattle.std.proofs.lemmas.List.Elements.{filter-append}
 use Rattle.std.proofs.lemmas.List.FromFn.{get_or-map-range_with_len, length-map-range_with_len}
+use Rattle.kh_types.specs.Directions.{positive_at}
 use Rattle.kh_types.specs.Classes.{AreBelow}
 use Rattle.kh_types.specs.Code.{arc_in, arc_count}
 use Rattle.kh_types.specs.Components.{passes_of}
@@ -16,7 +17,7 @@ use Rattle.kh_types.proofs.Lists.{AllByRecursion-append, filter-range_all}
 use Rattle.kh_types.proofs.Ranges.{range-append}
 use Rattle.kh_types.proofs.RangeImages.{map_range-agree}
 use Rattle.kinks_and_fingers.specs.Strands.{slots_at, name_at, dart_name, sign_at}
-use Rattle.kinks_and_fingers.specs.Drops.{positive_at, straight_pairs, straight_names, renamed_slots, kept_places, kept_crossings, kept_signs}
+use Rattle.kinks_and_fingers.specs.Drops.{straight_pairs, straight_names, renamed_slots, kept_places, kept_crossings, kept_signs}
 use Rattle.kinks_and_fingers.specs.Pulls.{early}
 use Rattle.kinks_and_fingers.specs.Dropping.{dartwise, class_name}
 

@@ -10,7 +10,7 @@ use Rattle.std.proofs.lemmas.List.Sums.{sum_by-cons, count_by-le-length}
 use Rattle.kh_types.specs.Acceptance.{accepted}
 use Rattle.kh_types.specs.Bits.{ones}
 use Rattle.kh_types.specs.Code.{Code, arc_count}
-use Rattle.kh_types.specs.Directions.{is_positive, plus_count, minus_count}
+use Rattle.kh_types.specs.Directions.{is_positive, plus_count, minus_count, positive_at}
 use Rattle.kh_types.specs.StateSum.{int_sum, state_sum, state_term, circle_coefficient, signed_by_parity}
 use Rattle.kh_types.specs.StateSum as kh
 use Rattle.kh_types.proofs.AcceptedLemmas.{HasArcsTwice-accepted}
@@ -19,7 +19,7 @@ use Rattle.kh_types.proofs.Lists.{count_by-map}
 use Rattle.kh_types.proofs.RangeCounts.{count_by-alike, count_by-one_more}
 use Rattle.gluing.specs.Terms.{term_at, signed_by_count}
 use Rattle.kinks_and_fingers.specs.Strands.{enters}
-use Rattle.kinks_and_fingers.specs.Drops.{positive_at, kept_places, kept_signs, kept_crossings, without_kink}
+use Rattle.kinks_and_fingers.specs.Drops.{kept_places, kept_signs, kept_crossings, without_kink}
 use Rattle.kinks_and_fingers.specs.Dropping.{HasKinkAt, is_code_head}
 use Rattle.kinks_and_fingers.specs.DropCircles.{strand_circle_count, strand_plus, strand_minus, strand_term, strand_sum}
 use Rattle.kinks_and_fingers.specs.Insertions.{with_bit}

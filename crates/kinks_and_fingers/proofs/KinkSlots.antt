@@ -7,10 +7,9 @@ use Rattle.std.proofs.lemmas.List.FromFn.{length-range_with_len, get_or-range_wi
 use Rattle.kh_types.specs.declared.dart.Dart.{Dart}
 use Rattle.kh_types.specs.Code.{arc_in, slots_of}
 use Rattle.kh_types.specs.Darts.{arc_of, IsDart}
-use Rattle.kh_types.specs.Directions.{is_head, is_positive}
+use Rattle.kh_types.specs.Directions.{is_head, is_positive, positive_at}
 use Rattle.kinks_and_fingers.proofs.FingerSlots.{HasPasses}
 use Rattle.kinks_and_fingers.specs.Strands.{enters, slots_at}
-use Rattle.kinks_and_fingers.specs.Drops.{positive_at}
 use Rattle.kinks_and_fingers.specs.KinkAdds.{raised, kinked_name, kinked_slots, kink_crossing, moved_crossings}
 use Rattle.kinks_and_fingers.specs.KinkCodes.{kinked_crossings}
 use Rattle.kinks_and_fingers.proofs.Numbers.{last}

@@ -4,14 +4,13 @@ use Rattle.std.specs.Prelude.{IsTrue}
 use Rattle.std.proofs.lemmas.Bool.Decides.{nat_tests}
 use Rattle.kh_types.specs.Code.{Code, arc_in, IsArc}
 use Rattle.kh_types.specs.Darts.{arc_of}
-use Rattle.kh_types.specs.Directions.{plus_count, minus_count}
+use Rattle.kh_types.specs.Directions.{plus_count, minus_count, positive_at}
 use Rattle.kh_types.specs.Acceptance.{accepted}
 use Rattle.kh_types.specs.StateSum.{state_sum, sum_with}
 use Rattle.gluing.specs.Arcs.{arc_by_place}
 use Rattle.gluing.specs.Codes.{HoldsArcs}
 use Rattle.kinks_and_fingers.specs.FingerAdd.{dart_with}
 use Rattle.kinks_and_fingers.specs.Strands.{slots_at, enters}
-use Rattle.kinks_and_fingers.specs.Drops.{positive_at}
 use Rattle.kinks_and_fingers.specs.KinkAdds.{raised, kinked_name, moved_crossings, with_kink}
 use Rattle.kinks_and_fingers.specs.KinkCodes.{IsWithKink, IsKinkable}
 use Rattle.kinks_and_fingers.proofs.KinkSlots.{length-moved, slots_at-moved, arc_in-kinked}

@@ -7,13 +7,12 @@ use Rattle.kh_types.specs.Acceptance.{accepted}
 use Rattle.kh_types.specs.Accepted.{IsDirected}
 use Rattle.kh_types.specs.Colours.{colour, IsColoured}
 use Rattle.kh_types.specs.Darts.{dart_at, dart_place, arc_of, first_dart, partner_at, HasArcsTwice}
-use Rattle.kh_types.specs.Directions.{is_head, HasNoSingleArcs}
+use Rattle.kh_types.specs.Directions.{is_head, HasNoSingleArcs, positive_at}
 use Rattle.kh_types.proofs.AcceptedLemmas.{HasArcsTwice-accepted}
 use Rattle.kh_types.proofs.DartPairs.{dart_place-at, IsDart-at, IsOtherPlace-partner_at, IsPairing-partner_at, partner-at_place, partner_at-only, IsDartOf-first_dart, dart_or_partner}
 use Rattle.kh_types.proofs.Heads.{is_head-partner}
 use Rattle.face_walk.proofs.FewFaces.{IsPlanar-accepted}
 use Rattle.kinks_and_fingers.specs.Strands.{name_at, dart_name, enters}
-use Rattle.kinks_and_fingers.specs.Drops.{positive_at}
 use Rattle.kinks_and_fingers.specs.Pulls.{IsClosedPlanar, dart_in}
 use Rattle.kinks_and_fingers.specs.Dropping.{is_code_head, is_colour}
 

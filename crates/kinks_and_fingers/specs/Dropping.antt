@@ -1,10 +1,11 @@
 -- What is left where crossings are dropped, by the darts that stay.
 use Rattle.std.specs.Prelude.{◌≡◌, ◌≢◌, ◌⊎◌, ℕ, ◌+◌, ◌*◌, ◌/◌, ◌%◌, ◌<◌, List, length, map, nat_eq, slice_index, Bool, not}
 use Rattle.std.specs.List.{range_with_len}
+use Rattle.kh_types.specs.Directions.{positive_at}
 use Rattle.kh_types.specs.Bits.{bit}
 use Rattle.kinks_and_fingers.specs.Strands.{Strands, name_at, dart_name, enters, HasTwoEnds, HasColours, IsPlanarBy}
 use Rattle.kh_types.specs.Darts.{partner_at}
-use Rattle.kinks_and_fingers.specs.Drops.{after, positive_at, straight_names, kept_places}
+use Rattle.kinks_and_fingers.specs.Drops.{after, straight_names, kept_places}
 use Rattle.kinks_and_fingers.specs.Pulls.{IsClosedPlanar, dart_in}
 
 -- whether the dart at a place is a head in a code

@@ -5,12 +5,8 @@ use Rattle.kh_types.specs.Classes.{classes_of, is_least}
 use Rattle.kh_types.specs.Code.{Code, arc_in, arc_count, arcs}
 use Rattle.kh_types.specs.Components.{passes_of}
 use Rattle.kh_types.specs.Darts.{partner_at}
-use Rattle.kh_types.specs.Directions.{is_positive}
+use Rattle.kh_types.specs.Directions.{positive_at}
 use Rattle.kinks_and_fingers.specs.Strands.{Strands, slots_at}
-
--- the sign of the crossing at a place of a code
-abbrev pub positive_at : List (List ℕ) → ℕ → Bool
-positive_at crossings place = is_positive crossings (place + 1)
 
 -- the passes of the crossings that are gone, by their places: each joins two arcs straight through
 abbrev pub straight_pairs : List (List ℕ) → (ℕ → Bool) → List (ℕ × ℕ)

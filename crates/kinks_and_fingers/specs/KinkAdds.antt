@@ -1,9 +1,9 @@
 -- Codes to which a kink is added.
 use Rattle.std.specs.Prelude.{ℕ, ◌+◌, List, [], ◌∷◌, ◌++◌, length, map, nat_eq, nat_lt, Bool, ◌&&◌, if◌then◌else◌}
 use Rattle.std.specs.List.{range_with_len}
+use Rattle.kh_types.specs.Directions.{positive_at}
 use Rattle.kh_types.specs.Code.{Code, arc_in}
 use Rattle.kinks_and_fingers.specs.Strands.{slots_at, enters}
-use Rattle.kinks_and_fingers.specs.Drops.{positive_at}
 
 -- the number of an arc after a kink has been added to arc a: numbers above a have risen by 2
 abbrev pub raised : ℕ → ℕ → ℕ

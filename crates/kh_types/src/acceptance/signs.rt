@@ -1,15 +1,17 @@
 //! The direction of over passes, and the signs of crossings.
 
-ghost use Rattle.std.specs.Prelude.{◌≡◌, ◌≤◌, length, count_by};
+ghost use Rattle.std.specs.Prelude.{◌≡◌, ◌≤◌, length, count_by, map};
+ghost use Rattle.std.specs.List.{range_with_len};
 ghost use Rattle.kh_types.specs.declared.limits.TheConstants.{CROSSINGS};
 ghost use Rattle.kh_types.specs.Code.{arc_in, slots_of, crossing_numbers};
-ghost use Rattle.kh_types.specs.Directions.{passes_under, passes_over, first_under, first_over, is_positive_by_next, is_positive_by_under, is_positive_by_order, is_positive_of_two, is_positive_in, is_positive, plus_count};
+ghost use Rattle.kh_types.specs.Directions.{passes_under, passes_over, first_under, first_over, is_positive_by_next, is_positive_by_under, is_positive_by_order, is_positive_of_two, is_positive_in, is_positive, plus_count, positive_at, positive_in_at};
 
 use crate::acceptance::arcs::arc_at;
 use crate::acceptance::components::{arcs_in, components_of, next_in};
 use crate::classes::class_of;
 use crate::code::Crossing;
 use crate::limits::CROSSINGS;
+use arrayvec::ArrayVec;
 
 /// Whether a crossing is positive, which it is where its over pass goes from slot 3 to slot 1.
 pub fn is_positive(crossings: &[Crossing], crossing: u8) -> bool
@@ -17,6 +19,29 @@ pub fn is_positive(crossings: &[Crossing], crossing: u8) -> bool
     ensures { result ≡ is_positive crossings.now crossing }
 {
     is_positive_in(crossings, &components_of(crossings), crossing)
+}
+
+/// Whether each crossing is positive, in their order.
+pub fn signs(crossings: &[Crossing]) -> ArrayVec<bool, CROSSINGS>
+    requires { length crossings.now ≤ CROSSINGS }
+    ensures { result.items
+        ≡ map (positive_at crossings.now) (range_with_len 0 (length crossings.now)) }
+{
+    signs_in(crossings, &components_of(crossings))
+}
+
+/// Whether each crossing is positive, given the component of each arc.
+#[tactic(auto, using(crate::proofs::Ranges::range_steps))]
+fn signs_in(crossings: &[Crossing], components: &[u8]) -> ArrayVec<bool, CROSSINGS>
+    requires { length crossings.now ≤ CROSSINGS }
+    ensures { result.items ≡ map (positive_in_at crossings.now components.now)
+        (range_with_len 0 (length crossings.now)) }
+{
+    let mut signs = ArrayVec::new();
+    'places: for place in 0..crossings.len() {
+        signs.push(is_positive_in(crossings, components, place as u8 + 1));
+    }
+    signs
 }
 
 /// The number of positive crossings.
