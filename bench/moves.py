@@ -59,7 +59,8 @@ def main(arguments):
     if len(wrote) != len(lines):
         raise SystemExit(f"the script ends at line {len(wrote)}: {wrote[-1] if wrote else 'nothing'}")
     took = (min(edit[1] for edit in edits) - min(check[1] for check in checks)) * 1e6 / len(lines)
-    same = "same" if wrote[-1].split()[-1] == other else "DIFFERENT"
+    last = wrote[-1].partition(" ")[2]
+    same = "same" if last.replace(" ", "") == other.replace(" ", "") else "DIFFERENT"
     print(f"a move {took:.2f} us, plain arrays {plain_time:.2f} us, ratio {took / plain_time:.1f}, diagrams {same}")
     print(f"at most {LIMIT} us: {'yes' if took <= LIMIT else 'NO'}")
 
