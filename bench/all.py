@@ -25,6 +25,7 @@ from homology import PROGRAM, run
 
 TOP = os.path.dirname(os.path.dirname(os.path.abspath(__file__)))
 RESULTS = os.path.join(TOP, "bench", "RESULTS.md")
+OTHERS = "## By other scripts"
 LARGEST = 10
 LEAST_CROSSINGS = 11
 
@@ -163,6 +164,12 @@ def small(bench):
     bench.note("check of 20 crossings, whole process, wall: times `true`", f"{ratio:.2f}", "3", ratio <= 3)
 
 
+def of_other_scripts():
+    """What the page has of other scripts, which is written there by hand and stays."""
+    with open(RESULTS, encoding="utf-8") as file:
+        return "".join(file.read().partition(f"\n{OTHERS}\n")[1:])
+
+
 def results(bench, began):
     """The table as a page."""
     commit = subprocess.run(["git", "-C", TOP, "log", "-1", "--format=%H %cs"], capture_output=True, text=True).stdout.strip()
@@ -176,8 +183,9 @@ def results(bench, began):
         "|---|---|---|---|",
         *(f"| {' | '.join(map(str, row))} |" for row in bench.rows),
     ]
+    others = of_other_scripts()
     with open(RESULTS, "w", encoding="utf-8") as file:
-        file.write("\n".join(lines) + "\n")
+        file.write("\n".join(lines) + "\n" + others)
 
 
 PARTS = (homology, seventeen, building, jones, limit, workers, small)
