@@ -19,13 +19,13 @@ import edit_by_hand as hand
 import plain_diagrams as codes
 import plain_moves as moves
 import random_moves as draws
+from running import PATIENCE
 
 HERE = os.path.dirname(os.path.abspath(__file__))
 sys.path.insert(0, os.path.join(os.path.dirname(HERE), "bench"))
 from braids import planar_diagram
 
 NAME = "edit, "
-SECONDS = 60
 STEPS = 200
 SCRIPTS = 2000
 LONG_SCRIPTS = 20
@@ -98,9 +98,9 @@ class Case(NamedTuple):
 def ask(program, words, given):
     """The status of the program and what it writes."""
     try:
-        done = subprocess.run([program, *words], input=given.encode(), stdout=subprocess.PIPE, timeout=SECONDS)
+        done = subprocess.run([program, *words], input=given.encode(), stdout=subprocess.PIPE, timeout=PATIENCE)
     except subprocess.TimeoutExpired:
-        return None, f"no answer in {SECONDS} seconds"
+        return None, f"no answer in {PATIENCE} seconds"
     return done.returncode, done.stdout.decode(errors="replace")
 
 

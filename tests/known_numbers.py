@@ -6,8 +6,9 @@ import os
 import subprocess
 from concurrent.futures import ThreadPoolExecutor
 
+from running import PATIENCE
+
 TOP = os.path.dirname(os.path.dirname(os.path.abspath(__file__)))
-SECONDS = 300
 
 
 def stored():
@@ -23,9 +24,9 @@ def stored():
 def fault_of(program, words, wanted):
     """What is wrong with a run, if anything is."""
     try:
-        came = subprocess.run([program, *words], stdin=subprocess.DEVNULL, capture_output=True, timeout=SECONDS)
+        came = subprocess.run([program, *words], stdin=subprocess.DEVNULL, capture_output=True, timeout=PATIENCE)
     except subprocess.TimeoutExpired:
-        return f"no end after {SECONDS} seconds"
+        return f"no end after {PATIENCE} seconds"
     seen, right = (came.returncode, came.stdout, came.stderr), (0, wanted.encode(), b"")
     return None if seen == right else f"{seen} and not {right}"
 

@@ -22,6 +22,7 @@ from collections import Counter
 HERE = os.path.dirname(os.path.abspath(__file__))
 sys.path.insert(0, os.path.join(os.path.dirname(HERE), "bench"))
 from braids import planar_diagram
+from plain_cube import with_path
 
 HEAD = """\
 # {what} Each link is a closed braid: its strands, and its letters k
@@ -101,20 +102,6 @@ def compare_tables(other):
                 sys.exit(f"{name} is not what the other program finds")
 
 
-def joined(ends, one, other):
-    """The joined open ends with a path more, between the arcs of two slots, and whether this closes a circle."""
-    ends = dict(ends)
-    if one == other or ends.get(one) == other:
-        ends.pop(one, None), ends.pop(other, None)
-        return ends, True
-    for arc in (one, other):
-        if arc in ends:
-            far = ends.pop(arc)
-            one, other = (far if arc == one else one), (far if arc == other else other)
-    ends[one], ends[other] = other, one
-    return ends, False
-
-
 def shifted(polynomial, sign, exponent):
     return Counter({at + exponent: sign * count for at, count in polynomial.items()})
 
@@ -147,7 +134,7 @@ def jones_line(text, plus=None, loops=0):
             for pairs, sign, exponent in ((((i, j), (k, l)), 1, 0), (((i, l), (j, k)), -1, 1)):
                 open_ends, term = dict(ends), shifted(polynomial, sign, exponent)
                 for pair in pairs:
-                    open_ends, closes = joined(open_ends, *pair)
+                    open_ends, closes = with_path(open_ends, *pair)
                     if closes:
                         term = with_circle(term)
                 after.setdefault(tuple(sorted(open_ends.items())), Counter()).update(term)

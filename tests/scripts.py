@@ -6,7 +6,8 @@ import os
 import shutil
 import subprocess
 import tempfile
-import time
+
+from running import PATIENCE
 
 TOP = os.path.dirname(os.path.dirname(os.path.abspath(__file__)))
 CANNOT_RUN = 70
@@ -53,7 +54,7 @@ class Copy:
     def run(self, name, *words, **settings):
         """The status, what was written, and whether standard error said anything."""
         started = self.start(name, *words, **settings)
-        wrote, errors = started.communicate(timeout=60)
+        wrote, errors = started.communicate(timeout=PATIENCE)
         return started.returncode, wrote, errors != ""
 
     def calls(self):
@@ -82,7 +83,7 @@ def where_a_crate_is_refused(copy):
 
 def two_builds_at_once(copy):
     both = [copy.start("build"), copy.start("build")]
-    ended = [it.wait(60) for it in both]
+    ended = [it.wait(PATIENCE) for it in both]
     for it in both:
         it.communicate()
     return (ended, copy.calls()), ([0, 0], ["all", "run"])
@@ -95,8 +96,10 @@ def once_it_is_built(copy):
 
 def where_a_source_is_newer(copy):
     copy.run("build")
-    time.sleep(0.02)
-    copy.write(os.path.join("crates", "kh_types", "src", "lib.rt"), "//")
+    source = os.path.join("crates", "kh_types", "src", "lib.rt")
+    copy.write(source, "//")
+    built = os.stat(os.path.join(copy.folder, "crates", "kh_main", "out", "kh_main")).st_mtime
+    os.utime(os.path.join(copy.folder, source), (built + 1, built + 1))
     return copy.run("kh", "jones"), (6, "tried try --seconds 600 -- jones\n", True)
 
 

@@ -10,6 +10,8 @@ mod components;
 #[cfg(test)]
 mod degenerate_moves;
 #[cfg(test)]
+mod drawings;
+#[cfg(test)]
 mod edits;
 #[cfg(test)]
 mod faces;
@@ -17,6 +19,8 @@ mod faces;
 mod gauss_texts;
 #[cfg(test)]
 mod json_texts;
+#[cfg(test)]
+mod mirrors;
 #[cfg(test)]
 mod moves;
 #[cfg(test)]

@@ -11,10 +11,11 @@ const HOMOLOGY: Command = Command {
     workers: 1,
     to: Form::Pd,
     number: None,
+    mark: None,
 };
 
 // Lines that mean a command, and the command.
-const COMMANDS: [(&[&str], Command); 15] = [
+const COMMANDS: [(&[&str], Command); 16] = [
     (&["homology"], HOMOLOGY),
     (
         &["--field=3", "homology"],
@@ -108,10 +109,18 @@ const COMMANDS: [(&[&str], Command); 15] = [
             ..HOMOLOGY
         },
     ),
+    (
+        &["reduced", "--mark", "007"],
+        Command {
+            task: Task::Reduced,
+            mark: Some(7),
+            ..HOMOLOGY
+        },
+    ),
 ];
 
 // Lines that mean none.
-const USAGES: [&[&str]; 56] = [
+const USAGES: [&[&str]; 58] = [
     &[],
     &[""],
     &["--"],
@@ -168,6 +177,8 @@ const USAGES: [&[&str]; 56] = [
     &["bench", "--number", "00000000"],
     &["bench", "--number="],
     &["bench", "--number", "1", "--number", "1"],
+    &["reduced"],
+    &["reduced", "--mark", "256"],
 ];
 
 fn reads(alloc: Global, line: &[&str]) -> Result<Result<Command, WordStop>, Fail> {

@@ -4,6 +4,8 @@ use Rattle.std.specs.Prelude.{slice_index_or}
 use Rattle.std.specs.Global.{Vec}
 use Rattle.std.proofs.Math.Pow.{pow_mono}
 use Rattle.std.proofs.lemmas.List.{get_or_default, length_push}
+use Rattle.std.specs.List.{All}
+use Rattle.std.proofs.lemmas.List.Elements.{All-from_get_or}
 use Rattle.std.proofs.lemmas.List.FromFn.{get_or-map-range_with_len}
 use Rattle.kh_types.specs.declared.limits.TheConstants.{CIRCLES, CROSSINGS}
 use Rattle.kh_types.specs.Acceptance.{accepted}
@@ -14,28 +16,28 @@ use Rattle.circle_smoothing.proofs.KeptNumbers.{count-within}
 use Rattle.sparse_block.specs.declared.entry.Entry.{Entry}
 use Rattle.sparse_block.specs.Inside.{lists_in}
 use Rattle.sparse_block.proofs.LineLemmas.{list-lists_in}
-use Rattle.cube_signs.specs.Columns.{column_along, generators_from, AreAllColumns, AreColumns, AreFound, AreOuts, IsColumn}
+use Rattle.cube_signs.specs.Columns.{column_along, generators_from, AreAllColumns, AreColumns, AreFound, AreOuts, AreWholeColumns, IsColumn, IsTail}
 use Rattle.cube_signs.specs.declared.outs.Out.{Out}
 use Rattle.cube_signs.proofs.EdgeEntries.{column-along, column_to}
 use Rattle.cube_signs.specs.Tables.{own_base, AreRanks}
 use Rattle.cube_signs.proofs.ColumnHeads.{AreAround, IsColumn-entries}
-use Rattle.cube_signs.proofs.GeneratorPlaces.{generator-at, is_label, HasPlace-within}
+use Rattle.cube_signs.proofs.GeneratorPlaces.{generator-at, HasPlace-within}
 use Rattle.cube_signs.proofs.StateLists.{images-more}
 use Rattle.cube_signs.proofs.StepLemmas.{each-more}
 
--- a generator of the degrees i and j
-pub record IsTail (code : Code) (i j : ℤ) (tail : Generator) : Type 0 where
-  pub state_below : tail.state < 2 ^ length code.crossings
-  pub label_below : tail.label < 2 ^ circle_count code tail.state
-  pub passes : is_label code i j tail.state tail.label ≡ true
+-- (a generator of two degrees is one of their names)
+pub are-tails : (code : Code) (i j : ℤ) (names : List Generator) → names ≡ generators_at code i j → All (IsTail code i j) names
+are-tails code i j names is_names =
+    subst (λ (xs : List Generator). All (IsTail code i j) xs) (sym is_names)
+    (All-from_get_or (IsTail code i j) (generators_at code i j) (generator_of 0 0)
+    (λ k below.
+    let at = HasPlace-within code i j k below in
+    subst (IsTail code i j) (sym (generator-at code i j k (generator_of 0 0) at))
+    (record { state_below = at.state_below; label_below = at.label_below; passes = at.passes })))
 
-pub IsTail-at : (code : Code) (i j : ℤ) (names : List Generator) (k : ℕ) (tail : Generator) → names ≡ generators_at code i j
+pub IsTail-at : (code : Code) (i j : ℤ) (names : List Generator) (k : ℕ) (tail : Generator) → All (IsTail code i j) names
     → k < length names → tail ≡ get_or names k tail → IsTail code i j tail
-IsTail-at code i j names k tail is_names below is =
-    let at = HasPlace-within code i j k (omega (arith, below, ap length is_names)) in
-    subst (IsTail code i j)
-    (sym (is ∙ ap (λ (xs : List Generator). get_or xs k tail) is_names ∙ generator-at code i j k tail at))
-    (record { state_below = at.state_below; label_below = at.label_below; passes = at.passes })
+IsTail-at code i j names k tail are below is = subst (IsTail code i j) (sym is) (are k tail below)
 
 pub label-small : (code : Code) (i j : ℤ) (tail : Generator) → IsTrue (accepted code) → length code.crossings ≤ CROSSINGS
     → IsTail code i j tail → tail.label < 2 ^ CIRCLES
@@ -53,15 +55,15 @@ found-nowhere p code bases state outs is few below =
 -- one column more
 pub columns-more : (p : ℕ) (code : Code) (i j : ℤ) (names : List Generator) (k : ℕ) (tail : Generator) (outs : List Out)
     (bases ranks : List ℕ) (column : List Entry) (made next : List (List Entry)) → 1 < p → IsTrue (accepted code)
-    → names ≡ generators_at code i j → k < length names → tail ≡ get_or names k tail
+    → All (IsTail code i j) names → k < length names → tail ≡ get_or names k tail
     → AreOuts p code bases tail.state outs → bases ≡ map (own_base code j) (states code)
-    → AreRanks code ranks → column ≡ column_along ranks tail.label outs → AreColumns p code i j k made
-    → next ≡ made ++ column ∷ [] → AreColumns p code i j (k + 1) next
-columns-more p code i j names k tail outs bases ranks column made next prime is is_names below is_tail are_outs is_bases are_ranks
+    → AreRanks code ranks → column ≡ column_along ranks tail.label outs → AreColumns p code i j names k made
+    → next ≡ made ++ column ∷ [] → AreColumns p code i j names (k + 1) next
+columns-more p code i j names k tail outs bases ranks column made next prime is are_names below is_tail are_outs is_bases are_ranks
     is_column are is_next =
     let steps = are_outs.steps in
     let has_steps = are_outs.of_steps in
-    let tails = IsTail-at code i j names k tail is_names below is_tail in
+    let tails = IsTail-at code i j names k tail are_names below is_tail in
     let around : AreAround p code i j tail steps bases ranks =
     record {
       prime = prime;
@@ -74,22 +76,21 @@ columns-more p code i j names k tail outs bases ranks column made next prime is 
       of_ranks = are_ranks.each (i +ℤ pos 1) j;
     } in
     let d = generator_of 0 0 in
-    let at : tail ≡ get_or (generators_at code i j) k d =
-    is_tail ∙ get_or_default names k tail d below ∙ ap (λ (xs : List Generator). get_or xs k d) is_names in
-    let more : IsColumn p code i j (get_or (generators_at code i j) k d) column =
+    let at : tail ≡ get_or names k d = is_tail ∙ get_or_default names k tail d below in
+    let more : IsColumn p code i j (get_or names k d) column =
     subst (λ (g : Generator). IsColumn p code i j g column) at
     (subst (IsColumn p code i j tail) (sym (is_column ∙ ap (column_along ranks tail.label) are_outs.are ∙ column-along p steps bases ranks tail (length steps)
     ∙ ap (column_to p steps bases ranks tail) has_steps.size))
     (IsColumn-entries p code i j tail steps bases ranks around)) in
-    subst (AreColumns p code i j (k + 1)) (sym is_next) (record {
+    subst (AreColumns p code i j names (k + 1)) (sym is_next) (record {
       size = length_push made column ∙ ap (λ n. n + 1) are.size;
-      each = each-more (λ k entries. IsColumn p code i j (get_or (generators_at code i j) k d) entries) made column [] k are.size
-          are.each more;
+      each = each-more (λ k entries. IsColumn p code i j (get_or names k d) entries) made column [] k are.size are.each more;
     })
 
-pub columns-none : (p : ℕ) (code : Code) (i j : ℤ) (made : List (List Entry)) → made ≡ [] → AreColumns p code i j 0 made
-columns-none p code i j made none =
-    subst (AreColumns p code i j 0) (sym none) (record { size = omega arith; each = λ k below. absurd (omega (arith, below)) })
+pub columns-none : (p : ℕ) (code : Code) (i j : ℤ) (names : List Generator) (made : List (List Entry)) → made ≡ []
+    → AreColumns p code i j names 0 made
+columns-none p code i j names made none =
+    subst (AreColumns p code i j names 0) (sym none) (record { size = omega arith; each = λ k below. absurd (omega (arith, below)) })
 
 -- one degree more
 pub names-at : (code : Code) (low j : ℤ) (count k : ℕ) (names : List (Vec Generator)) (degree : Vec Generator)
@@ -101,19 +102,18 @@ names-at code low j count k names degree are below within is =
 
 pub all_columns-more : (p : ℕ) (code : Code) (low i j other : ℤ) (k : ℕ) (names : List Generator) (columns : List (List Entry))
     (made next : List (List (List Entry))) → AreAllColumns p code low j k made → i ≡ low +ℤ pos k → other ≡ j
-    → names ≡ generators_at code i other → AreColumns p code i other (length names) columns → next ≡ made ++ columns ∷ []
+    → names ≡ generators_at code i other → AreColumns p code i other names (length names) columns → next ≡ made ++ columns ∷ []
     → AreAllColumns p code low j (k + 1) next
 all_columns-more p code low i j other k names columns made next are is_i is_j is_names more is_next =
-    let all : AreColumns p code i other (length (generators_at code i other)) columns =
-    subst (λ (xs : List Generator). AreColumns p code i other (length xs) columns) is_names more in
-    let at_i : AreColumns p code (low +ℤ pos k) other (length (generators_at code (low +ℤ pos k) other)) columns =
-    subst (λ (i : ℤ). AreColumns p code i other (length (generators_at code i other)) columns) is_i all in
-    let at_j : AreColumns p code (low +ℤ pos k) j (length (generators_at code (low +ℤ pos k) j)) columns =
-    subst (λ (j : ℤ). AreColumns p code (low +ℤ pos k) j (length (generators_at code (low +ℤ pos k) j)) columns) is_j at_i in
+    let all : AreWholeColumns p code i other columns =
+    subst (λ (xs : List Generator). AreColumns p code i other xs (length xs) columns) is_names more in
+    let at_i : AreWholeColumns p code (low +ℤ pos k) other columns =
+    subst (λ (i : ℤ). AreWholeColumns p code i other columns) is_i all in
+    let at_j : AreWholeColumns p code (low +ℤ pos k) j columns =
+    subst (λ (j : ℤ). AreWholeColumns p code (low +ℤ pos k) j columns) is_j at_i in
     subst (AreAllColumns p code low j (k + 1)) (sym is_next) (record {
       size = length_push made columns ∙ ap (λ n. n + 1) are.size;
-      each = each-more (λ k columns. AreColumns p code (low +ℤ pos k) j (length (generators_at code (low +ℤ pos k) j)) columns) made
-          columns [] k are.size are.each at_j;
+      each = each-more (λ k columns. AreWholeColumns p code (low +ℤ pos k) j columns) made columns [] k are.size are.each at_j;
     })
 
 pub all_names-more : (code : Code) (low i j other : ℤ) (k : ℕ) (names : List Generator) (made next : List (List Generator))

@@ -63,26 +63,25 @@ shape_of-kind code state kind is few same =
     (ap kind_circles (sym same) ∙ kind_circles-kind_of (one_count code state) (circle_count code state) within)
     (ap kind_ones (sym same) ∙ kind_ones-kind_of (one_count code state) (circle_count code state) within) refl refl refl
 
--- so the kinds that have states tell which degrees have a generator
-have_degree-kinds : (code : Code) (j : ℤ) → IsAccepted code → length code.crossings ≤ CROSSINGS
-    → have_degree (all_kind_shapes code) j ≡ have_degree (map (shape_of code) (states code)) j
+-- so what some state's shape passes, that of some kind which has states does
+pub any-kinds : (test : Shape → Bool) (code : Code) → IsAccepted code → length code.crossings ≤ CROSSINGS
+    → list_any test (all_kind_shapes code) ≡ list_any test (map (shape_of code) (states code))
 unfolding all_kind_shapes
-have_degree-kinds code j is few =
-    let of_kind : ℕ → Bool = λ kind. has_kind code kind && has_degree (kind_shape code kind) j in
-    let of_state : ℕ → Bool = λ state. has_degree (shape_of code state) j in
+any-kinds test code is few =
+    let of_kind : ℕ → Bool = λ kind. has_kind code kind && test (kind_shape code kind) in
+    let of_state : ℕ → Bool = λ state. test (shape_of code state) in
     let count = 2 ^ length code.crossings in
-    list_any-flat_map (λ shape. has_degree shape j) (shapes_of_kind code) (range_with_len 0 KINDS)
+    list_any-flat_map test (shapes_of_kind code) (range_with_len 0 KINDS)
     ∙ ap (λ (p : ℕ → Bool). list_any p (range_with_len 0 KINDS))
-    (fun_ext (λ kind. list_any-cond (λ shape. has_degree shape j) (has_kind code kind) (kind_shape code kind)))
+    (fun_ext (λ kind. list_any-cond test (has_kind code kind) (kind_shape code kind)))
     ∙ same-passes (list_any of_kind (range_with_len 0 KINDS)) (list_any of_state (states code))
     (λ passes.
     let found = list_any-found of_kind KINDS passes in
     let kind = found.0 in
-    let both = and_true (has_kind code kind) (has_degree (kind_shape code kind) j) found.2 in
+    let both = and_true (has_kind code kind) (test (kind_shape code kind)) found.2 in
     let of = list_any-found (λ state. nat_eq (state_kind code state) kind) count (has_kind-states code kind is few ∙ both.0) in
     list_any-below of_state count of.0 of.1
-    (ap (λ (s : Shape). has_degree s j)
-    (sym (shape_of-kind code of.0 kind is few (eqb-true (state_kind code of.0) kind of.2))) ∙ both.1))
+    (ap test (sym (shape_of-kind code of.0 kind is few (eqb-true (state_kind code of.0) kind of.2))) ∙ both.1))
     (λ passes.
     let found = list_any-found of_state count passes in
     let state = found.0 in
@@ -91,9 +90,8 @@ have_degree-kinds code j is few =
     sym (has_kind-states code kind is few)
     ∙ list_any-below (λ other. nat_eq (state_kind code other) kind) count state found.1 (eq-eqb kind kind refl) in
     list_any-below of_kind KINDS kind (state_kind-below code state is few)
-    (ap₂ (λ a b. a && b) has
-    (ap (λ (s : Shape). has_degree s j) (shape_of-kind code state kind is few refl) ∙ found.2)))
-    ∙ sym (list_any-map (λ shape. has_degree shape j) (shape_of code) (states code))
+    (ap₂ (λ a b. a && b) has (ap test (shape_of-kind code state kind is few refl) ∙ found.2)))
+    ∙ sym (list_any-map test (shape_of code) (states code))
 
 pub degrees-kinds : (code : Code) (shapes : List Shape) (made : List ℤ) → IsTrue (accepted code)
     → length code.crossings ≤ CROSSINGS → shapes ≡ all_kind_shapes code → made ≡ degrees_of shapes → made ≡ block_degrees code
@@ -101,7 +99,7 @@ unfolding degrees_of block_degrees
 degrees-kinds code shapes made ok few is is_made =
     is_made ∙ ap (λ (s : List Shape). filter (have_degree s) (from_minus EXPONENT)) is
     ∙ ap (λ (p : ℤ → Bool). filter p (from_minus EXPONENT))
-    (fun_ext (λ j. have_degree-kinds code j ((IsAccepted-is code).0 ok) few ∙ have_degree-states code j))
+    (fun_ext (λ j. any-kinds (λ shape. has_degree shape j) code ((IsAccepted-is code).0 ok) few ∙ have_degree-states code j))
 
 -- one kind more, and all of them
 pub kind_shapes-more : (code : Code) (made next : List Shape) (kind : ℕ) → made ≡ kind_shapes code kind

@@ -21,3 +21,9 @@ pub mod BlockLemmas
 pub mod SpanLemmas
 pub mod NamedBlocks
 pub mod PlaceLemmas
+pub mod ListMatrices
+pub mod ListComplexes
+pub mod ChosenPlaces
+pub mod ChosenColumns
+pub mod ChosenBlocks
+pub mod ChosenLoops

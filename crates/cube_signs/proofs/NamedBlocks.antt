@@ -31,7 +31,7 @@ use Rattle.sparse_block.proofs.BuildLemmas.{sizes-all_alive}
 use Rattle.sparse_block.proofs.DegreeLemmas.{length-at}
 use Rattle.kh_types.specs.declared.limits.TheConstants.{EXPONENT}
 use Rattle.cube_signs.specs.Blocks.{block_degrees, has_block, named_block}
-use Rattle.cube_signs.specs.Columns.{generators_from, AreAllColumns, AreColumns, AreParts}
+use Rattle.cube_signs.specs.Columns.{generators_from, AreAllColumns, AreParts, AreWholeColumns}
 use Rattle.cube_squares.proofs.BlockComplexes.{product_entry-block}
 use Rattle.cube_squares.proofs.BlockDegrees.{cube_degree, degree-at, degree-found, first_degree}
 use Rattle.cube_signs.proofs.GeneratorPlaces.{length-generators_at}
@@ -48,7 +48,7 @@ take-at {X} (suc n) xs d within =
 pub at-places : {X : Type 0} (xs : List X) (d : X) → xs ≡ map (λ k. get_or xs k d) (range_with_len 0 (length xs))
 at-places xs d = sym (take_all (length xs) xs (omega arith)) ∙ take-at (length xs) xs d (omega arith)
 
-map-map : {X Y Z : Type 0} (f : Y → Z) (g : X → Y) (xs : List X) → map f (map g xs) ≡ map (λ x. f (g x)) xs
+pub map-map : {X Y Z : Type 0} (f : Y → Z) (g : X → Y) (xs : List X) → map f (map g xs) ≡ map (λ x. f (g x)) xs
 map-map f g [] = refl
 map-map {X} {Y} {Z} f g (x ∷ xs) = ap (λ (zs : List Z). f (g x) ∷ zs) (map-map f g xs)
 
@@ -62,7 +62,7 @@ map-alike {X} f g (suc n) same =
     ∙ sym (map_from_zero g n) ∙ ap (λ m. map g (range_with_len 0 m)) (sym e)
 
 -- the image of a list, by the places of another
-map-places : {X Y : Type 0} (f : X → Y) (g : ℕ → Y) (xs : List X) (d : X) (n : ℕ) → length xs ≡ n
+pub map-places : {X Y : Type 0} (f : X → Y) (g : ℕ → Y) (xs : List X) (d : X) (n : ℕ) → length xs ≡ n
     → ((k : ℕ) → k < n → f (get_or xs k d) ≡ g k) → map f xs ≡ map g (range_with_len 0 n)
 map-places f g xs d n size same =
     ap (map f) (at-places xs d) ∙ map-map f (λ k. get_or xs k d) (range_with_len 0 (length xs))
@@ -70,8 +70,7 @@ map-places f g xs d n size same =
 
 -- the matrix that columns denote
 matrix-columns : (p : ℕ) (code : Code) (i j : ℤ) (columns : List (List Entry))
-    → AreColumns p code i j (length (generators_at code i j)) columns
-    → matrix_from (length (generators_at code (i +ℤ pos 1) j)) columns ≡ differential p code i j
+    → AreWholeColumns p code i j columns → matrix_from (length (generators_at code (i +ℤ pos 1) j)) columns ≡ differential p code i j
 matrix-columns p code i j columns are =
     let tails = generators_at code i j in
     let heads = generators_at code (i +ℤ pos 1) j in

@@ -58,7 +58,7 @@ ones-zero (suc count) =
     let e : suc count ≡ count + 1 = omega arith in
     ap (λ m. ones m 0) e ∙ ones-more count 0 ∙ omega (arith, ones-zero count, bit_at-zero count)
 
-ones-lowest : (count n : ℕ) → n ≤ count → ones count (2 ^ n - 1) ≡ n
+pub ones-lowest : (count n : ℕ) → n ≤ count → ones count (2 ^ n - 1) ≡ n
 ones-lowest zero n few = let e : n ≡ 0 = omega arith in ap (λ m. ones zero (2 ^ m - 1)) e ∙ sym e
 ones-lowest (suc count) n few =
     let e : suc count ≡ count + 1 = omega arith in

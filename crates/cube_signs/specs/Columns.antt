@@ -1,11 +1,12 @@
 -- The columns of a block, as they are read off the edges out of a state, and what they denote.
-use Rattle.std.specs.Prelude.{◌≡◌, ℕ, ◌+◌, ◌-◌, ◌%◌, ◌^◌, ◌<◌, ℤ, pos, neg_ℤ, ◌+ℤ◌, ◌≤ℤ◌, List, [], ◌∷◌, length, map, nat_eq, if◌then◌else◌, slice_index, slice_index_or, Option, None, Some, Bool, not, All}
+use Rattle.std.specs.Prelude.{◌≡◌, ℕ, ◌+◌, ◌-◌, ◌%◌, ◌^◌, ◌<◌, ℤ, pos, neg_ℤ, ◌+ℤ◌, ◌≤ℤ◌, List, [], ◌∷◌, length, map, nat_eq, if◌then◌else◌, slice_index, slice_index_or, Option, None, Some, Bool, true, not, All}
 use Rattle.std.specs.List.{flat_map, range_with_len}
 use Rattle.kh_types.specs.declared.limits.TheConstants.{CIRCLES}
 use Rattle.kh_types.specs.Bits.{ones}
 use Rattle.kh_types.specs.Code.{Code}
 use Rattle.kh_types.specs.Differential.{coefficient}
-use Rattle.kh_types.specs.Generators.{Generator, generator_of, generators_at}
+use Rattle.kh_types.specs.Circles.{circle_count}
+use Rattle.kh_types.specs.Generators.{Generator, generator_of, generators_at, has_degrees}
 use Rattle.kh_types.specs.History.{is_empty}
 use Rattle.kh_types.specs.Table.{from_minus}
 use Rattle.circle_smoothing.specs.Edges.{HasNumbersBelow}
@@ -81,17 +82,26 @@ pub record IsColumn (p : ℕ) (code : Code) (i j : ℤ) (tail : Generator) (entr
   pub values : (row : ℕ) → row < length (generators_at code (i +ℤ pos 1) j)
       → value_at entries row ≡ coefficient p code tail (slice_index_or (generators_at code (i +ℤ pos 1) j) row (generator_of 0 0))
 
--- columns are those of the first generators of the degrees i and j
-pub record AreColumns (p : ℕ) (code : Code) (i j : ℤ) (count : ℕ) (columns : List (List Entry)) : Type 0 where
+-- a generator of the degrees i and j
+pub record IsTail (code : Code) (i j : ℤ) (tail : Generator) : Type 0 where
+  pub state_below : tail.state < 2 ^ length code.crossings
+  pub label_below : tail.label < 2 ^ circle_count code tail.state
+  pub passes : has_degrees code i j tail ≡ true
+
+-- columns are those of the first of some generators of the degrees i and j
+pub record AreColumns (p : ℕ) (code : Code) (i j : ℤ) (tails : List Generator) (count : ℕ) (columns : List (List Entry)) : Type 0 where
   pub size : length columns ≡ count
   pub each : (k : ℕ) → k < count
-      → IsColumn p code i j (slice_index_or (generators_at code i j) k (generator_of 0 0)) (slice_index_or columns k [])
+      → IsColumn p code i j (slice_index_or tails k (generator_of 0 0)) (slice_index_or columns k [])
+
+-- columns are those of all generators of the degrees i and j
+abbrev pub AreWholeColumns : ℕ → Code → ℤ → ℤ → List (List Entry) → Type 0
+AreWholeColumns p code i j columns = AreColumns p code i j (generators_at code i j) (length (generators_at code i j)) columns
 
 -- lists of columns are those of all generators of the degrees from a least one on, and the quantum degree j
 pub record AreAllColumns (p : ℕ) (code : Code) (low j : ℤ) (count : ℕ) (columns : List (List (List Entry))) : Type 0 where
   pub size : length columns ≡ count
-  pub each : (k : ℕ) → k < count
-      → AreColumns p code (low +ℤ pos k) j (length (generators_at code (low +ℤ pos k) j)) (slice_index_or columns k [])
+  pub each : (k : ℕ) → k < count → AreWholeColumns p code (low +ℤ pos k) j (slice_index_or columns k [])
 
 -- the generators of the degrees from a least one on
 abbrev pub generators_from : Code → ℤ → ℤ → ℕ → List (List Generator)

@@ -6,3 +6,5 @@ pub mod KindShapes
 pub mod LabelRanks
 pub mod Tables
 pub mod Columns
+pub mod Chosen
+pub mod ChosenParts

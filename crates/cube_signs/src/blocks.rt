@@ -12,7 +12,7 @@ ghost use Rattle.circle_smoothing.specs.declared.limits.TheConstants.{GENERATORS
 ghost use Rattle.sparse_block.specs.Inside.{entries_in, lines_in, lists_in};
 ghost use Rattle.cube_signs.specs.Blocks.{block_degrees, named_block};
 ghost use Rattle.cube_signs.specs.Columns.{flags_of, generators_from, AreAllColumns, AreColumns};
-ghost use Rattle.cube_signs.specs.Columns.{AreFound, AreOuts, AreParts};
+ghost use Rattle.cube_signs.specs.Columns.{AreFound, AreOuts, AreParts, IsTail};
 ghost use Rattle.cube_signs.specs.Tables.{own_base, HaveSizes};
 ghost use Rattle.cube_signs.specs.declared.limits.TheConstants.{DEGREES, PLACES};
 
@@ -93,8 +93,8 @@ impl Cube {
         })
     }
 
-    /// The columns of the generators of two degrees, which are given.
-    fn columns(
+    /// The columns of some generators of two degrees.
+    pub(crate) fn columns(
         &self,
         alloc: Global,
         p: u8,
@@ -105,9 +105,9 @@ impl Cube {
         requires prime { 1 < p }
         requires bases { bases.now ≡ map (own_base self.now at.j) (states self.now) }
         requires small { All (λ base. base < PLACES) bases.now }
-        requires names { names.now ≡ generators_at self.now at.i at.j }
-        ensures { IfOk result (λ columns.
-            AreColumns p self.now at.i at.j (length names.now) (entries_in columns.items)) }
+        requires names { All (IsTail self.now at.i at.j) names.now }
+        ensures { IfOk result (λ columns. AreColumns p self.now at.i at.j names.now
+            (length names.now) (entries_in columns.items)) }
     {
         let ranks = self.ranks();
         let mut around = Around::nowhere(alloc);
@@ -232,7 +232,7 @@ impl Cube {
     }
 
     /// A quantum degree with the lowest homological degree that there can be.
-    fn lowest(&self, j: i16) -> Degrees
+    pub(crate) fn lowest(&self, j: i16) -> Degrees
         ensures i { result.i ≡ neg_ℤ (pos (length self.now.crossings)) }
         ensures j { result.j ≡ j }
     {

@@ -2,10 +2,11 @@
 #![tactic(auto)]
 
 mod blocks;
+mod by_kind;
+mod chosen;
 mod columns;
 mod cube;
 mod head_labels;
-mod kind_shapes;
 mod labels;
 pub mod laws;
 mod levels;
@@ -19,7 +20,9 @@ mod size;
 mod steps;
 
 pub use blocks::block_columns;
+pub use by_kind::kind_shapes;
 pub use cube::Cube;
 pub use quantum_degrees::{block_degrees, kind_degrees};
+pub use shape::Shape;
 pub use size::{SizeLimit, check_kinds, check_size};
 pub use sparse_block::Generator;

@@ -4,7 +4,7 @@ ghost use Rattle.std.specs.Prelude.{◌≡◌, ◌++◌, ◌∷◌, [], if◌the
 ghost use Rattle.cube_signs.specs.Blocks.{block_degrees};
 ghost use Rattle.cube_signs.specs.Shapes.{degrees_of, have_degree};
 
-use crate::kind_shapes::kind_shapes;
+use crate::by_kind::kind_shapes;
 use crate::shape::Shape;
 use circle_smoothing::StateKinds;
 use kh_types::{Diagram, EXPONENT, NoMemory};

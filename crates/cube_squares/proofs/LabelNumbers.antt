@@ -89,11 +89,11 @@ label-once code state first second first_below second_below same =
     ∙ label_of-name_at code (generator_of state second) i within)
 
 -- the number with some bits
-abbrev number_from : List ℕ → ℕ
+abbrev pub number_from : List ℕ → ℕ
 number_from [] = 0
 number_from (b ∷ bs) = b + 2 * number_from bs
 
-number_from-below : (bs : List ℕ) → ((i : ℕ) → i < length bs → get_or bs i 0 ≤ 1) → number_from bs < 2 ^ length bs
+pub number_from-below : (bs : List ℕ) → ((i : ℕ) → i < length bs → get_or bs i 0 ≤ 1) → number_from bs < 2 ^ length bs
 number_from-below [] small = omega arith
 number_from-below (b ∷ bs) small =
     let first : b ≤ 1 = small 0 (omega arith) in
@@ -101,7 +101,7 @@ number_from-below (b ∷ bs) small =
     let e : 2 ^ suc (length bs) ≡ 2 * 2 ^ length bs = omega arith in
     omega arith
 
-bit-number_from : (bs : List ℕ) (i : ℕ) → ((i : ℕ) → i < length bs → get_or bs i 0 ≤ 1) → i < length bs
+pub bit-number_from : (bs : List ℕ) (i : ℕ) → ((i : ℕ) → i < length bs → get_or bs i 0 ≤ 1) → i < length bs
     → bit (number_from bs) i ≡ get_or bs i 0
 bit-number_from [] i small within = absurd (omega arith)
 bit-number_from (b ∷ bs) zero small within = bit_at_lowest (b + 2 * number_from bs) ∙ omega (arith, small 0 within)

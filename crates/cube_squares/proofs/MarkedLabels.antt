@@ -45,7 +45,7 @@ IsMarked-marked_by code generator is =
     there : (l c d : ℕ) → l ≤ 1 → c ≡ d → cond (nat_eq l 1) (one_if (nat_eq c d)) 0 ≡ l
     there l c d small same = grind (arith, nat_tests)
 
-IsName-marked_by : (code : Code) (generator : Generator) → All (IsName code) (marked_by code generator)
+pub IsName-marked_by : (code : Code) (generator : Generator) → All (IsName code) (marked_by code generator)
 IsName-marked_by code generator =
     All-filter (λ c. nat_eq (label_of code generator c) 1) (IsName code) (circle_names code generator.state)
     (IsName-names code generator.state)
@@ -75,7 +75,7 @@ hits-total code state (mark ∷ marked) is names =
     there c d same = grind (arith, nat_tests)
 
 -- as many labels are 1 as there are marks that give them
-ones-marked : (code : Code) (generator : Generator) (marked : List ℕ) → IsTrue (accepted code) → All (IsName code) marked
+pub ones-marked : (code : Code) (generator : Generator) (marked : List ℕ) → IsTrue (accepted code) → All (IsName code) marked
     → IsMarked code generator marked → ones (circle_count code generator.state) generator.label ≡ length marked
 ones-marked code generator marked is are marks =
     let names = circle_names code generator.state in

@@ -38,7 +38,7 @@ length-row p code i j row within =
     ∙ length-map (generators_at code i j) (λ tail. coefficient p code tail (generator_number code (i +ℤ pos 1) j row))
 
 -- an entry is the coefficient between two generators, or 0 past the rows and the columns
-entry-differential : (p : ℕ) (code : Code) (i j : ℤ) (row column : ℕ) → row < length (generators_at code (i +ℤ pos 1) j)
+pub entry-differential : (p : ℕ) (code : Code) (i j : ℤ) (row column : ℕ) → row < length (generators_at code (i +ℤ pos 1) j)
     → column < length (generators_at code i j)
     → entry_in (differential p code i j) row column
     ≡ coefficient p code (generator_number code i j column) (generator_number code (i +ℤ pos 1) j row)

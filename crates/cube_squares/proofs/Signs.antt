@@ -13,7 +13,7 @@ use Rattle.kh_types.proofs.EdgeBits.{bit-set_other, bit-set_there}
 use Rattle.kh_types.proofs.ListSums.{sum_by-range_alike}
 
 -- how many bits below a place are 1 where a bit was set: as before where it is not below the place, and else one more
-ones-set_above : (state place count : ℕ) → bit state place ≡ 0 → count ≤ place → ones count (state + 2 ^ place) ≡ ones count state
+pub ones-set_above : (state place count : ℕ) → bit state place ≡ 0 → count ≤ place → ones count (state + 2 ^ place) ≡ ones count state
 ones-set_above state place count zero_bit above =
     sum_by-range_alike (bit (state + 2 ^ place)) (bit state) 0 count (λ k from below. bit-set_other state place zero_bit k (omega arith))
 

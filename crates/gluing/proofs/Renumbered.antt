@@ -11,7 +11,7 @@ use Rattle.gluing.specs.Glue.{renamed}
 use Rattle.gluing.specs.Codes.{dart_smoothings, arc_of_dart, name_count, HoldsArcs, IsRenumbered}
 use Rattle.gluing.proofs.Renamed.{class_count-renamed}
 use Rattle.gluing.proofs.CodeCircles.{smoothings_of-darts, dart_smoothings-below, class_count-circles}
-use Rattle.gluing.proofs.InsideCircles.{renamed-twice}
+use Rattle.gluing.proofs.Stubs.{renamed-twice}
 use Rattle.gluing.proofs.SlidCodes.{smoothings-hold}
 
 circle_count-renumbered : (f : ℕ → ℕ) (old new : Code) → IsRenumbered f old new → HoldsArcs old → HoldsArcs new → (state : ℕ)

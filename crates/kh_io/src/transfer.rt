@@ -17,7 +17,7 @@ const READ_BYTES: usize = 4_096;
 pub enum ReadStop {
     /// A read failed.
     Fault,
-    /// The source has more bytes than an input may have.
+    /// The source has more bytes than the caller takes.
     ByteLimit,
     /// Out of memory.
     NoMemory,
@@ -43,12 +43,12 @@ impl From<AllocError> for ReadStop {
     }
 }
 
-/// All bytes of a source. It stops at the first fault, and where the bytes are more than an input may have.
+/// All bytes of a source that has at most `INPUT_BYTES`. It stops at the first fault, and where there are more.
 pub fn read_all<S: Source>(alloc: Global, source: &mut S) -> Result<Vec<u8>, ReadStop>
     ensures bytes { IfOk result (λ bytes. IfSome (S.left source.old) (λ all. bytes.items ≡ all)) }
     ensures end { OnOk result (IsAtEnd (S.left source.new)) }
     ensures size { IfOk result (λ bytes. length bytes.items ≤ INPUT_BYTES) }
-    // More bytes than an input may have are taken exactly where the answer says so.
+    // More than `INPUT_BYTES` are taken exactly where the answer says so.
     ensures taken { (prefix : List ℕ) × Consumes (S.left source.old) (S.left source.new) prefix
         × (result ≡ Err ReadStop.ByteLimit ↔ (INPUT_BYTES < length prefix)) }
     ensures fault { result ≡ Err ReadStop.Fault → Rose (S.faults source.old) (S.faults source.new) }

@@ -4,8 +4,6 @@ use Rattle.std.specs.Prelude.{Option}
 use Rattle.kh_types.specs.Code.{Code}
 use Rattle.kh_types.specs.Acceptance.{first_fault}
 use Rattle.kh_types.specs.declared.fault.CodeFault.{CodeFault}
-use Rattle.kh_replies.specs.declared.status.Status.{Status}
-use Rattle.kh_replies.specs.declared.status.Status.TheVariants.{CodeRefused, Limit}
 use Rattle.kh_replies.specs.Replies.{Reply}
 use Rattle.kh_replies.specs.Refusals.{IsFaultRefusal}
 use Rattle.kh_replies.specs.Inputs.{input_form, IsCodeRead, IsFaulty, IsDiagramRead}

@@ -4,3 +4,4 @@ pub mod TextFaults
 pub mod DiagramReadings
 pub mod JonesLemmas
 pub mod ReplyStatuses
+pub mod UnionReplies

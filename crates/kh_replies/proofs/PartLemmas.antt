@@ -8,7 +8,7 @@ use Rattle.std.proofs.lemmas.Bool.Decides.{eqb_tells}
 use Rattle.std.proofs.lemmas.List.{append-nil}
 use Rattle.std.proofs.lemmas.List.Elements.{All-head, All-tail}
 use Rattle.std.proofs.lemmas.List.Sums.{take_while-cons}
-use Rattle.kh_replies.specs.Parts.{code_part, is_no_semicolon, script_part}
+use Rattle.kh_replies.specs.Parts.{code_part, is_no_semicolon, part_behind}
 
 -- a byte is no semicolon
 abbrev pub IsNoSemicolon : ℕ → Type 0
@@ -26,18 +26,18 @@ code-before (byte ∷ code) rest are ends =
     (goes-on byte (All-head IsNoSemicolon byte code are))
     ∙ ap (λ (bytes : List ℕ). byte ∷ bytes) (code-before code rest (All-tail IsNoSemicolon byte code are) ends)
 
-script-from : (bytes code : List ℕ) → code_part bytes ≡ code → script_part bytes ≡ drop (length code + 1) bytes
+script-from : (bytes code : List ℕ) → code_part bytes ≡ code → part_behind bytes ≡ drop (length code + 1) bytes
 script-from bytes code is_code = ap (λ (part : List ℕ). drop (length part + 1) bytes) is_code
 
 pub cut-at_semicolon : (code script : List ℕ) → All IsNoSemicolon code
-    → (code_part (code ++ 59 ∷ script) ≡ code) × (script_part (code ++ 59 ∷ script) ≡ script)
+    → (code_part (code ++ 59 ∷ script) ≡ code) × (part_behind (code ++ 59 ∷ script) ≡ script)
 cut-at_semicolon code script are =
     let is_code = code-before code (59 ∷ script) are (take_while-cons is_no_semicolon 59 script) in (
       is_code,
       script-from (code ++ 59 ∷ script) code is_code ∙ drop-append-add code (59 ∷ script) 1,
     )
 
-pub whole-without : (code : List ℕ) → All IsNoSemicolon code → (code_part code ≡ code) × (script_part code ≡ [])
+pub whole-without : (code : List ℕ) → All IsNoSemicolon code → (code_part code ≡ code) × (part_behind code ≡ [])
 whole-without code are =
     let is_code = subst (λ (bytes : List ℕ). code_part bytes ≡ code) (append-nil code) (code-before code [] are refl) in (
       is_code,

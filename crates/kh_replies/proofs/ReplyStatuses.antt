@@ -1,24 +1,20 @@
 -- A refusal has a status of a reply to a command, and so has what answers a diagram.
-use Rattle.std.proofs.Common.{◌≡◌, ℕ, ◌⊎◌, inl, inr, List, ap, sym, subst, Result, Ok, Err}
+use Rattle.std.proofs.Common.{◌≡◌, ℕ, inl, inr, List, sym, subst, Result, Ok, Err}
 use Rattle.kh_types.specs.Code.{Code}
 use Rattle.kh_types.specs.declared.fault.CodeFault.{CodeFault}
 use Rattle.kh_types.specs.declared.fault.CodeFault.TheVariants as faults
-use Rattle.pd_code.specs.Reading as pd
 use Rattle.pd_code.specs.declared.stop.PdStop.{PdStop}
 use Rattle.pd_code.specs.declared.stop.PdStop.TheVariants as pd_stops
-use Rattle.gauss_code.specs.Reading as gauss
 use Rattle.gauss_code.specs.declared.stop.GaussStop.{GaussStop}
 use Rattle.gauss_code.specs.declared.stop.GaussStop.TheVariants as gauss_stops
-use Rattle.json_code.specs.Reading as json
 use Rattle.json_code.specs.declared.stop.JsonStop.{JsonStop}
 use Rattle.json_code.specs.declared.stop.JsonStop.TheVariants as json_stops
-use Rattle.kh_replies.specs.declared.status.Status.{Status}
 use Rattle.kh_replies.specs.declared.input.InputForm.{InputForm}
 use Rattle.kh_replies.specs.declared.input.InputForm.TheVariants as forms
 use Rattle.kh_replies.specs.Statuses.{IsReplyStatus}
 use Rattle.kh_replies.specs.Replies.{Reply}
 use Rattle.kh_replies.specs.Refusals.{IsFaultRefusal, IsPdRefusal, IsGaussRefusal, IsJsonRefusal}
-use Rattle.kh_replies.specs.Inputs.{input_form, IsCodeRead, IsDiagramRead, IsReadAs}
+use Rattle.kh_replies.specs.Inputs.{input_form, IsDiagramRead, IsReadAs}
 use Rattle.kh_replies.specs.DiagramReplies.{IsOutcomeReply, IsDiagramReply}
 
 -- a reply that is this one has its status
@@ -64,7 +60,7 @@ read_as-status forms.Pd bytes reply read = pd-status read.0 reply read.2
 read_as-status forms.Gauss bytes reply read = gauss-status read.0 reply read.2
 read_as-status forms.Json bytes reply read = json-status read.0 reply read.2
 
-refusal-status : (bytes : List ℕ) (reply : Reply) → IsDiagramRead bytes (Err reply) → IsReplyStatus reply.status
+pub refusal-status : (bytes : List ℕ) (reply : Reply) → IsDiagramRead bytes (Err reply) → IsReplyStatus reply.status
 refusal-status bytes reply (inl read) = read_as-status (input_form bytes) bytes reply read
 refusal-status bytes reply (inr faulty) = fault-status faulty.fault reply faulty.line
 

@@ -1,5 +1,5 @@
 -- A code that is read from a text has few crossings and loops, so that it does not break the limit on components and loops.
-use Rattle.std.proofs.Common.{◌≡◌, ℕ, ◌≤◌, List, length, Bool, true, false, map, refl, sym, ap, subst, ◌∙◌, Ok, None, Some, arith}
+use Rattle.std.proofs.Common.{◌≡◌, ℕ, ◌≤◌, List, length, Bool, true, false, refl, sym, subst, ◌∙◌, Ok, None, Some, arith}
 use Rattle.std.specs.Prelude.{Option, codes, nat_lt}
 use Rattle.std.specs.Option.{option_or}
 use Rattle.std.proofs.lemmas.List.FromFn.{length-map-range_with_len}

@@ -8,4 +8,7 @@ pub mod InputStops
 pub mod DiagramReplies
 pub mod Jones
 pub mod Convert
+pub mod Draw
+pub mod Turns
+pub mod Union
 pub mod Check

@@ -1,4 +1,4 @@
--- The parts of an input: a code, and behind its first semicolon a script. All of it is this project's rule.
+-- The parts of an input: a code, and behind its first semicolon a script or a second code. All of it is this project's rule.
 use Rattle.std.specs.Prelude.{ℕ, ◌+◌, ◌==◌, Bool, not, List, length, drop}
 use Rattle.std.specs.List.{take_while}
 
@@ -11,5 +11,5 @@ abbrev pub code_part : List ℕ → List ℕ
 code_part bytes = take_while is_no_semicolon bytes
 
 -- the bytes behind the first semicolon, and none where there is none
-abbrev pub script_part : List ℕ → List ℕ
-script_part bytes = drop (length (code_part bytes) + 1) bytes
+abbrev pub part_behind : List ℕ → List ℕ
+part_behind bytes = drop (length (code_part bytes) + 1) bytes

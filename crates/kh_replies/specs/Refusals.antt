@@ -41,11 +41,11 @@ limit_on name count most =
 abbrev pub too_many_bytes : ℕ → Reply
 too_many_bytes limit = limit_on (codes "bytes") (limit + 1) limit
 
--- a text has more crossings than a diagram may have
+-- a text, or two diagrams together, have more crossings than a diagram may have
 abbrev pub too_many_crossings : ℕ → Reply
 too_many_crossings count = limit_on (codes "crossings") count CROSSINGS
 
--- a text has more loops than a text may have
+-- they have more loops than a text may have
 abbrev pub too_many_loops : ℕ → Reply
 too_many_loops count = limit_on (codes "loops") count LOOPS
 
@@ -64,6 +64,15 @@ too_large_number number = limit_on (codes "number") number (NUMBERS - 1)
 -- a script has a line that has words and is no command, and this is the number of the first
 abbrev pub refused_line : ℕ → Reply
 refused_line line = refused_with (codes "line ") line
+
+-- a mark is neither an arc nor a loop of a diagram
+abbrev pub refused_mark : ℕ → Reply
+refused_mark mark = refused_with (codes "mark ") mark
+
+-- a log has a line that fails, with this number, and for a cause with this word
+abbrev pub refused_log_line : ℕ → List ℕ → Reply
+refused_log_line line cause =
+    reply_of CodeRefused (codes "refused log line " ++ (decimal line ++ (codes " " ++ (cause ++ codes "\n"))))
 
 -- a PD text is refused for this stop with this reply
 abbrev pub IsPdRefusal : PdStop → Reply → Type 0

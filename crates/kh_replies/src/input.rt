@@ -4,6 +4,7 @@ ghost use Rattle.std.specs.Prelude.{◌≡◌, ◌≤◌, length, IfOk, IfErr, O
 ghost use Rattle.kh_replies.specs.Replies.{Reply};
 ghost use Rattle.kh_replies.specs.Inputs.{first_byte, input_form, IsPdRead, IsGaussRead, IsJsonRead, IsCodeRead, IsDiagramRead};
 ghost use Rattle.kh_replies.specs.InputStops.{StopsWith};
+ghost use Rattle.kh_types.specs.declared.limits.TheConstants.{LOOPS};
 
 use crate::refusals::{fault_refusal, gauss_refusal, json_refusal, pd_refusal};
 use crate::reply::Reply;
@@ -48,6 +49,7 @@ impl From<NoMemory> for InputStop {
 pub fn read_diagram(alloc: Global, bytes: &[u8]) -> Result<Diagram, InputStop>
     requires { length bytes.now ≤ INPUT_BYTES }
     ensures diagram { IfOk result (λ code. IsDiagramRead bytes.now (Ok code)) }
+    ensures loops { IfOk result (λ code. code.loops ≤ LOOPS) }
     ensures refused { IfErr result (StopsWith (λ reply. IsDiagramRead bytes.now (Err reply))) }
 {
     let raw = read_code(alloc, bytes)?;
@@ -61,6 +63,7 @@ pub fn read_diagram(alloc: Global, bytes: &[u8]) -> Result<Diagram, InputStop>
 fn read_code(alloc: Global, bytes: &[u8]) -> Result<RawCode, InputStop>
     requires { length bytes.now ≤ INPUT_BYTES }
     ensures code { IfOk result (λ code. IsCodeRead bytes.now (Ok code)) }
+    ensures loops { IfOk result (λ code. code.loops ≤ LOOPS) }
     ensures refused { IfErr result (StopsWith (λ reply. IsCodeRead bytes.now (Err reply))) }
 {
     match input_form(bytes) {
@@ -92,6 +95,7 @@ fn first_byte(bytes: &[u8]) -> Option<u8>
 fn read_json_code(alloc: Global, bytes: &[u8]) -> Result<RawCode, InputStop>
     requires { length bytes.now ≤ INPUT_BYTES }
     ensures code { IfOk result (λ code. IsJsonRead bytes.now (Ok code)) }
+    ensures loops { IfOk result (λ code. code.loops ≤ LOOPS) }
     ensures refused { IfErr result (StopsWith (λ reply. IsJsonRead bytes.now (Err reply))) }
 {
     match read_json(alloc, bytes) {
@@ -104,6 +108,7 @@ fn read_json_code(alloc: Global, bytes: &[u8]) -> Result<RawCode, InputStop>
 fn read_gauss_code(alloc: Global, bytes: &[u8]) -> Result<RawCode, InputStop>
     requires { length bytes.now ≤ INPUT_BYTES }
     ensures code { IfOk result (λ code. IsGaussRead bytes.now (Ok code)) }
+    ensures loops { IfOk result (λ code. code.loops ≤ LOOPS) }
     ensures refused { IfErr result (StopsWith (λ reply. IsGaussRead bytes.now (Err reply))) }
 {
     match read_gauss(alloc, bytes) {
@@ -116,6 +121,7 @@ fn read_gauss_code(alloc: Global, bytes: &[u8]) -> Result<RawCode, InputStop>
 fn read_pd_code(alloc: Global, bytes: &[u8]) -> Result<RawCode, InputStop>
     requires { length bytes.now ≤ INPUT_BYTES }
     ensures code { IfOk result (λ code. IsPdRead bytes.now (Ok code)) }
+    ensures loops { IfOk result (λ code. code.loops ≤ LOOPS) }
     ensures refused { IfErr result (StopsWith (λ reply. IsPdRead bytes.now (Err reply))) }
 {
     match read_pd(alloc, bytes) {

@@ -12,6 +12,10 @@ pub enum Intake {
     Code,
     /// A code, and behind its first semicolon a script.
     CodeAndScript,
+    /// A code, and behind its first semicolon a second one.
+    TwoCodes,
+    /// A log of cancellations.
+    Log,
     /// Nothing.
     Nothing,
 }
@@ -21,8 +25,18 @@ pub fn intake_of(task: Task) -> Intake
     ensures { result ≡ intake_of task }
 {
     match task {
-        Task::Homology | Task::Convert | Task::Check | Task::Jones => Intake::Code,
-        Task::Schedule | Task::Edit => Intake::CodeAndScript,
+        Task::Homology
+        | Task::Jones
+        | Task::Check
+        | Task::Convert
+        | Task::Draw
+        | Task::Certify
+        | Task::Reduced
+        | Task::Mirror
+        | Task::Reverse => Intake::Code,
+        Task::Edit | Task::Schedule => Intake::CodeAndScript,
+        Task::Union => Intake::TwoCodes,
+        Task::Verify => Intake::Log,
         Task::Bench => Intake::Nothing,
     }
 }

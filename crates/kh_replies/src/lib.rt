@@ -3,6 +3,7 @@
 
 mod check;
 mod convert;
+mod draw;
 mod input;
 mod intake;
 mod jones;
@@ -11,16 +12,22 @@ mod parts;
 mod refusals;
 mod reply;
 mod status;
+mod turns;
+mod union;
 
 pub use check::reply_to_check;
 pub use convert::reply_to_convert;
+pub use draw::reply_to_draw;
 pub use input::{InputStop, read_diagram};
 pub use intake::{Intake, intake_of};
 pub use jones::{jones_line, reply_to_jones};
 pub use laws::inputs_are_cut_at_the_first_semicolon;
-pub use parts::{code_part, script_part};
+pub use parts::{code_part, part_behind};
 pub use refusals::{
-    refused_line, too_large_number, too_many_bytes, too_many_generators, too_many_lines, usage,
+    refused_line, refused_log_line, refused_mark, too_large_number, too_many_bytes,
+    too_many_generators, too_many_lines, usage,
 };
 pub use reply::{Reply, reply_made};
 pub use status::Status;
+pub use turns::{reply_to_mirror, reply_to_reverse};
+pub use union::reply_to_union;

@@ -1,12 +1,12 @@
-//! The parts of an input: a code, and behind its first semicolon a script.
+//! The parts of an input: a code, and behind its first semicolon a script or a second code.
 
 ghost use Rattle.std.specs.Prelude.{◌≡◌, ◌≤◌, length};
 ghost use Rattle.std.specs.List.{prefix_len};
-ghost use Rattle.kh_replies.specs.Parts.{code_part, is_no_semicolon, script_part};
+ghost use Rattle.kh_replies.specs.Parts.{code_part, is_no_semicolon, part_behind};
 
-/// The text of the script in an input, which is empty where there is none.
-pub fn script_part(bytes: &[u8]) -> &[u8]
-    ensures script { result.now ≡ script_part bytes.now }
+/// The bytes behind the first semicolon of an input, which are none where there is none.
+pub fn part_behind(bytes: &[u8]) -> &[u8]
+    ensures part { result.now ≡ part_behind bytes.now }
     ensures within { length result.now ≤ length bytes.now }
 {
     let size = code_part(bytes).len();

@@ -1,7 +1,7 @@
 //! Every line of a refusal or a limit.
 
 ghost use Rattle.std.specs.Prelude.{◌≡◌, IfOk};
-ghost use Rattle.kh_replies.specs.Refusals.{usage, too_many_bytes, too_many_crossings, too_many_loops, too_many_generators, too_many_lines, too_large_number, refused, refused_line, refused_with, refused_with_both, limit_on, IsPdRefusal, IsGaussRefusal, IsJsonRefusal, IsFaultRefusal, IsTextFault};
+ghost use Rattle.kh_replies.specs.Refusals.{usage, too_many_bytes, too_many_crossings, too_many_loops, too_many_generators, too_many_lines, too_large_number, refused, refused_line, refused_log_line, refused_mark, refused_with, refused_with_both, limit_on, IsPdRefusal, IsGaussRefusal, IsJsonRefusal, IsFaultRefusal, IsTextFault};
 
 use crate::reply::{Reply, fixed_reply, reply_with};
 use crate::status::Status;
@@ -28,15 +28,15 @@ pub fn too_many_bytes(alloc: Global, limit: u32) -> Result<Reply, NoMemory>
     limit_on(alloc, "bytes", most + 1, most)
 }
 
-// The reply to a text with more crossings than a diagram may have.
-fn too_many_crossings(alloc: Global, count: u32) -> Result<Reply, NoMemory>
+/// The reply to more crossings than a diagram may have.
+pub fn too_many_crossings(alloc: Global, count: u32) -> Result<Reply, NoMemory>
     ensures { IfOk result (λ reply. reply ≡ too_many_crossings count) }
 {
     limit_on(alloc, "crossings", count.into(), CROSSINGS as u128)
 }
 
-// The reply to a text with more loops than a text may have.
-fn too_many_loops(alloc: Global, count: u32) -> Result<Reply, NoMemory>
+/// The reply to more loops than a text may have.
+pub fn too_many_loops(alloc: Global, count: u32) -> Result<Reply, NoMemory>
     ensures { IfOk result (λ reply. reply ≡ too_many_loops count) }
 {
     limit_on(alloc, "loops", count.into(), LOOPS as u128)
@@ -68,6 +68,21 @@ pub fn refused_line(alloc: Global, line: u32) -> Result<Reply, NoMemory>
     ensures { IfOk result (λ reply. reply ≡ refused_line line) }
 {
     refused_with(alloc, "line ", line)
+}
+
+/// The reply to a mark that is neither an arc nor a loop of a diagram.
+pub fn refused_mark(alloc: Global, mark: u8) -> Result<Reply, NoMemory>
+    ensures { IfOk result (λ reply. reply ≡ refused_mark mark) }
+{
+    refused_with(alloc, "mark ", mark.into())
+}
+
+/// The reply to a log with a line that fails, and the word of its cause.
+pub fn refused_log_line(alloc: Global, line: u32, cause: &str) -> Result<Reply, NoMemory>
+    ensures { IfOk result (λ reply. reply ≡ refused_log_line line cause.now) }
+{
+    let text = format!(in alloc; "refused log line {line} {cause}\n")?;
+    Ok(reply_with(Status::CodeRefused, text))
 }
 
 /// The reply to a PD text that is read as no code.

@@ -7,7 +7,7 @@ ghost use Rattle.std.specs.Prelude.{◌≡◌};
 pub enum Status {
     /// 0: the answer was written.
     Done,
-    /// 1: the input is no code of an accepted diagram, or a line of its script is no command.
+    /// 1: the input is no code of an accepted diagram, a line of its script is no command or one of its log fails, or a mark is none.
     CodeRefused,
     /// 2: the words give no command.
     Usage,

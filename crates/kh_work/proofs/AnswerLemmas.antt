@@ -1,8 +1,6 @@
 -- From the reply of a command to the answer to words.
-use Rattle.std.proofs.Common.{◌≡◌, ◌≤◌, ◌<◌, ◌++◌, ℕ, List, length, IfOk, IfSome, OnOk, inl, inr, refl, sym, ap, subst, ◌∙◌, Result, Ok, Err, None, Some, arith}
+use Rattle.std.proofs.Common.{◌≡◌, ◌≤◌, ◌<◌, ◌++◌, ℕ, List, length, IfOk, OnOk, inl, inr, refl, sym, ap, subst, ◌∙◌, Result, Ok, Err, None, Some, arith}
 use Rattle.std.specs.declared.option.Option.{Option}
-use Rattle.std.specs.Io.KnownBytes.{Consumes, IsAtEnd}
-use Rattle.kh_io.proofs.KnownBytes.{Consumes-length}
 use Rattle.kh_types.specs.declared.limits.TheConstants.{INPUT_BYTES}
 use Rattle.kh_types.specs.Code.{Code}
 use Rattle.std.specs.Prelude.{false, is_none, nat_lt, IsTrue}
@@ -18,11 +16,11 @@ use Rattle.word_line.specs.declared.command.Command.{Command}
 use Rattle.word_line.specs.Commands.{IsCommand, IsUsage}
 use Rattle.word_line.proofs.Readings.{IsCommand-one}
 use Rattle.kh_replies.specs.declared.status.Status.TheVariants.{Done}
-use Rattle.kh_replies.specs.declared.intake.Intake.TheVariants as intakes
-use Rattle.kh_replies.specs.Intakes.{byte_limit, intake_of}
+use Rattle.kh_replies.specs.Intakes.{intake_of}
+use Rattle.kh_work.specs.ByteLimits.{byte_limit}
 use Rattle.kh_replies.specs.Replies.{Reply, reply_of}
-use Rattle.kh_replies.specs.Refusals.{usage, too_large_number, too_many_bytes}
-use Rattle.kh_replies.specs.Parts.{code_part, script_part}
+use Rattle.kh_replies.specs.Refusals.{usage, too_large_number}
+use Rattle.kh_replies.specs.Parts.{code_part, part_behind}
 use Rattle.kh_replies.specs.Inputs.{IsCodeRead}
 use Rattle.kh_replies.specs.Jones.{jones_line}
 use Rattle.kh_work.specs.Homology.{homology_reply, homology_text}
@@ -45,34 +43,13 @@ use Rattle.kh_work.specs.declared.draft.Draft.{Draft}
 use Rattle.kh_work.specs.Drafts.{reply_in}
 use Rattle.kh_work.specs.Runs.{IsBlindAnswer}
 use Rattle.kh_work.specs.Told.{IsKnownAnswer, IsKnownReply, IsReadOut}
-use Rattle.kh_work.proofs.ReplyLemmas.{cond-false, cond-true, IsCommandReply-few, IsCommandReply-many, less-false, less-true, limit_of}
-
--- the bytes that were read are all that the source had left
-pub IsKnownReply-read : (left : Option (List ℕ)) (command : Command) (bytes : List ℕ) (reply : Reply) → IfSome left (λ all. bytes ≡ all)
-    → IsCommandReply command bytes reply → IsKnownReply left command reply
-IsKnownReply-read None command bytes reply all replied = record { known = tt }
-IsKnownReply-read (Some left) command bytes reply all replied =
-    let P : List ℕ → Type 0 = λ b. IsCommandReply command b reply in
-    record { known = subst P all replied }
-
--- more bytes than an input may have were taken, so as many were left
-pub IsKnownReply-long : (left rest : Option (List ℕ)) (command : Command) (taken : List ℕ) (reply : Reply)
-    → byte_limit (intake_of command.task) ≡ Some INPUT_BYTES → Consumes left rest taken → INPUT_BYTES < length taken → reply ≡ too_many_bytes INPUT_BYTES → IsKnownReply left command reply
-IsKnownReply-long None rest command taken reply reads consumed many is = record { known = tt }
-IsKnownReply-long (Some bytes) rest command taken reply reads consumed many is =
-    let within : length taken ≤ length bytes = Consumes-length (Some bytes) rest taken consumed in
-    record { known = IsCommandReply-many command bytes reply reads (omega arith) is }
+use Rattle.kh_work.proofs.ReplyLemmas.{cond-false, cond-true, IsCommandReply-few, less-false, less-true}
 
 -- nothing of a source is needed where the bytes do not matter
 pub IsKnownReply-blind : (left : Option (List ℕ)) (command : Command) (reply : Reply) → IsBlindReply command reply
     → IsKnownReply left command reply
 IsKnownReply-blind None command reply is = record { known = tt }
 IsKnownReply-blind (Some bytes) command reply is = record { known = is bytes }
-
--- a source at its end is read out
-pub IsReadOut-end : (limit : ℕ) (before after : Option (List ℕ)) → IsAtEnd after → IsReadOut limit before after
-IsReadOut-end limit None after end = record { read = tt }
-IsReadOut-end limit (Some bytes) after end = record { read = λ few. end }
 
 -- words are answered by their command, or by the usage line
 answer-command : (words : List (List ℕ)) (bytes : List ℕ) (command : Command) (reply : Reply) → IsCommand words command
@@ -108,21 +85,6 @@ IsBlindAnswer-command (Err stop) words command is_command replied = tt
 pub usage_reads_nothing : {P : Type 0} (words : List (List ℕ)) (limit : ℕ) → IsUsage words → ReadsUpTo words limit → P
 usage_reads_nothing words limit none reads = absurd (none reads.command reads.meant)
 
--- what reads nothing has no limit, and what has one reads
-pub nothing_is_read : {P : Type 0} (task : Task) (limit : ℕ) → intake_of task ≡ intakes.Nothing → byte_limit (intake_of task) ≡ Some limit → P
-nothing_is_read task limit nothing reads =
-    let e : None ≡ Some limit = ap byte_limit (sym nothing) ∙ reads in absurd (cc)
-
-pub something_is_read : {P : Type 0} (task : Task) → byte_limit (intake_of task) ≡ Some INPUT_BYTES → byte_limit (intake_of task) ≡ None → P
-something_is_read task reads none =
-    let e : Some INPUT_BYTES ≡ None = sym reads ∙ none in absurd (cc)
-
-pub IsReadOut-limit : {E : Type 0} (result : Result Draft E) (task : Task) (before after : Option (List ℕ))
-    → OnOk result (IsReadOut INPUT_BYTES before after) → (limit : ℕ) → byte_limit (intake_of task) ≡ Some limit
-    → OnOk result (IsReadOut limit before after)
-IsReadOut-limit result task before after read limit reads =
-    subst (λ (most : ℕ). OnOk result (IsReadOut most before after)) (limit_of task limit reads) read
-
 pub IsReadOut-command : {E : Type 0} (result : Result Draft E) (words : List (List ℕ)) (command : Command)
     (before after : Option (List ℕ)) → IsCommand words command
     → ((limit : ℕ) → byte_limit (intake_of command.task) ≡ Some limit → OnOk result (IsReadOut limit before after))
@@ -136,7 +98,7 @@ none-from_test : (fault : Option CodeFault) → IsTrue (is_none fault) → fault
 none-from_test None none = refl
 none-from_test (Some fault) none = absurd (cc)
 
-first_fault-accepted : (code : Code) → IsTrue (accepted code) → first_fault code ≡ None
+pub first_fault-accepted : (code : Code) → IsTrue (accepted code) → first_fault code ≡ None
 unfolding accepted
 first_fault-accepted code is_accepted = none-from_test (first_fault code) is_accepted
 
@@ -148,12 +110,12 @@ homology_reply-table field code few =
     rw short refl
 
 -- a command of this task is answered so where the task is
-answer-task : (words : List (List ℕ)) (bytes : List ℕ) (command : Command) (task : Task) (reply : Reply) → IsCommand words command
-    → command.task ≡ task → byte_limit (intake_of task) ≡ Some INPUT_BYTES → length bytes ≤ INPUT_BYTES
+pub answer-task : (words : List (List ℕ)) (bytes : List ℕ) (command : Command) (task : Task) (reply : Reply) {limit : ℕ} → IsCommand words command
+    → command.task ≡ task → byte_limit (intake_of task) ≡ Some limit → length bytes ≤ limit
     → IsIntakeReply (intake_of task) task command bytes reply → IsAnswer words bytes reply
-answer-task words bytes command task reply is_command is_task reads few replied =
+answer-task words bytes command task reply {limit = limit} is_command is_task reads few replied =
     answer-command words bytes command reply is_command
-    (IsCommandReply-few command bytes reply (ap (λ (t : Task). byte_limit (intake_of t)) is_task ∙ reads) few
+    (IsCommandReply-few command bytes reply limit (ap (λ (t : Task). byte_limit (intake_of t)) is_task ∙ reads) few
     (subst (λ (t : Task). IsIntakeReply (intake_of t) t command bytes reply) (sym is_task) replied))
 
 -- the code of an accepted diagram is answered by its table and its Jones line
@@ -191,7 +153,7 @@ schedule_reply-text field code script few =
 -- the code of an accepted diagram with a script is answered by the lines of the script, its table and its Jones line
 pub IsAnswer-schedule : (words : List (List ℕ)) (bytes : List ℕ) (command : Command) (code : Code) (script : List (ℕ × ScheduleLine))
     → IsCommand words command → command.task ≡ Schedule → length bytes ≤ INPUT_BYTES → IsCodeRead (code_part bytes) (Ok code)
-    → IsTrue (accepted code) → IsSchedule (script_part bytes) (Ok script) → generator_count code ≤ GENERATORS
+    → IsTrue (accepted code) → IsSchedule (part_behind bytes) (Ok script) → generator_count code ≤ GENERATORS
     → IsAnswer words bytes (reply_of Done
     (answer_lines script (answers command.field code WORKERS (events_of script))
     ++ (table_text (table command.field code) ++ jones_line code)))
@@ -209,7 +171,7 @@ IsAnswer-schedule words bytes command code script is_command is_schedule few_byt
 -- the code of an accepted diagram with a script is answered by what comes of the lines of the script
 pub IsAnswer-edit : (words : List (List ℕ)) (bytes : List ℕ) (command : Command) (code : Code) (script : List (ℕ × EditLine))
     → IsCommand words command → command.task ≡ Edit → length bytes ≤ INPUT_BYTES → IsCodeRead (code_part bytes) (Ok code)
-    → IsTrue (accepted code) → IsEdit (script_part bytes) (Ok script)
+    → IsTrue (accepted code) → IsEdit (part_behind bytes) (Ok script)
     → IsAnswer words bytes (outcome_reply code script (edited (edits_in script) (opening_history code)))
 unfolding edit_reply
 IsAnswer-edit words bytes command code script is_command is_edit few_bytes read is_accepted read_script =

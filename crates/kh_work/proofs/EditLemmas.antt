@@ -1,5 +1,5 @@
 -- The reply of `edit`: there is one, and what the code writes line by line is its text.
-use Rattle.std.proofs.Common.{◌≡◌, ℕ, ◌+◌, ◌<◌, List, [], ◌++◌, length, get_or, Some, None, Result, Ok, Err, refl, sym, ◌∙◌, ap, ap₂, subst, arith, append-nil}
+use Rattle.std.proofs.Common.{◌≡◌, ℕ, ◌+◌, ◌<◌, List, ◌++◌, length, get_or, Some, None, Result, Ok, Err, refl, sym, ◌∙◌, ap, ap₂, subst, arith, append-nil}
 use Rattle.std.proofs.lemmas.List.{get_or-map, length-map}
 use Rattle.kh_types.specs.Code.{Code}
 use Rattle.kh_types.proofs.Ranges.{flat_map-range_more}
@@ -13,7 +13,7 @@ use Rattle.undo_stack.specs.declared.limits.TheConstants.{SCRIPT_LINES}
 use Rattle.undo_stack.specs.declared.stop.ScriptStop.{ScriptStop}
 use Rattle.undo_stack.specs.declared.stop.ScriptStop.TheVariants as stops
 use Rattle.undo_stack.proofs.EditReadings.{IsEdit-edit_of, IsEdit-one}
-use Rattle.undo_stack.proofs.EditedParts.{AreDone, AreDone-begin, AreDone-end, AreDone-line, AreDone-refused}
+use Rattle.undo_stack.proofs.EditedParts.{AreDone, AreDone-end, AreDone-line, AreDone-refused}
 use Rattle.kh_replies.specs.declared.status.Status.TheVariants.{Done, MoveRefused}
 use Rattle.kh_replies.specs.Replies.{Reply, reply_of}
 use Rattle.kh_replies.specs.Refusals.{refused_line, too_many_lines}
@@ -49,10 +49,6 @@ IsEditReply-one code text a b is_a is_b =
 pub record IsEditSoFar (code : Code) (script : List (ℕ × EditLine)) (place : ℕ) (now : History) (text : List ℕ) : Type 0 where
   pub done : AreDone (edits_in script) place (opening_history code) now
   pub written : text ≡ diagram_lines code script place
-
--- before the first line
-pub IsEditSoFar-begin : (code : Code) (script : List (ℕ × EditLine)) → IsEditSoFar code script 0 (opening_history code) []
-IsEditSoFar-begin code script = record { done = AreDone-begin (edits_in script) (opening_history code); written = refl }
 
 -- the line at a place, and its number
 edit-at : (script : List (ℕ × EditLine)) (place : ℕ) (line other : ℕ × EditLine) → place < length script

@@ -25,10 +25,10 @@ use Rattle.kh_replies.specs.Replies.{Reply, reply_of}
 use Rattle.kh_work.specs.Runs.{IsProgramRun, Seen, IsAcceptedText, HasWrittenHomology, KeepsHeadline}
 use Rattle.kh_work.specs.Told.{Gives}
 use Rattle.kh_work.proofs.AnswerLemmas.{IsAnswer-table}
-use Rattle.kh_work.proofs.OneAnswer.{IsAnswer-one}
+use Rattle.kh_work.proofs.OneAnswer.{HaveOneReply-task, IsAnswer-one}
 
 -- the numbers of elements of the fields make fields
-field-sized : (size : ℕ) → IsFieldSize size → IsField size
+pub field-sized : (size : ℕ) → IsFieldSize size → IsField size
 field-sized size (inl is) = subst IsField (sym is) field-two
 field-sized size (inr (inl is)) = subst IsField (sym is) field-three
 field-sized size (inr (inr (inl is))) = subst IsField (sym is) field-five
@@ -61,7 +61,8 @@ headline-answer : (words : List (List ℕ)) (bytes : List ℕ) (command : Comman
     → IsCommand words command → command.task ≡ Homology → IsAcceptedText bytes code → IsAnswer words bytes reply
     → reply ≡ reply_of Done (headline_text command.field code)
 headline-answer words bytes command code reply is_command is_homology text is_answer =
-    IsAnswer-one words bytes reply (reply_of Done (table_text (table command.field code) ++ jones_line code)) is_answer
+    IsAnswer-one words bytes reply (reply_of Done (table_text (table command.field code) ++ jones_line code))
+    (HaveOneReply-task words command Homology is_command is_homology (λ same. cc)) is_answer
     (IsAnswer-table words bytes command code is_command is_homology text.few_bytes text.read text.is_accepted text.few_generators)
     ∙ jones_line-sum command.field code
 

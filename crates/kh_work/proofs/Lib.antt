@@ -1,8 +1,14 @@
 pub mod AnswerLemmas
+pub mod ReducedLemmas
 pub mod ReplyLemmas
 pub mod ScheduleLemmas
 pub mod EditLemmas
 pub mod OneAnswer
+pub mod VerifyLemmas
 pub mod Headlines
 pub mod Written
 pub mod Workers
+pub mod TurnAnswers
+pub mod ReducedAnswers
+pub mod LogAnswers
+pub mod ReducedHeadlines

@@ -2,11 +2,12 @@
 use Rattle.std.proofs.Common.{◌≡◌, ℕ, inl, inr, List, subst, None, Some}
 use Rattle.std.specs.Prelude.{Option}
 use Rattle.word_line.specs.declared.command.Task.{Task}
-use Rattle.word_line.specs.declared.command.Task.TheVariants.{Homology, Convert, Check, Jones, Schedule, Edit, Bench}
+use Rattle.word_line.specs.declared.command.Task.TheVariants.{Homology, Jones, Check, Convert, Edit, Draw, Schedule, Bench, Certify, Verify, Reduced, Mirror, Reverse, Union}
 use Rattle.word_line.specs.declared.command.Command.{Command}
 use Rattle.word_line.specs.Commands.{IsCommand}
 use Rattle.word_line.proofs.Readings.{IsCommand-one}
-use Rattle.kh_replies.specs.Intakes.{byte_limit, intake_of}
+use Rattle.kh_replies.specs.Intakes.{intake_of}
+use Rattle.kh_work.specs.ByteLimits.{byte_limit}
 use Rattle.kh_replies.specs.Replies.{Reply}
 use Rattle.kh_work.specs.Answer.{IsIntakeReply, IsLimitedReply, IsCommandReply, IsAnswer}
 
@@ -17,12 +18,19 @@ with_count command workers = record command { workers = workers }
 IsIntakeReply-workers : (task : Task) (command : Command) (workers : ℕ) (bytes : List ℕ) (reply : Reply)
     → IsIntakeReply (intake_of task) task command bytes reply → IsIntakeReply (intake_of task) task (with_count command workers) bytes reply
 IsIntakeReply-workers Homology command workers bytes reply is = record { outcome = is.outcome; read = is.read; answered = is.answered }
-IsIntakeReply-workers Convert command workers bytes reply is = is
-IsIntakeReply-workers Check command workers bytes reply is = is
 IsIntakeReply-workers Jones command workers bytes reply is = is
-IsIntakeReply-workers Schedule command workers bytes reply is = is
+IsIntakeReply-workers Check command workers bytes reply is = is
+IsIntakeReply-workers Convert command workers bytes reply is = is
 IsIntakeReply-workers Edit command workers bytes reply is = is
+IsIntakeReply-workers Draw command workers bytes reply is = is
+IsIntakeReply-workers Schedule command workers bytes reply is = is
 IsIntakeReply-workers Bench command workers bytes reply is = is
+IsIntakeReply-workers Certify command workers bytes reply is = record { outcome = is.outcome; read = is.read; answered = is.answered }
+IsIntakeReply-workers Verify command workers bytes reply is = is
+IsIntakeReply-workers Reduced command workers bytes reply is = is
+IsIntakeReply-workers Mirror command workers bytes reply is = is
+IsIntakeReply-workers Reverse command workers bytes reply is = is
+IsIntakeReply-workers Union command workers bytes reply is = is
 
 IsLimitedReply-weaker : (limit : Option ℕ) (bytes : List ℕ) (Answers Other : Reply → Type 0) (reply : Reply)
     → (Answers reply → Other reply) → IsLimitedReply limit bytes Answers reply → IsLimitedReply limit bytes Other reply

@@ -18,10 +18,6 @@ with_answer : (left : Option (List ℕ)) (words : List (List ℕ)) (reply : Repl
 with_answer None words reply Fact known fact = tt
 with_answer (Some bytes) words reply Fact known fact = (reply, known.known, fact)
 
--- a whole reply is not one of these statuses
-not_whole : (status ended : Status) → IsWhole ended → status ≡ ended → (IsWhole status → ⊥) → ⊥
-not_whole status ended whole same not = not (subst IsWhole (sym same) whole)
-
 not_stopped : (status : Status) → IsWhole status → (status ≡ ReadFault) ⊎ (status ≡ NoMemory) → ⊥
 not_stopped status whole (inl same) = subst IsWhole same whole
 not_stopped status whole (inr same) = subst IsWhole same whole

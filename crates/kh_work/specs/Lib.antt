@@ -1,7 +1,11 @@
 pub mod Homology
+pub mod Reduced
 pub mod Schedule
 pub mod Edit
 pub mod Bench
+pub mod ByteLimits
+pub mod Certify
+pub mod Verify
 pub mod Answer
 pub mod Drafts
 pub mod Told

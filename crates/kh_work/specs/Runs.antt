@@ -1,5 +1,5 @@
 -- The promises of a run.
-use Rattle.std.specs.Prelude.{◌≡◌, ◌≢◌, ◌⊎◌, ℕ, ℤ, ◌≤◌, List, ◌++◌, length, IfOk, IfSome, IsTrue, OnOk, Some, Result, Ok, Err}
+use Rattle.std.specs.Prelude.{◌≡◌, ◌≢◌, ◌⊎◌, ℕ, ℤ, pos, ◌+ℤ◌, ◌-ℤ◌, ◌≤◌, List, ◌++◌, length, IfOk, IfSome, IsTrue, OnOk, Some, Result, Ok, Err, true}
 use Rattle.std.specs.declared.option.Option.{Option}
 use Rattle.std.specs.Io.KnownBytes.{Appends}
 use Rattle.kh_types.specs.Acceptance.{accepted}
@@ -9,11 +9,12 @@ use Rattle.kh_types.specs.Table.{table, table_text}
 use Rattle.kh_types.specs.declared.limits.TheConstants.{CROSSINGS, INPUT_BYTES}
 use Rattle.circle_smoothing.specs.GeneratorCounts.{generator_count}
 use Rattle.circle_smoothing.specs.declared.limits.TheConstants.{GENERATORS}
+use Rattle.reduced_cube.specs.Reduced.{is_mark, reduced_table}
 use Rattle.kh_io.specs.Faults.{Rose}
 use Rattle.kh_work.specs.declared.answer.ReplyStop.{ReplyStop}
 use Rattle.kh_work.specs.declared.answer.ReplyStop.TheVariants as stops
 use Rattle.word_line.specs.declared.command.Command.{Command}
-use Rattle.word_line.specs.declared.command.Task.TheVariants.{Homology}
+use Rattle.word_line.specs.declared.command.Task.TheVariants.{Homology, Reduced}
 use Rattle.word_line.specs.Commands.{IsCommand, IsUsage}
 use Rattle.kh_replies.specs.declared.status.Status.{Status}
 use Rattle.kh_replies.specs.declared.status.Status.TheVariants.{Done, Usage, ReadFault, WriteFault, NoMemory}
@@ -21,6 +22,7 @@ use Rattle.kh_replies.specs.Statuses.{IsWhole}
 use Rattle.kh_replies.specs.Replies.{Reply}
 use Rattle.kh_replies.specs.Inputs.{IsCodeRead}
 use Rattle.kh_work.specs.Answer.{IsAnswer, ReadsNothing, ReadsUpTo}
+use Rattle.kh_work.specs.Reduced.{mark_line}
 use Rattle.kh_work.specs.Told.{Gives, GivesPrefix, IsKnownAnswer, IsTaken, IsReadOut}
 
 -- what is known of a source or a sink at one moment: its bytes, those still to come or those written, and its count of faults
@@ -116,3 +118,22 @@ KeepsHeadline words source_before sink_before sink_after status =
     (bytes : List ℕ) (command : Command) (code : Code) → source_before.bytes ≡ Some bytes → IsCommand words command
     → command.task ≡ Homology → IsAcceptedText bytes code → IsWhole status
     → HasWrittenHomology command.field code status sink_before.bytes sink_after.bytes
+
+-- a run has ended as done, and a sink has gained the line of a mark, the reduced homology table of a code at it over the field of p
+-- elements and the Jones line of the code's state sum, and nothing else; (q + q^-1) times the graded Euler characteristic of that table
+-- is that state sum
+pub record HasWrittenReduced (p mark : ℕ) (code : Code) (ended : Status) (before after : Option (List ℕ)) : Type 0 where
+  pub status : ended ≡ Done
+  pub written : Appends before after
+      (mark_line mark ++ (table_text (reduced_table p code mark) ++ polynomial_text (state_sum code)))
+  pub sum : (exponent : ℤ)
+      → euler (reduced_table p code mark) (exponent -ℤ pos 1) +ℤ euler (reduced_table p code mark) (exponent +ℤ pos 1)
+      ≡ state_sum code exponent
+
+-- a run whose words mean `reduced` at an arc or a loop of the accepted diagram within the limits whose text the input is writes its
+-- reduced homology there, over the field that the command has, unless a fault or want of memory ends it
+abbrev pub KeepsReduced : List (List ℕ) → Seen → Seen → Seen → Status → Type 0
+KeepsReduced words source_before sink_before sink_after status =
+    (bytes : List ℕ) (command : Command) (mark : ℕ) (code : Code) → source_before.bytes ≡ Some bytes → IsCommand words command
+    → command.task ≡ Reduced → command.mark ≡ Some mark → IsAcceptedText bytes code → is_mark code mark ≡ true → IsWhole status
+    → HasWrittenReduced command.field mark code status sink_before.bytes sink_after.bytes

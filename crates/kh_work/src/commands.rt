@@ -1,12 +1,18 @@
 //! The commands that need the cube or the editor, each from a diagram to its reply.
 
 mod bench;
+mod certify;
 mod edit;
 mod edit_refusals;
 mod homology;
+mod reduced;
 mod schedule;
+mod verify;
 
 pub use bench::{draft_of_bench, reply_with_dimension};
+pub use certify::reply_to_certify;
 pub use edit::reply_to_edit;
-pub use homology::{draft_of_homology, reply_with_table};
+pub use homology::{draft_of_homology, reply_with_table, text_with_table};
+pub use reduced::reply_to_reduced;
 pub use schedule::reply_to_schedule;
+pub use verify::reply_to_verify;

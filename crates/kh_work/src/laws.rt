@@ -1,33 +1,46 @@
 //! Laws of the definitions: each is the contract of a function that does nothing.
 
-ghost use Rattle.std.specs.Prelude.{◌≡◌, ◌<◌, ◌≤◌, ◌++◌, ℕ, List, [], length};
-ghost use Rattle.std.specs.Prelude.{IsTrue, Ok, Some};
+ghost use Rattle.std.specs.Prelude.{◌≡◌, ◌<◌, ◌≤◌, ◌++◌, ℕ, List, [], codes, length};
+ghost use Rattle.std.specs.Prelude.{Err, IsTrue, Ok, Some, false, true};
+ghost use Rattle.std.specs.Prelude.{◌+ℤ◌, ◌-ℤ◌, ℤ, pos};
 ghost use Rattle.circle_smoothing.specs.GeneratorCounts.{generator_count};
 ghost use Rattle.circle_smoothing.specs.declared.limits.TheConstants.{GENERATORS};
+ghost use Rattle.cancel_log.specs.Verdicts.{IsLogOf};
+ghost use Rattle.cancel_log.specs.declared.limits.TheConstants.{LOG_BYTES};
 ghost use Rattle.commit_core.specs.Answering.{answers};
 ghost use Rattle.kh_types.specs.Code.{Code};
 ghost use Rattle.kh_types.specs.Acceptance.{accepted};
 ghost use Rattle.kh_types.specs.StateSum.{euler, polynomial_text, state_sum};
 ghost use Rattle.kh_types.specs.Table.{table, table_text};
-ghost use Rattle.kh_types.specs.declared.limits.TheConstants.{CROSSINGS, INPUT_BYTES};
+ghost use Rattle.kh_types.specs.declared.limits.TheConstants.{CROSSINGS, INPUT_BYTES, LOOPS};
 ghost use Rattle.word_line.specs.declared.command.Command.{Command};
 ghost use Rattle.word_line.specs.declared.command.Task.{Task};
 ghost use Rattle.kh_replies.specs.declared.status.Status.{Status};
 ghost use Rattle.kh_replies.specs.Replies.{Reply, reply_of};
-ghost use Rattle.kh_replies.specs.Inputs.{IsCodeRead};
+ghost use Rattle.kh_replies.specs.Inputs.{IsCodeRead, IsDiagramRead};
 ghost use Rattle.kh_replies.specs.Jones.{jones_line};
-ghost use Rattle.kh_replies.specs.Parts.{code_part, script_part};
+ghost use Rattle.kh_replies.specs.Union.{union_reply};
+ghost use Rattle.kh_replies.specs.Parts.{code_part, part_behind};
 ghost use Rattle.word_line.specs.Commands.{IsCommand};
 ghost use Rattle.word_line.specs.Values.{IsFieldSize};
 ghost use Rattle.kh_work.specs.Schedule.{answer_lines, events_of};
+ghost use Rattle.kh_work.specs.Reduced.{mark_line};
 ghost use Rattle.kh_work.specs.Edit.{edits_in, outcome_reply};
-ghost use Rattle.kh_work.specs.Answer.{IsAnswer};
+ghost use Rattle.kh_lex.specs.Lines.{lines_of};
+ghost use Rattle.kh_work.specs.Answer.{HaveOneReply, IsAnswer};
+ghost use Rattle.kh_work.specs.Certify.{IsCertificate};
 ghost use Rattle.kh_work.specs.Bench.{bench_counts, bench_lines};
-ghost use Rattle.kh_replies.specs.Refusals.{too_large_number};
+ghost use Rattle.kh_replies.specs.Refusals.{refused_mark, too_large_number};
 ghost use Rattle.jones_sum.specs.Tables.{total_of};
 ghost use Rattle.braid_maker.specs.Closures.{code_of_number};
 ghost use Rattle.braid_maker.specs.declared.limits.TheConstants.{NUMBERS};
 ghost use Rattle.kh_types.specs.declared.limits.TheConstants.{WORKERS};
+ghost use Rattle.link_algebra.specs.Mirrors.{mirror_of, reversal_of};
+ghost use Rattle.link_algebra.specs.Unions.{crossings_together, loops_together, union_of};
+ghost use Rattle.morse_drawing.specs.Pages.{slices_of};
+ghost use Rattle.morse_drawing.specs.Texts.{drawing_text};
+ghost use Rattle.pd_code.specs.Printing.{pd_text};
+ghost use Rattle.reduced_cube.specs.Reduced.{is_mark, reduced_table};
 ghost use Rattle.undo_stack.specs.Schedule.{IsSchedule};
 ghost use Rattle.undo_stack.specs.EditScript.{IsEdit};
 ghost use Rattle.undo_stack.specs.EditRuns.{diagram_after, edited};
@@ -36,11 +49,13 @@ ghost use Rattle.undo_stack.specs.Sums.{HasSumOf};
 ghost use Rattle.undo_stack.specs.declared.edit_line.EditLine.{EditLine};
 ghost use Rattle.undo_stack.specs.declared.schedule.ScheduleLine.{ScheduleLine};
 
-/// To all words and all bytes there is exactly one answer.
+use reduced_cube::laws::{known_marks, reduced_euler_characteristic};
+
+/// To all words, but those that mean `certify`, and all bytes there is exactly one answer.
 pub fn one_answer()
-    ensures some { (words : List (List ℕ)) (bytes : List ℕ)
+    ensures some { (words : List (List ℕ)) (bytes : List ℕ) → HaveOneReply words
         → (reply : Reply) × IsAnswer words bytes reply }
-    ensures one { (words : List (List ℕ)) (bytes : List ℕ) (reply other : Reply)
+    ensures one { (words : List (List ℕ)) (bytes : List ℕ) (reply other : Reply) → HaveOneReply words
         → IsAnswer words bytes reply → IsAnswer words bytes other → reply ≡ other }
 {}
 
@@ -80,7 +95,7 @@ pub fn accepted_diagrams_are_answered_by_their_schedule()
         (script : List (ℕ × ScheduleLine))
         → IsCommand words command → command.task ≡ Task.Schedule
         → length bytes ≤ INPUT_BYTES → IsCodeRead (code_part bytes) (Ok code) → IsTrue (accepted code)
-        → IsSchedule (script_part bytes) (Ok script) → generator_count code ≤ GENERATORS
+        → IsSchedule (part_behind bytes) (Ok script) → generator_count code ≤ GENERATORS
         → IsAnswer words bytes (reply_of Status.Done
         (answer_lines script (answers command.field code WORKERS (events_of script))
         ++ (table_text (table command.field code) ++ jones_line code))) }
@@ -94,12 +109,113 @@ pub fn accepted_diagrams_are_answered_by_their_edit()
         (script : List (ℕ × EditLine))
         → IsCommand words command → command.task ≡ Task.Edit
         → length bytes ≤ INPUT_BYTES → IsCodeRead (code_part bytes) (Ok code) → IsTrue (accepted code)
-        → IsEdit (script_part bytes) (Ok script)
+        → IsEdit (part_behind bytes) (Ok script)
         → IsAnswer words bytes (outcome_reply code script (edited (edits_in script) (opening_history code))) }
     ensures sum { (lines : List EditLine) (code : Code) (count : ℕ) → IsTrue (accepted code)
         → HasSumOf code (diagram_after lines code count) }
     ensures nothing { (code : Code)
         → outcome_reply code [] (edited (edits_in []) (opening_history code)) ≡ reply_of Status.Done [] }
+{}
+
+/// Words that mean the command `draw`, and bytes that are the text of the code of an accepted diagram, are answered by the text of its
+/// drawing.
+pub fn accepted_diagrams_are_answered_by_their_drawing()
+    ensures { (words : List (List ℕ)) (bytes : List ℕ) (command : Command) (code : Code)
+        → IsCommand words command → command.task ≡ Task.Draw
+        → length bytes ≤ INPUT_BYTES → IsCodeRead bytes (Ok code) → IsTrue (accepted code)
+        → IsAnswer words bytes (reply_of Status.Done (drawing_text (slices_of code))) }
+{}
+
+/// Words that mean the command `reduced` with a mark, and bytes that are the text of the code of an accepted diagram, are answered by
+/// the line of the mark, the reduced homology table at it over the field that the words name, and the diagram's Jones line, where the
+/// mark is an arc or a loop and there are few enough generators. (q + q^-1) times the Euler characteristic of that table is the state
+/// sum, which that line shows. Another mark is refused, however many generators there are.
+pub fn accepted_diagrams_are_answered_by_their_reduced_table()
+    ensures answer { (words : List (List ℕ)) (bytes : List ℕ) (command : Command) (mark : ℕ) (code : Code)
+        → IsCommand words command → command.task ≡ Task.Reduced → command.mark ≡ Some mark
+        → length bytes ≤ INPUT_BYTES → IsCodeRead bytes (Ok code) → IsTrue (accepted code)
+        → is_mark code mark ≡ true → generator_count code ≤ GENERATORS
+        → IsAnswer words bytes (reply_of Status.Done
+        (mark_line mark ++ (table_text (reduced_table command.field code mark) ++ jones_line code))) }
+    ensures refused { (words : List (List ℕ)) (bytes : List ℕ) (command : Command) (mark : ℕ) (code : Code)
+        → IsCommand words command → command.task ≡ Task.Reduced → command.mark ≡ Some mark
+        → length bytes ≤ INPUT_BYTES → IsCodeRead bytes (Ok code) → IsTrue (accepted code)
+        → is_mark code mark ≡ false → IsAnswer words bytes (refused_mark mark) }
+    ensures sum { (field : ℕ) (code : Code) (mark : ℕ) (exponent : ℤ) → IsFieldSize field
+        → IsTrue (accepted code) → length code.crossings ≤ CROSSINGS → is_mark code mark ≡ true
+        → euler (reduced_table field code mark) (exponent -ℤ pos 1)
+        +ℤ euler (reduced_table field code mark) (exponent +ℤ pos 1) ≡ state_sum code exponent }
+{
+    known_marks();
+    reduced_euler_characteristic();
+}
+
+/// Words that mean the command `certify`, and bytes that are the text of the code of an accepted diagram within the limits, are
+/// answered by each log of that diagram over the field that the words name which is short enough to be verified, and by nothing else.
+pub fn accepted_diagrams_are_answered_by_their_logs()
+    ensures answer { (words : List (List ℕ)) (bytes : List ℕ) (command : Command) (code : Code) (text : List ℕ)
+        → IsCommand words command → command.task ≡ Task.Certify
+        → length bytes ≤ INPUT_BYTES → IsCodeRead bytes (Ok code) → IsTrue (accepted code)
+        → generator_count code ≤ GENERATORS → IsLogOf command.field code (lines_of text)
+        → length text ≤ LOG_BYTES → IsAnswer words bytes (reply_of Status.Done text) }
+    ensures only { (words : List (List ℕ)) (bytes : List ℕ) (command : Command) (code : Code) (reply : Reply)
+        → IsCommand words command → command.task ≡ Task.Certify
+        → length bytes ≤ INPUT_BYTES → IsCodeRead bytes (Ok code) → IsTrue (accepted code)
+        → generator_count code ≤ GENERATORS → IsAnswer words bytes reply
+        → IsCertificate command.field code reply }
+{}
+
+/// Words that mean the command `verify`, and bytes that are a log of a diagram over a field, are answered by the line `verified` and the
+/// diagram's homology table over that field; and they are answered as done where the bytes are such a log, and nowhere else. So is what
+/// `certify` answers to an accepted diagram within the limits.
+pub fn logs_are_answered_by_their_table()
+    ensures answer { (words : List (List ℕ)) (bytes : List ℕ) (command : Command) (field : ℕ) (code : Code)
+        → IsCommand words command → command.task ≡ Task.Verify → length bytes ≤ LOG_BYTES
+        → IsLogOf field code (lines_of bytes)
+        → IsAnswer words bytes (reply_of Status.Done (codes "verified\n" ++ table_text (table field code))) }
+    ensures only { (words : List (List ℕ)) (bytes : List ℕ) (command : Command) (reply : Reply)
+        → IsCommand words command → command.task ≡ Task.Verify
+        → IsAnswer words bytes reply → reply.status ≡ Status.Done
+        → (field : ℕ) × (code : Code) × IsLogOf field code (lines_of bytes)
+        × (reply.text ≡ codes "verified\n" ++ table_text (table field code)) }
+    ensures certified { (words other : List (List ℕ)) (bytes : List ℕ) (command verifier : Command) (code : Code)
+        (reply : Reply) → IsCommand words command → command.task ≡ Task.Certify
+        → length bytes ≤ INPUT_BYTES → IsCodeRead bytes (Ok code) → IsTrue (accepted code)
+        → generator_count code ≤ GENERATORS → IsAnswer words bytes reply
+        → IsCommand other verifier → verifier.task ≡ Task.Verify → IsAnswer other reply.text
+        (reply_of Status.Done (codes "verified\n" ++ table_text (table command.field code))) }
+{}
+
+/// Words that mean the command `mirror`, or the command `reverse`, and bytes that are the text of the code of an accepted diagram, are
+/// answered by the planar diagram text of its mirror, or of its reversal.
+pub fn accepted_diagrams_are_answered_by_their_mirror()
+    ensures mirrored { (words : List (List ℕ)) (bytes : List ℕ) (command : Command) (code : Code)
+        → IsCommand words command → command.task ≡ Task.Mirror
+        → length bytes ≤ INPUT_BYTES → IsCodeRead bytes (Ok code) → IsTrue (accepted code)
+        → IsAnswer words bytes (reply_of Status.Done (pd_text (mirror_of code) ++ codes "\n")) }
+    ensures reversed { (words : List (List ℕ)) (bytes : List ℕ) (command : Command) (code : Code)
+        → IsCommand words command → command.task ≡ Task.Reverse
+        → length bytes ≤ INPUT_BYTES → IsCodeRead bytes (Ok code) → IsTrue (accepted code)
+        → IsAnswer words bytes (reply_of Status.Done (pd_text (reversal_of code) ++ codes "\n")) }
+{}
+
+/// Words that mean the command `union`, and bytes with the codes of two accepted diagrams, are answered by the planar diagram text of
+/// their disjoint union, unless they have too many crossings together or too many loops. Where the second code is refused, the line
+/// `second` stands before that of the refusal.
+pub fn accepted_diagrams_are_answered_by_their_union()
+    ensures answer { (words : List (List ℕ)) (bytes : List ℕ) (command : Command) (first second : Code)
+        → IsCommand words command → command.task ≡ Task.Union → length bytes ≤ INPUT_BYTES
+        → IsCodeRead (code_part bytes) (Ok first) → IsTrue (accepted first)
+        → IsCodeRead (part_behind bytes) (Ok second) → IsTrue (accepted second)
+        → IsAnswer words bytes (union_reply first second) }
+    ensures text { (first second : Code) → crossings_together first second ≤ CROSSINGS
+        → loops_together first second ≤ LOOPS
+        → union_reply first second ≡ reply_of Status.Done (pd_text (union_of first second) ++ codes "\n") }
+    ensures refused { (words : List (List ℕ)) (bytes : List ℕ) (command : Command) (first : Code) (refusal : Reply)
+        → IsCommand words command → command.task ≡ Task.Union → length bytes ≤ INPUT_BYTES
+        → IsCodeRead (code_part bytes) (Ok first) → IsTrue (accepted first)
+        → IsDiagramRead (part_behind bytes) (Err refusal)
+        → IsAnswer words bytes (reply_of refusal.status (codes "second\n" ++ refusal.text)) }
 {}
 
 /// Words that mean the command `bench` with a number are answered by three lines of counts of the number's diagram, the sum of all

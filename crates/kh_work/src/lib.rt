@@ -2,6 +2,7 @@
 #![tactic(auto)]
 
 mod answer;
+mod byte_limits;
 mod commands;
 mod completion;
 mod draft;
@@ -11,10 +12,13 @@ mod top;
 
 pub use kh_replies::Status;
 pub use laws::{
-    accepted_diagrams_are_answered_by_their_edit,
+    accepted_diagrams_are_answered_by_their_drawing, accepted_diagrams_are_answered_by_their_edit,
+    accepted_diagrams_are_answered_by_their_logs, accepted_diagrams_are_answered_by_their_mirror,
     accepted_diagrams_are_answered_by_their_polynomial,
+    accepted_diagrams_are_answered_by_their_reduced_table,
     accepted_diagrams_are_answered_by_their_schedule,
-    accepted_diagrams_are_answered_by_their_table, jones_line_is_the_euler_characteristic,
+    accepted_diagrams_are_answered_by_their_table, accepted_diagrams_are_answered_by_their_union,
+    jones_line_is_the_euler_characteristic, logs_are_answered_by_their_table,
     numbers_are_answered_by_their_table, one_answer, workers_do_not_change_answers,
 };
 pub use top::{run, run_alone};

@@ -1,7 +1,7 @@
 //! The top calls: they read, answer and write.
 
 ghost use Rattle.std.specs.Prelude.{◌≡◌};
-ghost use Rattle.kh_work.specs.Runs.{IsProgramRun, IsReplied, IsWritten, KeepsHeadline, seen};
+ghost use Rattle.kh_work.specs.Runs.{IsProgramRun, IsReplied, IsWritten, KeepsHeadline, KeepsReduced, seen};
 
 use crate::answer::{ReplyStop, draft_to};
 use crate::completion::{completed_alone, completed_by};
@@ -14,8 +14,8 @@ use std::thread::Threads;
 use worker_pool::Gate;
 
 /// Does all that the program does: takes the words after the program's name, reads the source to its end where they mean a
-/// command that reads, makes the whole answer, and writes it. Answers how the run ended. Only `homology` and `bench` with more than one
-/// worker start threads and may wait; their workers call the gate in each of their turns. Source: this project's rule.
+/// command that reads, makes the whole answer, and writes it. Answers how the run ended. `homology` and `bench` alone start threads and
+/// may wait, where they have more workers than one, which then call the gate in each of their turns. Source: this project's rule.
 pub fn run<R: Threads + Wait + Sync, S: Source, K: Sink, G: Gate + Sync>(
     rt: &R,
     alloc: Global,
@@ -29,6 +29,8 @@ pub fn run<R: Threads + Wait + Sync, S: Source, K: Sink, G: Gate + Sync>(
         (seen (K.written sink.old) (K.faults sink.old)) (seen (K.written sink.new) (K.faults sink.new))
         (source.new ≡ source.old) (sink.new ≡ sink.old) result }
     ensures headline { KeepsHeadline words.now (seen (S.left source.old) (S.faults source.old))
+        (seen (K.written sink.old) (K.faults sink.old)) (seen (K.written sink.new) (K.faults sink.new)) result }
+    ensures reduced { KeepsReduced words.now (seen (S.left source.old) (S.faults source.old))
         (seen (K.written sink.old) (K.faults sink.old)) (seen (K.written sink.new) (K.faults sink.new)) result }
 {
     let made = reply_by(rt, alloc, words, source, gate);
@@ -47,6 +49,8 @@ pub fn run_alone<S: Source, K: Sink>(
         (seen (K.written sink.old) (K.faults sink.old)) (seen (K.written sink.new) (K.faults sink.new))
         (source.new ≡ source.old) (sink.new ≡ sink.old) result }
     ensures headline { KeepsHeadline words.now (seen (S.left source.old) (S.faults source.old))
+        (seen (K.written sink.old) (K.faults sink.old)) (seen (K.written sink.new) (K.faults sink.new)) result }
+    ensures reduced { KeepsReduced words.now (seen (S.left source.old) (S.faults source.old))
         (seen (K.written sink.old) (K.faults sink.old)) (seen (K.written sink.new) (K.faults sink.new)) result }
 {
     let alone = reply_alone(alloc, words, source);

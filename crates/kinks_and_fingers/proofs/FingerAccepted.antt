@@ -19,7 +19,8 @@ use Rattle.kinks_and_fingers.proofs.Opened.{low, low-opened, low-within, opened-
 use Rattle.kinks_and_fingers.proofs.Numbered.{components-numbered}
 use Rattle.kinks_and_fingers.proofs.Passed.{IsNumbering-runs}
 use Rattle.kinks_and_fingers.proofs.FingerRuns.{first_number, first_number-opened}
-use Rattle.kinks_and_fingers.proofs.FingerDirected.{HasRuns-fingered, arc_count-fingered}
+use Rattle.kinks_and_fingers.proofs.FingerDarts.{arc_count-fingered}
+use Rattle.kinks_and_fingers.proofs.FingerDirected.{HasRuns-fingered}
 use Rattle.kinks_and_fingers.proofs.FingerSizes.{IsDirected-fingered}
 
 -- any two arcs of an accepted code

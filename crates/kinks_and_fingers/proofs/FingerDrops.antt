@@ -1,5 +1,5 @@
 -- Two crossings that meet in a bigon are dropped.
-use Rattle.std.proofs.Common.{◌≡◌, ◌≢◌, ℕ, ◌⊎◌, inl, inr, ◌+◌, ◌*◌, ◌/◌, ◌%◌, ◌<◌, ◌≤◌, ◌∙◌, List, [], ◌∷◌, sym, ap, subst, arith, refl, Bool, true, false, not, ◌||◌, length, map, IsTrue, cond, eqb-true, eq-eqb}
+use Rattle.std.proofs.Common.{◌≡◌, ◌≢◌, ℕ, ◌⊎◌, inl, inr, ◌+◌, ◌*◌, ◌/◌, ◌%◌, ◌<◌, ◌≤◌, ◌∙◌, List, [], ◌∷◌, sym, ap, subst, arith, refl, Bool, true, not, ◌||◌, length, map, IsTrue, cond, eqb-true}
 use Rattle.std.specs.Prelude.{nat_eq, slice_index}
 use Rattle.std.specs.List.{filter, range_with_len}
 use Rattle.std.proofs.lemmas.Bool.{cases_Bool}
@@ -7,7 +7,7 @@ use Rattle.std.proofs.lemmas.Bool.Decides.{nat_tests}
 use Rattle.kh_types.specs.Code.{Code}
 use Rattle.kh_types.specs.Acceptance.{accepted}
 use Rattle.kh_types.specs.Colours.{IsColoured}
-use Rattle.kh_types.specs.Darts.{partner_at, IsPairing}
+use Rattle.kh_types.specs.Darts.{partner_at}
 use Rattle.kh_types.proofs.AcceptedLemmas.{HasArcsTwice-accepted}
 use Rattle.kh_types.proofs.Heads.{HasNoSingleArcs-accepted}
 use Rattle.kh_types.proofs.Lists.{filter-map, filter-range_agree}
@@ -20,103 +20,7 @@ use Rattle.kinks_and_fingers.proofs.KeptCodes.{block_place, block_slot, places-b
 use Rattle.kinks_and_fingers.proofs.Smoothed.{IsClosedPlanar-smoothed, smoothed-named, dart_in-below, dart_in-place, dart_cases, IsPermutation-late, IsPermutation-dartwise, dart_in-apart}
 use Rattle.kinks_and_fingers.proofs.SmoothedValues.{smoothed-flipped, IsTakenBack, IsTakenBack-smoothed}
 use Rattle.kinks_and_fingers.proofs.KinkDrops.{class_name-across, on_arcs-across, pair_of, pair_of-partner, pair_of-same, twice_not, early-away}
-
--- a function with the values at two places exchanged
-
-abbrev pub exchanged : {X : Type 0} → (ℕ → X) → ℕ → ℕ → ℕ → X
-exchanged g a b x = cond (nat_eq x a) (g b) (cond (nat_eq x b) (g a) (g x))
-
-eq_self : (x : ℕ) → nat_eq x x ≡ true
-eq_self x = eq-eqb x x refl
-
-ne_test : (x y : ℕ) → x ≢ y → nat_eq x y ≡ false
-ne_test x y apart = grind (arith, nat_tests)
-
-exchanged-first : {X : Type 0} (g : ℕ → X) (a b : ℕ) → exchanged g a b a ≡ g b
-exchanged-first g a b = ap (λ t. cond t (g b) (cond (nat_eq a b) (g a) (g a))) (eq_self a)
-
-exchanged-second : {X : Type 0} (g : ℕ → X) (a b : ℕ) → a ≢ b → exchanged g a b b ≡ g a
-exchanged-second g a b apart =
-    ap (λ t. cond t (g b) (cond (nat_eq b b) (g a) (g b))) (ne_test b a (λ same. apart (sym same)))
-    ∙ ap (λ t. cond t (g a) (g b)) (eq_self b)
-
-exchanged-else : {X : Type 0} (g : ℕ → X) (a b x : ℕ) → x ≢ a → x ≢ b → exchanged g a b x ≡ g x
-exchanged-else g a b x not_a not_b =
-    ap (λ t. cond t (g b) (cond (nat_eq x b) (g a) (g x))) (ne_test x a not_a) ∙ ap (λ t. cond t (g a) (g x)) (ne_test x b not_b)
-
--- four darts, a and b of one crossing and c and d of another; a and d are partners, and so are b and c
-pub record AreSides (m : ℕ) (partner : ℕ → ℕ) (a b c d : ℕ) : Type 0 where
-  pub a_below : a < m
-  pub c_below : c < m
-  pub b_below : b < m
-  pub d_below : d < m
-  pub first : partner a ≡ d
-  pub second : partner c ≡ b
-  pub a_b : a ≢ b
-  pub a_c : a ≢ c
-  pub a_d : a ≢ d
-  pub b_c : b ≢ c
-  pub b_d : b ≢ d
-  pub c_d : c ≢ d
-
--- the values at the ends of both sides exchanged
-abbrev pub crossed : {X : Type 0} → (ℕ → X) → ℕ → ℕ → ℕ → ℕ → ℕ → X
-crossed g a b c d = exchanged (exchanged g a b) c d
-
-crossed-a : {X : Type 0} (g : ℕ → X) (m : ℕ) (partner : ℕ → ℕ) (a b c d : ℕ) → AreSides m partner a b c d → crossed g a b c d a ≡ g b
-crossed-a g m partner a b c d are = exchanged-else (exchanged g a b) c d a are.a_c are.a_d ∙ exchanged-first g a b
-
-crossed-b : {X : Type 0} (g : ℕ → X) (m : ℕ) (partner : ℕ → ℕ) (a b c d : ℕ) → AreSides m partner a b c d → crossed g a b c d b ≡ g a
-crossed-b g m partner a b c d are = exchanged-else (exchanged g a b) c d b are.b_c are.b_d ∙ exchanged-second g a b are.a_b
-
-crossed-c : {X : Type 0} (g : ℕ → X) (m : ℕ) (partner : ℕ → ℕ) (a b c d : ℕ) → AreSides m partner a b c d → crossed g a b c d c ≡ g d
-crossed-c g m partner a b c d are =
-    exchanged-first (exchanged g a b) c d ∙ exchanged-else g a b d (λ same. are.a_d (sym same)) (λ same. are.b_d (sym same))
-
-crossed-d : {X : Type 0} (g : ℕ → X) (m : ℕ) (partner : ℕ → ℕ) (a b c d : ℕ) → AreSides m partner a b c d → crossed g a b c d d ≡ g c
-crossed-d g m partner a b c d are =
-    exchanged-second (exchanged g a b) c d are.c_d ∙ exchanged-else g a b c (λ same. are.a_c (sym same)) (λ same. are.b_c (sym same))
-
-crossed-else : {X : Type 0} (g : ℕ → X) (a b c d x : ℕ) → x ≢ a → x ≢ b → x ≢ c → x ≢ d → crossed g a b c d x ≡ g x
-crossed-else g a b c d x not_a not_b not_c not_d = exchanged-else (exchanged g a b) c d x not_c not_d ∙ exchanged-else g a b x not_a not_b
-
-side_cases : (a b c d x : ℕ) → (x ≡ a) ⊎ ((x ≡ b) ⊎ ((x ≡ c) ⊎ ((x ≡ d) ⊎ ((x ≢ a) × (x ≢ b) × (x ≢ c) × (x ≢ d)))))
-side_cases a b c d x = grind arith
-
--- what partners have in a way that turn says, they have also with the values at the sides exchanged
-crossed-partner : {X : Type 0} (g : ℕ → X) (turn : X → X) (m : ℕ) (partner : ℕ → ℕ) (a b c d : ℕ) → IsPairing m partner
-    → AreSides m partner a b c d → ((x : ℕ) → x < m → g (partner x) ≡ turn (g x)) → (x : ℕ) → x < m
-    → crossed g a b c d (partner x) ≡ turn (crossed g a b c d x)
-crossed-partner {X} g turn m partner a b c d pairing are holds x below =
-    let back_a : partner d ≡ a = ap partner (sym are.first) ∙ pairing.back a are.a_below in
-    let back_c : partner b ≡ c = ap partner (sym are.second) ∙ pairing.back c are.c_below in
-    let h : ℕ → X = crossed g a b c d in
-    let not_back : (y z : ℕ) → x ≢ y → partner z ≡ y → partner x ≢ z =
-    λ y z away is same. away (sym (pairing.back x below) ∙ ap partner same ∙ is) in
-    elim (side_cases a b c d x) [
-      | inl is ↦
-          ap (λ z. crossed g a b c d (partner z)) is ∙ ap (crossed g a b c d) are.first ∙ crossed-d g m partner a b c d are
-          ∙ ap g (sym back_c) ∙ holds b are.b_below ∙ ap turn (sym (crossed-a g m partner a b c d are)) ∙ ap (λ z. turn (crossed g a b c d z)) (sym is)
-      | inr more ↦ elim more [
-        | inl is ↦
-            ap (λ z. crossed g a b c d (partner z)) is ∙ ap (crossed g a b c d) back_c ∙ crossed-c g m partner a b c d are
-            ∙ ap g (sym are.first) ∙ holds a are.a_below ∙ ap turn (sym (crossed-b g m partner a b c d are)) ∙ ap (λ z. turn (crossed g a b c d z)) (sym is)
-        | inr again ↦ elim again [
-          | inl is ↦
-              ap (λ z. crossed g a b c d (partner z)) is ∙ ap (crossed g a b c d) are.second ∙ crossed-b g m partner a b c d are
-              ∙ ap g (sym back_a) ∙ holds d are.d_below ∙ ap turn (sym (crossed-c g m partner a b c d are)) ∙ ap (λ z. turn (crossed g a b c d z)) (sym is)
-          | inr last ↦ elim last [
-            | inl is ↦
-                ap (λ z. crossed g a b c d (partner z)) is ∙ ap (crossed g a b c d) back_a ∙ crossed-a g m partner a b c d are
-                ∙ ap g (sym are.second) ∙ holds c are.c_below ∙ ap turn (sym (crossed-d g m partner a b c d are)) ∙ ap (λ z. turn (crossed g a b c d z)) (sym is)
-            | inr none ↦
-                crossed-else g a b c d (partner x) (not_back d a none.3 are.first) (not_back c b none.2 back_c)
-                (not_back b c none.1 are.second) (not_back a d none.0 back_a)
-                ∙ holds x below ∙ ap turn (sym (crossed-else g a b c d x none.0 none.1 none.2 none.3))
-          ]
-        ]
-      ]
-    ]
+use Rattle.kinks_and_fingers.proofs.CrossedSides.{eq_self, AreSides, crossed, crossed-a, crossed-b, crossed-c, crossed-d, crossed-else, crossed-partner}
 
 -- the sides of a bigon
 AreSides-bigon : (crossings : List (List ℕ)) (c d p q : ℕ) → HasBigonAt crossings c d p q

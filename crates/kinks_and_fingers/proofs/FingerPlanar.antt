@@ -20,11 +20,12 @@ use Rattle.kinks_and_fingers.proofs.Opened.{head_number-one}
 use Rattle.face_walk.proofs.Cover.{pieces-ends}
 use Rattle.kinks_and_fingers.proofs.FingerSlots.{length-fingered, over_from, over_to, over_from-below, over_to-below}
 use Rattle.kinks_and_fingers.proofs.FingerRuns.{HasPasses-first, HasPasses-second}
-use Rattle.kinks_and_fingers.proofs.FingerDirected.{IsDart-old, IsDart-new, tail_dart, head_dart, old_or_new, first_or_second}
+use Rattle.kinks_and_fingers.proofs.FingerDarts.{IsDart-old, IsDart-new, tail_dart, head_dart, old_or_new, first_or_second}
 use Rattle.kinks_and_fingers.proofs.FingerAccepted.{AreFingerable-accepted}
 use Rattle.kinks_and_fingers.proofs.FingerSizes.{IsDirected-fingered}
 use Rattle.kinks_and_fingers.proofs.FingerSigns.{arc_of-other}
-use Rattle.kinks_and_fingers.proofs.FingerFaces.{HasNewPartners, over_side, under_side, exchanged, IsExchange-exchanged, faces-exchanged, same-pieces, pieces-few, pieces-fewer_apart}
+use Rattle.kinks_and_fingers.proofs.FingerFaces.{HasNewPartners, over_side, under_side, exchanged, IsExchange-exchanged, faces-exchanged}
+use Rattle.kinks_and_fingers.proofs.FingerPieces.{same-pieces, pieces-few, pieces-fewer_apart}
 
 -- two darts of an arc are partners, by their places
 partner-of : (crossings : List (List ℕ)) (dart other : Dart) → HasArcsTwice crossings → IsDart crossings dart → IsDart crossings other

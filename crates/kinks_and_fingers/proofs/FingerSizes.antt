@@ -19,7 +19,8 @@ use Rattle.kinks_and_fingers.proofs.Numbered.{arcs_in-places, next-numbered}
 use Rattle.kinks_and_fingers.proofs.Passed.{IsStep, IsNumbering-runs, IsDirected-runs}
 use Rattle.kinks_and_fingers.proofs.FingerSlots.{arc_of-head}
 use Rattle.kinks_and_fingers.proofs.FingerRuns.{first_number, first_number-opened, first_number-head, IsStep-old, IsStep-middle, IsStep-last, HasPasses-first, HasPasses-second, crossing-cases}
-use Rattle.kinks_and_fingers.proofs.FingerDirected.{HasRuns-fingered, arc_count-fingered}
+use Rattle.kinks_and_fingers.proofs.FingerDarts.{arc_count-fingered}
+use Rattle.kinks_and_fingers.proofs.FingerDirected.{HasRuns-fingered}
 
 -- a count over a list, by its places
 pub count_by-places : (p : ℕ → Bool) (cs : List ℕ) (n : ℕ) → length cs ≡ n

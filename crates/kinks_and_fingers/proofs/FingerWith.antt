@@ -16,7 +16,7 @@ use Rattle.kinks_and_fingers.specs.Fingers.{finger, AreAmong}
 use Rattle.kinks_and_fingers.specs.FingerCodes.{IsWithFinger}
 use Rattle.kinks_and_fingers.proofs.Opened.{low, IsOneOf, low-opened, low-head_number, low-middle, head_number-one, head_number-other, head_number-within, opened-le-head_number, opened-from}
 use Rattle.kinks_and_fingers.proofs.FingerSlots.{length-moved, arc_in-moved}
-use Rattle.kinks_and_fingers.proofs.FingerDirected.{slots-fingered, arc_count-fingered}
+use Rattle.kinks_and_fingers.proofs.FingerDarts.{slots-fingered, arc_count-fingered}
 use Rattle.kinks_and_fingers.proofs.FingerSigns.{plus_count-fingered, minus_count-fingered}
 
 -- what stands for the numbers inside

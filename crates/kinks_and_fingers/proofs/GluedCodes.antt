@@ -26,7 +26,8 @@ use Rattle.gluing.proofs.SlideTable.{list_all-range}
 use Rattle.gluing.proofs.TiedTable.{IsTied-state}
 use Rattle.gluing.proofs.SlideSums.{inside_sum-append}
 use Rattle.gluing.proofs.SlideTerms.{rest_value, term_of-spread}
-use Rattle.gluing.proofs.InsideCircles.{append-three, class_count-inside, rest_circles-positive}
+use Rattle.gluing.proofs.Stubs.{append-three}
+use Rattle.gluing.proofs.InsideCircles.{class_count-inside, rest_circles-positive}
 use Rattle.gluing.proofs.SlidCodes.{smoothing_of-shown, smoothings-hold}
 use Rattle.kinks_and_fingers.proofs.GluedSums.{is_tied-finger, inside_sum-finger}
 use Rattle.kinks_and_fingers.proofs.GluedCircles.{rest_circles-straight}

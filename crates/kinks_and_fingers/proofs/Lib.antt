@@ -4,12 +4,14 @@ pub mod TwiceCounts
 pub mod Passed
 pub mod FingerSlots
 pub mod FingerRuns
+pub mod FingerDarts
 pub mod FingerDirected
 pub mod FingerSizes
 pub mod FingerAccepted
 pub mod FingerSigns
 pub mod FingerWith
 pub mod FingerFaces
+pub mod FingerPieces
 pub mod FingerPlanar
 pub mod GluedSums
 pub mod GluedCircles
@@ -24,6 +26,7 @@ pub mod KeptCodes
 pub mod Dropped
 pub mod OldDarts
 pub mod KinkDrops
+pub mod CrossedSides
 pub mod FingerDrops
 pub mod Sound
 pub mod KinkAdded
@@ -35,6 +38,7 @@ pub mod KinkClosing
 pub mod Insertions
 pub mod KinkDropSums
 pub mod FingerTerms
+pub mod BigonJoins
 pub mod FingerCircles
 pub mod FingerDropSums
 pub mod ComponentDrops

@@ -5,3 +5,4 @@ pub mod InsideLemmas
 pub mod TransposeLemmas
 pub mod RowLemmas
 pub mod EliminationLemmas
+pub mod ScaledRanks

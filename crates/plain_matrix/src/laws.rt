@@ -11,6 +11,7 @@ ghost use Rattle.prime_field.specs.Residues.{IsField};
 ghost use Rattle.kh_types.specs.MatrixRanks.{IsMatrix, HasRank, IsDependent};
 ghost use Rattle.plain_matrix.specs.Matrices.{transposed_rows};
 ghost use Rattle.plain_matrix.specs.Ranks.{IsAmong};
+ghost use Rattle.plain_matrix.specs.Scaled.{IsScaled};
 ghost use Rattle.plain_matrix.specs.Steps.{IsColumnStep, IsElimination, IsRowStep};
 
 /// Modulo each p that gives a field, what is not 0 has an inverse.
@@ -62,4 +63,13 @@ pub fn dependent_rows_do_not_count()
     ensures column { (p columns m dead : ℕ) (rows : List (List ℕ)) → HasInverses p
         → IsMatrix p columns rows → IsDependent p m dead (λ i j. entry_in rows j i)
         → rank p (without_column dead rows) ≡ rank p rows }
+{}
+
+/// Two matrices have one rank where the entries of each are, up to a factor for the row and one for the
+/// column, entries of the other's transpose.
+pub fn scaled_transposes_have_one_rank()
+    ensures { (p columns width : ℕ) (rows others : List (List ℕ)) → HasInverses p
+        → IsMatrix p columns rows → IsMatrix p width others
+        → IsScaled p (entry_in rows) (λ i j. entry_in others j i)
+        → IsScaled p (entry_in others) (λ i j. entry_in rows j i) → rank p rows ≡ rank p others }
 {}

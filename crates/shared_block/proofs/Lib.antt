@@ -1,6 +1,7 @@
 pub mod BlockDimensions
 pub mod PlaceSums
 pub mod CommitLemmas
+pub mod PivotTests
 pub mod IntSums
 pub mod Alternating
 pub mod LabelCounts

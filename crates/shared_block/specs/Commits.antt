@@ -1,6 +1,6 @@
 -- What a commit to a block answers, and what it leaves (this project's rule).
-use Rattle.std.specs.Prelude.{◌≡◌, ◌≢◌, ℕ, ◌+◌, [], ◌∷◌, ◌++◌, length}
-use Rattle.kh_types.specs.Complex.{Pivot}
+use Rattle.std.specs.Prelude.{◌≡◌, ◌≢◌, ℕ, ◌+◌, [], ◌∷◌, ◌++◌, length, nat_eq, Bool, not}
+use Rattle.kh_types.specs.Complex.{Complex, Pivot, entry_of}
 use Rattle.cancel_step.specs.Foreign.{IsLeast, ShowsAt}
 use Rattle.shared_block.specs.BlockHistories.{BlockCopy, BlockHistory, block_with, complex_of}
 use Rattle.shared_block.specs.declared.commit_answer.CommitAnswer.{CommitAnswer}
@@ -9,6 +9,10 @@ use Rattle.shared_block.specs.declared.commit_answer.CommitAnswer.TheVariants.{C
 -- the block with one more pivot at the end of its history; diagram and degree stay
 abbrev pub with_pivot : BlockHistory → Pivot → BlockHistory
 with_pivot held pivot = block_with held.diagram held.degree (held.history ++ pivot ∷ [])
+
+-- whether a pivot is an entry other than 0; past the places of its degrees a complex has the entry 0
+abbrev pub is_pivot : Complex → Pivot → Bool
+is_pivot complex pivot = not (nat_eq (entry_of complex pivot.degree pivot.row pivot.column) 0)
 
 -- the answer is Stale
 abbrev pub IsStale : CommitAnswer → Type 0

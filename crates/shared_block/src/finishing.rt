@@ -1,13 +1,14 @@
 //! All cancellations that are left.
 
-ghost use Rattle.std.specs.Prelude.{◌≡◌, ◌↔◌, None, true, IfSome, OnErr, OnOk};
+ghost use Rattle.std.specs.Prelude.{◌≡◌, ◌↔◌, None, true, false, IfOk, IfSome, OnErr, OnOk};
 ghost use mathlib.Core.List.{IsPrefix};
 ghost use Rattle.kh_types.specs.Complex.{IsPivot, is_zero};
 ghost use Rattle.shared_block.specs.BlockHistories.{complex_of};
-ghost use Rattle.shared_block.specs.Commits.{with_pivot};
+ghost use Rattle.shared_block.specs.Commits.{is_pivot, with_pivot};
 
 use crate::SharedBlock;
 use crate::laws::block_laws;
+use crate::pivots::is_pivot;
 use cancel_step::{Found, Pivot, cancel_with, find};
 use kh_types::NoMemory;
 use prime_field::PrimeField;
@@ -42,6 +43,31 @@ impl<F: PrimeField> SharedBlock<F> {
         ensures pivot { IfSome result (λ found. IsPivot (complex_of F.P self.now) found.pivot) }
     {
         find(&self.complex, hint)
+    }
+
+    /// Cancels a pivot that others name, where it is an entry other than zero, and answers whether it
+    /// is; else the block is unchanged, and where memory runs out. Many calls can share the memory in
+    /// which lines are made.
+    #[tactic(auto, using(crate::proofs::PivotTests::passing))]
+    pub fn cancel_at(&mut self, scratch: &mut Vec<Entry>, pivot: Pivot) -> Result<bool, NoMemory>
+        ensures taken { IfOk result (λ taken. taken ≡ is_pivot (complex_of F.P self.old) pivot) }
+        ensures cancelled { IfOk result (λ taken.
+            taken ≡ true → self.new ≡ with_pivot self.old pivot) }
+        ensures same { IfOk result (λ taken. taken ≡ false → self.new ≡ self.old) }
+        ensures unchanged { OnErr result (self.new ≡ self.old) }
+    {
+        if !self.has(pivot) {
+            return Ok(false);
+        }
+        self.cancel(scratch, pivot)?;
+        Ok(true)
+    }
+
+    /// Whether a pivot is an entry other than zero.
+    fn has(&self, pivot: Pivot) -> bool
+        ensures { result ≡ is_pivot (complex_of F.P self.now) pivot }
+    {
+        is_pivot(&self.complex, pivot)
     }
 
     /// Cancels a pivot, which enters the history, with memory in which lines are made. The block is

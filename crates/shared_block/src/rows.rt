@@ -13,10 +13,7 @@ use prime_field::PrimeField;
 
 /// Adds the rows of the quantum degree of a block that is cancelled to zero, ascending by degree.
 #[tactic(auto, using(crate::proofs::BlockRows::steps))]
-pub(crate) fn push_rows<F: PrimeField>(
-    rows: &mut Vec<Row>,
-    block: &SharedBlock<F>,
-) -> Result<(), NoMemory>
+pub fn push_rows<F: PrimeField>(rows: &mut Vec<Row>, block: &SharedBlock<F>) -> Result<(), NoMemory>
     requires { IsFinished F.P block.now }
     ensures { OnOk result
         (rows.new.items ≡ rows.old.items ++ rows_at F.P block.now.diagram block.now.degree) }

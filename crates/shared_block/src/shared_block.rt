@@ -65,6 +65,13 @@ impl<F: PrimeField> SharedBlock<F> {
         self.degree
     }
 
+    /// The pivots that were cancelled, the first at place 0.
+    pub fn history(&self) -> &[Pivot]
+        ensures { result.now ≡ self.now.history }
+    {
+        &self.history
+    }
+
     /// Copies what the cancellation of some pivot reads and changes of the pivot's own matrix; `None`
     /// exactly where the complex is zero. The hint may say where to search; no clause reads it.
     pub fn look(&self, alloc: Global, hint: u32) -> Result<Option<BlockLook<F>>, NoMemory>

@@ -65,7 +65,7 @@ pub fn table_of<F: PrimeField>(
 }
 
 /// The homology table of a diagram, from the rows of all its blocks.
-fn whole_table<F: PrimeField>(diagram: &Diagram, rows: Vec<Row>) -> Table
+pub fn whole_table<F: PrimeField>(diagram: &Diagram, rows: Vec<Row>) -> Table
     requires size { generator_count diagram.now ≤ GENERATORS }
     requires rows { rows.items ≡ flat_map (rows_at F.P diagram.now) (block_degrees diagram.now) }
     ensures { result ≡ table F.P diagram.now }

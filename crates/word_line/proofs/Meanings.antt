@@ -7,14 +7,14 @@ use Rattle.std.proofs.lemmas.Slice.Eq.{bytes_eq-Decides}
 use Rattle.std.specs.Option.{option_map}
 use Rattle.std.specs.Str.{bytes_eq}
 use Rattle.word_line.specs.declared.command.Task.{Task}
-use Rattle.word_line.specs.declared.command.Task.TheVariants.{Homology, Convert, Check, Jones, Schedule, Edit, Bench}
+use Rattle.word_line.specs.declared.command.Task.TheVariants.{Homology, Jones, Check, Convert, Edit, Draw, Schedule, Bench, Certify, Verify, Reduced, Mirror, Reverse, Union}
 use Rattle.word_line.specs.declared.command.Form.{Form}
 use Rattle.word_line.specs.declared.command.Form.TheVariants.{Pd, Gauss}
 use Rattle.word_line.specs.declared.command.Command.{Command}
 use Rattle.kh_types.specs.declared.limits.TheConstants.{WORKERS}
-use Rattle.word_line.specs.declared.limits.TheConstants.{NUMBER_DIGITS, WORKERS_DIGITS}
-use Rattle.word_line.specs.Values.{HasNumber, IsGiven, NamesField, NamesForm, NamesNumber, NamesWorkers, form_name, task_name}
-use Rattle.word_line.specs.Reading.{field_of, finished_with, form_of, given_by, value_number, task_of, workers_of}
+use Rattle.word_line.specs.declared.limits.TheConstants.{MARK_DIGITS, MARK_LIMIT, NUMBER_DIGITS, WORKERS_DIGITS}
+use Rattle.word_line.specs.Values.{HasMark, HasNumber, IsGiven, NamesField, NamesForm, NamesMark, NamesNumber, NamesWorkers, form_name, task_name}
+use Rattle.word_line.specs.Reading.{field_of, finished_with, form_of, given_by, value_mark, value_number, task_of, workers_of}
 use Rattle.kh_lex.specs.Numerals.{numeral_of}
 use Rattle.kh_lex.proofs.NumeralReads.{WritesNumber-numeral_of, numeral_of-WritesNumber}
 
@@ -32,9 +32,16 @@ task_of-name Homology = refl
 task_of-name Jones = refl
 task_of-name Check = refl
 task_of-name Convert = refl
-task_of-name Schedule = refl
 task_of-name Edit = refl
+task_of-name Draw = refl
+task_of-name Schedule = refl
 task_of-name Bench = refl
+task_of-name Certify = refl
+task_of-name Verify = refl
+task_of-name Reduced = refl
+task_of-name Mirror = refl
+task_of-name Reverse = refl
+task_of-name Union = refl
 
 named : (name : List ℕ) (text : List ℕ) (this task : Task) → text ≡ task_name this → bytes_eq name text ≡ true → this ≡ task → name ≡ task_name task
 named name text this task text_is is same = same_text name text is ∙ text_is ∙ ap task_name same
@@ -45,9 +52,17 @@ name_of-task name task same =
     chosen (bytes_eq name (codes "jones")) Jones _ task same (named name (codes "jones") Jones task refl) (λ same.
     chosen (bytes_eq name (codes "check")) Check _ task same (named name (codes "check") Check task refl) (λ same.
     chosen (bytes_eq name (codes "convert")) Convert _ task same (named name (codes "convert") Convert task refl) (λ same.
-    chosen (bytes_eq name (codes "schedule")) Schedule _ task same (named name (codes "schedule") Schedule task refl) (λ same.
     chosen (bytes_eq name (codes "edit")) Edit _ task same (named name (codes "edit") Edit task refl) (λ same.
-    chosen (bytes_eq name (codes "bench")) Bench _ task same (named name (codes "bench") Bench task refl) (λ same. absurd (none-some task same))))))))
+    chosen (bytes_eq name (codes "draw")) Draw _ task same (named name (codes "draw") Draw task refl) (λ same.
+    chosen (bytes_eq name (codes "schedule")) Schedule _ task same (named name (codes "schedule") Schedule task refl) (λ same.
+    chosen (bytes_eq name (codes "bench")) Bench _ task same (named name (codes "bench") Bench task refl) (λ same.
+    chosen (bytes_eq name (codes "certify")) Certify _ task same (named name (codes "certify") Certify task refl) (λ same.
+    chosen (bytes_eq name (codes "verify")) Verify _ task same (named name (codes "verify") Verify task refl) (λ same.
+    chosen (bytes_eq name (codes "reduced")) Reduced _ task same (named name (codes "reduced") Reduced task refl) (λ same.
+    chosen (bytes_eq name (codes "mirror")) Mirror _ task same (named name (codes "mirror") Mirror task refl) (λ same.
+    chosen (bytes_eq name (codes "reverse")) Reverse _ task same (named name (codes "reverse") Reverse task refl) (λ same.
+    chosen (bytes_eq name (codes "union")) Union _ task same (named name (codes "union") Union task refl) (λ same.
+    absurd (none-some task same)))))))))))))))
 
 -- fields
 sized : (value text : List ℕ) (this size : ℕ) → text ≡ (48 + this) ∷ [] → ((this ≡ 2) ⊎ (this ≡ 3) ⊎ (this ≡ 5) ⊎ (this ≡ 7)) → bytes_eq value text ≡ true → this ≡ size → NamesField value size
@@ -112,6 +127,18 @@ pub read-NamesNumber : (value : List ℕ) (number : Option ℕ) → NamesNumber 
 read-NamesNumber value None names = absurd names
 read-NamesNumber value (Some number) names = ap (option_map (λ n. Some n)) (numeral_of-WritesNumber NUMBER_DIGITS value number names)
 
+-- marks
+pub NamesMark-read : (value : List ℕ) (mark : Option ℕ) → value_mark value ≡ Some mark → NamesMark value mark
+NamesMark-read value mark same =
+    option_and_then_some (λ n. cond (nat_le n MARK_LIMIT) (Some (Some n)) None) (numeral_of MARK_DIGITS value) mark same (λ n is later.
+    let found = cond_some (nat_le n MARK_LIMIT) (Some n) mark later in
+    subst (NamesMark value) found.1 (WritesNumber-numeral_of MARK_DIGITS value n is, leb-true n MARK_LIMIT found.0))
+
+pub read-NamesMark : (value : List ℕ) (mark : Option ℕ) → NamesMark value mark → value_mark value ≡ Some mark
+read-NamesMark value None names = absurd names
+read-NamesMark value (Some mark) names =
+    rw (numeral_of-WritesNumber MARK_DIGITS value mark names.0) (rw (le-leb mark MARK_LIMIT names.1) refl)
+
 -- options
 pub IsGiven-read : {X : Type 0} (names : List ℕ → X → Type 0) (reading : List ℕ → Option X) (default : X)
     → ((value : List ℕ) (x : X) → reading value ≡ Some x → names value x)
@@ -132,23 +159,41 @@ IsGiven-once names default [] x given = omega arith
 IsGiven-once names default (value ∷ []) x given = omega arith
 IsGiven-once names default (first ∷ second ∷ more) x given = absurd given
 
--- `bench` has a number
-pub HasNumber-read : (command made : Command) (task : Task) (number : Option ℕ) → finished_with command task number ≡ Some made → HasNumber task number × (command ≡ made)
-HasNumber-read command made Homology number same = (tt, same_Some command made same)
-HasNumber-read command made Jones number same = (tt, same_Some command made same)
-HasNumber-read command made Check number same = (tt, same_Some command made same)
-HasNumber-read command made Convert number same = (tt, same_Some command made same)
-HasNumber-read command made Schedule number same = (tt, same_Some command made same)
-HasNumber-read command made Edit number same = (tt, same_Some command made same)
-HasNumber-read command made Bench None same = absurd (none-some made same)
-HasNumber-read command made Bench (Some number) same = (tt, same_Some command made same)
+-- `bench` has a number, and `reduced` a mark
+pub needs-read : (command made : Command) (task : Task) (number mark : Option ℕ) → finished_with command task number mark ≡ Some made
+    → HasNumber task number × HasMark task mark × (command ≡ made)
+needs-read command made Homology number mark same = (tt, tt, same_Some command made same)
+needs-read command made Jones number mark same = (tt, tt, same_Some command made same)
+needs-read command made Check number mark same = (tt, tt, same_Some command made same)
+needs-read command made Convert number mark same = (tt, tt, same_Some command made same)
+needs-read command made Edit number mark same = (tt, tt, same_Some command made same)
+needs-read command made Draw number mark same = (tt, tt, same_Some command made same)
+needs-read command made Schedule number mark same = (tt, tt, same_Some command made same)
+needs-read command made Bench None mark same = absurd (none-some made same)
+needs-read command made Bench (Some number) mark same = (tt, tt, same_Some command made same)
+needs-read command made Certify number mark same = (tt, tt, same_Some command made same)
+needs-read command made Verify number mark same = (tt, tt, same_Some command made same)
+needs-read command made Reduced number None same = absurd (none-some made same)
+needs-read command made Reduced number (Some mark) same = (tt, tt, same_Some command made same)
+needs-read command made Mirror number mark same = (tt, tt, same_Some command made same)
+needs-read command made Reverse number mark same = (tt, tt, same_Some command made same)
+needs-read command made Union number mark same = (tt, tt, same_Some command made same)
 
-pub read-HasNumber : (command : Command) (task : Task) (number : Option ℕ) → HasNumber task number → finished_with command task number ≡ Some command
-read-HasNumber command Homology number needed = refl
-read-HasNumber command Jones number needed = refl
-read-HasNumber command Check number needed = refl
-read-HasNumber command Convert number needed = refl
-read-HasNumber command Schedule number needed = refl
-read-HasNumber command Edit number needed = refl
-read-HasNumber command Bench None needed = absurd needed
-read-HasNumber command Bench (Some number) needed = refl
+pub read-needs : (command : Command) (task : Task) (number mark : Option ℕ) → HasNumber task number → HasMark task mark
+    → finished_with command task number mark ≡ Some command
+read-needs command Homology number mark needed marked = refl
+read-needs command Jones number mark needed marked = refl
+read-needs command Check number mark needed marked = refl
+read-needs command Convert number mark needed marked = refl
+read-needs command Edit number mark needed marked = refl
+read-needs command Draw number mark needed marked = refl
+read-needs command Schedule number mark needed marked = refl
+read-needs command Bench None mark needed marked = absurd needed
+read-needs command Bench (Some number) mark needed marked = refl
+read-needs command Certify number mark needed marked = refl
+read-needs command Verify number mark needed marked = refl
+read-needs command Reduced number None needed marked = absurd marked
+read-needs command Reduced number (Some mark) needed marked = refl
+read-needs command Mirror number mark needed marked = refl
+read-needs command Reverse number mark needed marked = refl
+read-needs command Union number mark needed marked = refl

@@ -15,21 +15,23 @@ use Rattle.clap.specs.Kinds.{Kinds}
 use Rattle.clap.specs.declared.parser.matches.Found.{Found}
 use Rattle.clap.proofs.WalkLemmas.{first_value-rows}
 use Rattle.word_line.specs.declared.command.Command.{Command}
-use Rattle.word_line.specs.declared.limits.TheConstants.{NUMBER_DIGITS, WORKERS_DIGITS}
+use Rattle.word_line.specs.declared.limits.TheConstants.{MARK_DIGITS, NUMBER_DIGITS, WORKERS_DIGITS}
 use Rattle.word_line.specs.declared.command.Task.{Task}
-use Rattle.word_line.specs.declared.command.Task.TheVariants.{Homology, Convert, Check, Jones, Schedule, Edit, Bench}
+use Rattle.word_line.specs.declared.command.Task.TheVariants.{Homology, Jones, Check, Convert, Edit, Draw, Schedule, Bench, Certify, Verify, Reduced, Mirror, Reverse, Union}
 use Rattle.word_line.specs.declared.command.Form.{Form}
 use Rattle.word_line.specs.declared.command.Form.TheVariants.{Pd, Gauss}
 use Rattle.word_line.specs.Commands.{IsCommand}
 use Rattle.word_line.specs.Line.{command_found, kh_line}
 use Rattle.word_line.specs.Pieces.{HasNoDash, IsLine, Key, Piece, key_name, positionals}
 use Rattle.word_line.specs.Pieces as key
-use Rattle.word_line.specs.Reading.{command_given, command_with, field_in, field_of, finished, form_in, form_of, number_given, value_number, task_of, workers_in, workers_of}
+use Rattle.word_line.specs.Reading.{command_given, command_with, field_in, field_of, finished, form_in, form_of, mark_given, number_given, value_mark, value_number, task_of, workers_in, workers_of}
 use Rattle.kh_lex.specs.Numerals.{WritesNumber}
-use Rattle.word_line.specs.Values.{AreWorkers, IsFieldSize, IsGiven, NamesField, NamesForm, NamesNumber, NamesWorkers, form_name, task_name, values_in}
-use Rattle.word_line.proofs.Lines.{Distinct, first_of-values, has-some, line_of, line_taken, taken_line, tasks_of-line, uses_behind, uses_of, values_of, values_of-line}
-use Rattle.word_line.proofs.Machine.{found_is_taken, passed, fault_from, walk_of, ready, rows_taken, taken, walk_at, with_task}
-use Rattle.word_line.proofs.Meanings.{HasNumber-read, IsGiven-once, IsGiven-read, NamesField-read, NamesForm-read, NamesNumber-read, NamesWorkers-read, name_of-task, read-HasNumber, read-IsGiven, read-NamesField, read-NamesForm, read-NamesNumber, read-NamesWorkers, task_of-name}
+use Rattle.word_line.specs.Values.{AreWorkers, IsFieldSize, IsGiven, NamesField, NamesForm, NamesMark, NamesNumber, NamesWorkers, form_name, task_name, values_in}
+use Rattle.word_line.proofs.Lines.{line_of, line_taken, taken_line}
+use Rattle.word_line.proofs.Uses.{Distinct, first_of-values, has-some, tasks_of-line, uses_behind, uses_of, values_of, values_of-line}
+use Rattle.word_line.proofs.Agreement.{found_is_taken}
+use Rattle.word_line.proofs.Machine.{passed, fault_from, walk_of, ready, rows_taken, taken, walk_at, with_task}
+use Rattle.word_line.proofs.Meanings.{needs-read, IsGiven-once, IsGiven-read, NamesField-read, NamesForm-read, NamesMark-read, NamesNumber-read, NamesWorkers-read, name_of-task, read-needs, read-IsGiven, read-NamesField, read-NamesForm, read-NamesMark, read-NamesNumber, read-NamesWorkers, task_of-name}
 use Rattle.word_line.proofs.Rows.{Use, has, rows_at}
 use Rattle.word_line.proofs.Rules.{built_is, shape}
 
@@ -40,9 +42,16 @@ task_no_dash Homology = λ is. absurd (omega (arith, is))
 task_no_dash Jones = λ is. absurd (omega (arith, is))
 task_no_dash Check = λ is. absurd (omega (arith, is))
 task_no_dash Convert = λ is. absurd (omega (arith, is))
-task_no_dash Schedule = λ is. absurd (omega (arith, is))
 task_no_dash Edit = λ is. absurd (omega (arith, is))
+task_no_dash Draw = λ is. absurd (omega (arith, is))
+task_no_dash Schedule = λ is. absurd (omega (arith, is))
 task_no_dash Bench = λ is. absurd (omega (arith, is))
+task_no_dash Certify = λ is. absurd (omega (arith, is))
+task_no_dash Verify = λ is. absurd (omega (arith, is))
+task_no_dash Reduced = λ is. absurd (omega (arith, is))
+task_no_dash Mirror = λ is. absurd (omega (arith, is))
+task_no_dash Reverse = λ is. absurd (omega (arith, is))
+task_no_dash Union = λ is. absurd (omega (arith, is))
 
 digits_no_dash : (limit : ℕ) (value : Text) (number : ℕ) → WritesNumber limit value number → HasNoDash value
 digits_no_dash limit [] number written = tt
@@ -71,6 +80,10 @@ number_no_dash : (value : Text) (number : Option ℕ) → NamesNumber value numb
 number_no_dash value None names = absurd names
 number_no_dash value (Some number) names = digits_no_dash NUMBER_DIGITS value number names
 
+mark_no_dash : (value : Text) (mark : Option ℕ) → NamesMark value mark → HasNoDash value
+mark_no_dash value None names = absurd names
+mark_no_dash value (Some mark) names = digits_no_dash MARK_DIGITS value mark names.0
+
 given_no_dash : {X : Type 0} (names : Text → X → Type 0) (default : X) → ((value : Text) (x : X) → names value x → HasNoDash value)
     → (values : List Text) (x : X) → IsGiven names default values x → All HasNoDash values
 given_no_dash names default plain [] x given = All-nil HasNoDash
@@ -83,20 +96,21 @@ given_no_dash names default plain (first ∷ second ∷ more) x given = absurd g
 abbrev command_of : List Use → Option Command
 command_of uses = command_given (slice_get (values_of None uses) 0) (slice_get (values_of (Some key.field) uses) 0)
     (slice_get (values_of (Some key.workers) uses) 0) (slice_get (values_of (Some key.to) uses) 0) (slice_get (values_of (Some key.number) uses) 0)
+    (slice_get (values_of (Some key.mark) uses) 0)
 
 -- the same of rows
 abbrev pub command_in : List Row → Option Command
 command_in rows = command_given (first_of (codes "task") rows) (first_of (codes "field") rows)
-    (first_of (codes "workers") rows) (first_of (codes "to") rows) (first_of (codes "number") rows)
+    (first_of (codes "workers") rows) (first_of (codes "to") rows) (first_of (codes "number") rows) (first_of (codes "mark") rows)
 
 command_in-uses : (uses : List Use) → command_in (rows_at uses) ≡ command_of uses
-command_in-uses uses = rw (first_of-values None uses, first_of-values (Some key.field) uses, first_of-values (Some key.workers) uses, first_of-values (Some key.to) uses, first_of-values (Some key.number) uses) refl
+command_in-uses uses = rw (first_of-values None uses, first_of-values (Some key.field) uses, first_of-values (Some key.workers) uses, first_of-values (Some key.to) uses, first_of-values (Some key.number) uses, first_of-values (Some key.mark) uses) refl
 
 pub command_found-rows : (found : Found) → command_found found ≡ command_in (rows_of found)
-command_found-rows found = rw (first_value-rows found (codes "task"), first_value-rows found (codes "field"), first_value-rows found (codes "workers"), first_value-rows found (codes "to"), first_value-rows found (codes "number")) refl
+command_found-rows found = rw (first_value-rows found (codes "task"), first_value-rows found (codes "field"), first_value-rows found (codes "workers"), first_value-rows found (codes "to"), first_value-rows found (codes "number"), first_value-rows found (codes "mark")) refl
 
 -- what texts have where they give a command
-record Gives (name field workers to number : Option Text) (command : Command) : Type 0 where
+record Gives (name field workers to number mark : Option Text) (command : Command) : Type 0 where
   text : Text
   is : name ≡ Some text
   task : task_of text ≡ Some command.task
@@ -104,27 +118,27 @@ record Gives (name field workers to number : Option Text) (command : Command) : 
   of_workers : workers_in workers ≡ Some command.workers
   of_to : form_in to ≡ Some command.to
   of_number : number_given number ≡ Some command.number
+  of_mark : mark_given mark ≡ Some command.mark
   done : finished command ≡ Some command
 
-gives_command : (name field workers to number : Option Text) (command : Command) → Gives name field workers to number command
-    → command_given name field workers to number ≡ Some command
-gives_command name field workers to number command gives =
-    rw (gives.is, gives.task, gives.of_field, gives.of_workers, gives.of_to, gives.of_number) gives.done
+gives_command : (name field workers to number mark : Option Text) (command : Command) → Gives name field workers to number mark command
+    → command_given name field workers to number mark ≡ Some command
+gives_command name field workers to number mark command gives =
+    rw (gives.is, gives.task, gives.of_field, gives.of_workers, gives.of_to, gives.of_number, gives.of_mark) gives.done
 
-command_gives : (name field workers to number : Option Text) (command : Command) → command_given name field workers to number ≡ Some command
-    → Gives name field workers to number command
-command_gives name field workers to number command same =
-    option_and_then_some (λ (t : Task). option_and_then (λ (f : ℕ). option_and_then (λ (w : ℕ). option_and_then (λ (o : Form). option_and_then (λ (n : Option ℕ).
-    finished (command_with t f w o n)) (number_given number)) (form_in to)) (workers_in workers)) (field_in field)) (option_and_then task_of name) command same (λ t is_t same.
-    option_and_then_some (λ (f : ℕ). option_and_then (λ (w : ℕ). option_and_then (λ (o : Form). option_and_then (λ (n : Option ℕ).
-    finished (command_with t f w o n)) (number_given number)) (form_in to)) (workers_in workers)) (field_in field) command same (λ f is_f same.
-    option_and_then_some (λ (w : ℕ). option_and_then (λ (o : Form). option_and_then (λ (n : Option ℕ).
-    finished (command_with t f w o n)) (number_given number)) (form_in to)) (workers_in workers) command same (λ w is_w same.
-    option_and_then_some (λ (o : Form). option_and_then (λ (n : Option ℕ). finished (command_with t f w o n)) (number_given number)) (form_in to) command same (λ o is_o same.
-    option_and_then_some (λ (n : Option ℕ). finished (command_with t f w o n)) (number_given number) command same (λ n is_n same.
+command_gives : (name field workers to number mark : Option Text) (command : Command)
+    → command_given name field workers to number mark ≡ Some command → Gives name field workers to number mark command
+command_gives name field workers to number mark command same =
+    option_and_then_some from_task (option_and_then task_of name) command same (λ t is_t same.
+    option_and_then_some (from_field t) (field_in field) command same (λ f is_f same.
+    option_and_then_some (from_workers t f) (workers_in workers) command same (λ w is_w same.
+    option_and_then_some (from_form t f w) (form_in to) command same (λ o is_o same.
+    option_and_then_some (from_number t f w o) (number_given number) command same (λ n is_n same.
+    option_and_then_some (from_mark t f w o n) (mark_given mark) command same (λ m is_m same.
     option_and_then_some task_of name t is_t (λ text is_text is_task.
-    let end = HasNumber-read (command_with t f w o n) command t n same in
-    subst (Gives name field workers to number) end.1 (record {
+    let made = command_with t f w o n m in
+    let end = needs-read made command t n m same in
+    subst (Gives name field workers to number mark) end.2 (record {
       text = text;
       is = is_text;
       task = is_task;
@@ -132,8 +146,27 @@ command_gives name field workers to number command same =
       of_workers = is_w;
       of_to = is_o;
       of_number = is_n;
-      done = read-HasNumber (command_with t f w o n) t n end.0;
-    })))))))
+      of_mark = is_m;
+      done = read-needs made t n m end.0 end.1;
+    }))))))))
+  where
+    from_mark : Task → ℕ → ℕ → Form → Option ℕ → Option ℕ → Option Command
+    from_mark t f w o n m = finished (command_with t f w o n m)
+
+    from_number : Task → ℕ → ℕ → Form → Option ℕ → Option Command
+    from_number t f w o n = option_and_then (from_mark t f w o n) (mark_given mark)
+
+    from_form : Task → ℕ → ℕ → Form → Option Command
+    from_form t f w o = option_and_then (from_number t f w o) (number_given number)
+
+    from_workers : Task → ℕ → ℕ → Option Command
+    from_workers t f w = option_and_then (from_form t f w) (form_in to)
+
+    from_field : Task → ℕ → Option Command
+    from_field t f = option_and_then (from_workers t f) (workers_in workers)
+
+    from_task : Task → Option Command
+    from_task t = option_and_then (from_field t) (field_in field)
 
 -- ---- words and commands
 
@@ -146,11 +179,13 @@ command_is : (words : List Text) (uses : List Use) (command : Command) → taken
 command_is words uses command took same =
     let line = taken_line words uses took in
     let gives = command_gives (slice_get (values_of None uses) 0) (slice_get (values_of (Some key.field) uses) 0) (slice_get (values_of (Some key.workers) uses) 0)
-    (slice_get (values_of (Some key.to) uses) 0) (slice_get (values_of (Some key.number) uses) 0) command same in
+    (slice_get (values_of (Some key.to) uses) 0) (slice_get (values_of (Some key.number) uses) 0) (slice_get (values_of (Some key.mark) uses) 0)
+    command same in
     let tasks : values_of None uses ≡ positionals line.pieces ++ line.behind = ap (values_of None) line.is ∙ tasks_of-line line.pieces line.behind in
     let one : values_of None uses ≡ gives.text ∷ [] = one_text (values_of None uses) gives.text (line.distinct None) gives.is in
     let named : gives.text ≡ task_name command.task = name_of-task gives.text command.task gives.task in
     let only : positionals line.pieces ++ line.behind ≡ task_name command.task ∷ [] = sym tasks ∙ one ∙ ap (λ t. t ∷ []) named in
+    let needs = needs-read command command command.task command.number command.mark gives.done in
     let values : (k : Key) → values_of (Some k) uses ≡ values_in k line.pieces = λ k. ap (values_of (Some k)) line.is ∙ values_of-line k line.pieces line.behind in
     record {
       pieces = line.pieces;
@@ -165,7 +200,10 @@ command_is words uses command took same =
           (IsGiven-read NamesForm form_of Pd NamesForm-read (values_of (Some key.to) uses) command.to (line.distinct (Some key.to)) gives.of_to);
       number = subst (λ v. IsGiven NamesNumber None v command.number) (values key.number)
           (IsGiven-read NamesNumber value_number None NamesNumber-read (values_of (Some key.number) uses) command.number (line.distinct (Some key.number)) gives.of_number);
-      needed = (HasNumber-read command command command.task command.number gives.done).0;
+      mark = subst (λ v. IsGiven NamesMark None v command.mark) (values key.mark)
+          (IsGiven-read NamesMark value_mark None NamesMark-read (values_of (Some key.mark) uses) command.mark (line.distinct (Some key.mark)) gives.of_mark);
+      needed = needs.0;
+      marked = needs.1;
     }
 
 values_no_dash : (words : List Text) (command : Command) (is : IsCommand words command) (k : Key) → All HasNoDash (values_in k is.pieces)
@@ -173,12 +211,14 @@ values_no_dash words command is key.field = given_no_dash NamesField 2 field_no_
 values_no_dash words command is key.workers = given_no_dash NamesWorkers 1 workers_no_dash (values_in key.workers is.pieces) command.workers is.workers
 values_no_dash words command is key.to = given_no_dash NamesForm Pd form_no_dash (values_in key.to is.pieces) command.to is.to
 values_no_dash words command is key.number = given_no_dash NamesNumber None number_no_dash (values_in key.number is.pieces) command.number is.number
+values_no_dash words command is key.mark = given_no_dash NamesMark None mark_no_dash (values_in key.mark is.pieces) command.mark is.mark
 
 values_once : (words : List Text) (command : Command) (is : IsCommand words command) (k : Key) → length (values_in k is.pieces) ≤ 1
 values_once words command is key.field = IsGiven-once NamesField 2 (values_in key.field is.pieces) command.field is.field
 values_once words command is key.workers = IsGiven-once NamesWorkers 1 (values_in key.workers is.pieces) command.workers is.workers
 values_once words command is key.to = IsGiven-once NamesForm Pd (values_in key.to is.pieces) command.to is.to
 values_once words command is key.number = IsGiven-once NamesNumber None (values_in key.number is.pieces) command.number is.number
+values_once words command is key.mark = IsGiven-once NamesMark None (values_in key.mark is.pieces) command.mark is.mark
 
 abbrev line_uses : (words : List Text) (command : Command) → IsCommand words command → List Use
 line_uses words command is = uses_of is.pieces ++ uses_behind is.behind
@@ -199,7 +239,8 @@ command_of-line words command is =
     let values : (k : Key) → values_in k is.pieces ≡ values_of (Some k) uses = λ k. sym (values_of-line k is.pieces is.behind) in
     let tasks : values_of None uses ≡ task_name command.task ∷ [] = tasks_of-line is.pieces is.behind ∙ is.task in
     gives_command (slice_get (values_of None uses) 0) (slice_get (values_of (Some key.field) uses) 0) (slice_get (values_of (Some key.workers) uses) 0)
-    (slice_get (values_of (Some key.to) uses) 0) (slice_get (values_of (Some key.number) uses) 0) command (record {
+    (slice_get (values_of (Some key.to) uses) 0) (slice_get (values_of (Some key.number) uses) 0)
+    (slice_get (values_of (Some key.mark) uses) 0) command (record {
       text = task_name command.task;
       is = ap (λ t. slice_get t 0) tasks;
       task = task_of-name command.task;
@@ -211,7 +252,9 @@ command_of-line words command is =
           (read-IsGiven NamesForm form_of Pd read-NamesForm (values_in key.to is.pieces) command.to is.to);
       of_number = subst (λ v. number_given (slice_get v 0) ≡ Some command.number) (values key.number)
           (read-IsGiven NamesNumber value_number None read-NamesNumber (values_in key.number is.pieces) command.number is.number);
-      done = read-HasNumber command command.task command.number is.needed;
+      of_mark = subst (λ v. mark_given (slice_get v 0) ≡ Some command.mark) (values key.mark)
+          (read-IsGiven NamesMark value_mark None read-NamesMark (values_in key.mark is.pieces) command.mark is.mark);
+      done = read-needs command command.task command.number command.mark is.needed is.marked;
     })
 
 -- words mean one command at most

@@ -19,16 +19,24 @@ task_rule = record (new_rule (codes "task")) { required = true }
 abbrev pub option_rule : List ℕ → Rule
 option_rule name = record (new_rule name) { long = Some name }
 
--- the command line: one required positional, and four options with a value; all words are its own, and it has no help
+-- a line that all words are of, without help
+abbrev pub bare_line : App
+bare_line = on_top (λ s. record s { no_binary_name = true; disable_help_flag = true }) (new_app (codes "kh"))
+
+-- the line with the positional alone
+abbrev pub task_line : App
+task_line = with_rule bare_line task_rule
+
+-- the command line: one required positional, and five options with a value; all words are its own, and it has no help
 abbrev pub kh_line : App
-kh_line = with_rule (with_rule (with_rule (with_rule (with_rule
-    (on_top (λ s. record s { no_binary_name = true; disable_help_flag = true }) (new_app (codes "kh")))
-    task_rule) (option_rule (codes "field"))) (option_rule (codes "workers"))) (option_rule (codes "to"))) (option_rule (codes "number"))
+kh_line = with_rule (with_rule (with_rule (with_rule (with_rule task_line (option_rule (codes "field"))) (option_rule (codes "workers")))
+    (option_rule (codes "to"))) (option_rule (codes "number"))) (option_rule (codes "mark"))
 
 -- the command of what `clap` found
 abbrev pub command_found : Found → Option Command
 command_found found = command_given (first_value found (codes "task")) (first_value found (codes "field"))
     (first_value found (codes "workers")) (first_value found (codes "to")) (first_value found (codes "number"))
+    (first_value found (codes "mark"))
 
 -- why words of which `clap` finds this fault give no command: want of memory is that, and all else is that they mean none
 abbrev pub stop_of : ErrorKind → WordStop

@@ -7,18 +7,32 @@ use std::alloc::AllocError;
 pub enum Task {
     /// Write the homology table, and the Jones polynomial.
     Homology,
-    /// Write the diagram in another form.
-    Convert,
-    /// Write how many crossings, components and faces the diagram has.
-    Check,
     /// Write the unnormalised Jones polynomial.
     Jones,
-    /// Let workers look and commit as a script says; write the answers, and the homology table.
-    Schedule,
+    /// Write how many crossings, components and faces the diagram has.
+    Check,
+    /// Write the diagram in another form.
+    Convert,
     /// Make moves of the diagram as a script says, and take them back; write the diagram after each line.
     Edit,
+    /// Write a drawing of the diagram, slice by slice.
+    Draw,
+    /// Let workers look and commit as a script says; write the answers, and the homology table.
+    Schedule,
     /// Write the counts, the dimension and the Jones polynomial of the closed braid of a number.
     Bench,
+    /// Write a log of cancellations, which proves the homology table to whoever replays it.
+    Certify,
+    /// Replay a log of cancellations; write the homology table that it proves, or the first line that fails.
+    Verify,
+    /// Write the table of reduced homology at a marked arc or loop, and the Jones polynomial.
+    Reduced,
+    /// Write the mirror image of the diagram.
+    Mirror,
+    /// Write the diagram with every component turned.
+    Reverse,
+    /// Write the disjoint union of two diagrams.
+    Union,
 }
 
 /// A form of codes as text. Source: this project's rule.
@@ -43,6 +57,8 @@ pub struct Command {
     pub to: Form,
     /// The number whose diagram `bench` takes.
     pub number: Option<u32>,
+    /// The arc or the loop that `reduced` marks.
+    pub mark: Option<u8>,
 }
 
 /// Why words give no command.

@@ -5,13 +5,15 @@ ghost use Rattle.word_line.specs.Commands.{IsCommand, IsUsage};
 ghost use Rattle.word_line.specs.Reading.{command_with};
 ghost use Rattle.word_line.specs.declared.command.Command.{Command};
 ghost use Rattle.word_line.specs.declared.command.Form.TheVariants.{Pd, Gauss};
-ghost use Rattle.word_line.specs.declared.command.Task.TheVariants.{Bench, Homology, Convert, Jones};
+ghost use Rattle.word_line.specs.declared.command.Task.TheVariants.{Bench, Certify, Homology, Convert, Jones, Reduced, Verify};
 
-use crate::limits::{NUMBER_DIGITS, WORKERS_DIGITS};
+use crate::limits::{MARK_DIGITS, MARK_LIMIT, NUMBER_DIGITS, WORKERS_DIGITS};
 
 /// The values of the limits, which the definitions name and do not write out.
 pub fn limits_of_words()
     ensures number { NUMBER_DIGITS ≡ 7 }
+    ensures mark { MARK_DIGITS ≡ 3 }
+    ensures marks { MARK_LIMIT ≡ 255 }
     ensures workers { WORKERS_DIGITS ≡ 2 }
 {}
 
@@ -29,20 +31,27 @@ pub fn words_are_decided()
 
 /// Words that mean a command, worked out.
 pub fn worked_commands()
-    ensures alone { IsCommand (codes "homology" ∷ []) (command_with Homology 2 1 Pd None) }
+    ensures alone { IsCommand (codes "homology" ∷ []) (command_with Homology 2 1 Pd None None) }
     ensures joined { IsCommand (codes "--field=3" ∷ codes "homology" ∷ [])
-        (command_with Homology 3 1 Pd None) }
+        (command_with Homology 3 1 Pd None None) }
     ensures behind { IsCommand (codes "--" ∷ codes "homology" ∷ [])
-        (command_with Homology 2 1 Pd None) }
+        (command_with Homology 2 1 Pd None None) }
     ensures ended { IsCommand (codes "jones" ∷ codes "--" ∷ [])
-        (command_with Jones 2 1 Pd None) }
+        (command_with Jones 2 1 Pd None None) }
     ensures all { IsCommand (codes "--to" ∷ codes "gauss" ∷ codes "convert" ∷ codes "--workers=07"
         ∷ codes "--field" ∷ codes "7" ∷ codes "--number"
-        ∷ codes "0000000" ∷ []) (command_with Convert 7 7 Gauss (Some 0)) }
+        ∷ codes "0000000" ∷ []) (command_with Convert 7 7 Gauss (Some 0) None) }
     ensures most { IsCommand (codes "homology" ∷ codes "--workers" ∷ codes "64" ∷ [])
-        (command_with Homology 2 64 Pd None) }
+        (command_with Homology 2 64 Pd None None) }
     ensures numbered { IsCommand (codes "bench" ∷ codes "--number" ∷ codes "1234567" ∷ [])
-        (command_with Bench 2 1 Pd (Some 1234567)) }
+        (command_with Bench 2 1 Pd (Some 1234567) None) }
+    ensures marked { IsCommand (codes "reduced" ∷ codes "--mark" ∷ codes "255" ∷ [])
+        (command_with Reduced 2 1 Pd None (Some 255)) }
+    ensures certified { IsCommand (codes "certify" ∷ codes "--field" ∷ codes "5" ∷ [])
+        (command_with Certify 5 1 Pd None None) }
+    ensures verified { IsCommand (codes "verify" ∷ []) (command_with Verify 2 1 Pd None None) }
+    ensures idle { IsCommand (codes "--mark=007" ∷ codes "jones" ∷ [])
+        (command_with Jones 2 1 Pd None (Some 7)) }
 {}
 
 /// Words that mean no command, worked out.
@@ -54,6 +63,9 @@ pub fn worked_usage()
     ensures twice { IsUsage (codes "homology" ∷ codes "--field" ∷ codes "2"
         ∷ codes "--field" ∷ codes "2" ∷ []) }
     ensures unnumbered { IsUsage (codes "bench" ∷ []) }
+    ensures unmarked { IsUsage (codes "reduced" ∷ []) }
+    ensures above { IsUsage (codes "reduced" ∷ codes "--mark" ∷ codes "256" ∷ []) }
+    ensures digits { IsUsage (codes "reduced" ∷ codes "--mark" ∷ codes "0001" ∷ []) }
     ensures help { IsUsage (codes "homology" ∷ codes "--help" ∷ []) }
     ensures short { IsUsage (codes "homology" ∷ codes "-h" ∷ []) }
     ensures shortened { IsUsage (codes "homology" ∷ codes "--work" ∷ codes "2" ∷ []) }

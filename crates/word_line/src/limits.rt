@@ -3,5 +3,11 @@
 /// The most digits in which the number of a diagram is written. This project's rule.
 pub const NUMBER_DIGITS: usize = 7;
 
+/// The most digits in which a marked arc is written. This project's rule.
+pub const MARK_DIGITS: usize = 3;
+
+/// The greatest number that can be marked. This project's rule.
+pub const MARK_LIMIT: u32 = 255;
+
 /// The most digits in which a number of workers is written. This project's rule.
 pub const WORKERS_DIGITS: usize = 2;

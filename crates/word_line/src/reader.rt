@@ -65,5 +65,6 @@ fn command_in(matches: &ArgMatches<'_>) -> Option<Command>
         workers: matches.get_str("workers"),
         to: matches.get_str("to"),
         number: matches.get_str("number"),
+        mark: matches.get_str("mark"),
     })
 }

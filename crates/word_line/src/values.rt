@@ -1,10 +1,10 @@
 //! What the values of options mean.
 
 ghost use Rattle.std.specs.Prelude.{◌≡◌};
-ghost use Rattle.word_line.specs.Reading.{command_given, field_in, field_of, finished, form_in, form_of, number_given, value_number, task_of, word_behind, workers_in, workers_of};
+ghost use Rattle.word_line.specs.Reading.{command_given, field_in, field_of, finished, form_in, form_of, mark_given, number_given, value_mark, value_number, task_of, word_behind, workers_in, workers_of};
 
 use crate::command::{Command, Form, Task};
-use crate::limits::{NUMBER_DIGITS, WORKERS_DIGITS};
+use crate::limits::{MARK_DIGITS, MARK_LIMIT, NUMBER_DIGITS, WORKERS_DIGITS};
 use kh_lex::number_of;
 use kh_types::WORKERS;
 
@@ -21,35 +21,39 @@ pub struct Given<'a> {
     pub to: Option<&'a str>,
     /// The value of `--number`.
     pub number: Option<&'a str>,
+    /// The value of `--mark`.
+    pub mark: Option<&'a str>,
 }
 
 /// The command of the texts that a line gives.
 pub fn command_given(given: &Given<'_>) -> Option<Command>
     ensures { result ≡ command_given (word_behind given.now.task) (word_behind given.now.field)
-        (word_behind given.now.workers) (word_behind given.now.to) (word_behind given.now.number) }
+        (word_behind given.now.workers) (word_behind given.now.to) (word_behind given.now.number)
+        (word_behind given.now.mark) }
 {
     let task = task_of(given.task?)?;
     let field = field_in(given.field)?;
     let workers = workers_in(given.workers)?;
     let to = form_in(given.to)?;
     let number = number_in(given.number)?;
+    let mark = mark_in(given.mark)?;
     finished(Command {
         task,
         field,
         workers,
         to,
         number,
+        mark,
     })
 }
 
-// A command, unless it lacks the number that its task needs.
+// A command, unless it lacks the number or the mark that its task needs.
 fn finished(command: Command) -> Option<Command>
     ensures { result ≡ finished command }
 {
-    if command.task == Task::Bench && command.number.is_none() {
-        None
-    } else {
-        Some(command)
+    match (command.task, command.number, command.mark) {
+        (Task::Bench, None, _) | (Task::Reduced, _, None) => None,
+        _ => Some(command),
     }
 }
 
@@ -62,9 +66,16 @@ fn task_of(name: &str) -> Option<Task>
         "jones" => Some(Task::Jones),
         "check" => Some(Task::Check),
         "convert" => Some(Task::Convert),
-        "schedule" => Some(Task::Schedule),
         "edit" => Some(Task::Edit),
+        "draw" => Some(Task::Draw),
+        "schedule" => Some(Task::Schedule),
         "bench" => Some(Task::Bench),
+        "certify" => Some(Task::Certify),
+        "verify" => Some(Task::Verify),
+        "reduced" => Some(Task::Reduced),
+        "mirror" => Some(Task::Mirror),
+        "reverse" => Some(Task::Reverse),
+        "union" => Some(Task::Union),
         _ => None,
     }
 }
@@ -151,4 +162,26 @@ fn numbers_of(value: &str) -> Option<Option<u32>>
 {
     let number = number_of(value.as_bytes(), NUMBER_DIGITS)?;
     Some(Some(number))
+}
+
+// The mark of a value; none where there is no value.
+fn mark_in(value: Option<&str>) -> Option<Option<u8>>
+    ensures { result ≡ mark_given (word_behind value.entry) }
+{
+    match value {
+        Some(value) => marks_of(value),
+        None => Some(None),
+    }
+}
+
+// The mark that a value writes.
+fn marks_of(value: &str) -> Option<Option<u8>>
+    ensures { result ≡ value_mark value.now }
+{
+    let mark = number_of(value.as_bytes(), MARK_DIGITS)?;
+    if mark <= MARK_LIMIT {
+        Some(Some(mark as u8))
+    } else {
+        None
+    }
 }

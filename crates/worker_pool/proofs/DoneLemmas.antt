@@ -1,29 +1,35 @@
--- Blocks that are cancelled to zero, one after another and wave after wave.
-use Rattle.std.proofs.Common.{◌≡◌, ℕ, ◌+◌, ◌-◌, ◌<◌, ◌≤◌, ◌∙◌, ℤ, pos, List, [], ◌∷◌, ◌++◌, length, map, take, drop, get_or, sym, ap, ap₂, subst, arith}
-use Rattle.std.proofs.lemmas.List.{map-append, map_push, take_more}
+-- Blocks that are cancelled to zero, one after another.
+use Rattle.std.proofs.Common.{◌≡◌, ℕ, ◌+◌, ◌<◌, ◌∙◌, ℤ, pos, List, [], ◌∷◌, ◌++◌, length, map, take, get_or, reverse, refl, sym, ap, ap₂, subst, arith}
+use Rattle.std.proofs.lemmas.List.{map_push, take_more}
 use Rattle.std.proofs.lemmas.List.Elements.{All-contains_itself, All-push}
 use Rattle.std.proofs.lemmas.Simd.{map-map}
-use Rattle.std.proofs.Math.Seq.{take-add}
-use mathlib.Core.List.{IsPrefix}
+use mathlib.Core.List.{IsPrefix, reverse_aux}
 use Rattle.kh_types.specs.Code.{Code}
 use Rattle.cube_signs.specs.Blocks.{block_degrees}
 use Rattle.shared_block.specs.BlockHistories.{BlockHistory, block_with}
 use Rattle.shared_block.specs.AllBlocks.{AreBlocksOf, IsFinished, opening_blocks}
 use Rattle.shared_block.proofs.AllBlocks.{AreBlocksOf-opening}
 use Rattle.kh_types.proofs.Prefixes.{prefix_length}
-use Rattle.worker_pool.specs.Outcomes.{AreBlocksAt, AreDegreesOf, AreDone, HasCommitted, origin_of}
+use Rattle.worker_pool.specs.Outcomes.{AreBlocksAt, AreDegreesOf, AreDone, HasCommitted, IsDone, origin_of}
+use Rattle.worker_pool.specs.Slots.{AreFrom}
 use Rattle.worker_pool.proofs.BlockLemmas.{blocks_stay}
 use Rattle.worker_pool.proofs.Zips.{zip_push}
 
+-- a block that has been finished
+pub done_one : (p : ℕ) (held later : BlockHistory) (count : ℕ) → count ≡ length held.history → IsPrefix held.history later.history → IsFinished p later
+    → IsDone p later count
+done_one p held later count is goes_on zero = record {
+  zero = zero;
+  counted = omega (arith, is, prefix_length held.history later.history goes_on);
+}
+
 -- one block more
-pub done_more : (p : ℕ) (blocks all : List BlockHistory) (committed counts : List ℕ) (held later : BlockHistory) (count : ℕ) → AreDone p blocks committed
-    → count ≡ length held.history → IsPrefix held.history later.history → IsFinished p later → all ≡ blocks ++ later ∷ []
-    → counts ≡ committed ++ count ∷ [] → AreDone p all counts
-done_more p blocks all committed counts held later count done is goes_on zero are_all are_counts =
-    let within : HasCommitted later count = omega (arith, is, prefix_length held.history later.history goes_on) in
-    let both : AreDone p (blocks ++ later ∷ []) (committed ++ count ∷ []) = record {
-      zero = All-push (IsFinished p) blocks later done.zero zero;
-      counts = zip_push HasCommitted blocks committed later count done.counts within;
+pub done_more : (p : ℕ) (blocks all : List BlockHistory) (committed counts : List ℕ) (held : BlockHistory) (count : ℕ) → AreDone p blocks committed
+    → IsDone p held count → all ≡ blocks ++ held ∷ [] → counts ≡ committed ++ count ∷ [] → AreDone p all counts
+done_more p blocks all committed counts held count done one are_all are_counts =
+    let both : AreDone p (blocks ++ held ∷ []) (committed ++ count ∷ []) = record {
+      zero = All-push (IsFinished p) blocks held done.zero one.zero;
+      counts = zip_push HasCommitted blocks committed held count done.counts one.counted;
     } in
     rw (are_all, are_counts) both
 
@@ -39,25 +45,39 @@ blocks_all code blocks are =
 
 -- one degree more
 pub blocks_more : (code : Code) (degrees : List ℤ) (k : ℕ) (blocks all : List BlockHistory) (held : BlockHistory) → AreBlocksAt code (take k degrees) blocks
-    → k < length degrees → held ≡ block_with code (get_or degrees k (pos 0)) [] → map origin_of all ≡ map origin_of blocks ++ origin_of held ∷ []
+    → k < length degrees → origin_of held ≡ (code, get_or degrees k (pos 0)) → map origin_of all ≡ map origin_of blocks ++ origin_of held ∷ []
     → AreBlocksAt code (take (k + 1) degrees) all
 blocks_more code degrees k blocks all held are below is_held are_all =
     are_all
-    ∙ ap₂ (λ (xs : List (Code × ℤ)) (h : BlockHistory). xs ++ origin_of h ∷ []) are is_held
+    ∙ ap₂ (λ (xs : List (Code × ℤ)) (o : Code × ℤ). xs ++ o ∷ []) are is_held
     ∙ sym (map_push (λ j. (code, j)) (take k degrees) (get_or degrees k (pos 0)))
     ∙ ap (λ (js : List ℤ). map (λ j. (code, j)) js) (sym (take_more degrees k (pos 0) below))
-
--- one wave more
-pub blocks_wave : (code : Code) (degrees : List ℤ) (from to : ℕ) (blocks all : List BlockHistory) → AreBlocksAt code (take from degrees) blocks → from ≤ to
-    → map origin_of all ≡ map origin_of blocks ++ map (λ j. (code, j)) (take (to - from) (drop from degrees)) → AreBlocksAt code (take to degrees) all
-blocks_wave code degrees from to blocks all are le are_all =
-    let whole : from + (to - from) ≡ to = omega (arith, le) in
-    are_all
-    ∙ ap (λ (xs : List (Code × ℤ)). xs ++ map (λ j. (code, j)) (take (to - from) (drop from degrees))) are
-    ∙ sym (map-append (λ j. (code, j)) (take from degrees) (take (to - from) (drop from degrees)))
-    ∙ ap (λ (js : List ℤ). map (λ j. (code, j)) js) (sym (take-add from (to - from) degrees) ∙ ap (λ n. take n degrees) whole)
 
 -- the origins of blocks that are made at some degrees
 pub origins_made : (code : Code) (degrees : List ℤ) (blocks : List BlockHistory) → blocks ≡ map (λ j. block_with code j []) degrees
     → AreBlocksAt code degrees blocks
 origins_made code degrees blocks are = ap (λ (xs : List BlockHistory). map origin_of xs) are ∙ map-map origin_of (λ j. block_with code j []) degrees
+
+-- and they are of the diagram, in either order
+from_degrees : (code : Code) (degrees : List ℤ) → AreFrom code (map (λ j. (code, j)) degrees)
+from_degrees code [] = tt
+from_degrees code (j ∷ degrees) = (refl, from_degrees code degrees)
+
+from_front : (code : Code) (origins : List (Code × ℤ)) (last : Code × ℤ) → AreFrom code (origins ++ last ∷ []) → AreFrom code origins × (last.0 ≡ code)
+from_front code [] last h = (tt, h.0)
+from_front code (origin ∷ origins) last h = let rest = from_front code origins last h.1 in ((h.0, rest.0), rest.1)
+
+-- what is left where the last is taken
+pub taken_from : (code : Code) (before after : List (Code × ℤ)) (last : Code × ℤ) → AreFrom code before → before ≡ after ++ last ∷ []
+    → AreFrom code after × (last.0 ≡ code)
+taken_from code before after last h e = from_front code after last (subst (AreFrom code) e h)
+
+from_reversed : (code : Code) (origins behind : List (Code × ℤ)) → AreFrom code origins → AreFrom code behind → AreFrom code (reverse_aux origins behind)
+from_reversed code [] behind h k = k
+from_reversed code (origin ∷ origins) behind h k = from_reversed code origins (origin ∷ behind) h.1 (h.0, k)
+
+pub locked_from : (code : Code) (degrees : List ℤ) (blocks : List BlockHistory) (origins : List (Code × ℤ))
+    → blocks ≡ map (λ j. block_with code j []) degrees → origins ≡ reverse (map origin_of blocks) → AreFrom code origins
+locked_from code degrees blocks origins are order =
+    subst (AreFrom code) (sym order)
+    (from_reversed code (map origin_of blocks) [] (subst (AreFrom code) (sym (origins_made code degrees blocks are)) (from_degrees code degrees)) tt)

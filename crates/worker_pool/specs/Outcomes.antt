@@ -44,6 +44,11 @@ AreBlocksAt code degrees blocks = map origin_of blocks ≡ map (λ j. (code, j))
 abbrev pub HasCommitted : BlockHistory → ℕ → Type 0
 HasCommitted held count = count ≤ length held.history
 
+-- a block is cancelled to zero, and a count of pivots by workers is told, within its history
+pub record IsDone (p : ℕ) (held : BlockHistory) (count : ℕ) : Type 0 where
+  pub zero : IsFinished p held
+  pub counted : HasCommitted held count
+
 -- each block is cancelled to zero, and for each a count of pivots by workers is told, within its history
 pub record AreDone (p : ℕ) (blocks : List BlockHistory) (committed : List ℕ) : Type 0 where
   pub zero : All (IsFinished p) blocks

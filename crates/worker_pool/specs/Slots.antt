@@ -1,8 +1,9 @@
 -- Slots for the blocks of a diagram, one at each of some quantum degrees (this project's rule).
-use Rattle.std.specs.Prelude.{◌≡◌, ℕ, ◌-◌, ◌*◌, ◌/◌, nat_le, if◌then◌else◌, ℤ, List, [], length, All, Option, None, IfSome}
-use Rattle.std.specs.List.{AllZip}
+use Rattle.std.specs.Prelude.{◌≡◌, ℕ, ℤ, List, [], length, All, Option, None, IfSome}
+use Rattle.std.specs.List.{AllByRecursion, AllZip}
 use Rattle.kh_types.specs.Code.{Code}
 use Rattle.shared_block.specs.BlockHistories.{BlockHistory, block_with}
+use Rattle.worker_pool.specs.Outcomes.{IsDone, origin_of}
 
 -- the slot of a degree has its block, before any cancellation, or nothing yet
 abbrev pub IsSlotOf : Code → ℤ → Option BlockHistory → Type 0
@@ -17,6 +18,19 @@ pub record AreEmpty {A : Type 0} (count : ℕ) (slots : List (Option A)) : Type 
   pub size : length slots ≡ count
   pub empty : All (λ slot. slot ≡ None) slots
 
--- how many steps a place of a list of so many is from the middle, where the steps go to the right first
-abbrev pub steps_from_middle : ℕ → ℕ → ℕ
-steps_from_middle count place = if nat_le (count / 2) place then 2 * (place - count / 2) else 2 * (count / 2 - place) - 1
+-- all are blocks of this diagram
+abbrev pub AreFrom : Code → List (Code × ℤ) → Type 0
+AreFrom code origins = AllByRecursion (λ origin. origin.0 ≡ code) origins
+
+-- the block of a diagram at a degree, cancelled to zero, with a count of pivots by workers
+pub record IsDoneBlock (p : ℕ) (code : Code) (j : ℤ) (one : BlockHistory × ℕ) : Type 0 where
+  pub origin : origin_of one.0 ≡ (code, j)
+  pub done : IsDone p one.0 one.1
+
+-- the slot of a degree has its block, cancelled to zero, or nothing yet
+abbrev pub IsDoneSlot : ℕ → Code → ℤ → Option (BlockHistory × ℕ) → Type 0
+IsDoneSlot p code j slot = IfSome slot (IsDoneBlock p code j)
+
+-- one slot for each degree, in their order
+abbrev pub AreDoneSlots : ℕ → Code → List ℤ → List (Option (BlockHistory × ℕ)) → Type 0
+AreDoneSlots p code degrees slots = AllZip (IsDoneSlot p code) degrees slots

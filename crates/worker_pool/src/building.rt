@@ -1,13 +1,13 @@
 //! How workers build blocks of a diagram: each takes the next quantum degree that nobody has
-//! begun, the middle ones first, since their blocks are the largest.
+//! begun.
 
 ghost use Rattle.std.specs.Prelude.{◌≡◌, ◌<◌, ◌≤◌, [], All, IfOk, None, length, map, pos};
 ghost use Rattle.std.specs.Prelude.{slice_index_or, slice_set};
 ghost use Rattle.shared_block.specs.BlockHistories.{block_with};
 ghost use Rattle.worker_pool.specs.Outcomes.{AreDegreesOf};
-ghost use Rattle.worker_pool.specs.Slots.{AreEmpty, AreSlotsOf, steps_from_middle};
+ghost use Rattle.worker_pool.specs.Slots.{AreEmpty, AreSlotsOf};
 
-use crate::sharing::next_place;
+use crate::sharing::next_number;
 use cube_signs::Cube;
 use kh_types::NoMemory;
 use prime_field::PrimeField;
@@ -21,6 +21,7 @@ use std::thread::Threads;
 type Slots<F> = Vec<Option<SharedBlock<F>>>;
 
 /// The blocks at some quantum degrees before any cancellation, built by at most so many threads.
+/// The first degrees are begun first.
 pub(crate) fn blocks_at<R: Threads + Sync, F: PrimeField + Send + Sync>(
     rt: &R,
     alloc: Global,
@@ -32,33 +33,10 @@ pub(crate) fn blocks_at<R: Threads + Sync, F: PrimeField + Send + Sync>(
     ensures { IfOk result (λ blocks.
         blocks.items ≡ map (λ j. block_with cube.now j []) degrees.now) }
 {
-    let order = middle_first(alloc, degrees.len())?;
     let mut made = empty_rows(alloc, threads.min(degrees.len()), degrees.len())?;
     let rows = made.as_mut_slice();
-    build_rows(rt, alloc, cube, degrees, &order, rows);
+    build_rows(rt, alloc, cube, degrees, rows);
     picked(alloc, cube, degrees, rows)
-}
-
-/// The places of a list of so many, those in the middle first.
-fn middle_first(alloc: Global, count: usize) -> Result<Vec<usize>, NoMemory> {
-    let mut order = Vec::with_capacity(alloc, count)?;
-    'places: for step in 0..count {
-        order.push(from_middle(count, step))?;
-    }
-    Ok(order)
-}
-
-/// The place that is so many steps from the middle of a list, first to the right.
-fn from_middle(count: usize, step: usize) -> usize
-    requires { step < count }
-    ensures within { result < count }
-    ensures step { steps_from_middle count result ≡ step }
-{
-    if step % 2 == 0 {
-        count / 2 + step / 2
-    } else {
-        count / 2 - (step / 2 + 1)
-    }
 }
 
 /// So many rows with so many slots, all of them empty.
@@ -93,7 +71,6 @@ fn build_rows<R: Threads + Sync, F: PrimeField + Send + Sync>(
     alloc: Global,
     cube: &Cube,
     degrees: &[i16],
-    order: &[usize],
     rows: &mut [Slots<F>],
 )
     requires degrees { AreDegreesOf cube.now degrees.now }
@@ -113,7 +90,7 @@ fn build_rows<R: Threads + Sync, F: PrimeField + Send + Sync>(
             requires { (AreDegreesOf cube.now degrees.now) ×
                 AreSlotsOf cube.now degrees.now row.now.items }
             ensures { AreSlotsOf cube.entry.now degrees.entry.now row.exit.now.items }
-        { build_row(alloc, cube, degrees, order, &begun, row.as_mut_slice()) },
+        { build_row(alloc, cube, degrees, &begun, row.as_mut_slice()) },
     );
 }
 
@@ -122,7 +99,6 @@ fn build_row<F: PrimeField>(
     alloc: Global,
     cube: &Cube,
     degrees: &[i16],
-    order: &[usize],
     begun: &AtomicU64,
     slots: &mut [Option<SharedBlock<F>>],
 )
@@ -130,8 +106,8 @@ fn build_row<F: PrimeField>(
     requires slots { AreSlotsOf cube.now degrees.now slots.old }
     ensures { AreSlotsOf cube.now degrees.now slots.new }
 {
-    'begun: for _ in 0..order.len() {
-        let Some(place) = next_place(order, begun) else {
+    'begun: for _ in 0..degrees.len() {
+        let Some(place) = next_number(begun) else {
             return;
         };
         build_at(alloc, cube, degrees, slots, place);

@@ -1,15 +1,32 @@
-//! Blocks that are cancelled to zero, as they come one after another.
+//! Blocks that are cancelled to zero.
 
 ghost use Rattle.std.specs.Prelude.{◌≡◌, ◌∷◌, ◌++◌, [], IfOk, OnOk, map};
-ghost use Rattle.worker_pool.specs.Outcomes.{AreDone, origin_of};
+ghost use Rattle.worker_pool.specs.Outcomes.{AreDone, IsDone, origin_of};
 
 use kh_types::NoMemory;
 use prime_field::PrimeField;
 use shared_block::SharedBlock;
 use std::alloc::Global;
 
-/// Blocks that are cancelled to zero, and for each how many of its pivots, the first ones, workers
+/// A block that is cancelled to zero, and how many of its pivots, the first ones, workers
 /// committed; the caller cancelled the others.
+pub(crate) type DoneBlock<F> = (SharedBlock<F>, u64);
+
+/// Cancels what is left of a block.
+pub(crate) fn finished_one<F: PrimeField>(
+    alloc: Global,
+    block: SharedBlock<F>,
+) -> Result<DoneBlock<F>, NoMemory>
+    ensures origin { IfOk result (λ one. origin_of one.0 ≡ origin_of block) }
+    ensures done { IfOk result (λ one. IsDone F.P one.0 one.1) }
+{
+    let mut block = block;
+    let committed = block.version();
+    block.finish(alloc)?;
+    Ok((block, committed))
+}
+
+/// Blocks that are cancelled to zero, as they come one after another, and the count of each.
 #[derive(Drop)]
 pub(crate) struct Finished<F: PrimeField> {
     pub(crate) blocks: Vec<SharedBlock<F>>,
@@ -28,16 +45,15 @@ impl<F: PrimeField> Finished<F> {
         })
     }
 
-    /// Cancels what is left of a block, and takes it in.
-    pub(crate) fn add(&mut self, alloc: Global, block: SharedBlock<F>) -> Result<(), NoMemory>
-        requires { AreDone F.P self.old.blocks.items self.old.committed.items }
+    /// Takes a block in.
+    pub(crate) fn push(&mut self, one: DoneBlock<F>) -> Result<(), NoMemory>
+        requires done { AreDone F.P self.old.blocks.items self.old.committed.items }
+        requires one { IsDone F.P one.0 one.1 }
         ensures done { OnOk result (AreDone F.P self.new.blocks.items self.new.committed.items) }
         ensures origins { OnOk result (map origin_of self.new.blocks.items
-            ≡ map origin_of self.old.blocks.items ++ origin_of block ∷ []) }
+            ≡ map origin_of self.old.blocks.items ++ origin_of one.0 ∷ []) }
     {
-        let mut block = block;
-        let committed = block.version();
-        block.finish(alloc)?;
+        let (block, committed) = one;
         self.committed.push(committed)?;
         self.blocks.push(block)?;
         Ok(())

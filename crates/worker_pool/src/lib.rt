@@ -3,6 +3,7 @@
 
 mod building;
 mod cancelling;
+mod done_slots;
 mod finished;
 mod gate;
 mod one_seat;

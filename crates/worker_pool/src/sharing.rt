@@ -120,9 +120,13 @@ fn work_row<R: Wait, F: PrimeField + Send, G: Gate>(
 }
 
 /// The next place in the order that nobody has begun.
-pub(crate) fn next_place(order: &[usize], begun: &AtomicU64) -> Option<usize> {
-    let next = begun.fetch_add(1, Ordering::SeqCst);
-    order.get(usize::try_from(next).ok()?).copied()
+fn next_place(order: &[usize], begun: &AtomicU64) -> Option<usize> {
+    order.get(next_number(begun)?).copied()
+}
+
+/// The next number from 0 on that nobody has taken.
+pub(crate) fn next_number(begun: &AtomicU64) -> Option<usize> {
+    usize::try_from(begun.fetch_add(1, Ordering::SeqCst)).ok()
 }
 
 /// Works at one block until it is zero: whether there was memory enough.

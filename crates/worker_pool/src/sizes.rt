@@ -34,7 +34,7 @@ fn lift(diagram: &Diagram, first: i16) -> i32 {
 }
 
 /// So many times 0.
-pub(crate) fn no_sizes(alloc: Global, count: usize) -> Result<Vec<u64>, NoMemory>
+fn no_sizes(alloc: Global, count: usize) -> Result<Vec<u64>, NoMemory>
     ensures { IfOk result (λ sizes. length sizes.items ≡ count) }
 {
     let mut sizes = Vec::with_capacity(alloc, count)?;
@@ -62,6 +62,9 @@ fn add_kind(sizes: &mut [u64], states: u64, circles: usize, top: i64)
     requires low { neg_ℤ (pos (2 ^ 40)) ≤ℤ top }
     ensures { length sizes.new ≡ length sizes.old }
 {
+    if states == 0 {
+        return;
+    }
     let mut generators = states;
     'minuses: for minuses in 0..circles + 1 {
         add_at(sizes, top - 2 * minuses as i64, generators);

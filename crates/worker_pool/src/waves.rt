@@ -1,18 +1,20 @@
 //! The blocks of a diagram, cancelled to zero by the caller one after another, or by workers in
 //! waves: the blocks of a wave are whole in memory together, and are cancelled to zero before the
-//! next wave is built.
+//! next wave is built. The largest blocks come first, and a wave is filled with what fits.
 
-ghost use Rattle.std.specs.Prelude.{◌≡◌, ◌<◌, ◌≤◌, ◌++◌, IfOk, OnOk, length, map, reverse};
+ghost use Rattle.std.specs.Prelude.{◌≡◌, ◌≤◌, All, IfOk, OnOk, map};
 ghost use Rattle.kh_types.specs.declared.limits.TheConstants.{WORKERS};
-ghost use Rattle.worker_pool.specs.Outcomes.{AreBlocksAt, AreDegreesOf, AreDone, origin_of};
+ghost use Rattle.worker_pool.specs.Outcomes.{AreBlocksAt, AreDegreesOf, AreDone};
 ghost use Rattle.worker_pool.specs.Rows.{AreSeated};
+ghost use Rattle.worker_pool.specs.Slots.{AreDoneSlots, AreFrom};
 
 use crate::building::{blocks_at, build_one};
-use crate::finished::Finished;
+use crate::done_slots::{DoneSlots, in_order, no_blocks, put};
+use crate::finished::{Finished, finished_one};
 use crate::gate::Gate;
 use crate::rows::{Pool, opened, take_last};
 use crate::sharing::{Course, work_rows};
-use crate::sizes::{block_sizes, no_sizes};
+use crate::sizes::block_sizes;
 use circle_smoothing::StateKinds;
 use cube_signs::Cube;
 use kh_types::NoMemory;
@@ -23,7 +25,7 @@ use std::sync::Wait;
 use std::thread::Threads;
 
 /// How many generators the blocks of a wave have together at most, where there is more than one
-/// block in it. As many take half of the memory that blocks with the most generators would.
+/// block in it: half of those that a diagram has at most.
 const WAVE: u64 = 1 << 21;
 
 /// The blocks at some quantum degrees, cancelled to zero by the caller alone, one after another.
@@ -39,13 +41,14 @@ pub(crate) fn finished_alone<F: PrimeField>(
 {
     let mut done = Finished::new(alloc, degrees.len())?;
     'places: for k in 0..degrees.len() {
-        done.add(alloc, build_one(alloc, cube, degrees, k)?)?;
+        done.push(finished_one(alloc, build_one(alloc, cube, degrees, k)?)?)?;
     }
     Ok(done)
 }
 
 /// The blocks at some quantum degrees, cancelled to zero by workers in waves. The kinds of the
 /// states say how large the blocks are, which no clause rests on.
+#[tactic(auto, using(crate::proofs::SlotLemmas::done_slots_empty))]
 pub(crate) fn finished_in_waves<
     R: Threads + Wait + Sync,
     F: PrimeField + Send + Sync,
@@ -64,130 +67,158 @@ pub(crate) fn finished_in_waves<
     ensures blocks { IfOk result (λ done. AreBlocksAt cube.now degrees.now done.blocks.items) }
     ensures done { IfOk result (λ done. AreDone F.P done.blocks.items done.committed.items) }
 {
-    let sizes = sizes_of(alloc, degrees, kinds)?;
-    let mut done = Finished::new(alloc, degrees.len())?;
-    let mut from = 0;
-    'waves: while from < degrees.len() {
-        let to = wave_end(&sizes, from);
-        add_wave(
-            rt,
-            alloc,
-            &mut done,
-            cube,
-            &degrees[from..to],
-            workers,
-            gate,
-        )?;
-        from = to;
+    let waves = waves_of(alloc, &block_sizes(alloc, kinds, degrees)?)?;
+    let mut slots = no_blocks(alloc, degrees.len())?;
+    'waves: for wave in &waves {
+        let chosen = degrees_at(alloc, cube, degrees, &wave.places)?;
+        add_wave(rt, alloc, &mut slots, cube, degrees, &chosen, workers, gate)?;
     }
-    Ok(done)
+    in_order(alloc, cube, degrees, slots)
 }
 
-/// How many generators the blocks at some quantum degrees have, or 0 for each where one wave will
-/// do.
-fn sizes_of(alloc: Global, degrees: &[i16], kinds: &StateKinds) -> Result<Vec<u64>, NoMemory>
-    ensures { IfOk result (λ sizes. length sizes.items ≡ length degrees.now) }
-{
-    if kinds.generator_count() <= u128::from(WAVE) {
-        no_sizes(alloc, degrees.len())
-    } else {
-        block_sizes(alloc, kinds, degrees)
-    }
+/// The places of some blocks, those of the largest first, and how many generators more they may
+/// have.
+#[derive(Drop)]
+struct Wave {
+    places: Vec<usize>,
+    room: u64,
 }
 
-/// Where the wave ends that begins at a place: it has one block, and the next ones as long as all
-/// of them have no more generators than a wave.
-fn wave_end(sizes: &[u64], from: usize) -> usize
-    requires { from < length sizes.now }
-    ensures some { from < result }
-    ensures within { result ≤ length sizes.now }
-{
-    let mut total = sizes[from];
-    for end in from + 1..sizes.len() {
-        total = total.saturating_add(sizes[end]);
-        if total > WAVE {
-            return end;
+/// The waves, given how many generators each block has: each block, the largest first, is in the
+/// first wave that has room for it, or else in one more.
+fn waves_of(alloc: Global, sizes: &[u64]) -> Result<Vec<Wave>, NoMemory> {
+    let mut waves = Vec::new(alloc);
+    'places: for place in largest_first(alloc, sizes)? {
+        let size = sizes.get(place).copied().unwrap_or(0);
+        add_place(alloc, &mut waves, place, size)?;
+    }
+    Ok(waves)
+}
+
+/// Puts the place of a block with so many generators into a wave.
+fn add_place(
+    alloc: Global,
+    waves: &mut Vec<Wave>,
+    place: usize,
+    size: u64,
+) -> Result<(), NoMemory> {
+    'waves: for wave in waves.iter_mut() {
+        if size <= wave.room {
+            wave.room -= size;
+            wave.places.push(place)?;
+            return Ok(());
         }
     }
-    sizes.len()
+    let mut places = Vec::new(alloc);
+    places.push(place)?;
+    waves.push(Wave {
+        places,
+        room: WAVE.saturating_sub(size),
+    })?;
+    Ok(())
 }
 
-/// Builds the blocks at some quantum degrees, and has workers cancel them.
+/// The places of a list of sizes, those of the largest first.
+fn largest_first(alloc: Global, sizes: &[u64]) -> Result<Vec<usize>, NoMemory> {
+    let mut placed = Vec::with_capacity(alloc, sizes.len())?;
+    'sizes: for size in sizes {
+        placed.push((*size, placed.len()))?;
+    }
+    placed.sort()?;
+    Ok(placed.iter().rev().map(|one| one.1).collect(alloc)?)
+}
+
+/// The degrees at some places.
+fn degrees_at(
+    alloc: Global,
+    cube: &Cube,
+    degrees: &[i16],
+    places: &[usize],
+) -> Result<Vec<i16>, NoMemory>
+    requires { AreDegreesOf cube.now degrees.now }
+    ensures { IfOk result (λ chosen. AreDegreesOf cube.now chosen.items) }
+{
+    let mut chosen = Vec::with_capacity(alloc, places.len())?;
+    'places: for place in places {
+        push_degree(&mut chosen, cube, degrees, *place)?;
+    }
+    Ok(chosen)
+}
+
+/// Puts the degree at a place, if there is one, at the end.
+fn push_degree(
+    chosen: &mut Vec<i16>,
+    cube: &Cube,
+    degrees: &[i16],
+    place: usize,
+) -> Result<(), NoMemory>
+    requires degrees { AreDegreesOf cube.now degrees.now }
+    requires chosen { AreDegreesOf cube.now chosen.old.items }
+    ensures { OnOk result (AreDegreesOf cube.now chosen.new.items) }
+{
+    if place < degrees.len() {
+        chosen.push(degrees[place])?;
+    }
+    Ok(())
+}
+
+/// Builds the blocks at the chosen ones of some quantum degrees, has workers cancel them, and puts
+/// each into the slot of its degree.
 fn add_wave<R: Threads + Wait + Sync, F: PrimeField + Send + Sync, G: Gate + Sync>(
     rt: &R,
     alloc: Global,
-    done: &mut Finished<F>,
+    slots: &mut DoneSlots<F>,
     cube: &Cube,
     degrees: &[i16],
+    chosen: &[i16],
     workers: u32,
     gate: &G,
 ) -> Result<(), NoMemory>
-    requires degrees { AreDegreesOf cube.now degrees.now }
+    requires chosen { AreDegreesOf cube.now chosen.now }
     requires workers { workers ≤ WORKERS }
-    requires done { AreDone F.P done.old.blocks.items done.old.committed.items }
-    ensures blocks { OnOk result (map origin_of done.new.blocks.items
-        ≡ map origin_of done.old.blocks.items ++ map (λ j. (cube.now, j)) degrees.now) }
-    ensures done { OnOk result (AreDone F.P done.new.blocks.items done.new.committed.items) }
+    requires slots { AreDoneSlots F.P cube.now degrees.now slots.old.items }
+    ensures { OnOk result (AreDoneSlots F.P cube.now degrees.now slots.new.items) }
 {
-    let blocks = blocks_at(rt, alloc, cube, degrees, workers as usize)?;
-    add_shared(rt, alloc, done, blocks, workers as usize, gate)
-}
-
-/// Has workers share blocks, and takes them in. There is no more than one worker for each block.
-fn add_shared<R: Threads + Wait + Sync, F: PrimeField + Send + Sync, G: Gate + Sync>(
-    rt: &R,
-    alloc: Global,
-    done: &mut Finished<F>,
-    blocks: Vec<SharedBlock<F>>,
-    workers: usize,
-    gate: &G,
-) -> Result<(), NoMemory>
-    requires workers { workers ≤ WORKERS }
-    requires done { AreDone F.P done.old.blocks.items done.old.committed.items }
-    ensures blocks { OnOk result (map origin_of done.new.blocks.items
-        ≡ map origin_of done.old.blocks.items ++ map origin_of blocks.items) }
-    ensures done { OnOk result (AreDone F.P done.new.blocks.items done.new.committed.items) }
-{
-    let course = Course::new(alloc, largest_first(alloc, &blocks)?)?;
-    let count = workers.min(blocks.len());
+    let blocks = blocks_at(rt, alloc, cube, chosen, workers as usize)?;
+    let course = Course::new(alloc, largest_block_first(alloc, &blocks)?)?;
+    let count = (workers as usize).min(blocks.len());
     let Pool {
         locks,
         kept,
         mut rows,
     } = opened(alloc, blocks, count)?;
     work_rows(rt, alloc, &locks, &course, rows.as_mut_slice(), gate);
-    add_locked(alloc, done, Pool { locks, kept, rows })
+    add_locked(alloc, slots, cube, degrees, Pool { locks, kept, rows })
 }
 
 /// The places of blocks that are locked in the order from the last to the first, those of the
 /// largest first.
-fn largest_first<F: PrimeField>(
+fn largest_block_first<F: PrimeField>(
     alloc: Global,
     blocks: &[SharedBlock<F>],
 ) -> Result<Vec<usize>, NoMemory> {
     let mut sizes = Vec::with_capacity(alloc, blocks.len())?;
     'blocks: for block in blocks.iter().rev() {
-        sizes.push((block.alive(), sizes.len()))?;
+        sizes.push(block.alive() as u64)?;
     }
-    sizes.sort()?;
-    Ok(sizes.iter().rev().map(|size| size.1).collect(alloc)?)
+    largest_first(alloc, &sizes)
 }
 
-/// Takes in the blocks of all locks, that of the last lock first.
+/// Finishes the blocks of all locks, and puts each into the slot of its degree.
 fn add_locked<F: PrimeField + Send>(
     alloc: Global,
-    done: &mut Finished<F>,
+    slots: &mut DoneSlots<F>,
+    cube: &Cube,
+    degrees: &[i16],
     mut pool: Pool<SharedBlock<F>>,
 ) -> Result<(), NoMemory>
     requires seated { AreSeated pool.locks.items pool.kept.items pool.rows.items }
-    requires done { AreDone F.P done.old.blocks.items done.old.committed.items }
-    ensures blocks { OnOk result (map origin_of done.new.blocks.items
-        ≡ map origin_of done.old.blocks.items
-        ++ reverse (map (λ lock. lock.origin) pool.locks.items)) }
-    ensures done { OnOk result (AreDone F.P done.new.blocks.items done.new.committed.items) }
+    requires origins { AreFrom cube.now (map (λ lock. lock.origin) pool.locks.items) }
+    requires slots { AreDoneSlots F.P cube.now degrees.now slots.old.items }
+    ensures { OnOk result (AreDoneSlots F.P cube.now degrees.now slots.new.items) }
 {
     'locks: while let Some(block) = take_last(&mut pool) {
-        done.add(alloc, block)?;
+        put(slots, cube, degrees, finished_one(alloc, block)?);
     }
     Ok(())
 }

@@ -41,12 +41,23 @@ pub fn draft_of_homology(
     }
 }
 
-/// The text of a homology table of a diagram, and the Jones line behind it, which is read from the kinds of the diagram's states.
+/// The reply with the text of a homology table of a diagram and the Jones line.
 pub fn reply_with_table(alloc: Global, kinds: &StateKinds, table: &Table) -> Result<Reply, NoMemory>
     ensures { IfOk result (λ reply. reply
         ≡ reply_of Status.Done (table_text table.now ++ jones_line kinds.now)) }
 {
+    Ok(reply_made(Status::Done, text_with_table(alloc, kinds, table)?))
+}
+
+/// The text of a table of a diagram, and the Jones line behind it, which is read from the kinds of the diagram's states.
+pub fn text_with_table(
+    alloc: Global,
+    kinds: &StateKinds,
+    table: &Table,
+) -> Result<Vec<u8>, NoMemory>
+    ensures { IfOk result (λ text. text.items ≡ table_text table.now ++ jones_line kinds.now) }
+{
     let mut text = print_table(alloc, table)?;
     text.extend_from_slice(&jones_line(alloc, kinds)?)?;
-    Ok(reply_made(Status::Done, text))
+    Ok(text)
 }

@@ -25,6 +25,9 @@ returns-in_ok-usage-in-Err-Usage-clause-read_out g c =
 pub draft_to_command-requires-clause-number : goal.draft_to_command-requires-clause-number
 draft_to_command-requires-clause-number g c = c.in-Ok.ensures.command.needed
 
+pub draft_to_command-requires-clause-mark : goal.draft_to_command-requires-clause-mark
+draft_to_command-requires-clause-mark g c = c.in-Ok.ensures.command.marked
+
 pub returns-in-Ok-clause-blind : goal.returns-in-Ok-clause-blind
 returns-in-Ok-clause-blind g c =
     λ nothing. IsBlindAnswer-command c.draft_to_command.result c.args.words.now c.in-Ok.command c.in-Ok.ensures.command

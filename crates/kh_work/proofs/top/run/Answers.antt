@@ -1,6 +1,7 @@
 use Rattle.std.proofs.Common.{◌≡◌}
 use Rattle.kh_work.specs.Runs.{seen}
 use Rattle.kh_work.proofs.Headlines.{headline-run}
+use Rattle.kh_work.proofs.ReducedHeadlines.{reduced-run}
 use Rattle.kh_work.proofs.Written.{IsProgramRun-written}
 use Rattle.kh_work.proofs.top.run.Goals as goal
 
@@ -16,6 +17,14 @@ returns-clause-run g c =
 pub returns-clause-headline : goal.returns-clause-headline
 returns-clause-headline g c =
     headline-run c.args.words.now (seen (g.S.Source.left c.args.source.now) (g.S.Source.faults c.args.source.now))
+    (seen (g.S.Source.left c.reply_by-made.new.source) (g.S.Source.faults c.reply_by-made.new.source))
+    (seen (g.K.Sink.written c.args.sink.now) (g.K.Sink.faults c.args.sink.now))
+    (seen (g.K.Sink.written c.written.new.sink) (g.K.Sink.faults c.written.new.sink))
+    (c.reply_by-made.new.source ≡ c.args.source.now) (c.written.new.sink ≡ c.args.sink.now) c.written.result (returns-clause-run g c)
+
+pub returns-clause-reduced : goal.returns-clause-reduced
+returns-clause-reduced g c =
+    reduced-run c.args.words.now (seen (g.S.Source.left c.args.source.now) (g.S.Source.faults c.args.source.now))
     (seen (g.S.Source.left c.reply_by-made.new.source) (g.S.Source.faults c.reply_by-made.new.source))
     (seen (g.K.Sink.written c.args.sink.now) (g.K.Sink.faults c.args.sink.now))
     (seen (g.K.Sink.written c.written.new.sink) (g.K.Sink.faults c.written.new.sink))

@@ -5,17 +5,18 @@ use Rattle.smallvec.specs.SmallVec.{SmallVec}
 use Rattle.kh_types.specs.Generators.{generators_at}
 use Rattle.sparse_block.specs.declared.entry.Entry.{Entry}
 use Rattle.sparse_block.specs.Inside.{entries_in, lines_in}
-use Rattle.cube_signs.proofs.BlockLemmas.{all_columns-more, names-at}
+use Rattle.cube_signs.proofs.BlockLemmas.{all_columns-more, are-tails, names-at}
 use Rattle.cube_signs.proofs.cube.Cube.all_columns.Goals as goal
 
 pub columns-requires-clause-names : goal.columns-requires-clause-names
 columns-requires-clause-names c =
     let code = c.args.self.now in
     let least = c.args.least in
-    c.deref.ensures.value
+    are-tails code c.above.result.i c.above.result.j c.deref.result.now
+    (c.deref.ensures.value
     ∙ names-at code least.i least.j (length c.args.names.now) c.degrees.k c.args.names.now c.index-names-k.result c.requires.names
     c.degrees-test.true c.degrees-test.true c.index-names-k.is
-    ∙ sym (ap₂ (generators_at code) c.above.ensures.i c.above.ensures.j)
+    ∙ sym (ap₂ (generators_at code) c.above.ensures.i c.above.ensures.j))
 
 pub degrees-preserved : goal.degrees-preserved
 degrees-preserved c =

@@ -10,7 +10,7 @@ use Rattle.cube_signs.proofs.cube.Cube.columns.Goals as goal
 pub names-init : goal.names-init
 names-init c =
     record {
-      columns = columns-none c.args.p c.args.self.now c.args.at.i c.args.at.j (entries_in c.in_ok-columns.columns.items)
+      columns = columns-none c.args.p c.args.self.now c.args.at.i c.args.at.j c.args.names.now (entries_in c.in_ok-columns.columns.items)
           (ap entries_in c.in_ok-columns.ensures.items);
       found = found-nowhere c.args.p c.args.self.now c.args.bases.now c.nowhere-around.result.state
           c.nowhere-around.result.outs.items c.nowhere-around.ensures.state c.ranks-ranks.ensures.few;
@@ -59,5 +59,5 @@ names-preserved c =
 pub returns : goal.returns
 returns c =
     let all : c.names.k ≡ length c.args.names.now = omega (arith, c.names-test.false, c.names.auto.k-end) in
-    subst (λ (count : ℕ). AreColumns c.args.p c.args.self.now c.args.at.i c.args.at.j count (entries_in c.names.columns.items)) all
+    subst (λ (count : ℕ). AreColumns c.args.p c.args.self.now c.args.at.i c.args.at.j c.args.names.now count (entries_in c.names.columns.items)) all
     c.names.invariant.columns

@@ -1,0 +1,230 @@
+-- Complexes whose places are lists of generators, one for each degree from -n to n, with the coefficients of the cube.
+use Rattle.std.proofs.Common.{◌≡◌, ℕ, ◌+◌, ◌-◌, ◌*◌, ◌%◌, ◌<◌, ◌≤◌, ◌∙◌, ◌⊎◌, inl, inr, ℤ, pos, negsuc, ◌+ℤ◌, ◌-ℤ◌, List, [], ◌∷◌, length, get_or, map, refl, sym, ap, ap₂, arith, true, false, zero, suc, cond}
+use Rattle.std.specs.Prelude.{slice_index_or}
+use Rattle.std.specs.List.{count_by, sum_by, range_with_len}
+use Rattle.std.proofs.lemmas.Bool.{cases_lt}
+use Rattle.std.proofs.lemmas.Int.{ints}
+use Rattle.std.proofs.lemmas.List.{get_or_past, get_or-map, length-map}
+use Rattle.std.proofs.lemmas.List.Elements.{All-nil}
+use Rattle.std.proofs.lemmas.List.FromFn.{length-map-range_with_len, get_or-map-range_with_len}
+use Rattle.std.proofs.lemmas.List.Sums.{sum_by-cons}
+use Rattle.kh_types.specs.Code.{Code}
+use Rattle.kh_types.specs.Complex.{Complex, Degree, IsComplex, alive_count, degree_from, degree_number, degree_of, dimension_of, empty_degree, entry_in, entry_of, product_entry}
+use Rattle.kh_types.specs.Generators.{Generator}
+use Rattle.kh_types.specs.Rank.{rank}
+use Rattle.kh_types.specs.Table.{IsWithin, from_minus}
+use Rattle.kh_types.proofs.MatrixTests.{entry-past_rows}
+use Rattle.kh_types.proofs.QuantumDegrees.{IsWithin-place, place-IsWithin}
+use Rattle.kh_types.proofs.RankLemmas.{rank-zeros}
+use Rattle.kh_types.proofs.ListSums.{sum_by-alike}
+use Rattle.cube_signs.specs.Chosen.{coefficients, list_complex, list_degree}
+use Rattle.cube_signs.proofs.ListMatrices.{SquareToZero, coefficients-square, entry-below, entry-column_past, length-coefficients, length-row}
+
+-- what the lists have: beyond n they are empty, and the coefficients square to zero
+pub record AreLists (p : ℕ) (code : Code) (n : ℕ) (lists : ℤ → List Generator) : Type 0 where
+  pub beyond : (i : ℤ) → (IsWithin n i → ⊥) → lists i ≡ []
+  pub square : (i : ℤ) → SquareToZero p code (lists i) (lists (i +ℤ pos 1))
+
+-- an integer is from -n to n, or it is not
+pub within_or_not : (n : ℕ) (i : ℤ) → IsWithin n i ⊎ (IsWithin n i → ⊥)
+within_or_not n (pos m) = elim (cases_lt n m) [
+  | inl past ↦ inr (λ within. let place = place-IsWithin n (pos m) within in omega (arith, ints, past, place.1, place.2))
+  | inr small ↦ inl (IsWithin-place n (m + n) (pos m) (omega arith) (omega (arith, ints)))
+]
+within_or_not n (negsuc m) = elim (cases_lt m n) [
+  | inl small ↦ inl (IsWithin-place n (n - suc m) (negsuc m) (omega arith) (omega (arith, ints)))
+  | inr past ↦ inr (λ within. let place = place-IsWithin n (negsuc m) within in omega (arith, ints, past, place.1, place.2))
+]
+
+-- the dimension at i
+abbrev pub list_dimension : ℕ → Code → (ℤ → List Generator) → ℤ → ℕ
+list_dimension p code lists i =
+    length (lists i) - rank p (coefficients p code (lists i) (lists (i +ℤ pos 1)))
+    - rank p (coefficients p code (lists (i -ℤ pos 1)) (lists (i -ℤ pos 1 +ℤ pos 1)))
+
+get_or-from_minus : (n k : ℕ) (d : ℤ) → k < 2 * n + 1 → get_or (from_minus n) k d ≡ pos k -ℤ pos n
+get_or-from_minus n k d below = get_or-map-range_with_len (λ m. pos m -ℤ pos n) 0 (2 * n + 1) k k d below (omega arith)
+
+length-from_minus : (n : ℕ) → length (from_minus n) ≡ 2 * n + 1
+length-from_minus n = length-map-range_with_len (λ m. pos m -ℤ pos n) 0 (2 * n + 1)
+
+size-list_complex : (p : ℕ) (code : Code) (n : ℕ) (lists : ℤ → List Generator)
+    → length (list_complex p code n lists).degrees ≡ 2 * n + 1
+size-list_complex p code n lists = length-map (from_minus n) (list_degree p code lists) ∙ length-from_minus n
+
+degree-numbered : (p : ℕ) (code : Code) (n : ℕ) (lists : ℤ → List Generator) (k : ℕ) → k < 2 * n + 1
+    → degree_number (list_complex p code n lists) k ≡ list_degree p code lists (pos k -ℤ pos n)
+degree-numbered p code n lists k below =
+    get_or-map (list_degree p code lists) (from_minus n) k (pos 0) empty_degree (omega (arith, below, length-from_minus n))
+    ∙ ap (list_degree p code lists) (get_or-from_minus n k (pos 0) below)
+
+degree-past : (p : ℕ) (code : Code) (n : ℕ) (lists : ℤ → List Generator) (k : ℕ) → 2 * n + 1 ≤ k
+    → degree_number (list_complex p code n lists) k ≡ empty_degree
+degree-past p code n lists k past =
+    get_or_past (list_complex p code n lists).degrees k empty_degree (omega (arith, past, size-list_complex p code n lists))
+
+-- each degree is that of its list, or it is empty, beyond n
+degree-list_complex : (p : ℕ) (code : Code) (n : ℕ) (lists : ℤ → List Generator) (i : ℤ)
+    → (degree_of (list_complex p code n lists) i ≡ list_degree p code lists i)
+    ⊎ ((degree_of (list_complex p code n lists) i ≡ empty_degree) × (IsWithin n i → ⊥))
+degree-list_complex p code n lists i = elim (within_or_not n i) [
+  | inl within ↦
+      let place = place-IsWithin n i within in
+      let distance : i -ℤ (pos 0 -ℤ pos n) ≡ pos place.0 = omega (arith, ints, place.2) in
+      inl (ap (degree_from (list_complex p code n lists)) distance ∙ degree-numbered p code n lists place.0 place.1
+      ∙ ap (list_degree p code lists) (sym place.2))
+  | inr outside ↦ inr (placed (i -ℤ (pos 0 -ℤ pos n)) refl outside, outside)
+]
+  where
+    placed : (distance : ℤ) → i -ℤ (pos 0 -ℤ pos n) ≡ distance → (IsWithin n i → ⊥)
+        → degree_of (list_complex p code n lists) i ≡ empty_degree
+    placed (negsuc k) is outside = ap (degree_from (list_complex p code n lists)) is
+    placed (pos k) is outside = elim (cases_lt k (2 * n + 1)) [
+      | inl below ↦ absurd (outside (IsWithin-place n k i below (omega (arith, ints, is))))
+      | inr past ↦ ap (degree_from (list_complex p code n lists)) is ∙ degree-past p code n lists k past
+    ]
+
+pub alive-list_complex : (p : ℕ) (code : Code) (n : ℕ) (lists : ℤ → List Generator) (i : ℤ)
+    → ((i : ℤ) → (IsWithin n i → ⊥) → lists i ≡ [])
+    → (degree_of (list_complex p code n lists) i).alive ≡ map (λ generator. true) (lists i)
+alive-list_complex p code n lists i beyond = elim (degree-list_complex p code n lists i) [
+  | inl is ↦ ap (λ degree. degree.alive) is
+  | inr (is, outside) ↦
+      ap (λ degree. degree.alive) is ∙ sym (ap (λ (xs : List Generator). map (λ x. true) xs) (beyond i outside))
+]
+
+pub entry-list_complex : (p : ℕ) (code : Code) (n : ℕ) (lists : ℤ → List Generator) (i : ℤ) (row column : ℕ)
+    → ((i : ℤ) → (IsWithin n i → ⊥) → lists i ≡ [])
+    → entry_of (list_complex p code n lists) i row column
+    ≡ entry_in (coefficients p code (lists i) (lists (i +ℤ pos 1))) row column
+entry-list_complex p code n lists i row column beyond = elim (degree-list_complex p code n lists i) [
+  | inl is ↦ ap (λ degree. entry_in degree.matrix row column) is
+  | inr (is, outside) ↦
+      ap (λ degree. entry_in degree.matrix row column) is ∙ entry-past_rows [] row column (omega arith)
+      ∙ sym (entry-column_past p code (lists i) (lists (i +ℤ pos 1)) row column (omega (arith, ap length (beyond i outside))))
+]
+
+places-list_complex : (p : ℕ) (code : Code) (n : ℕ) (lists : ℤ → List Generator) (i : ℤ)
+    → ((i : ℤ) → (IsWithin n i → ⊥) → lists i ≡ [])
+    → length (degree_of (list_complex p code n lists) i).alive ≡ length (lists i)
+places-list_complex p code n lists i beyond =
+    ap length (alive-list_complex p code n lists i beyond) ∙ length-map (lists i) (λ generator. true)
+
+-- the rank of a matrix without columns
+rank-empty_rows : {X : Type 0} (p : ℕ) (xs : List X) → rank p (map (λ x. []) xs) ≡ 0
+rank-empty_rows p [] = refl
+rank-empty_rows p (x ∷ xs) = rank-zeros p [] (map (λ x. []) xs) (All-nil (λ n. n ≡ 0)) ∙ rank-empty_rows p xs
+
+pub rank-no_tails : (p : ℕ) (code : Code) (tails heads : List Generator) → tails ≡ [] → rank p (coefficients p code tails heads) ≡ 0
+rank-no_tails p code tails heads none =
+    ap (λ (xs : List Generator). rank p (coefficients p code xs heads)) none ∙ rank-empty_rows p heads
+
+pub rank-no_heads : (p : ℕ) (code : Code) (tails heads : List Generator) → heads ≡ [] → rank p (coefficients p code tails heads) ≡ 0
+rank-no_heads p code tails heads none = ap (λ (xs : List Generator). rank p (coefficients p code tails xs)) none
+
+pub rank-list_complex : (p : ℕ) (code : Code) (n : ℕ) (lists : ℤ → List Generator) (i : ℤ)
+    → ((i : ℤ) → (IsWithin n i → ⊥) → lists i ≡ [])
+    → rank p (degree_of (list_complex p code n lists) i).matrix ≡ rank p (coefficients p code (lists i) (lists (i +ℤ pos 1)))
+rank-list_complex p code n lists i beyond = elim (degree-list_complex p code n lists i) [
+  | inl is ↦ ap (λ degree. rank p degree.matrix) is
+  | inr (is, outside) ↦
+      ap (λ degree. rank p degree.matrix) is
+      ∙ sym (rank-no_tails p code (lists i) (lists (i +ℤ pos 1)) (beyond i outside))
+]
+
+count-all : {X : Type 0} (xs : List X) → count_by (λ is_alive. is_alive) (map (λ x. true) xs) ≡ length xs
+count-all [] = refl
+count-all (x ∷ xs) = omega (arith, sum_by-cons (λ b. cond b 1 0) true (map (λ y. true) xs), count-all xs)
+
+pub alive_count-list_complex : (p : ℕ) (code : Code) (n : ℕ) (lists : ℤ → List Generator) (i : ℤ)
+    → ((i : ℤ) → (IsWithin n i → ⊥) → lists i ≡ []) → alive_count (list_complex p code n lists) i ≡ length (lists i)
+alive_count-list_complex p code n lists i beyond =
+    ap (λ alive. count_by (λ is_alive. is_alive) alive) (alive-list_complex p code n lists i beyond) ∙ count-all (lists i)
+
+pub dimension_of-list_complex : (p : ℕ) (code : Code) (n : ℕ) (lists : ℤ → List Generator) (i : ℤ)
+    → ((i : ℤ) → (IsWithin n i → ⊥) → lists i ≡ [])
+    → dimension_of p (list_complex p code n lists) i ≡ list_dimension p code lists i
+dimension_of-list_complex p code n lists i beyond =
+    omega (
+      arith,
+      alive_count-list_complex p code n lists i beyond,
+      rank-list_complex p code n lists i beyond,
+      rank-list_complex p code n lists (i -ℤ pos 1) beyond,
+    )
+
+-- all places are alive
+all_alive : {X : Type 0} (xs : List X) (place : ℕ) → slice_index_or (map (λ x. true) xs) place true ≡ true
+all_alive [] zero = refl
+all_alive [] (suc place) = refl
+all_alive (x ∷ xs) zero = refl
+all_alive (x ∷ xs) (suc place) = all_alive xs place
+
+not_dead : (p : ℕ) (code : Code) (n : ℕ) (lists : ℤ → List Generator) (i : ℤ) (place : ℕ)
+    → ((i : ℤ) → (IsWithin n i → ⊥) → lists i ≡ [])
+    → slice_index_or (degree_of (list_complex p code n lists) i).alive place true ≡ false → ⊥
+not_dead p code n lists i place beyond dead =
+    let so : true ≡ false =
+    sym (all_alive (lists i) place)
+    ∙ ap (λ places. slice_index_or places place true) (sym (alive-list_complex p code n lists i beyond)) ∙ dead in
+    absurd (cc)
+
+product-list_complex : (p : ℕ) (code : Code) (n : ℕ) (lists : ℤ → List Generator) (i : ℤ) (row column : ℕ) → AreLists p code n lists
+    → product_entry p (list_complex p code n lists) i row column ≡ 0
+product-list_complex p code n lists i row column are =
+    let next = i +ℤ pos 1 in
+    let whole = list_complex p code n lists in
+    let beyond = are.beyond in
+    ap (λ m. sum_by (λ middle. entry_of whole next row middle * entry_of whole i middle column) (range_with_len 0 m) % p)
+    (places-list_complex p code n lists next beyond)
+    ∙ ap (λ s. s % p)
+    (sum_by-alike (λ middle. entry_of whole next row middle * entry_of whole i middle column)
+    (λ middle. entry_in (coefficients p code (lists next) (lists (next +ℤ pos 1))) row middle
+    * entry_in (coefficients p code (lists i) (lists next)) middle column)
+    (λ middle. ap₂ (λ x y. x * y) (entry-list_complex p code n lists next row middle beyond)
+    (entry-list_complex p code n lists i middle column beyond))
+    (range_with_len 0 (length (lists next))))
+    ∙ coefficients-square p code (lists i) (lists next) (lists (next +ℤ pos 1)) row column (are.square i)
+
+-- the number after a degree's number is that of the next degree
+degree_of-next : (p : ℕ) (code : Code) (n : ℕ) (lists : ℤ → List Generator) (k : ℕ)
+    → degree_of (list_complex p code n lists) (pos k -ℤ pos n +ℤ pos 1) ≡ degree_number (list_complex p code n lists) (k + 1)
+degree_of-next p code n lists k =
+    let distance : pos k -ℤ pos n +ℤ pos 1 -ℤ (pos 0 -ℤ pos n) ≡ pos (k + 1) = omega (arith, ints) in
+    ap (degree_from (list_complex p code n lists)) distance
+
+pub IsComplex-list_complex : (p : ℕ) (code : Code) (n : ℕ) (lists : ℤ → List Generator) → 1 < p → AreLists p code n lists
+    → IsComplex p (list_complex p code n lists)
+IsComplex-list_complex p code n lists above are =
+    let whole = list_complex p code n lists in
+    let beyond = are.beyond in
+    record {
+      rows = λ k within.
+          let i = pos k -ℤ pos n in
+          ap (λ degree. length degree.matrix)
+          (degree-numbered p code n lists k (omega (arith, within, size-list_complex p code n lists)))
+          ∙ length-coefficients p code (lists i) (lists (i +ℤ pos 1))
+          ∙ sym (places-list_complex p code n lists (i +ℤ pos 1) beyond)
+          ∙ ap (λ degree. length degree.alive) (degree_of-next p code n lists k);
+      columns = λ k row row_within. elim (cases_lt k (2 * n + 1)) [
+        | inl within ↦
+            let i = pos k -ℤ pos n in
+            let at = degree-numbered p code n lists k within in
+            let row_there : row < length (coefficients p code (lists i) (lists (i +ℤ pos 1))) =
+            omega (arith, row_within, ap (λ degree. length degree.matrix) at) in
+            ap (λ degree. length (slice_index_or degree.matrix row [])) at
+            ∙ length-row p code (lists i) (lists (i +ℤ pos 1)) row
+            (omega (arith, row_there, length-coefficients p code (lists i) (lists (i +ℤ pos 1))))
+            ∙ sym (length-map (lists i) (λ generator. true)) ∙ ap (λ degree. length degree.alive) (sym at)
+        | inr past ↦
+            absurd (omega (arith, row_within, ap (λ degree. length degree.matrix) (degree-past p code n lists k past)))
+      ];
+      below = λ i row column.
+          omega (
+            arith,
+            entry-list_complex p code n lists i row column beyond,
+            entry-below p code (lists i) (lists (i +ℤ pos 1)) row column above,
+          );
+      dead_column = λ i row column dead. absurd (not_dead p code n lists i column beyond dead);
+      dead_row = λ i row column dead. absurd (not_dead p code n lists (i +ℤ pos 1) row beyond dead);
+      product = λ i row column. product-list_complex p code n lists i row column are;
+    }

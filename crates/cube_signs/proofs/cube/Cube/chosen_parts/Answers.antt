@@ -1,0 +1,77 @@
+use Rattle.std.proofs.Common.{◌≡◌, ◌<◌, ◌+◌, ◌*◌, ◌∙◌, ℕ, ℤ, List, pos, ◌-ℤ◌, length, ap, subst, arith, w16}
+use Rattle.std.specs.Prelude.{slice_index_or, []}
+use Rattle.std.specs.Global.{Vec}
+use Rattle.std.proofs.lemmas.Int.{to_z-of_z}
+use Rattle.std.proofs.lemmas.List.{map_push}
+use Rattle.smallvec.specs.SmallVec.{SmallVec}
+use Rattle.sparse_block.specs.declared.entry.Entry.{Entry}
+use Rattle.sparse_block.specs.Inside.{entries_in, lines_in, lists_in}
+use Rattle.cube_signs.specs.Chosen.{chosen_at, has_minus}
+use Rattle.cube_signs.specs.ChosenParts.{all_places_to, chosen_to, AreChosenColumns, AreChosenParts}
+use Rattle.cube_signs.proofs.ChosenBlocks.{AreChosenParts-columns, chosen_columns-more, places-behind}
+use Rattle.cube_signs.proofs.ChosenLoops.{chosen-names, chosen-tails, length-chosen}
+use Rattle.cube_signs.proofs.cube.Cube.chosen_parts.Goals as goal
+
+pub index-requires : goal.index-requires
+index-requires c =
+    let names = c.in_ok-chosen.chosen.names in
+    omega (
+      arith,
+      names.ok.0,
+      length-chosen (has_minus c.args.circles.now) c.args.self.now c.lowest-lowest.result.j (2 * c.crossing_count.result + 1) names.items
+          c.in_ok-chosen.ensures.names,
+      c.degrees-test.true,
+    )
+
+pub chosen_columns-requires-clause-names : goal.chosen_columns-requires-clause-names
+chosen_columns-requires-clause-names c =
+    let code = c.args.self.now in
+    let choice = has_minus c.args.circles.now in
+    let low = c.lowest-lowest.result in
+    chosen-tails choice code low.i c.above.result.i low.j c.above.result.j c.degrees.k c.deref-in-degrees-2.result.now
+    c.lowest-lowest.ensures.i c.above.ensures.i c.above.ensures.j
+    (c.deref-in-degrees-2.ensures.value
+    ∙ chosen-names choice code low.j (2 * c.crossing_count.result + 1) c.degrees.k c.in_ok-chosen.chosen.names.items
+    c.index.result.now c.in_ok-chosen.ensures.names c.degrees-test.true c.index.ensures)
+
+abbrev at_next : List (List ℕ) → ℕ → List ℕ
+at_next lists k = slice_index_or lists (k + 1) []
+
+pub degrees-preserved : goal.degrees-preserved
+degrees-preserved c =
+    let code = c.args.self.now in
+    let choice = has_minus c.args.circles.now in
+    let low = c.lowest-lowest.result in
+    let names = c.in_ok-chosen.chosen.names.items in
+    let before = lists_in c.in_ok-chosen.chosen.before.items in
+    let count = c.crossing_count.ensures.count in
+    let places : before ≡ all_places_to choice code low.j (2 * length code.crossings + 1) =
+    c.in_ok-chosen.ensures.places ∙ ap (λ (n : ℕ). all_places_to choice code low.j (2 * n + 1)) count in
+    chosen_columns-more choice c.args.p code low.i c.above.result.i low.j c.above.result.j c.degrees.k c.deref-in-degrees-2.result.now
+    c.list_at-heads.result.now (entries_in c.in_ok-degree.degree.items) (lines_in c.degrees.columns.items)
+    (lines_in c.push.new.self.items) c.requires.closed c.degrees.invariant c.lowest-lowest.ensures.i c.above.ensures.i
+    c.above.ensures.j
+    (c.deref-in-degrees-2.ensures.value
+    ∙ chosen-names choice code low.j (2 * c.crossing_count.result + 1) c.degrees.k names c.index.result.now
+    c.in_ok-chosen.ensures.names c.degrees-test.true c.index.ensures)
+    (c.list_at-heads.ensures ∙ ap (λ (lists : List (Vec ℕ)). at_next (lists_in lists) c.degrees.k) c.deref.ensures.value
+    ∙ places-behind choice code low.j c.degrees.k before places (omega (arith, c.degrees-test.true, count)))
+    c.in_ok-degree.ensures
+    (ap lines_in c.in_ok-push.ensures.items
+    ∙ map_push (λ (degree : Vec (SmallVec Entry)). entries_in degree.items) c.degrees.columns.items c.in_ok-degree.degree)
+
+pub returns : goal.returns
+returns c =
+    let code = c.args.self.now in
+    let choice = has_minus c.args.circles.now in
+    let low = c.lowest-lowest.result in
+    let same : low.j ≡ c.args.j = c.lowest-lowest.ensures.j ∙ to_z-of_z w16 c.args.j c.ranges.j in
+    let count = c.crossing_count.ensures.count in
+    let whole : c.degrees.k ≡ 2 * c.crossing_count.result + 1 = omega (arith, c.degrees-test.false, c.degrees.auto.k-end) in
+    let columns = lines_in c.degrees.columns.items in
+    let are : AreChosenColumns choice c.args.p code low.j (2 * c.crossing_count.result + 1) columns =
+    subst (λ (n : ℕ). AreChosenColumns choice c.args.p code low.j n columns) whole c.degrees.invariant in
+    subst (λ (j : ℤ). AreChosenParts choice c.args.p code j (lists_in c.in_ok-chosen.chosen.names.items) columns) same
+    (AreChosenParts-columns choice c.args.p code low.j (2 * c.crossing_count.result + 1)
+    (lists_in c.in_ok-chosen.chosen.names.items) columns c.requires.prime c.state_count.ensures.code c.state_count.ensures.size
+    c.requires.closed (omega (arith, count)) c.in_ok-chosen.ensures.names are)

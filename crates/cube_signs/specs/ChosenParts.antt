@@ -1,0 +1,64 @@
+-- The parts of a block over chosen generators, as they are found.
+use Rattle.std.specs.Prelude.{◌≡◌, ℕ, ◌+◌, ◌*◌, ◌<◌, ◌^◌, ℤ, pos, ◌+ℤ◌, ◌-ℤ◌, List, [], length, map, Bool, slice_index, slice_index_or, All}
+use Rattle.std.specs.List.{range_with_len}
+use Rattle.kh_types.specs.Code.{Code}
+use Rattle.kh_types.specs.Differential.{coefficient}
+use Rattle.kh_types.specs.Generators.{Generator, generator_of, generators_at}
+use Rattle.sparse_block.specs.declared.entry.Entry.{Entry}
+use Rattle.sparse_block.specs.Complexes.{sparse_complex, HaveEntries, SquaresToZero}
+use Rattle.sparse_block.specs.Entries.{entry_at, value_at, AreEntries}
+use Rattle.cube_signs.specs.Chosen.{chosen_at, chosen_before, chosen_block}
+use Rattle.cube_signs.specs.Columns.{AreColumns}
+
+-- the chosen generators of the quantum degree j and of the first homological degrees, from -n on where there are n crossings
+abbrev pub chosen_to : (Generator → Bool) → Code → ℤ → ℕ → List (List Generator)
+chosen_to choice code j count = map (λ k. chosen_at choice code (pos k -ℤ pos (length code.crossings)) j) (range_with_len 0 count)
+
+-- for each of some generators, how many before it are chosen; and for the first of them
+abbrev pub places_to : (Generator → Bool) → List Generator → ℕ → List ℕ
+places_to choice generators count = map (chosen_before choice generators) (range_with_len 0 count)
+
+abbrev pub all_places : (Generator → Bool) → List Generator → List ℕ
+all_places choice generators = places_to choice generators (length generators)
+
+-- the same for all generators of these degrees
+abbrev pub all_places_to : (Generator → Bool) → Code → ℤ → ℕ → List (List ℕ)
+all_places_to choice code j count =
+    map (λ k. all_places choice (generators_at code (pos k -ℤ pos (length code.crossings)) j)) (range_with_len 0 count)
+
+-- an entry at the row that is given for its row
+abbrev pub moved_entry : List ℕ → Entry → Entry
+moved_entry rows entry = entry_at (slice_index rows entry.place, entry.value)
+
+-- entries are the column of a tail: those of its coefficients to the heads
+pub record IsColumnTo (p : ℕ) (code : Code) (heads : List Generator) (tail : Generator) (entries : List Entry) : Type 0 where
+  pub are : AreEntries p (length heads) entries
+  pub values : (row : ℕ) → row < length heads → value_at entries row ≡ coefficient p code tail (slice_index_or heads row (generator_of 0 0))
+
+-- columns are those of tails to heads
+pub record AreColumnsTo (p : ℕ) (code : Code) (tails heads : List Generator) (columns : List (List Entry)) : Type 0 where
+  pub size : length columns ≡ length tails
+  pub each : (k : ℕ) → k < length tails
+      → IsColumnTo p code heads (slice_index_or tails k (generator_of 0 0)) (slice_index_or columns k [])
+
+-- columns are those of some generators of the degrees i and j, with their rows numbered anew
+pub record AreMovedColumns (p : ℕ) (code : Code) (i j : ℤ) (tails : List Generator) (rows : List ℕ) (columns : List (List Entry)) : Type 0 where
+  pub whole : List (List Entry)
+  pub of_tails : AreColumns p code i j tails (length tails) whole
+  pub are : columns ≡ map (map (moved_entry rows)) whole
+
+-- lists of columns are those between the chosen generators of the first homological degrees
+pub record AreChosenColumns (choice : Generator → Bool) (p : ℕ) (code : Code) (j : ℤ) (count : ℕ) (columns : List (List (List Entry))) : Type 0 where
+  pub size : length columns ≡ count
+  pub each : (k : ℕ) → k < count
+      → AreColumnsTo p code (chosen_at choice code (pos k -ℤ pos (length code.crossings)) j)
+      (chosen_at choice code (pos k -ℤ pos (length code.crossings) +ℤ pos 1) j) (slice_index_or columns k [])
+
+-- names and columns, by degree from the lowest on, of which the block over the chosen generators is made
+pub record AreChosenParts (choice : Generator → Bool) (p : ℕ) (code : Code) (j : ℤ) (names : List (List Generator)) (columns : List (List (List Entry))) : Type 0 where
+  pub size : length names ≡ 2 * length code.crossings + 1
+  pub counts : All (λ degree. length degree < 2 ^ 32) names
+  pub sizes : map length columns ≡ map length names
+  pub entries : HaveEntries p names columns
+  pub squares : SquaresToZero p (sparse_complex (pos 0 -ℤ pos (length code.crossings)) names columns).complex
+  pub is : sparse_complex (pos 0 -ℤ pos (length code.crossings)) names columns ≡ chosen_block choice p code j

@@ -1,0 +1,34 @@
+-- The reply of the command `reduced` to a diagram.
+use Rattle.std.specs.Prelude.{◌≡◌, ℕ, List, ◌++◌, codes, nat_lt, if◌then◌else◌, Option, None, Some}
+use Rattle.std.specs.Fmt.{decimal}
+use Rattle.kh_types.specs.Code.{Code}
+use Rattle.kh_types.specs.Table.{table_text}
+use Rattle.circle_smoothing.specs.GeneratorCounts.{generator_count}
+use Rattle.circle_smoothing.specs.declared.limits.TheConstants.{GENERATORS}
+use Rattle.reduced_cube.specs.Reduced.{is_mark, reduced_table}
+use Rattle.kh_replies.specs.declared.status.Status.TheVariants.{Done}
+use Rattle.kh_replies.specs.Replies.{Reply, reply_of}
+use Rattle.kh_replies.specs.Refusals.{refused_mark, too_many_generators}
+use Rattle.kh_replies.specs.Jones.{jones_line}
+
+-- the line of a mark
+abbrev pub mark_line : ℕ → List ℕ
+mark_line mark = codes "mark " ++ (decimal mark ++ codes "\n")
+
+-- the line of the mark, the text of the reduced homology table at it over the field of so many elements, and the Jones line of the
+-- diagram behind it
+unfoldable pub reduced_text : ℕ → ℕ → Code → List ℕ
+reduced_text field mark code = mark_line mark ++ (table_text (reduced_table field code mark) ++ jones_line code)
+
+-- this text, where the mark is an arc or a loop and then the cube has few enough generators
+abbrev pub reduced_reply : ℕ → ℕ → Code → Reply
+reduced_reply field mark code =
+    if is_mark code mark
+    then (if nat_lt GENERATORS (generator_count code) then too_many_generators (generator_count code)
+    else reply_of Done (reduced_text field mark code))
+    else refused_mark mark
+
+-- the reply at the mark of a command, which has one
+abbrev pub IsReducedReply : ℕ → Option ℕ → Code → Reply → Type 0
+IsReducedReply field None code reply = ⊥
+IsReducedReply field (Some mark) code reply = reply ≡ reduced_reply field mark code

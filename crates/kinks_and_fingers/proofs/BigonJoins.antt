@@ -1,0 +1,208 @@
+-- What the smoothings of a crossing and its passes join, by its slots from one on; those of two crossings apart from all others.
+use Rattle.std.proofs.Common.{◌≡◌, ◌≢◌, ℕ, zero, suc, inl, inr, ◌+◌, ◌%◌, ◌<◌, ◌≤◌, ◌∙◌, List, [], ◌∷◌, ◌++◌, sym, ap, subst, arith, refl, Bool, true, false, cond, ◌||◌, length, eq-eqb, eqb-true}
+use Rattle.std.specs.Prelude.{nat_eq}
+use Rattle.std.specs.List.{AllByRecursion}
+use Rattle.std.proofs.lemmas.Bool.{cases_Bool, ne_eqb}
+use Rattle.kh_types.specs.Classes.{classes_of, class_count, Respects, AreBelow}
+use Rattle.kh_types.specs.Code.{arc_in, arc_count}
+use Rattle.kh_types.specs.Components.{passes_of}
+use Rattle.kh_types.specs.Circles.{smoothing_of, smoothings_of}
+use Rattle.kh_types.specs.Darts.{HasArcsTwice}
+use Rattle.kh_types.proofs.ClassLemmas.{classes-finest}
+use Rattle.kh_types.proofs.JoinedClasses.{classes_of-same, class_count-apart}
+use Rattle.kh_types.proofs.Lists.{AllByRecursion-append}
+use Rattle.kinks_and_fingers.specs.Strands.{slots_at}
+use Rattle.kinks_and_fingers.specs.Drops.{straight_pairs, is_of_two}
+use Rattle.kinks_and_fingers.specs.DropCircles.{joined_at, outer_pairs, through_at, closing_at}
+use Rattle.kinks_and_fingers.proofs.KeptCodes.{all-gone, gone-all}
+use Rattle.kinks_and_fingers.proofs.KinkCircles.{smoothings-all, smoothings-each, outer-all, outer-each, joined-below, passes-low, smoothing-zero, smoothing-one, to-zero, to-one, all_first, all_second}
+
+-- what the smoothings of a crossing join, and its passes, by its slots from p on
+
+pub closing-joined : (f : ℕ → ℕ) (slots : List ℕ) (p b : ℕ) → p < 4 → b ≡ closing_at p → Respects f (smoothing_of b slots)
+    → (f (arc_in slots p) ≡ f (arc_in slots ((p + 1) % 4))) × (f (arc_in slots ((p + 2) % 4)) ≡ f (arc_in slots ((p + 3) % 4)))
+closing-joined f slots zero b below is respects = let z = smoothing-zero f slots b is respects in (z.0, z.1)
+closing-joined f slots (suc zero) b below is respects = let o = smoothing-one f slots b is respects in (o.1, sym o.0)
+closing-joined f slots (suc (suc zero)) b below is respects = let z = smoothing-zero f slots b is respects in (z.1, z.0)
+closing-joined f slots (suc (suc (suc zero))) b below is respects = let o = smoothing-one f slots b is respects in (sym o.0, o.1)
+closing-joined f slots (suc (suc (suc (suc p)))) b below is respects = absurd (omega (arith, below))
+
+pub joined-closing : (f : ℕ → ℕ) (slots : List ℕ) (p b : ℕ) → p < 4 → b ≡ closing_at p
+    → f (arc_in slots p) ≡ f (arc_in slots ((p + 1) % 4)) → f (arc_in slots ((p + 2) % 4)) ≡ f (arc_in slots ((p + 3) % 4))
+    → Respects f (smoothing_of b slots)
+joined-closing f slots zero b below is first second = to-zero f slots b is first second
+joined-closing f slots (suc zero) b below is first second = to-one f slots b is (sym second) first
+joined-closing f slots (suc (suc zero)) b below is first second = to-zero f slots b is second first
+joined-closing f slots (suc (suc (suc zero))) b below is first second = to-one f slots b is (sym first) second
+joined-closing f slots (suc (suc (suc (suc p)))) b below is first second = absurd (omega (arith, below))
+
+pub through-joined : (f : ℕ → ℕ) (slots : List ℕ) (p b : ℕ) → p < 4 → b ≡ through_at p → Respects f (smoothing_of b slots)
+    → (f (arc_in slots ((p + 1) % 4)) ≡ f (arc_in slots ((p + 2) % 4))) × (f (arc_in slots ((p + 3) % 4)) ≡ f (arc_in slots p))
+through-joined f slots zero b below is respects = let o = smoothing-one f slots b is respects in (o.1, sym o.0)
+through-joined f slots (suc zero) b below is respects = let z = smoothing-zero f slots b is respects in (z.1, z.0)
+through-joined f slots (suc (suc zero)) b below is respects = let o = smoothing-one f slots b is respects in (sym o.0, o.1)
+through-joined f slots (suc (suc (suc zero))) b below is respects = let z = smoothing-zero f slots b is respects in (z.0, z.1)
+through-joined f slots (suc (suc (suc (suc p)))) b below is respects = absurd (omega (arith, below))
+
+pub joined-through : (f : ℕ → ℕ) (slots : List ℕ) (p b : ℕ) → p < 4 → b ≡ through_at p
+    → f (arc_in slots ((p + 1) % 4)) ≡ f (arc_in slots ((p + 2) % 4)) → f (arc_in slots ((p + 3) % 4)) ≡ f (arc_in slots p)
+    → Respects f (smoothing_of b slots)
+joined-through f slots zero b below is first second = to-one f slots b is (sym second) first
+joined-through f slots (suc zero) b below is first second = to-zero f slots b is second first
+joined-through f slots (suc (suc zero)) b below is first second = to-one f slots b is (sym first) second
+joined-through f slots (suc (suc (suc zero))) b below is first second = to-zero f slots b is first second
+joined-through f slots (suc (suc (suc (suc p)))) b below is first second = absurd (omega (arith, below))
+
+pub straight-pass : (f : ℕ → ℕ) (slots : List ℕ) (p : ℕ) → p < 4 → Respects f (passes_of slots)
+    → (f (arc_in slots p) ≡ f (arc_in slots ((p + 2) % 4))) × (f (arc_in slots ((p + 1) % 4)) ≡ f (arc_in slots ((p + 3) % 4)))
+straight-pass f slots zero below respects = (respects.0, respects.1.0)
+straight-pass f slots (suc zero) below respects = (respects.1.0, sym respects.0)
+straight-pass f slots (suc (suc zero)) below respects = (sym respects.0, sym respects.1.0)
+straight-pass f slots (suc (suc (suc zero))) below respects = (sym respects.1.0, respects.0)
+straight-pass f slots (suc (suc (suc (suc p)))) below respects = absurd (omega (arith, below))
+
+pub pass-straight : (f : ℕ → ℕ) (slots : List ℕ) (p : ℕ) → p < 4 → f (arc_in slots p) ≡ f (arc_in slots ((p + 2) % 4))
+    → f (arc_in slots ((p + 1) % 4)) ≡ f (arc_in slots ((p + 3) % 4)) → Respects f (passes_of slots)
+pass-straight f slots zero below first second = (first, (second, tt))
+pass-straight f slots (suc zero) below first second = (sym second, (first, tt))
+pass-straight f slots (suc (suc zero)) below first second = (sym first, (sym second, tt))
+pass-straight f slots (suc (suc (suc zero))) below first second = (second, (sym first, tt))
+pass-straight f slots (suc (suc (suc (suc p)))) below first second = absurd (omega (arith, below))
+
+-- lists of pairs with a few pairs at their end
+
+pub packed : (P : ℕ × ℕ → Type 0) (outer : List (ℕ × ℕ)) (e1 e2 l1 l2 : ℕ × ℕ) → AllByRecursion P outer → P e1 → P e2 → P l1 → P l2
+    → AllByRecursion P (((outer ++ e1 ∷ e2 ∷ []) ++ l1 ∷ []) ++ l2 ∷ [])
+packed P outer e1 e2 l1 l2 holds one two three four =
+    AllByRecursion-append P ((outer ++ e1 ∷ e2 ∷ []) ++ l1 ∷ []) (l2 ∷ [])
+    (AllByRecursion-append P (outer ++ e1 ∷ e2 ∷ []) (l1 ∷ [])
+    (AllByRecursion-append P outer (e1 ∷ e2 ∷ []) holds (one, (two, tt))) (three, tt)) (four, tt)
+
+pub record Unpacked (P : ℕ × ℕ → Type 0) (outer : List (ℕ × ℕ)) (e1 e2 l1 l2 : ℕ × ℕ) : Type 0 where
+  pub outer_holds : AllByRecursion P outer
+  pub one : P e1
+  pub two : P e2
+  pub three : P l1
+  pub four : P l2
+
+pub unpacked : (P : ℕ × ℕ → Type 0) (outer : List (ℕ × ℕ)) (e1 e2 l1 l2 : ℕ × ℕ)
+    → AllByRecursion P (((outer ++ e1 ∷ e2 ∷ []) ++ l1 ∷ []) ++ l2 ∷ []) → Unpacked P outer e1 e2 l1 l2
+unpacked P outer e1 e2 l1 l2 holds =
+    let first = all_first P ((outer ++ e1 ∷ e2 ∷ []) ++ l1 ∷ []) (l2 ∷ []) holds in
+    let last = all_second P ((outer ++ e1 ∷ e2 ∷ []) ++ l1 ∷ []) (l2 ∷ []) holds in
+    let middle = all_first P (outer ++ e1 ∷ e2 ∷ []) (l1 ∷ []) first in
+    let before = all_second P (outer ++ e1 ∷ e2 ∷ []) (l1 ∷ []) first in
+    let ends = all_second P outer (e1 ∷ e2 ∷ []) middle in
+    record {
+      outer_holds = all_first P outer (e1 ∷ e2 ∷ []) middle;
+      one = ends.0;
+      two = ends.1.0;
+      three = before.0;
+      four = last.0;
+    }
+
+-- a name that no pair joins with another
+
+abbrev pub mark : ℕ → ℕ → ℕ
+mark v z = cond (nat_eq z v) 1 0
+
+pub mark-off : (v z : ℕ) → z ≢ v → mark v z ≡ 0
+mark-off v z apart = ap (λ t. cond t 1 0) (ne_eqb z v apart)
+
+mark-own : (v : ℕ) → mark v v ≡ 1
+mark-own v = ap (λ t. cond t 1 0) (eq-eqb v v refl)
+
+pub count-leaf : (n : ℕ) (pairs : List (ℕ × ℕ)) (a b : ℕ) → AreBelow n pairs → Respects (λ z. mark a z) pairs → a < n → b < n → b ≢ a
+    → class_count (classes_of n pairs) ≡ class_count (classes_of n (pairs ++ (a, b) ∷ [])) + 1
+count-leaf n pairs a b below respects a_below b_below apart =
+    class_count-apart n pairs (a, b) below a_below b_below
+    (λ same.
+    let found = classes-finest (λ z. mark a z) n pairs respects below a b a_below b_below same in
+    let one_zero : 1 ≡ 0 = sym (mark-own a) ∙ found ∙ mark-off a b apart in
+    omega (arith, one_zero))
+
+-- two such names
+pub count-leaves : (n : ℕ) (pairs : List (ℕ × ℕ)) (a s b t : ℕ) → AreBelow n pairs → Respects (λ z. mark a z) pairs
+    → Respects (λ z. mark b z) pairs → a < n → s < n → b < n → t < n → s ≢ a → t ≢ b → a ≢ b → s ≢ b
+    → class_count (classes_of n pairs) ≡ class_count (classes_of n ((pairs ++ (a, s) ∷ []) ++ (b, t) ∷ [])) + 2
+count-leaves n pairs a s b t below a_free b_free a_below s_below b_below t_below s_a t_b a_b s_b =
+    let first = count-leaf n pairs a s below a_free a_below s_below s_a in
+    let more = AllByRecursion-append (λ pair. (pair.0 < n) × (pair.1 < n)) pairs ((a, s) ∷ []) below ((a_below, s_below), tt) in
+    let second = count-leaf n (pairs ++ (a, s) ∷ []) b t more
+    (AllByRecursion-append (λ pair. mark b pair.0 ≡ mark b pair.1) pairs ((a, s) ∷ []) b_free
+    (mark-off b a a_b ∙ sym (mark-off b s s_b), tt)) b_below t_below t_b in
+    omega (arith, first, second)
+
+-- all smoothings, with those of two crossings apart
+
+pub smoothed-as : (crossings : List (List ℕ)) (n state c d : ℕ) (whole : List (ℕ × ℕ)) → HasArcsTwice crossings
+    → arc_count crossings + 1 ≤ n → c < length crossings → d < length crossings → AreBelow n whole
+    → ((f : ℕ → ℕ) → Respects f (outer_pairs crossings (is_of_two c d) state) → Respects f (joined_at crossings state c)
+    → Respects f (joined_at crossings state d) → Respects f whole)
+    → ((f : ℕ → ℕ) → Respects f whole → Respects f (outer_pairs crossings (is_of_two c d) state)
+    × Respects f (joined_at crossings state c) × Respects f (joined_at crossings state d))
+    → classes_of n (smoothings_of crossings state) ≡ classes_of n whole
+smoothed-as crossings n state c d whole twice large c_below d_below low onward back =
+    classes_of-same n (smoothings_of crossings state) whole
+    (smoothings-all (λ pair. (pair.0 < n) × (pair.1 < n)) crossings state
+    (λ place below. joined-below crossings n state place twice large below)) low
+    (λ f respects.
+    onward f
+    (outer-all (λ pair. f pair.0 ≡ f pair.1) crossings (is_of_two c d) state
+    (λ place below stays. smoothings-each (λ pair. f pair.0 ≡ f pair.1) crossings state place respects below))
+    (smoothings-each (λ pair. f pair.0 ≡ f pair.1) crossings state c respects c_below)
+    (smoothings-each (λ pair. f pair.0 ≡ f pair.1) crossings state d respects d_below))
+    (λ f respects.
+    let parts = back f respects in
+    smoothings-all (λ pair. f pair.0 ≡ f pair.1) crossings state
+    (λ place below.
+    elim (cases_Bool (nat_eq c place)) [
+      | inl at_c ↦ subst (λ (k : ℕ). Respects f (joined_at crossings state k)) (eqb-true c place at_c) parts.1
+      | inr not_c ↦ elim (cases_Bool (nat_eq d place)) [
+        | inl at_d ↦ subst (λ (k : ℕ). Respects f (joined_at crossings state k)) (eqb-true d place at_d) parts.2
+        | inr not_d ↦
+            outer-each (λ pair. f pair.0 ≡ f pair.1) crossings (is_of_two c d) state place parts.0 below
+            (ap (λ t. t || nat_eq d place) not_c ∙ not_d)
+      ]
+    ]))
+
+pub straight-as : (crossings : List (List ℕ)) (n state c d : ℕ) (whole : List (ℕ × ℕ)) → HasArcsTwice crossings
+    → arc_count crossings + 1 ≤ n → c < length crossings → d < length crossings → AreBelow n whole
+    → ((f : ℕ → ℕ) → Respects f (outer_pairs crossings (is_of_two c d) state) → Respects f (passes_of (slots_at crossings c))
+    → Respects f (passes_of (slots_at crossings d)) → Respects f whole)
+    → ((f : ℕ → ℕ) → Respects f whole → Respects f (outer_pairs crossings (is_of_two c d) state)
+    × Respects f (passes_of (slots_at crossings c)) × Respects f (passes_of (slots_at crossings d)))
+    → classes_of n (straight_pairs crossings (is_of_two c d) ++ outer_pairs crossings (is_of_two c d) state) ≡ classes_of n whole
+straight-as crossings n state c d whole twice large c_below d_below low onward back =
+    let straight = straight_pairs crossings (is_of_two c d) in
+    let outer = outer_pairs crossings (is_of_two c d) state in
+    let c_gone : (nat_eq c c || nat_eq d c) ≡ true = ap (λ t. t || nat_eq d c) (eq-eqb c c refl) in
+    let d_gone : (nat_eq c d || nat_eq d d) ≡ true = gone_second (nat_eq c d) (nat_eq d d) (eq-eqb d d refl) in
+    classes_of-same n (straight_pairs crossings (is_of_two c d) ++ outer_pairs crossings (is_of_two c d) state) whole
+    (AllByRecursion-append (λ pair. (pair.0 < n) × (pair.1 < n)) straight outer
+    (all-gone (λ pair. (pair.0 < n) × (pair.1 < n)) (λ place. passes_of (slots_at crossings place)) (is_of_two c d) 0 (length crossings)
+    (λ place from below gone_there. passes-low crossings n place twice large (omega (arith, below))))
+    (outer-all (λ pair. (pair.0 < n) × (pair.1 < n)) crossings (is_of_two c d) state
+    (λ place below stays. joined-below crossings n state place twice large below))) low
+    (λ f respects.
+    let front = all_first (λ pair. f pair.0 ≡ f pair.1) straight outer respects in
+    let at : (place : ℕ) → place < length crossings → is_of_two c d place ≡ true → Respects f (passes_of (slots_at crossings place)) =
+    λ place below gone_there.
+    gone-all (λ pair. f pair.0 ≡ f pair.1) (λ place. passes_of (slots_at crossings place)) (is_of_two c d) 0 (length crossings) place
+    front (omega arith) (omega (arith, below)) gone_there in
+    onward f (all_second (λ pair. f pair.0 ≡ f pair.1) straight outer respects) (at c c_below c_gone) (at d d_below d_gone))
+    (λ f respects.
+    let parts = back f respects in
+    AllByRecursion-append (λ pair. f pair.0 ≡ f pair.1) straight outer
+    (all-gone (λ pair. f pair.0 ≡ f pair.1) (λ place. passes_of (slots_at crossings place)) (is_of_two c d) 0 (length crossings)
+    (λ place from below gone_there.
+    elim (cases_Bool (nat_eq c place)) [
+      | inl at_c ↦ subst (λ (k : ℕ). Respects f (passes_of (slots_at crossings k))) (eqb-true c place at_c) parts.1
+      | inr not_c ↦
+          subst (λ (k : ℕ). Respects f (passes_of (slots_at crossings k)))
+          (eqb-true d place (sym (ap (λ t. t || nat_eq d place) not_c) ∙ gone_there)) parts.2
+    ])) parts.0)
+  where
+    gone_second : (a b : Bool) → b ≡ true → (a || b) ≡ true
+    gone_second true b is = refl
+    gone_second false b is = is

@@ -1,0 +1,116 @@
+-- The generators of two degrees: which they are, and how many.
+use Rattle.std.proofs.Common.{◌≡◌, ◌≢◌, ℕ, zero, suc, ◌+◌, ◌^◌, ◌<◌, ◌≤◌, ◌∙◌, inl, inr, ℤ, List, length, get_or, refl, sym, ap, arith, true, cond, ◌&&◌}
+use Rattle.std.specs.List.{AllByRecursion, Contains, flat_map, range_with_len, sum_by}
+use Rattle.std.proofs.lemmas.Bool.{cases_eq, cases_lt}
+use Rattle.std.proofs.lemmas.List.Elements.{All-filter, All-from_recursion, All-get_or, filter_passes}
+use Rattle.std.proofs.lemmas.List.FromFn.{get_or-range_with_len, length-range_with_len}
+use Rattle.std.proofs.lemmas.List.Sums.{length-filter, sum_by-cons}
+use Rattle.std.proofs.Math.Pow.{pow-lt}
+use Rattle.kh_types.specs.Circles.{circle_count}
+use Rattle.kh_types.specs.Code.{Code, IsCrossing, place_of}
+use Rattle.kh_types.specs.Differential.{coefficient, coefficient_at, edge_sign}
+use Rattle.kh_types.specs.Edges.{state_behind}
+use Rattle.kh_types.specs.Generators.{Generator, generator_of, generators, generators_at, generators_of, has_degrees, states}
+use Rattle.kh_types.proofs.Lists.{AllByRecursion-append, Contains-filter, Contains-flat_map, Contains-map}
+use Rattle.kh_types.proofs.ListSums.{sum_by-alike, sum_by-flat_map, sum_by-map, sum_by-single}
+use Rattle.kh_types.proofs.RangeImages.{all-map_range}
+use Rattle.cube_squares.proofs.Pairs.{IsStep, edge_or_zero, is_edge-decides}
+use Rattle.cube_squares.proofs.TouchedCircles.{fits}
+
+-- a generator of the cube: its state and its label are below their limits
+pub record IsGenerator (code : Code) (generator : Generator) : Type 0 where
+  pub state : generator.state < 2 ^ length code.crossings
+  pub label : generator.label < 2 ^ circle_count code generator.state
+
+all-flat_map : {X : Type 0} (P : X → Type 0) (f : ℕ → List X) (a n : ℕ)
+    → ((k : ℕ) → k < a + n → AllByRecursion P (f k)) → AllByRecursion P (flat_map f (range_with_len a n))
+all-flat_map P f a zero each = tt
+all-flat_map P f a (suc n) each =
+    AllByRecursion-append P (f a) (flat_map f (range_with_len (a + 1) n)) (each a (omega arith))
+    (all-flat_map P f (a + 1) n (λ k below. each k (omega (arith, below))))
+
+generators-all : (code : Code) → AllByRecursion (IsGenerator code) (generators code)
+generators-all code =
+    all-flat_map (IsGenerator code) (generators_of code) 0 (2 ^ length code.crossings)
+    (λ state state_below.
+    all-map_range (IsGenerator code) (generator_of state) 0 (2 ^ circle_count code state)
+    (λ label below. record { state = omega (arith, state_below); label = omega (arith, below) }))
+
+-- the generator at a place of those of two degrees
+pub generators_at-is : (code : Code) (i j : ℤ) (at : ℕ) (d : Generator) → at < length (generators_at code i j)
+    → IsGenerator code (get_or (generators_at code i j) at d) × (has_degrees code i j (get_or (generators_at code i j) at d) ≡ true)
+generators_at-is code i j at d within = (
+  All-get_or (IsGenerator code) (generators_at code i j) at d within
+      (All-filter (has_degrees code i j) (IsGenerator code) (generators code) (All-from_recursion (IsGenerator code) (generators code) (generators-all code))),
+  All-get_or (λ x. has_degrees code i j x ≡ true) (generators_at code i j) at d within (filter_passes (has_degrees code i j) (generators code)),
+)
+
+Contains-range : (n k : ℕ) → k < n → Contains (range_with_len 0 n) k
+Contains-range n k below = (k, omega (arith, below, length-range_with_len 0 n), get_or-range_with_len 0 n k k below ∙ omega arith)
+
+-- and each has a place
+pub generators_at-contain : (code : Code) (i j : ℤ) (x : Generator) → IsGenerator code x → has_degrees code i j x ≡ true
+    → Contains (generators_at code i j) x
+generators_at-contain code i j x is passes =
+    Contains-filter (has_degrees code i j) (generators code) x passes
+    (Contains-flat_map (generators_of code) (states code) x.state x (Contains-range (2 ^ length code.crossings) x.state is.state)
+    (Contains-map (generator_of x.state) (range_with_len 0 (2 ^ circle_count code x.state)) x.label
+    (Contains-range (2 ^ circle_count code x.state) x.label is.label)))
+
+-- how many labels give a state's generators two degrees
+abbrev pub label_count : Code → ℤ → ℤ → ℕ → ℕ
+label_count code i j s = sum_by (λ label. cond (has_degrees code i j (generator_of s label)) 1 0) (range_with_len 0 (2 ^ circle_count code s))
+
+pub length-generators_at : (code : Code) (i j : ℤ) → length (generators_at code i j) ≡ sum_by (label_count code i j) (states code)
+length-generators_at code i j =
+    let one = λ (x : Generator). cond (has_degrees code i j x) 1 0 in
+    length-filter (has_degrees code i j) (generators code)
+    ∙ sum_by-flat_map one (generators_of code) (states code)
+    ∙ sum_by-alike (λ s. sum_by one (generators_of code s)) (label_count code i j)
+    (λ s. sum_by-map one (generator_of s) (range_with_len 0 (2 ^ circle_count code s))) (states code)
+
+-- the coefficients along an edge, which is one crossing's
+
+one-crossing : (state first second : ℕ) → 1 ≤ first → 1 ≤ second → first ≢ second
+    → state_behind state first ≢ state_behind state second
+one-crossing state first second from second_from other same = elim (cases_lt first second) [
+  | inl less ↦
+      let order : place_of first < place_of second = omega (arith, less, from) in
+      omega (arith, same, pow-lt order)
+  | inr more ↦
+      let order : place_of second < place_of first = omega (arith, more, other, second_from) in
+      omega (arith, same, pow-lt order)
+]
+
+pub coefficient-one : (p : ℕ) (code : Code) (tail head : Generator) (crossing : ℕ) → IsCrossing code.crossings crossing
+    → IsStep tail.state head.state crossing
+    → coefficient p code tail head ≡ cond (fits code tail head crossing) (edge_sign p tail.state crossing) 0
+coefficient-one p code tail head crossing is_crossing step =
+    sum_by-single (coefficient_at p code tail head) 1 (length code.crossings) crossing is_crossing.positive
+    (omega (arith, is_crossing.within))
+    (λ other from below differs. elim (edge_or_zero p code tail head other) [
+      | inl too ↦ absurd (one-crossing tail.state other crossing from is_crossing.positive differs (sym too.behind ∙ step.behind))
+      | inr none ↦ none
+    ])
+    ∙ ap (λ b. cond (b && fits code tail head crossing) (edge_sign p tail.state crossing) 0) ((is_edge-decides tail head crossing).1 step)
+
+-- a coefficient other than 0 goes along one
+
+sum_by-some : (f : ℕ → ℕ) (a n : ℕ) → sum_by f (range_with_len a n) ≢ 0 → (k : ℕ) × (a ≤ k) × (k < a + n) × (f k ≢ 0)
+sum_by-some f a zero some = absurd (some refl)
+sum_by-some f a (suc n) some = elim (cases_eq (f a) 0) [
+  | inr here ↦ (a, omega arith, omega arith, here)
+  | inl none ↦
+      let later = sum_by-some f (a + 1) n
+      (λ rest. some (sum_by-cons f a (range_with_len (a + 1) n) ∙ omega (arith, none, rest))) in
+      (later.0, omega (arith, later.1), omega (arith, later.2), later.3)
+]
+
+pub coefficient-elsewhere : (p : ℕ) (code : Code) (tail head : Generator) → coefficient p code tail head ≢ 0
+    → (crossing : ℕ) × IsCrossing code.crossings crossing × IsStep tail.state head.state crossing
+coefficient-elsewhere p code tail head some =
+    let term = sum_by-some (coefficient_at p code tail head) 1 (length code.crossings) some in
+    elim (edge_or_zero p code tail head term.0) [
+      | inl step ↦ (term.0, record { positive = term.1; within = omega (arith, term.2) }, step)
+      | inr none ↦ absurd (term.3 none)
+    ]

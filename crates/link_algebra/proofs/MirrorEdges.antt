@@ -1,0 +1,356 @@
+-- An edge of the cube and the edge of the mirror that leads back: where the one merges, the other splits, and labels fit along the one
+-- exactly where the exchanged labels fit along the other.
+use Rattle.std.proofs.Common.{Bool, IsTrue, ap, arith, false, inl, inr, length, subst, sym, true, ℕ, ◌%◌, ◌*◌, ◌+◌, ◌<◌, ◌^◌, ◌∙◌, ◌≡◌, ◌≤◌, ◌⊎◌}
+use Rattle.std.proofs.lemmas.Bool.Decides.{Decides-like, same_from_decides}
+use Rattle.kh_types.proofs.CircleCycles.{circles-across}
+use Rattle.kh_types.proofs.CircleNumbers.{IsName-arc}
+use Rattle.kh_types.proofs.EdgeNames.{IsArc-slot}
+use Rattle.kh_types.proofs.JoinedSlots.{across-slot}
+use Rattle.kh_types.proofs.QuantumDegrees.{bit-le}
+use Rattle.kh_types.specs.Acceptance.{accepted}
+use Rattle.kh_types.specs.Bits.{bit}
+use Rattle.kh_types.specs.CircleNumbers.{IsName}
+use Rattle.kh_types.specs.CircleSteps.{arc_at, joined_slot}
+use Rattle.kh_types.specs.Code.{Code, IsCrossing, place_of}
+use Rattle.kh_types.specs.Differential.{label_of}
+use Rattle.kh_types.specs.Edges.{arc_at_slot}
+use Rattle.kh_types.specs.Generators.{Generator}
+use Rattle.cube_squares.proofs.EdgeMarks.{IsChange, IsSameOff, label_at, label_of-circle}
+use Rattle.cube_squares.proofs.Marks.{IsOff}
+use Rattle.cube_squares.proofs.Merges.{IsMerge, IsSwitch, circle_in, switch-edge}
+use Rattle.cube_squares.proofs.Pairs.{IsStep}
+use Rattle.cube_squares.proofs.SquareKinds.{ends-meet}
+use Rattle.cube_squares.proofs.TouchedCircles.{fits, fits-decides}
+use Rattle.cube_squares.specs.Squares.{circle_at_slot}
+use Rattle.link_algebra.proofs.Flips.{flipped}
+use Rattle.link_algebra.proofs.MovedLabels.{IsName-back, name-here}
+use Rattle.link_algebra.proofs.Renamings.{IsTurned}
+use Rattle.link_algebra.proofs.GeneratorLists.{IsGenerator}
+use Rattle.link_algebra.proofs.Stars.{IsGenerator-star, IsStar, IsStar-back}
+use Rattle.link_algebra.proofs.TurnedCircles.{Corresponds, Corresponds-turned, IsTurned-back, arc-placed}
+
+-- the smoothing of a state joins slots
+slots-joined : (code : Code) (state crossing slot : ℕ) → IsTrue (accepted code) → IsCrossing code.crossings crossing → slot < 4
+    → joined_slot (bit state (place_of crossing)) slot < 4
+    → circle_at_slot code state crossing (joined_slot (bit state (place_of crossing)) slot) ≡ circle_at_slot code state crossing slot
+slots-joined code state crossing slot is is_crossing below joined_below =
+    let k = place_of crossing in
+    let e : k + 1 ≡ crossing = omega (arith, is_crossing.positive) in
+    let at : (u : ℕ) → u < 4 → arc_at code.crossings (4 * k + u) ≡ arc_at_slot code crossing u =
+    λ u u_below. arc-placed code k u u_below ∙ ap (λ c. arc_at_slot code c u) e in
+    ap (λ a. circle_in code state a) (sym (at (joined_slot (bit state k) slot) joined_below)
+    ∙ ap (λ w. arc_at code.crossings w) (sym (across-slot state k slot below)))
+    ∙ circles-across code state (4 * k + slot) is (omega (arith, is_crossing.positive, is_crossing.within, below))
+    ∙ ap (λ a. circle_in code state a) (at slot below)
+
+-- where a crossing has its 0-smoothing, or its 1-smoothing
+joined-zero : (code : Code) (state crossing : ℕ) → IsTrue (accepted code) → IsCrossing code.crossings crossing
+    → bit state (place_of crossing) ≡ 0
+    → (circle_at_slot code state crossing 0 ≡ circle_at_slot code state crossing 1)
+    × (circle_at_slot code state crossing 2 ≡ circle_at_slot code state crossing 3)
+joined-zero code state crossing is is_crossing is_zero =
+    let b = bit state (place_of crossing) in
+    let first : joined_slot b 1 ≡ 0 = ap (λ b. joined_slot b 1) is_zero in
+    let third : joined_slot b 3 ≡ 2 = ap (λ b. joined_slot b 3) is_zero in (
+      ap (λ u. circle_at_slot code state crossing u) (sym first)
+          ∙ slots-joined code state crossing 1 is is_crossing (omega arith) (omega (arith, first)),
+      ap (λ u. circle_at_slot code state crossing u) (sym third)
+          ∙ slots-joined code state crossing 3 is is_crossing (omega arith) (omega (arith, third)),
+    )
+
+joined-one : (code : Code) (state crossing : ℕ) → IsTrue (accepted code) → IsCrossing code.crossings crossing
+    → bit state (place_of crossing) ≡ 1
+    → (circle_at_slot code state crossing 0 ≡ circle_at_slot code state crossing 3)
+    × (circle_at_slot code state crossing 2 ≡ circle_at_slot code state crossing 1)
+joined-one code state crossing is is_crossing is_one =
+    let b = bit state (place_of crossing) in
+    let first : joined_slot b 3 ≡ 0 = ap (λ b. joined_slot b 3) is_one in
+    let third : joined_slot b 1 ≡ 2 = ap (λ b. joined_slot b 1) is_one in (
+      ap (λ u. circle_at_slot code state crossing u) (sym first)
+          ∙ slots-joined code state crossing 3 is is_crossing (omega arith) (omega (arith, first)),
+      ap (λ u. circle_at_slot code state crossing u) (sym third)
+          ∙ slots-joined code state crossing 1 is is_crossing (omega arith) (omega (arith, third)),
+    )
+
+-- the circles at the ends of the under pass of the mirror are those at the ends of the under pass, in one order or the other
+abbrev pub Ends : (ℕ → ℕ) → Code → Code → ℕ → ℕ → Type 0
+Ends f old new t crossing =
+    ((circle_at_slot new t crossing 0 ≡ circle_in new t (f (arc_at_slot old crossing 0)))
+    × (circle_at_slot new t crossing 2 ≡ circle_in new t (f (arc_at_slot old crossing 2))))
+    ⊎ ((circle_at_slot new t crossing 0 ≡ circle_in new t (f (arc_at_slot old crossing 2)))
+    × (circle_at_slot new t crossing 2 ≡ circle_in new t (f (arc_at_slot old crossing 0))))
+
+pub slot-name : (code : Code) (crossing slot : ℕ) → IsTrue (accepted code) → IsCrossing code.crossings crossing → slot < 4
+    → IsName code (arc_at_slot code crossing slot)
+slot-name code crossing slot is is_crossing below =
+    IsName-arc code (arc_at_slot code crossing slot) (IsArc-slot code crossing slot is is_crossing below)
+
+pub ends : (f back : ℕ → ℕ) (old new : Code) (s crossing : ℕ) → IsTrue (accepted old) → IsTrue (accepted new) → IsTurned f back old new
+    → s < 2 ^ length old.crossings → IsCrossing old.crossings crossing
+    → Ends f old new (flipped (length old.crossings) s) crossing
+ends f back old new s crossing old_is new_is turned below is_crossing =
+    let t = flipped (length old.crossings) s in
+    let at = turned.turned crossing is_crossing in
+    let corresponds = Corresponds-turned f back old new s old_is new_is turned below in
+    let onto : (v u w : ℕ) → u < 4 → w < 4 → (u + at.0) % 4 ≡ v → circle_at_slot old s crossing w ≡ circle_at_slot old s crossing u
+    → circle_at_slot new t crossing v ≡ circle_in new t (f (arc_at_slot old crossing w)) =
+    λ v u w u_below w_below is_v same.
+    ap (λ k. circle_at_slot new t crossing k) (sym is_v) ∙ ap (λ a. circle_in new t a) (at.2 u u_below)
+    ∙ sym (corresponds.onward (arc_at_slot old crossing w) (arc_at_slot old crossing u) (slot-name old crossing w old_is is_crossing w_below)
+    (slot-name old crossing u old_is is_crossing u_below) same) in
+    elim (zero_or_one (bit s (place_of crossing)) (bit-le s (place_of crossing))) [
+      | inl is_zero ↦
+          let joined = joined-zero old s crossing old_is is_crossing is_zero in
+          elim at.1 [
+            | inl one ↦ inr (
+              onto 0 3 2 (omega arith) (omega arith) (omega (arith, one)) joined.1,
+              onto 2 1 0 (omega arith) (omega arith) (omega (arith, one)) joined.0,
+            )
+            | inr three ↦ inl (
+              onto 0 1 0 (omega arith) (omega arith) (omega (arith, three)) joined.0,
+              onto 2 3 2 (omega arith) (omega arith) (omega (arith, three)) joined.1,
+            )
+          ]
+      | inr is_one ↦
+          let joined = joined-one old s crossing old_is is_crossing is_one in
+          elim at.1 [
+            | inl one ↦ inl (
+              onto 0 3 0 (omega arith) (omega arith) (omega (arith, one)) joined.0,
+              onto 2 1 2 (omega arith) (omega arith) (omega (arith, one)) joined.1,
+            )
+            | inr three ↦ inr (
+              onto 0 1 2 (omega arith) (omega arith) (omega (arith, three)) joined.1,
+              onto 2 3 0 (omega arith) (omega arith) (omega (arith, three)) joined.0,
+            )
+          ]
+    ]
+  where
+    zero_or_one : (b : ℕ) → b ≤ 1 → (b ≡ 0) ⊎ (b ≡ 1)
+    zero_or_one b small = grind arith
+
+-- what is known of a code and its mirror, and of a crossing
+pub record AreMirrors (f back : ℕ → ℕ) (old new : Code) (crossing : ℕ) : Type 0 where
+  pub old_is : IsTrue (accepted old)
+  pub new_is : IsTrue (accepted new)
+  pub turned : IsTurned f back old new
+  pub is_crossing : IsCrossing old.crossings crossing
+
+-- and of a generator and the one of the mirror
+pub record AreStars (f back : ℕ → ℕ) (old new : Code) (crossing : ℕ) (x star : Generator) : Type 0 where
+  pub around : AreMirrors f back old new crossing
+  pub gen : IsGenerator old x
+  pub starred : IsStar f old new x star
+  pub corresponds : Corresponds f back old new x.state star.state
+  pub ends : Ends f old new star.state crossing
+
+pub AreStars-from : (f back : ℕ → ℕ) (old new : Code) (crossing : ℕ) (x star : Generator) → AreMirrors f back old new crossing
+    → IsGenerator old x → IsStar f old new x star → AreStars f back old new crossing x star
+AreStars-from f back old new crossing x star around gen is =
+    record {
+      around = around;
+      gen = gen;
+      starred = is;
+      corresponds = subst (λ (t : ℕ). Corresponds f back old new x.state t) (sym is.state)
+          (Corresponds-turned f back old new x.state around.old_is around.new_is around.turned gen.state);
+      ends = subst (λ (t : ℕ). Ends f old new t crossing) (sym is.state)
+          (ends f back old new x.state crossing around.old_is around.new_is around.turned gen.state around.is_crossing);
+    }
+
+pub AreMirrors-back : (f back : ℕ → ℕ) (old new : Code) (crossing : ℕ) → AreMirrors f back old new crossing
+    → AreMirrors back f new old crossing
+AreMirrors-back f back old new crossing are =
+    record {
+      old_is = are.new_is;
+      new_is = are.old_is;
+      turned = IsTurned-back f back old new are.old_is are.turned;
+      is_crossing = record {
+        positive = are.is_crossing.positive;
+        within = omega (arith, are.is_crossing.within, are.turned.size);
+      };
+    }
+
+pub AreStars-back : (f back : ℕ → ℕ) (old new : Code) (crossing : ℕ) (x star : Generator) → AreStars f back old new crossing x star
+    → AreStars back f new old crossing star x
+AreStars-back f back old new crossing x star are =
+    AreStars-from back f new old crossing star x (AreMirrors-back f back old new crossing are.around)
+    (IsGenerator-star f back old new x star are.around.turned are.starred)
+    (IsStar-back f back old new x star are.around.old_is are.around.new_is are.around.turned are.gen are.starred)
+
+-- ends on one circle are so in the mirror
+met-star : (f back : ℕ → ℕ) (old new : Code) (crossing : ℕ) (x star : Generator) → AreStars f back old new crossing x star
+    → circle_at_slot old x.state crossing 0 ≡ circle_at_slot old x.state crossing 2
+    → (circle_at_slot new star.state crossing 0 ≡ circle_at_slot new star.state crossing 2)
+    × (circle_at_slot new star.state crossing 0 ≡ circle_in new star.state (f (arc_at_slot old crossing 0)))
+met-star f back old new crossing x star are met =
+    let a = arc_at_slot old crossing 0 in
+    let b = arc_at_slot old crossing 2 in
+    let same : circle_in new star.state (f a) ≡ circle_in new star.state (f b) =
+    are.corresponds.onward a b (slot-name old crossing 0 are.around.old_is are.around.is_crossing (omega arith))
+    (slot-name old crossing 2 are.around.old_is are.around.is_crossing (omega arith)) met in
+    elim are.ends [
+      | inl straight ↦ (straight.0 ∙ same ∙ sym straight.1, straight.0)
+      | inr crossed ↦ (crossed.0 ∙ sym same ∙ sym crossed.1, crossed.0 ∙ sym same)
+    ]
+
+-- the labels at the ends, where they are on two circles or on one
+labels-two : (f back : ℕ → ℕ) (old new : Code) (crossing : ℕ) (x star : Generator) → AreStars f back old new crossing x star
+    → label_at new star crossing 0 + label_at new star crossing 2 + (label_at old x crossing 0 + label_at old x crossing 2) ≡ 2
+labels-two f back old new crossing x star are =
+    let a = arc_at_slot old crossing 0 in
+    let b = arc_at_slot old crossing 2 in
+    let at_a = are.starred.labels a (slot-name old crossing 0 are.around.old_is are.around.is_crossing (omega arith)) in
+    let at_b = are.starred.labels b (slot-name old crossing 2 are.around.old_is are.around.is_crossing (omega arith)) in
+    elim are.ends [
+      | inl straight ↦ omega (
+        arith,
+        at_a,
+        at_b,
+        label_of-circle new star (arc_at_slot new crossing 0) (f a) straight.0,
+        label_of-circle new star (arc_at_slot new crossing 2) (f b) straight.1,
+      )
+      | inr crossed ↦ omega (
+        arith,
+        at_a,
+        at_b,
+        label_of-circle new star (arc_at_slot new crossing 0) (f b) crossed.0,
+        label_of-circle new star (arc_at_slot new crossing 2) (f a) crossed.1,
+      )
+    ]
+
+labels-one : (f back : ℕ → ℕ) (old new : Code) (crossing : ℕ) (x star : Generator) → AreStars f back old new crossing x star
+    → circle_at_slot old x.state crossing 0 ≡ circle_at_slot old x.state crossing 2
+    → label_at new star crossing 0 + label_at old x crossing 0 ≡ 1
+labels-one f back old new crossing x star are met =
+    let a = arc_at_slot old crossing 0 in
+    omega (
+      arith,
+      are.starred.labels a (slot-name old crossing 0 are.around.old_is are.around.is_crossing (omega arith)),
+      label_of-circle new star (arc_at_slot new crossing 0) (f a) (met-star f back old new crossing x star are met).1,
+    )
+
+-- what is off the ends in the mirror is so in the diagram
+off-back : (f back : ℕ → ℕ) (old new : Code) (crossing y : ℕ) (x star : Generator) → AreStars f back old new crossing x star
+    → IsName new y → IsOff new star.state crossing y → IsOff old x.state crossing (back y)
+off-back f back old new crossing y x star are name off =
+    let s = x.state in
+    let t = star.state in
+    let a = arc_at_slot old crossing 0 in
+    let b = arc_at_slot old crossing 2 in
+    let a_name = slot-name old crossing 0 are.around.old_is are.around.is_crossing (omega arith) in
+    let b_name = slot-name old crossing 2 are.around.old_is are.around.is_crossing (omega arith) in
+    let home = IsName-back f back old new s t y are.corresponds name in
+    let e : circle_in new t y ≡ circle_in new t (f (back y)) = ap (circle_in new t) (sym (name-here f back old new s t y are.corresponds name)) in
+    let on : (c : ℕ) → IsName old c → circle_in old s (back y) ≡ circle_in old s c → circle_in new t y ≡ circle_in new t (f c) =
+    λ c c_name same. e ∙ are.corresponds.onward (back y) c home c_name same in
+    elim are.ends [
+      | inl straight ↦ record {
+        first = λ same. off.first (on a a_name same ∙ sym straight.0);
+        third = λ same. off.third (on b b_name same ∙ sym straight.1);
+      }
+      | inr crossed ↦ record {
+        first = λ same. off.third (on a a_name same ∙ sym crossed.1);
+        third = λ same. off.first (on b b_name same ∙ sym crossed.0);
+      }
+    ]
+
+same_off-star : (f back : ℕ → ℕ) (old new : Code) (crossing : ℕ) (two one two_star one_star : Generator)
+    → AreStars f back old new crossing two two_star → AreStars f back old new crossing one one_star
+    → IsSameOff old two one crossing → IsSameOff new two_star one_star crossing
+same_off-star f back old new crossing two one two_star one_star two_are one_are same =
+    record {
+      at = λ y name off.
+          let x = back y in
+          let home = IsName-back f back old new two.state two_star.state y two_are.corresponds name in
+          let e = name-here f back old new two.state two_star.state y two_are.corresponds name in
+          let kept = same.at x home (off-back f back old new crossing y two two_star two_are name off) in
+          omega (
+            arith,
+            kept,
+            two_are.starred.labels x home,
+            one_are.starred.labels x home,
+            ap (label_of new two_star) e,
+            ap (label_of new one_star) e,
+          );
+    }
+
+-- a merge of labels becomes a split, and a split a merge
+merge-star : (f back : ℕ → ℕ) (old new : Code) (crossing : ℕ) (two one two_star one_star : Generator)
+    → AreStars f back old new crossing two two_star → AreStars f back old new crossing one one_star
+    → IsMerge old two.state one.state crossing → IsChange true old two one crossing → IsChange false new one_star two_star crossing
+merge-star f back old new crossing two one two_star one_star two_are one_are merge change = (
+  same_off-star f back old new crossing two one two_star one_star two_are one_are change.0,
+  omega (
+    arith,
+    change.1,
+    labels-two f back old new crossing two two_star two_are,
+    labels-one f back old new crossing one one_star one_are (ends-meet old two.state one.state crossing merge),
+  ),
+)
+
+split-star : (f back : ℕ → ℕ) (old new : Code) (crossing : ℕ) (two one two_star one_star : Generator)
+    → AreStars f back old new crossing two two_star → AreStars f back old new crossing one one_star
+    → IsMerge old two.state one.state crossing → IsChange false old one two crossing → IsChange true new two_star one_star crossing
+split-star f back old new crossing two one two_star one_star two_are one_are merge change = (
+  same_off-star f back old new crossing two one two_star one_star two_are one_are change.0,
+  omega (
+    arith,
+    change.1,
+    labels-two f back old new crossing two two_star two_are,
+    labels-one f back old new crossing one one_star one_are (ends-meet old two.state one.state crossing merge),
+  ),
+)
+
+-- where the ends are on one circle in the one state, an edge of the mirror merges from the other
+merge-other : (f back : ℕ → ℕ) (old new : Code) (crossing : ℕ) (one one_star : Generator) (other : ℕ)
+    → AreStars f back old new crossing one one_star → circle_at_slot old one.state crossing 0 ≡ circle_at_slot old one.state crossing 2
+    → IsMerge new one_star.state other crossing → ⊥
+merge-other f back old new crossing one one_star other are met merge =
+    merge.join.apart (met-star f back old new crossing one one_star are met).0
+
+-- an edge that merges or splits, from a step
+switch-step : (code : Code) (tail head crossing : ℕ) → IsTrue (accepted code) → IsCrossing code.crossings crossing
+    → IsStep tail head crossing → IsMerge code tail head crossing ⊎ IsMerge code head tail crossing
+switch-step code tail head crossing is is_crossing step =
+    let edge = switch-edge code tail crossing is is_crossing step.zero_there in
+    by edge.0 (subst (λ (h : ℕ). IsSwitch edge.0 code tail h crossing) (sym step.behind) edge.1)
+  where
+    by : (merges : Bool) → IsSwitch merges code tail head crossing → IsMerge code tail head crossing ⊎ IsMerge code head tail crossing
+    by true merge = inl merge
+    by false merge = inr merge
+
+-- the labels fit along an edge exactly where those of the mirror fit along the edge back
+pub fits-star : (f back : ℕ → ℕ) (old new : Code) (crossing : ℕ) (tail head tail_star head_star : Generator)
+    → AreStars f back old new crossing tail tail_star → AreStars f back old new crossing head head_star
+    → IsStep tail.state head.state crossing → IsStep head_star.state tail_star.state crossing
+    → fits old tail head crossing ≡ fits new head_star tail_star crossing
+fits-star f back old new crossing tail head tail_star head_star tail_are head_are step step_back =
+    let old_is = tail_are.around.old_is in
+    let new_is = tail_are.around.new_is in
+    let tail_back = AreStars-back f back old new crossing tail tail_star tail_are in
+    let head_back = AreStars-back f back old new crossing head head_star head_are in
+    elim (switch-step old tail.state head.state crossing old_is tail_are.around.is_crossing step) [
+      | inl merge ↦
+          elim (switch-step new head_star.state tail_star.state crossing new_is tail_back.around.is_crossing step_back) [
+            | inl too ↦ absurd (merge-other f back old new crossing head head_star tail_star.state head_are
+                (ends-meet old tail.state head.state crossing merge) too)
+            | inr split ↦
+                same_from_decides (fits old tail head crossing) (fits new head_star tail_star crossing)
+                (fits-decides true old tail head crossing old_is merge)
+                (Decides-like (fits new head_star tail_star crossing)
+                (split-star back f new old crossing tail_star head_star tail head tail_back head_back split)
+                (merge-star f back old new crossing tail head tail_star head_star tail_are head_are merge)
+                (fits-decides false new head_star tail_star crossing new_is split))
+          ]
+      | inr split ↦
+          elim (switch-step new head_star.state tail_star.state crossing new_is tail_back.around.is_crossing step_back) [
+            | inr too ↦ absurd (merge-other f back old new crossing tail tail_star head_star.state tail_are
+                (ends-meet old head.state tail.state crossing split) too)
+            | inl merge ↦
+                same_from_decides (fits old tail head crossing) (fits new head_star tail_star crossing)
+                (fits-decides false old tail head crossing old_is split)
+                (Decides-like (fits new head_star tail_star crossing)
+                (merge-star back f new old crossing head_star tail_star head tail head_back tail_back merge)
+                (split-star f back old new crossing head tail head_star tail_star head_are tail_are split)
+                (fits-decides true new head_star tail_star crossing new_is merge))
+          ]
+    ]

@@ -1,0 +1,130 @@
+-- The mirror of the mirror, and the reversal of the reversal, up to the numbers of arcs.
+use Rattle.std.proofs.Common.{◌≡◌, ℕ, ◌+◌, ◌*◌, ◌/◌, ◌%◌, ◌<◌, ◌≤◌, ◌∙◌, ℤ, neg_ℤ, length, not, refl, sym, ap, ap₂, arith, Bool, true, false, IsTrue}
+use Rattle.std.proofs.lemmas.Int.{ints}
+use Rattle.kh_types.specs.Acceptance.{accepted}
+use Rattle.kh_types.specs.Code.{Code, IsArc, IsCrossing, arc_count}
+use Rattle.kh_types.specs.Components.{component_count}
+use Rattle.kh_types.specs.Darts.{arc_of, dart_at}
+use Rattle.kh_types.specs.Directions.{is_positive}
+use Rattle.kh_types.specs.Edges.{arc_at_slot}
+use Rattle.kh_types.specs.Residues.{HasInverses}
+use Rattle.kh_types.specs.StateSum.{state_sum}
+use Rattle.kh_types.specs.Table.{dimension}
+use Rattle.kh_types.proofs.EdgeNames.{IsArc-slot}
+use Rattle.kh_types.proofs.Heads.{HasNoSingleArcs-accepted}
+use Rattle.orient_arcs.specs.Alike.{AreAlike}
+use Rattle.orient_arcs.proofs.AlikeCrossings.{AreAlike-renamed}
+use Rattle.link_algebra.specs.Mirrors.{mirror_of, reversal_of}
+use Rattle.link_algebra.proofs.MirrorParts.{mirror_turn}
+use Rattle.link_algebra.proofs.Renamings.{IsRotated}
+use Rattle.link_algebra.proofs.RotatedCodes.{component_count-rotated}
+use Rattle.link_algebra.proofs.TurnedCodes.{mirror-accepted, mirror-dimension, mirror-rotated, mirror-signs, mirror-sum, mirror_by, mirror_name, mirror_number, reversal-accepted, reversal-rotated, reversal-signs, reversal_name, reversal_number}
+
+-- two turns that make a whole one
+alike-turned : (by other f back g home : ℕ → ℕ) (old middle new : Code) → IsTrue (accepted old) → IsRotated by f back old middle
+    → IsRotated other g home middle new → ((crossing : ℕ) → IsCrossing old.crossings crossing → (by crossing + other crossing) % 4 ≡ 0)
+    → AreAlike old.crossings new.crossings
+alike-turned by other f back g home old middle new is first second whole =
+    let most : arc_count middle.crossings + middle.loops ≡ arc_count old.crossings + old.loops =
+    omega (arith, first.size, first.loops) in
+    let arc : (place : ℕ) → place < 4 * length old.crossings → IsArc old.crossings (arc_of old.crossings (dart_at place)) =
+    λ place below.
+    IsArc-slot old (place / 4 + 1) (place % 4) is (record { positive = omega arith; within = omega (arith, below) }) (omega arith) in
+    let back_from : (x : ℕ) → IsArc old.crossings x → back (home (g (f x))) ≡ x =
+    λ x x_is.
+    let within : x ≤ arc_count old.crossings + old.loops = omega (arith, x_is.within) in
+    ap back
+    (second.names.there (f x) (first.names.positive x x_is.positive within)
+    (omega (arith, first.names.within x x_is.positive within, most)))
+    ∙ first.names.there x x_is.positive within in
+    AreAlike-renamed (λ x. g (f x)) old.crossings new.crossings (second.size ∙ first.size)
+    (λ place below.
+    let crossing = place / 4 + 1 in
+    let slot = place % 4 in
+    let here : IsCrossing old.crossings crossing = record { positive = omega arith; within = omega (arith, below) } in
+    let there : IsCrossing middle.crossings crossing = record { positive = omega arith; within = omega (arith, below, first.size) } in
+    ap (arc_at_slot new crossing) (round (by crossing) (other crossing) slot (first.few crossing) (second.few crossing) (whole crossing here) (omega arith))
+    ∙ second.arcs crossing ((slot + by crossing) % 4) there (omega arith)
+    ∙ ap g (first.arcs crossing slot here (omega arith)))
+    (λ place place_other below other_below same.
+    sym (back_from (arc_of old.crossings (dart_at place)) (arc place below))
+    ∙ ap (λ x. back (home x)) same ∙ back_from (arc_of old.crossings (dart_at place_other)) (arc place_other other_below))
+  where
+    round : (b c slot : ℕ) → b < 4 → c < 4 → (b + c) % 4 ≡ 0 → slot < 4 → slot ≡ ((slot + b) % 4 + c) % 4
+    round b c slot few fewer whole below = omega (arith, few, fewer, whole, below)
+
+pub twice-not : (b : Bool) → not (not b) ≡ b
+twice-not true = refl
+twice-not false = refl
+
+module _ (code : Code) (holds : IsTrue (accepted code)) where
+  there-too : (crossing : ℕ) → IsCrossing code.crossings crossing → IsCrossing (mirror_of code).crossings crossing
+  there-too crossing is = record { positive = is.positive; within = omega (arith, is.within, (mirror-rotated code holds).size) }
+
+  pub mirror-alike : AreAlike code.crossings (mirror_of (mirror_of code)).crossings
+  mirror-alike =
+      let mirror_is = mirror-accepted code holds in
+      alike-turned (mirror_by code holds) (mirror_by (mirror_of code) mirror_is) (mirror_number code holds) (mirror_name code holds)
+      (mirror_number (mirror_of code) mirror_is) (mirror_name (mirror_of code) mirror_is) code (mirror_of code) (mirror_of (mirror_of code))
+      holds (mirror-rotated code holds) (mirror-rotated (mirror_of code) mirror_is)
+      (λ crossing is.
+      ap (λ b. (mirror_turn (is_positive code.crossings crossing) + mirror_turn b) % 4) (mirror-signs code holds crossing is)
+      ∙ whole (is_positive code.crossings crossing))
+    where
+      whole : (b : Bool) → (mirror_turn b + mirror_turn (not b)) % 4 ≡ 0
+      whole true = refl
+      whole false = refl
+
+  pub mirror-twice_signs : (crossing : ℕ) → IsCrossing code.crossings crossing
+      → is_positive (mirror_of (mirror_of code)).crossings crossing ≡ is_positive code.crossings crossing
+  mirror-twice_signs crossing is =
+      mirror-signs (mirror_of code) (mirror-accepted code holds) crossing (there-too crossing is)
+      ∙ ap not (mirror-signs code holds crossing is) ∙ twice-not (is_positive code.crossings crossing)
+
+  back-again : (i : ℤ) → neg_ℤ (neg_ℤ i) ≡ i
+  back-again i = omega (arith, ints)
+
+  pub mirror-twice_sum : (e : ℤ) → state_sum (mirror_of (mirror_of code)) e ≡ state_sum code e
+  mirror-twice_sum e =
+      ap (state_sum (mirror_of (mirror_of code))) (sym (back-again e))
+      ∙ mirror-sum (mirror_of code) (mirror-accepted code holds) (neg_ℤ e) ∙ mirror-sum code holds e
+
+  pub mirror-twice_dimension : (p : ℕ) (i j : ℤ) → HasInverses p → dimension p (mirror_of (mirror_of code)) i j ≡ dimension p code i j
+  mirror-twice_dimension p i j inverses =
+      ap₂ (dimension p (mirror_of (mirror_of code))) (sym (back-again i)) (sym (back-again j))
+      ∙ mirror-dimension (mirror_of code) (mirror-accepted code holds) p (neg_ℤ i) (neg_ℤ j) inverses
+      ∙ mirror-dimension code holds p i j inverses
+
+  pub reversal-alike : AreAlike code.crossings (reversal_of (reversal_of code)).crossings
+  reversal-alike =
+      let reversal_is = reversal-accepted code holds in
+      alike-turned (λ crossing. 2) (λ crossing. 2) (reversal_number code holds) (reversal_name code holds)
+      (reversal_number (reversal_of code) reversal_is) (reversal_name (reversal_of code) reversal_is) code (reversal_of code)
+      (reversal_of (reversal_of code)) holds (reversal-rotated code holds) (reversal-rotated (reversal_of code) reversal_is)
+      (λ crossing is. refl)
+
+  pub reversal-twice_signs : (crossing : ℕ) → IsCrossing code.crossings crossing
+      → is_positive (reversal_of (reversal_of code)).crossings crossing ≡ is_positive code.crossings crossing
+  reversal-twice_signs crossing is =
+      reversal-signs (reversal_of code) (reversal-accepted code holds) crossing
+      (record { positive = is.positive; within = omega (arith, is.within, (reversal-rotated code holds).size) })
+      ∙ reversal-signs code holds crossing is
+
+  -- components
+  pub mirror-components : component_count (mirror_of code).crossings ≡ component_count code.crossings
+  mirror-components =
+      component_count-rotated (mirror_by code holds) (mirror_number code holds) (mirror_name code holds) code (mirror_of code)
+      (record {
+        old_is = holds;
+        directed = (HasNoSingleArcs-accepted (mirror_of code) (mirror-accepted code holds)).0;
+        rotated = mirror-rotated code holds;
+      })
+
+  pub reversal-components : component_count (reversal_of code).crossings ≡ component_count code.crossings
+  reversal-components =
+      component_count-rotated (λ crossing. 2) (reversal_number code holds) (reversal_name code holds) code (reversal_of code)
+      (record {
+        old_is = holds;
+        directed = (HasNoSingleArcs-accepted (reversal_of code) (reversal-accepted code holds)).0;
+        rotated = reversal-rotated code holds;
+      })

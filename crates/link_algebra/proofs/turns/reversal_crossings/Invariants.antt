@@ -1,0 +1,7 @@
+use Rattle.std.proofs.Common.{◌≡◌, map}
+use Rattle.std.specs.List.{range_with_len}
+use Rattle.link_algebra.specs.Mirrors.{reversal_slots}
+use Rattle.link_algebra.proofs.turns.reversal_crossings.Given as goal
+
+abbrev pub invariant-places : goal.invariant-places
+invariant-places l = l.crossings.items ≡ map (reversal_slots l.diagram.crossings) (range_with_len 1 l.place)

@@ -1,0 +1,12 @@
+//! The mirror, the reversal and the disjoint union of diagrams.
+#![tactic(auto)]
+
+mod fault;
+pub mod laws;
+mod slots;
+mod turns;
+mod unions;
+
+pub use fault::UnionFault;
+pub use turns::{mirror, reverse};
+pub use unions::union;

@@ -1,0 +1,208 @@
+-- The slices of a drawing have no fault.
+use Rattle.std.proofs.Common.{◌≡◌, ℕ, zero, suc, inl, inr, ◌+◌, ◌-◌, ◌*◌, ◌/◌, ◌%◌, ◌<◌, ◌≤◌, ◌∙◌, List, [], ◌∷◌, ◌++◌, length, take, drop, refl, sym, ap, subst, arith, Bool, true, false, cond}
+use Rattle.std.specs.Prelude.{◌&&◌, ◌||◌, nat_eq, nat_lt, not, slice_index, Option, Some, None}
+use Rattle.std.specs.List.{count_by, fold, list_any, range_with_len}
+use Rattle.std.specs.Option.{option_or}
+use Rattle.std.proofs.lemmas.Bool.{cases_Bool, eq-eqb, eqb-true}
+use Rattle.std.proofs.lemmas.Bool.Decides.{nat_tests}
+use Rattle.std.proofs.lemmas.List.Sums.{sum_by-cons}
+use Rattle.std.proofs.lemmas.List.{length-append, length-drop, length-map, length-take-le}
+use Rattle.kh_types.specs.Classes.{is_least}
+use Rattle.kh_types.proofs.ClassLemmas.{classes-together}
+use Rattle.kh_types.proofs.RangeCounts.{list_any-at}
+use Rattle.morse_drawing.specs.Sketches.{IsSketched, Sketch, is_met, segment_met, sketched}
+use Rattle.morse_drawing.specs.declared.fault.SliceFault.{SliceFault}
+use Rattle.morse_drawing.specs.Joins.{first_slice_fault, fault_where, is_loop, is_outside, loop_count, meets_class, segment_classes, slice_fault}
+use Rattle.morse_drawing.specs.declared.fault.SliceFault.TheVariants.{Label, Loops, Place}
+use Rattle.morse_drawing.specs.DartRows.{IsIn}
+use Rattle.morse_drawing.specs.declared.slice.Slice.{Slice}
+use Rattle.morse_drawing.specs.declared.slice.Slice.TheVariants.{Cap, Cup, Cross}
+
+-- faults of slices read one after another
+or-assoc : (a b c : Option SliceFault) → option_or (option_or a b) c ≡ option_or a (option_or b c)
+or-assoc None b c = refl
+or-assoc (Some x) b c = refl
+
+pub first_slice_fault-append : (limit : ℕ) (r : Sketch) (number : ℕ) (xs ys : List Slice)
+    → first_slice_fault limit r number (xs ++ ys)
+    ≡ option_or (first_slice_fault limit r number xs) (first_slice_fault limit (fold sketched r xs) (number + length xs) ys)
+first_slice_fault-append limit r number [] ys =
+    let e : number ≡ number + 0 = omega arith in
+    ap (λ k. first_slice_fault limit r k ys) e
+first_slice_fault-append limit r number (x ∷ xs) ys =
+    let e : number + 1 + length xs ≡ number + suc (length xs) = omega arith in
+    ap (λ o. option_or (slice_fault limit r number x) o)
+    (first_slice_fault-append limit (sketched r x) (number + 1) xs ys
+    ∙ ap (λ k. option_or (first_slice_fault limit (sketched r x) (number + 1) xs) (first_slice_fault limit (fold sketched (sketched r x) xs) k ys)) e)
+    ∙ sym (or-assoc (slice_fault limit r number x) (first_slice_fault limit (sketched r x) (number + 1) xs)
+    (first_slice_fault limit (fold sketched (sketched r x) xs) (number + suc (length xs)) ys))
+
+pub first_slice_fault-none : (limit : ℕ) (r : Sketch) (number : ℕ) (xs ys : List Slice) → first_slice_fault limit r number xs ≡ None
+    → ((k : ℕ) → first_slice_fault limit (fold sketched r xs) k ys ≡ None) → first_slice_fault limit r number (xs ++ ys) ≡ None
+first_slice_fault-none limit r number xs ys before after =
+    first_slice_fault-append limit r number xs ys
+    ∙ ap (λ o. option_or o (first_slice_fault limit (fold sketched r xs) (number + length xs) ys)) before
+    ∙ after (number + length xs)
+
+where-none : (b : Bool) (fault : SliceFault) → b ≡ false → fault_where b fault ≡ None
+where-none b fault fails = ap (λ t. fault_where t fault) fails
+
+two-none : (a b : Bool) (one two : SliceFault) → a ≡ false → b ≡ false → option_or (fault_where a one) (fault_where b two) ≡ None
+two-none a b one two first second =
+    ap (λ t. option_or (fault_where t one) (fault_where b two)) first ∙ where-none b two second
+
+cap-test : (m at : ℕ) → 1 ≤ at → at ≤ m + 1 → m ≤ 62 → ((nat_lt at 1 || nat_lt (m + 1) at) || nat_lt 62 m) ≡ false
+cap-test m at from within few = grind (arith, nat_tests)
+
+place-test : (last at : ℕ) → 1 ≤ at → at ≤ last → (nat_lt at 1 || nat_lt last at) ≡ false
+place-test last at from within = grind (arith, nat_tests)
+
+loops-test : (count : ℕ) → count ≤ 255 → nat_lt 255 count ≡ false
+loops-test count few = grind (arith, nat_tests)
+
+slot-test : (slot : ℕ) → slot < 4 → nat_lt 3 slot ≡ false
+slot-test slot below = grind (arith, nat_tests)
+
+pub cap-right : (limit number at : ℕ) (r : Sketch) → 1 ≤ at → at ≤ length r.row + 1 → length r.row ≤ 62
+    → slice_fault limit r number (Cap at) ≡ None
+cap-right limit number at r from within few =
+    where-none (is_outside (length r.row + 1) at || nat_lt 62 (length r.row)) (Place number) (cap-test (length r.row) at from within few)
+
+pub cup-right : (limit number at : ℕ) (r : Sketch) → 1 ≤ at → at ≤ length r.row - 1 → loop_count limit (sketched r (Cup at)) ≤ 255
+    → slice_fault limit r number (Cup at) ≡ None
+cup-right limit number at r from within few =
+    two-none (is_outside (length r.row - 1) at) (nat_lt 255 (loop_count limit (sketched r (Cup at)))) (Place number) (Loops number)
+    (place-test (length r.row - 1) at from within) (loops-test (loop_count limit (sketched r (Cup at))) few)
+
+pub cross-right : (limit number at crossing slot : ℕ) (r : Sketch) → 1 ≤ at → at ≤ length r.row - 1 → 1 ≤ crossing → crossing ≤ limit
+    → is_met r.met (4 * (crossing - 1)) ≡ false → slot < 4 → slice_fault limit r number (Cross at crossing slot) ≡ None
+cross-right limit number at crossing slot r from within positive least unmet below =
+    two-none (is_outside (length r.row - 1) at)
+    (is_outside limit crossing || (is_met r.met (4 * (crossing - 1)) || nat_lt 3 slot)) (Place number) (Label number)
+    (place-test (length r.row - 1) at from within)
+    (ap (λ t. t || (is_met r.met (4 * (crossing - 1)) || nat_lt 3 slot)) (place-test limit crossing positive least)
+    ∙ ap (λ t. t || nat_lt 3 slot) unmet ∙ slot-test slot below)
+
+-- the row that is read is as long as the row of darts
+pub row-length : (n : ℕ) (part whole : ℕ → ℕ) (drawn row : List ℕ) (r : Sketch) → IsSketched n part whole drawn row r
+    → length r.row ≡ length row
+row-length n part whole drawn row r is =
+    sym (ap (λ zs. length zs) is.pieces) ∙ length-map is.zipped (λ (e : ℕ × ℕ). e.0)
+    ∙ sym (length-map is.zipped (λ (e : ℕ × ℕ). e.1)) ∙ ap (λ zs. length zs) is.darts
+
+pub row-empty : (n : ℕ) (part whole : ℕ → ℕ) (drawn : List ℕ) (r : Sketch) → IsSketched n part whole drawn [] r → r.row ≡ []
+row-empty n part whole drawn r is = none r.row (row-length n part whole drawn [] r is)
+  where
+    none : (zs : List ℕ) → length zs ≡ 0 → zs ≡ []
+    none [] same = refl
+    none (z ∷ zs) same = absurd (omega (arith, same))
+
+-- a crossing that is not drawn is not met
+pub not-met : (n : ℕ) (part whole : ℕ → ℕ) (drawn row : List ℕ) (r : Sketch) (c : ℕ) → IsSketched n part whole drawn row r
+    → (IsIn c drawn → ⊥) → is_met r.met (4 * c) ≡ false
+not-met n part whole drawn row r c is new = elim (cases_Bool (is_met r.met (4 * c))) [
+  | inr fails ↦ fails
+  | inl holds ↦
+      let e : 4 * c / 4 ≡ c = omega arith in
+      absurd (new (subst (λ (k : ℕ). IsIn k drawn) e (is.known (4 * c) holds).1))
+]
+
+-- no class of pieces is a loop
+pub none-counted : (p : ℕ → Bool) (xs : List ℕ) → ((x : ℕ) → IsIn x xs → p x ≡ false) → count_by p xs ≡ 0
+none-counted p [] fails = refl
+none-counted p (x ∷ xs) fails =
+    sum_by-cons (λ y. cond (p y) 1 0) x xs ∙ ap (λ b. cond b 1 0 + count_by p xs) (fails x (inl refl))
+    ∙ none_more (count_by p xs) (none-counted p xs (λ y is_in. fails y (inr is_in)))
+  where
+    none_more : (k : ℕ) → k ≡ 0 → 0 + k ≡ 0
+    none_more k none = omega (arith, none)
+
+pub in-range : (a n x : ℕ) → IsIn x (range_with_len a n) → (a ≤ x) × (x < a + n)
+in-range a zero x is_in = absurd is_in
+in-range a (suc n) x is_in = elim is_in [
+  | inl same ↦ (omega (arith, same), omega (arith, same))
+  | inr later ↦ let rest = in-range (a + 1) n x later in (omega (arith, rest.0), omega (arith, rest.1))
+]
+
+pub met-no_loop : (limit : ℕ) (r : Sketch) (piece dart : ℕ) → dart < 4 * limit → is_met r.met dart ≡ true
+    → slice_index (segment_classes r) piece ≡ slice_index (segment_classes r) (segment_met r.met dart) → is_loop limit r piece ≡ false
+met-no_loop limit r piece dart below met same = elim (cases_Bool (is_least (segment_classes r) piece)) [
+  | inr fails ↦
+      ap (λ t. t && (not (list_any (meets_class r piece) (range_with_len 0 (4 * limit)))
+      && not (list_any (λ end. nat_eq (slice_index (segment_classes r) end) piece) r.row))) fails
+  | inl least ↦
+      let class_is = eqb-true (slice_index (segment_classes r) piece) piece least in
+      let meets : meets_class r piece dart ≡ true =
+      ap (λ t. t && nat_eq (slice_index (segment_classes r) (segment_met r.met dart)) piece) met
+      ∙ eq-eqb (slice_index (segment_classes r) (segment_met r.met dart)) piece (sym same ∙ class_is) in
+      let found = list_any-at (meets_class r piece) 0 (4 * limit) dart (omega arith) (omega (arith, below)) meets in
+      ap (λ t. is_least (segment_classes r) piece && (not t
+      && not (list_any (λ end. nat_eq (slice_index (segment_classes r) end) piece) r.row))) found
+      ∙ and_false (is_least (segment_classes r) piece)
+]
+  where
+    and_false : (b : Bool) → (b && false) ≡ false
+    and_false true = refl
+    and_false false = refl
+
+pub no-loops : (limit n : ℕ) (part whole : ℕ → ℕ) (drawn row : List ℕ) (r : Sketch) → n ≤ limit → IsSketched n part whole drawn row r
+    → loop_count limit r ≡ 0
+no-loops limit n part whole drawn row r small is =
+    none-counted (is_loop limit r) (range_with_len 0 r.next)
+    (λ piece is_in.
+    let below : piece < r.next = omega (arith, (in-range 0 r.next piece is_in).1) in
+    let reached = is.reached piece below in
+    met-no_loop limit r piece reached.dart (omega (arith, small, reached.below))
+    (is.all_met reached.dart reached.below reached.is_drawn)
+    (reached.same (λ z. slice_index (segment_classes r) z) (classes-together r.next r.joins is.joins_below)))
+
+-- the slices of the three rules
+
+pub faults-begun : (limit n : ℕ) (part whole : ℕ → ℕ) (drawn : List ℕ) (r : Sketch) (c number : ℕ) → n ≤ limit
+    → IsSketched n part whole drawn [] r → c < n → (IsIn c drawn → ⊥)
+    → first_slice_fault limit r number (Cap 1 ∷ Cap 3 ∷ Cross 2 (c + 1) 0 ∷ []) ≡ None
+faults-begun limit n part whole drawn r c number small is below new =
+    let empty = row-empty n part whole drawn r is in
+    let unmet = not-met n part whole drawn [] r c is new in
+    let e : c ≡ c + 1 - 1 = omega arith in
+    let start : Sketch = record { row = []; next = r.next; joins = r.joins; met = r.met } in
+    let last = sketched (sketched start (Cap 1)) (Cap 3) in
+    ap (λ row. first_slice_fault limit (record { row = row; next = r.next; joins = r.joins; met = r.met }) number
+    (Cap 1 ∷ Cap 3 ∷ Cross 2 (c + 1) 0 ∷ [])) empty
+    ∙ ap (λ o. option_or o None)
+    (cross-right limit (number + 1 + 1) 2 (c + 1) 0 last (omega arith) (omega arith) (omega arith) (omega (arith, below, small))
+    (ap (λ k. is_met r.met (4 * k)) (sym e) ∙ unmet) (omega arith))
+
+length-cap : (row : List ℕ) (place x y : ℕ) → place ≤ length row → length (take place row ++ x ∷ y ∷ drop place row) ≡ length row + 2
+length-cap row place x y within = omega (
+  arith,
+  length-append (take place row) (x ∷ y ∷ drop place row),
+  length-take-le place row within,
+  length-drop place row,
+  within,
+)
+
+pub faults-crossed : (limit n : ℕ) (part whole : ℕ → ℕ) (drawn row : List ℕ) (r : Sketch) (place o number : ℕ) → n ≤ limit
+    → IsSketched n part whole drawn row r → place < length row → length row ≤ 62 → o / 4 < n → (IsIn (o / 4) drawn → ⊥)
+    → first_slice_fault limit r number (Cap (place + 2) ∷ Cross (place + 1) (o / 4 + 1) (o % 4) ∷ []) ≡ None
+faults-crossed limit n part whole drawn row r place o number small is within few below new =
+    let size = row-length n part whole drawn row r is in
+    let unmet = not-met n part whole drawn row r (o / 4) is new in
+    let e : o / 4 ≡ o / 4 + 1 - 1 = omega arith in
+    let last = sketched r (Cap (place + 2)) in
+    let longer : length last.row ≡ length r.row + 2 =
+    length-cap r.row (place + 2 - 1) r.next (r.next + 1) (omega (arith, size, within)) in
+    let cap = cap-right limit number (place + 2) r (omega arith) (omega (arith, size, within)) (omega (arith, size, few)) in
+    let cross = cross-right limit (number + 1) (place + 1) (o / 4 + 1) (o % 4) last (omega arith) (omega (arith, longer, size, within))
+    (omega arith) (omega (arith, below, small)) (ap (λ k. is_met r.met (4 * k)) (sym e) ∙ unmet) (omega arith) in
+    ap (λ t. option_or t (option_or (slice_fault limit last (number + 1) (Cross (place + 1) (o / 4 + 1) (o % 4))) None)) cap
+    ∙ ap (λ t. option_or t None) cross
+
+pub faults-closed : (limit n : ℕ) (part after whole : ℕ → ℕ) (drawn row later : List ℕ) (r : Sketch) (place number : ℕ) → n ≤ limit
+    → IsSketched n part whole drawn row r → place + 1 < length row → IsSketched n after whole drawn later (sketched r (Cup (place + 1)))
+    → first_slice_fault limit r number (Cup (place + 1) ∷ []) ≡ None
+faults-closed limit n part after whole drawn row later r place number small is within then =
+    let size = row-length n part whole drawn row r is in
+    let none = no-loops limit n after whole drawn later (sketched r (Cup (place + 1))) small then in
+    ap (λ t. option_or t None)
+    (cup-right limit number (place + 1) r (omega arith) (omega (arith, size, within)) (omega (arith, none)))

@@ -1,0 +1,204 @@
+-- The steps of a drawing come to an end, where all crossings are drawn and all arcs are closed.
+use Rattle.std.proofs.Common.{◌≡◌, ℕ, zero, suc, ◌⊎◌, inl, inr, ◌+◌, ◌*◌, ◌/◌, ◌<◌, ◌≤◌, ◌∙◌, List, [], ◌∷◌, length, refl, sym, ap, subst, arith, Bool, true, false, cond}
+use Rattle.kh_types.specs.Classes.{classes_of}
+use Rattle.kh_types.proofs.ClassLemmas.{classes-finest, classes-together}
+use Rattle.std.specs.Prelude.{◌↔◌, min, slice_index, not, None}
+use Rattle.std.specs.List.{count_by, range_with_len}
+use Rattle.std.proofs.lemmas.Bool.{both_ways}
+use Rattle.std.proofs.lemmas.List.Sums.{sum_by-cons}
+use Rattle.std.proofs.lemmas.List.FromFn.{length-range_with_len}
+use Rattle.std.specs.Prelude.{IsTrue}
+use Rattle.kh_types.specs.Acceptance.{accepted}
+use Rattle.kh_types.specs.Code.{Code}
+use Rattle.kh_types.specs.Darts.{partner_at}
+use Rattle.kh_types.proofs.AcceptedLemmas.{HasArcsTwice-accepted}
+use Rattle.kh_types.proofs.DartPairs.{IsOtherPlace-partner_at, IsPairing-partner_at}
+use Rattle.face_walk.proofs.FewFaces.{IsPlanar-accepted}
+use Rattle.face_walk.specs.AddedArcs.{bare}
+use Rattle.morse_drawing.specs.DartRows.{IsDrawing, IsIn}
+use Rattle.morse_drawing.specs.Pages.{Page, blank_page, by_crossing, is_in, page_of, next_page, next_page_by, pages_on, undrawn}
+use Rattle.morse_drawing.specs.Sketches.{MeetJoined, IsSketched, segment_met, sketch_of}
+use Rattle.morse_drawing.specs.Progress.{IsDrawn, IsLastPage, IsPage, IsWholeSphere, left_over, undrawn_count}
+use Rattle.morse_drawing.proofs.RowRules.{IsDrawing-none, IsDrawing-whole}
+use Rattle.morse_drawing.proofs.PieceCounts.{pieces-same}
+use Rattle.morse_drawing.proofs.Faults.{in-range, none-counted}
+use Rattle.face_walk.proofs.BareCrossings.{open_piece_count-bare}
+use Rattle.morse_drawing.proofs.PageLemmas.{Search-is, true-in, not-in, count-le}
+use Rattle.morse_drawing.proofs.PageLemmas.Search.{missing, some}
+use Rattle.morse_drawing.proofs.PageSteps.{IsNextPage-next_page}
+
+-- the page after some steps
+pub IsPage-pages_on : (n : ℕ) (whole : ℕ → ℕ) (count : ℕ) (page : Page) → IsWholeSphere n whole → IsPage n whole page
+    → IsPage n whole (pages_on n whole count page)
+IsPage-pages_on n whole zero page is_whole is = is
+IsPage-pages_on n whole (suc count) page is_whole is =
+    IsPage-pages_on n whole count (next_page n whole page) is_whole (IsNextPage-next_page n whole page is_whole is).is_page
+
+-- a finished page stays as it is
+none-undrawn : (n : ℕ) (drawn : List ℕ) → ((c : ℕ) → c < n → IsIn c drawn) → undrawn n drawn ≡ None
+none-undrawn n drawn all = elim (Search-is (λ c. not (is_in drawn c)) 0 n) [
+  | some c from below passes found ↦ absurd (not-in c drawn passes (all c (omega (arith, below))))
+  | missing fails found ↦ found
+]
+
+finished-next_page : (n : ℕ) (whole : ℕ → ℕ) (page : Page) → IsLastPage n page → next_page n whole page ≡ page
+finished-next_page n whole page is =
+    ap (next_page_by n whole page) is.row ∙ ap (by_crossing page) (none-undrawn n page.drawn is.all)
+
+finished-pages_on : (n : ℕ) (whole : ℕ → ℕ) (count : ℕ) (page : Page) → IsLastPage n page → pages_on n whole count page ≡ page
+finished-pages_on n whole zero page is = refl
+finished-pages_on n whole (suc count) page is =
+    ap (pages_on n whole count) (finished-next_page n whole page is) ∙ finished-pages_on n whole count page is
+
+-- where there are enough steps they finish
+IsLastPage-pages_on : (n : ℕ) (whole : ℕ → ℕ) (count : ℕ) (page : Page) → IsWholeSphere n whole → IsPage n whole page
+    → left_over n page ≤ count → IsLastPage n (pages_on n whole count page)
+IsLastPage-pages_on n whole zero page is_whole is enough =
+    elim (IsNextPage-next_page n whole page is_whole is).goes_on [
+      | inl finished ↦ finished
+      | inr less ↦ absurd (omega (arith, enough, less))
+    ]
+IsLastPage-pages_on n whole (suc count) page is_whole is enough =
+    let next = IsNextPage-next_page n whole page is_whole is in
+    elim next.goes_on [
+      | inl finished ↦
+          subst (λ (end : Page). IsLastPage n end) (sym (finished-pages_on n whole (suc count) page finished)) finished
+      | inr less ↦ IsLastPage-pages_on n whole count (next_page n whole page) is_whole next.is_page (omega (arith, enough, less))
+    ]
+
+all-undrawn : (n : ℕ) → undrawn_count n [] ≡ n
+all-undrawn n = count_by-all (λ c. not (is_in [] c)) (range_with_len 0 n) (λ c. refl) ∙ length-range_with_len 0 n
+  where
+    count_by-all : (p : ℕ → Bool) (xs : List ℕ) → ((x : ℕ) → p x ≡ true) → count_by p xs ≡ length xs
+    count_by-all p [] holds = refl
+    count_by-all p (x ∷ xs) holds =
+        sum_by-cons (λ y. cond (p y) 1 0) x xs ∙ ap (λ b. cond b 1 0 + count_by p xs) (holds x)
+        ∙ one_more (count_by p xs) (length xs) (count_by-all p xs holds)
+      where
+        one_more : (k m : ℕ) → k ≡ m → 1 + k ≡ suc m
+        one_more k m same = omega (arith, same)
+
+pub IsPage-blank_page : (n : ℕ) (whole : ℕ → ℕ) → IsPage n whole blank_page
+IsPage-blank_page n whole = record {
+  part = bare;
+  drawing = IsDrawing-none n whole;
+  reading = record {
+    zipped = [];
+    pieces = refl;
+    darts = refl;
+    joins_below = tt;
+    pieces_below = tt;
+    met_below = λ x below stands. absurd stands;
+    along = λ f holds. tt;
+    closed = λ f holds x below stands. absurd stands;
+    known = λ x holds. absurd (both_ways false refl holds);
+    all_met = λ x below stands. absurd stands;
+    reached = λ q below. absurd (omega (arith, below));
+    colour = λ z. z;
+    respects = tt;
+    named = λ x below stands. absurd stands;
+  };
+  counted = omega (arith, open_piece_count-bare n, all-undrawn n);
+  crosses = omega (arith, all-undrawn n);
+  sizes = omega (arith, all-undrawn n);
+  few = omega (arith, count-le (λ c. not (is_in [] c)) n);
+  faultless = λ limit small most. refl;
+}
+
+pub IsDrawn-page_of : (n : ℕ) (whole : ℕ → ℕ) → IsWholeSphere n whole → IsDrawn n whole (page_of n whole)
+IsDrawn-page_of n whole is_whole =
+    let finished = IsLastPage-pages_on n whole (5 * n) blank_page is_whole (IsPage-blank_page n whole)
+    (omega (arith, count-le (λ c. not (is_in [] c)) n)) in
+    let page = IsPage-pages_on n whole (5 * n) blank_page is_whole (IsPage-blank_page n whole) in
+    let end = page_of n whole in
+    let drawing = subst (λ (row : List ℕ). IsDrawing n page.part whole end.drawn row) finished.row page.drawing in
+    let same = IsDrawing-whole n page.part whole end.drawn drawing (λ x below. finished.all (x / 4) (omega (arith, below))) in
+    let r = sketch_of end.slices in
+    let reading = subst (λ (row : List ℕ). IsSketched n page.part whole end.drawn row r) finished.row page.reading in
+    record {
+      finished = finished;
+      part = page.part;
+      drawing = drawing;
+      same = same;
+      reading = record {
+        zipped = reading.zipped;
+        pieces = reading.pieces;
+        darts = reading.darts;
+        joins_below = reading.joins_below;
+        pieces_below = reading.pieces_below;
+        met_below = reading.met_below;
+        along = reading.along;
+        closed = λ f holds x below stands. reading.closed f holds x below stands ∙ ap (λ w. f (segment_met r.met w)) (same x below);
+        known = reading.known;
+        all_met = reading.all_met;
+        reached = reading.reached;
+        colour = reading.colour;
+        respects = reading.respects;
+        named = reading.named;
+      };
+      crosses = omega (
+        arith,
+        page.crosses,
+        none-counted (λ c. not (is_in end.drawn c)) (range_with_len 0 n)
+            (λ c is_c. drawn-false c end.drawn (finished.all c (omega (arith, (in-range 0 n c is_c).1)))),
+      );
+      counted = omega (
+        arith,
+        page.counted,
+        ap (λ xs. length xs) finished.row,
+        none-counted (λ c. not (is_in end.drawn c)) (range_with_len 0 n)
+            (λ c is_c. drawn-false c end.drawn (finished.all c (omega (arith, (in-range 0 n c is_c).1)))),
+        pieces-same n page.part whole same,
+      );
+      faultless = page.faultless;
+    }
+  where
+    drawn-false : (c : ℕ) (drawn : List ℕ) → IsIn c drawn → not (is_in drawn c) ≡ false
+    drawn-false c drawn stands = ap not (true-in c drawn stands)
+
+-- an accepted code
+pub IsWholeSphere-accepted : (code : Code) → IsTrue (accepted code) → IsWholeSphere (length code.crossings) (partner_at code.crossings)
+IsWholeSphere-accepted code is =
+    let twice = HasArcsTwice-accepted code is in
+    record {
+      pairing = IsPairing-partner_at code.crossings twice;
+      planar = IsPlanar-accepted code is;
+      full = λ x below. (IsOtherPlace-partner_at code.crossings x twice below).differs;
+    }
+
+-- two darts meet pieces of one class exactly where they are one dart, or partners
+pub least_same : (x wx y wy : ℕ) → min x wx ≡ min y wy → ((y ≡ x) ⊎ (x ≡ wy)) ⊎ ((y ≡ wx) ⊎ (wx ≡ wy))
+least_same x wx y wy same = grind arith
+
+pub joined-partners : (n : ℕ) (whole : ℕ → ℕ) (x y : ℕ) → IsWholeSphere n whole → x < 4 * n → y < 4 * n
+    → MeetJoined (sketch_of (page_of n whole).slices) x y ↔ ((y ≡ x) ⊎ (y ≡ whole x))
+joined-partners n whole x y is_whole x_below y_below =
+    let drawn = IsDrawn-page_of n whole is_whole in
+    let r = sketch_of (page_of n whole).slices in
+    let is = drawn.reading in
+    let there : (z : ℕ) → z < 4 * n → IsIn (z / 4) (page_of n whole).drawn = λ z below. drawn.finished.all (z / 4) (omega (arith, below)) in
+    let back = is_whole.pairing.back in (
+      λ joined.
+          let same : min x (whole x) ≡ min y (whole y) =
+          sym (is.named x x_below (there x x_below))
+          ∙ classes-finest is.colour r.next r.joins is.respects is.joins_below (segment_met r.met x) (segment_met r.met y)
+          (is.met_below x x_below (there x x_below)) (is.met_below y y_below (there y y_below)) joined
+          ∙ is.named y y_below (there y y_below) in
+          elim (least_same x (whole x) y (whole y) same) [
+            | inl first ↦ elim first [
+              | inl one ↦ inl one
+              | inr other ↦ inr (sym (back y y_below) ∙ ap whole (sym other))
+            ]
+            | inr second ↦ elim second [
+              | inl partner ↦ inr partner
+              | inr both ↦ inl (sym (back y y_below) ∙ ap whole (sym both) ∙ back x x_below)
+            ]
+          ],
+      λ either. elim either [
+        | inl one ↦ ap (λ z. slice_index (classes_of r.next r.joins) (segment_met r.met z)) (sym one)
+        | inr partner ↦
+            is.closed (λ z. slice_index (classes_of r.next r.joins) z) (classes-together r.next r.joins is.joins_below) x x_below
+            (there x x_below)
+            ∙ ap (λ z. slice_index (classes_of r.next r.joins) (segment_met r.met z)) (sym partner)
+      ],
+    )

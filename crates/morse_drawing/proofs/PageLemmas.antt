@@ -1,0 +1,105 @@
+-- Searches in ranges, and lists of numbers, in the drawing of a code.
+use Rattle.std.proofs.Common.{◌≡◌, ◌≢◌, ℕ, zero, suc, inl, inr, ◌+◌, ◌<◌, ◌≤◌, ◌∙◌, List, [], ◌∷◌, ◌++◌, length, refl, sym, ap, arith, Bool, true, false, cond}
+use Rattle.std.specs.Prelude.{nat_eq, not, ◌||◌, Some, None}
+use Rattle.std.specs.List.{count_by, find, range_with_len}
+use Rattle.std.proofs.lemmas.Bool.{cases_Bool, cases_eq, both_ways, eq-eqb, eqb-true, ne_eqb, not-true}
+use Rattle.std.proofs.lemmas.List.Sums.{count_by-le-length, sum_by-append}
+use Rattle.std.proofs.lemmas.List.FromFn.{length-range_with_len}
+use Rattle.kh_types.proofs.RangeCounts.{count_by-one_more}
+use Rattle.morse_drawing.specs.DartRows.{IsIn, other_three}
+use Rattle.morse_drawing.specs.ReadBack.{is_cross}
+use Rattle.morse_drawing.specs.declared.slice.Slice.{Slice}
+use Rattle.morse_drawing.specs.Pages.{is_in}
+use Rattle.morse_drawing.specs.declared.slice.Slice.TheVariants.{Cap, Cup, Cross}
+use Rattle.morse_drawing.specs.Progress.{undrawn_count}
+
+pub data Search (test : ℕ → Bool) (a n : ℕ) : Type 0 where
+  some : (x : ℕ) → a ≤ x → x < a + n → test x ≡ true → find test (range_with_len a n) ≡ Some x → Search test a n
+  missing : ((x : ℕ) → a ≤ x → x < a + n → test x ≡ false) → find test (range_with_len a n) ≡ None → Search test a n
+
+pub Search-is : (test : ℕ → Bool) (a n : ℕ) → Search test a n
+Search-is test a zero = missing (λ x from below. absurd (omega (arith, from, below))) refl
+Search-is test a (suc n) = elim (cases_Bool (test a)) [
+  | inl passes ↦
+      some a (omega arith) (omega arith) passes (ap (λ b. cond b (Some a) (find test (range_with_len (a + 1) n))) passes)
+  | inr fails ↦
+      let later : find test (range_with_len a (suc n)) ≡ find test (range_with_len (a + 1) n) =
+      ap (λ b. cond b (Some a) (find test (range_with_len (a + 1) n))) fails in
+      elim (Search-is test (a + 1) n) [
+        | some x from below passes is ↦ some x (omega (arith, from)) (omega (arith, below)) passes (later ∙ is)
+        | missing all is ↦
+            missing
+            (λ x from below. elim (cases_eq x a) [
+              | inl same ↦ ap test same ∙ fails
+              | inr apart ↦ all x (omega (arith, from, apart)) (omega (arith, below))
+            ])
+            (later ∙ is)
+      ]
+]
+
+-- a number stands in a list where the test says so
+pub in-true : (y : ℕ) (xs : List ℕ) → is_in xs y ≡ true → IsIn y xs
+in-true y [] holds = absurd (both_ways false refl holds)
+in-true y (x ∷ xs) holds = elim (cases_Bool (nat_eq y x)) [
+  | inl same ↦ inl (eqb-true y x same)
+  | inr apart ↦ inr (in-true y xs (sym (ap (λ b. b || is_in xs y) apart) ∙ holds))
+]
+
+pub or_right : (b : Bool) → (b || true) ≡ true
+or_right true = refl
+or_right false = refl
+
+pub true-in : (y : ℕ) (xs : List ℕ) → IsIn y xs → is_in xs y ≡ true
+true-in y [] stands = absurd stands
+true-in y (x ∷ xs) stands = elim stands [
+  | inl same ↦ ap (λ b. b || is_in xs y) (eq-eqb y x same)
+  | inr later ↦ ap (λ b. nat_eq y x || b) (true-in y xs later) ∙ or_right (nat_eq y x)
+]
+
+pub not-in : (y : ℕ) (xs : List ℕ) → not (is_in xs y) ≡ true → IsIn y xs → ⊥
+not-in y xs holds stands = both_ways (is_in xs y) (not-true (is_in xs y) holds) (true-in y xs stands)
+
+pub is-in : (y : ℕ) (xs : List ℕ) → not (is_in xs y) ≡ false → IsIn y xs
+is-in y xs fails = elim (cases_Bool (is_in xs y)) [
+  | inl holds ↦ in-true y xs holds
+  | inr other ↦ absurd (both_ways (not (is_in xs y)) fails (ap not other))
+]
+
+pub in_middle : (x : ℕ) (front back : List ℕ) → IsIn x (front ++ x ∷ back)
+in_middle x [] back = inl refl
+in_middle x (z ∷ zs) back = inr (in_middle x zs back)
+
+pub in_next : (x y : ℕ) (front back : List ℕ) → IsIn y (front ++ x ∷ y ∷ back)
+in_next x y [] back = inr (inl refl)
+in_next x y (z ∷ zs) back = inr (in_next x y zs back)
+
+pub drawn-here : (c : ℕ) (drawn : List ℕ) → not (nat_eq c c || is_in drawn c) ≡ false
+drawn-here c drawn = ap (λ b. not (b || is_in drawn c)) (eq-eqb c c refl)
+
+pub drawn-other : (c k : ℕ) (drawn : List ℕ) → k ≢ c → not (is_in drawn k) ≡ not (nat_eq k c || is_in drawn k)
+drawn-other c k drawn apart = sym (ap (λ b. not (b || is_in drawn k)) (ne_eqb k c apart))
+
+pub undrawn-fewer : (n c : ℕ) (drawn : List ℕ) → c < n → not (is_in drawn c) ≡ true
+    → undrawn_count n drawn ≡ undrawn_count n (c ∷ drawn) + 1
+undrawn-fewer n c drawn below passes =
+    count_by-one_more (λ k. not (is_in drawn k)) (λ k. not (is_in (c ∷ drawn) k)) 0 n c (omega arith) (omega (arith, below)) passes
+    (drawn-here c drawn) (λ k apart. drawn-other c k drawn apart)
+
+pub length-three : (x : ℕ) → length (other_three x) ≡ 3
+length-three x = refl
+
+-- how many crossings the slices of the rules have
+pub crosses-append : (xs ys : List Slice) → count_by is_cross (xs ++ ys) ≡ count_by is_cross xs + count_by is_cross ys
+crosses-append xs ys = sum_by-append (λ s. cond (is_cross s) 1 0) xs ys
+
+pub begun-crosses : (c : ℕ) → count_by is_cross (Cap 1 ∷ Cap 3 ∷ Cross 2 (c + 1) 0 ∷ []) ≡ 1
+begun-crosses c = refl
+
+pub crossed-crosses : (at place c slot : ℕ) → count_by is_cross (Cap at ∷ Cross place c slot ∷ []) ≡ 1
+crossed-crosses at place c slot = refl
+
+pub closed-crosses : (at : ℕ) → count_by is_cross (Cup at ∷ []) ≡ 0
+closed-crosses at = refl
+
+pub count-le : (p : ℕ → Bool) (n : ℕ) → count_by p (range_with_len 0 n) ≤ n
+count-le p n = omega (arith, count_by-le-length p (range_with_len 0 n), length-range_with_len 0 n)

@@ -1,0 +1,393 @@
+-- What changes in what is read of slices, when a cup or a cross is read.
+use Rattle.std.proofs.Common.{◌≡◌, ◌≢◌, ℕ, inl, inr, ◌+◌, ◌-◌, ◌*◌, ◌/◌, ◌%◌, ◌<◌, ◌≤◌, ◌∙◌, List, [], ◌∷◌, ◌++◌, length, get_or, map, take, drop, refl, sym, ap, ap₂, arith, Bool, true, false, cond, min}
+use Rattle.std.specs.Prelude.{◌⊎◌, ◌||◌, nat_eq, nat_lt}
+use Rattle.std.specs.List.{AllByRecursion}
+use Rattle.std.proofs.Math.Seq.{drop-append_seam, get_or-append_seam, take-append_seam}
+use Rattle.std.proofs.lemmas.Bool.{cases_eq, eq-eqb, ne_eqb}
+use Rattle.std.proofs.lemmas.Bool.Decides.{nat_tests}
+use Rattle.std.proofs.lemmas.List.{append_assoc, length-append}
+use Rattle.kh_types.specs.Classes.{AreBelow, Respects}
+use Rattle.face_walk.specs.AddedArcs.{with_arc}
+use Rattle.morse_drawing.specs.Sketches.{Sketch, dart_after, is_met, segment_met, sketched, with_cross, with_cup}
+use Rattle.morse_drawing.specs.DartRows.{turned_back}
+use Rattle.morse_drawing.specs.declared.slice.Slice.TheVariants.{Cap, Cup, Cross}
+
+abbrev pub piece : ℕ × ℕ → ℕ
+piece e = e.0
+
+abbrev pub dart : ℕ × ℕ → ℕ
+dart e = e.1
+
+abbrev pub made : List ℕ → ℕ → List (ℕ × ℕ) → List (ℕ × ℕ) → Sketch
+made row next joins met = record { row = row; next = next; joins = joins; met = met }
+
+abbrev pub pair_of : ℕ → ℕ → ℕ × ℕ
+pair_of x y = (x, y)
+
+-- a cup at two neighbours
+pub cup-is : (front back : List ℕ) (a b next : ℕ) (joins met : List (ℕ × ℕ))
+    → sketched (made (front ++ a ∷ b ∷ back) next joins met) (Cup (length front + 1))
+    ≡ made (front ++ back) next (joins ++ (a, b) ∷ []) met
+cup-is front back a b next joins met =
+    let k = length front in
+    let row = front ++ a ∷ b ∷ back in
+    let place : k + 1 - 1 ≡ k = omega arith in
+    let first : take k row ≡ front = take-append_seam front (a ∷ b ∷ back) in
+    let two = front ++ a ∷ b ∷ [] in
+    let row_is : row ≡ two ++ back = sym (append_assoc front (a ∷ b ∷ []) back) in
+    let size : k + 2 ≡ length two = omega (arith, length-append front (a ∷ b ∷ [])) in
+    let rest : drop (k + 2) row ≡ back = ap₂ (λ j zs. drop j zs) size row_is ∙ drop-append_seam two back in
+    let at_a : get_or row k 0 ≡ a = get_or-append_seam front a (b ∷ back) 0 in
+    let one = front ++ a ∷ [] in
+    let one_is : row ≡ one ++ b ∷ back = sym (append_assoc front (a ∷ []) (b ∷ back)) in
+    let one_size : k + 1 ≡ length one = omega (arith, length-append front (a ∷ [])) in
+    let at_b : get_or row (k + 1) 0 ≡ b = ap₂ (λ j zs. get_or zs j 0) one_size one_is ∙ get_or-append_seam one b back 0 in
+    ap (with_cup (made row next joins met)) place
+    ∙ ap₂ (λ zs ws. made (zs ++ ws) next (joins ++ (get_or row k 0, get_or row (k + 1) 0) ∷ []) met) first rest
+    ∙ ap₂ (λ x y. made (front ++ back) next (joins ++ pair_of x y ∷ []) met) at_a at_b
+
+-- a cap beside a strand, and a crossing of that strand with the first of the new two
+abbrev pub cross_met : ℕ → ℕ → ℕ → ℕ → List (ℕ × ℕ) → List (ℕ × ℕ)
+cross_met o a b next met =
+    (dart_after (o / 4 + 1) (o % 4) 0, a) ∷ (dart_after (o / 4 + 1) (o % 4) 1, next)
+    ∷ (dart_after (o / 4 + 1) (o % 4) 2, next + 1) ∷ (dart_after (o / 4 + 1) (o % 4) 3, b) ∷ met
+
+pub cross-is : (front back : List ℕ) (a next o : ℕ) (joins met : List (ℕ × ℕ))
+    → sketched (sketched (made (front ++ a ∷ back) next joins met) (Cap (length front + 2))) (Cross (length front + 1) (o / 4 + 1) (o % 4))
+    ≡ made (front ++ (next + 2) ∷ (next + 2 + 1) ∷ (next + 1) ∷ back) (next + 2 + 2) (joins ++ (next, next + 1) ∷ [])
+    (cross_met o a next (next + 2) met)
+cross-is front back a next o joins met =
+    let k = length front in
+    let row = front ++ a ∷ back in
+    let more = joins ++ (next, next + 1) ∷ [] in
+    let one = front ++ a ∷ [] in
+    let one_size : k + 1 ≡ length one = omega (arith, length-append front (a ∷ [])) in
+    let place : k + 2 - 1 ≡ length one = omega (arith, one_size) in
+    let row_is : row ≡ one ++ back = sym (append_assoc front (a ∷ []) back) in
+    let first : take (k + 2 - 1) row ≡ one = ap₂ (λ j zs. take j zs) place row_is ∙ take-append_seam one back in
+    let rest : drop (k + 2 - 1) row ≡ back = ap₂ (λ j zs. drop j zs) place row_is ∙ drop-append_seam one back in
+    let mid = front ++ a ∷ next ∷ (next + 1) ∷ back in
+    let cap : sketched (made row next joins met) (Cap (k + 2)) ≡ made mid (next + 2) more met =
+    ap₂ (λ zs ws. made (zs ++ next ∷ (next + 1) ∷ ws) (next + 2) more met) first rest
+    ∙ ap (λ zs. made zs (next + 2) more met) (append_assoc front (a ∷ []) (next ∷ (next + 1) ∷ back)) in
+    let here : k + 1 - 1 ≡ k = omega arith in
+    let before : take k mid ≡ front = take-append_seam front (a ∷ next ∷ (next + 1) ∷ back) in
+    let two = front ++ a ∷ next ∷ [] in
+    let two_is : mid ≡ two ++ (next + 1) ∷ back = sym (append_assoc front (a ∷ next ∷ []) ((next + 1) ∷ back)) in
+    let two_size : k + 2 ≡ length two = omega (arith, length-append front (a ∷ next ∷ [])) in
+    let behind : drop (k + 2) mid ≡ (next + 1) ∷ back = ap₂ (λ j zs. drop j zs) two_size two_is ∙ drop-append_seam two ((next + 1) ∷ back) in
+    let at_a : get_or mid k 0 ≡ a = get_or-append_seam front a (next ∷ (next + 1) ∷ back) 0 in
+    let mid_is : mid ≡ one ++ next ∷ (next + 1) ∷ back = sym (append_assoc front (a ∷ []) (next ∷ (next + 1) ∷ back)) in
+    let at_b : get_or mid (k + 1) 0 ≡ next =
+    ap₂ (λ j zs. get_or zs j 0) one_size mid_is ∙ get_or-append_seam one next ((next + 1) ∷ back) 0 in
+    ap (λ r. sketched r (Cross (k + 1) (o / 4 + 1) (o % 4))) cap
+    ∙ ap (λ j. with_cross (made mid (next + 2) more met) j (o / 4 + 1) (o % 4)) here
+    ∙ ap₂ (λ zs ws. made (zs ++ (next + 2) ∷ (next + 2 + 1) ∷ ws) (next + 2 + 2) more
+    (cross_met o (get_or mid k 0) (get_or mid (k + 1) 0) (next + 2) met)) before behind
+    ∙ ap₂ (λ x y. made (front ++ (next + 2) ∷ (next + 2 + 1) ∷ (next + 1) ∷ back) (next + 2 + 2) more (cross_met o x y (next + 2) met))
+    at_a at_b
+
+-- a list of pairs in parts, by its darts
+pub record Parted (zipped : List (ℕ × ℕ)) (front : List ℕ) (x : ℕ) (back : List ℕ) : Type 0 where
+  pub before : List (ℕ × ℕ)
+  pub at : ℕ
+  pub behind : List (ℕ × ℕ)
+  pub whole_is : zipped ≡ before ++ (at, x) ∷ behind
+  pub front_is : map dart before ≡ front
+  pub back_is : map dart behind ≡ back
+
+pub parted : (zipped : List (ℕ × ℕ)) (front : List ℕ) (x : ℕ) (back : List ℕ) → map dart zipped ≡ front ++ x ∷ back
+    → Parted zipped front x back
+parted [] [] x back same = absurd (never same)
+  where
+    never : [] ≡ x ∷ back → ⊥
+    never h = cc
+parted [] (y ∷ front) x back same = absurd (never same)
+  where
+    never : [] ≡ y ∷ (front ++ x ∷ back) → ⊥
+    never h = cc
+parted (e ∷ zipped) [] x back same =
+    let heads : e.1 ≡ x = ap (λ zs. get_or zs 0 0) same in
+    let tails : map dart zipped ≡ back = ap (λ zs. drop 1 zs) same in
+    record {
+      before = [];
+      at = e.0;
+      behind = zipped;
+      whole_is = ap (λ d. pair_of e.0 d ∷ zipped) heads;
+      front_is = refl;
+      back_is = tails;
+    }
+parted (e ∷ zipped) (y ∷ front) x back same =
+    let heads : e.1 ≡ y = ap (λ zs. get_or zs 0 0) same in
+    let rest = parted zipped front x back (ap (λ zs. drop 1 zs) same) in
+    record {
+      before = e ∷ rest.before;
+      at = rest.at;
+      behind = rest.behind;
+      whole_is = ap (λ zs. e ∷ zs) rest.whole_is;
+      front_is = ap₂ (λ z zs. z ∷ zs) heads rest.front_is;
+      back_is = rest.back_is;
+    }
+
+pub head_of : (zipped : List (ℕ × ℕ)) (y : ℕ) (back : List ℕ) → map dart zipped ≡ y ∷ back
+    → (b : ℕ) × (behind : List (ℕ × ℕ)) × (zipped ≡ (b, y) ∷ behind) × (map dart behind ≡ back)
+head_of [] y back same = absurd (never same)
+  where
+    never : [] ≡ y ∷ back → ⊥
+    never h = cc
+head_of (e ∷ zipped) y back same =
+    (e.0, zipped, ap (λ d. pair_of e.0 d ∷ zipped) (ap (λ zs. get_or zs 0 0) same), ap (λ zs. drop 1 zs) same)
+
+pub all_change : (P Q : ℕ × ℕ → Type 0) (xs : List (ℕ × ℕ)) → ((e : ℕ × ℕ) → P e → Q e) → AllByRecursion P xs → AllByRecursion Q xs
+all_change P Q [] change holds = tt
+all_change P Q (x ∷ xs) change holds = (change x holds.0, all_change P Q xs change holds.1)
+
+pub all_both : (P Q : ℕ × ℕ → Type 0) (xs : List (ℕ × ℕ)) → AllByRecursion P xs → AllByRecursion Q xs → AllByRecursion (λ e. P e × Q e) xs
+all_both P Q [] first second = tt
+all_both P Q (x ∷ xs) first second = ((first.0, second.0), all_both P Q xs first.1 second.1)
+
+-- a partner function with an arc more
+pub arc-first : (part : ℕ → ℕ) (x y : ℕ) → with_arc part x y x ≡ y
+arc-first part x y = ap (λ b. cond b y (cond (nat_eq x y) x (part x))) (eq-eqb x x refl)
+
+pub arc-second : (part : ℕ → ℕ) (x y : ℕ) → y ≢ x → with_arc part x y y ≡ x
+arc-second part x y apart =
+    ap (λ b. cond b y (cond (nat_eq y y) x (part y))) (ne_eqb y x apart) ∙ ap (λ b. cond b x (part y)) (eq-eqb y y refl)
+
+pub arc-other : (part : ℕ → ℕ) (x y z : ℕ) → z ≢ x → z ≢ y → with_arc part x y z ≡ part z
+arc-other part x y z not_x not_y =
+    ap (λ b. cond b y (cond (nat_eq z y) x (part z))) (ne_eqb z x not_x) ∙ ap (λ b. cond b x (part z)) (ne_eqb z y not_y)
+
+pub min_swap : (x y : ℕ) → min x y ≡ min y x
+min_swap x y = omega arith
+
+-- the pieces that the darts of a new crossing meet, and those of all other darts
+abbrev pub chain : ℕ → ℕ → ℕ → ℕ → ℕ → ℕ → ℕ → ℕ → ℕ → ℕ → ℕ
+chain d0 d1 d2 d3 a p q b w z =
+    cond (nat_eq d0 z) a (cond (nat_eq d1 z) p (cond (nat_eq d2 z) q (cond (nat_eq d3 z) b w)))
+
+pub chain-zero : (d0 d1 d2 d3 a p q b w z : ℕ) → d0 ≡ z → chain d0 d1 d2 d3 a p q b w z ≡ a
+chain-zero d0 d1 d2 d3 a p q b w z same = ap (λ t. cond t a (cond (nat_eq d1 z) p (cond (nat_eq d2 z) q (cond (nat_eq d3 z) b w)))) (eq-eqb d0 z same)
+
+pub chain-one : (d0 d1 d2 d3 a p q b w z : ℕ) → d0 ≢ z → d1 ≡ z → chain d0 d1 d2 d3 a p q b w z ≡ p
+chain-one d0 d1 d2 d3 a p q b w z no0 same =
+    ap (λ t. cond t a (cond (nat_eq d1 z) p (cond (nat_eq d2 z) q (cond (nat_eq d3 z) b w)))) (ne_eqb d0 z no0)
+    ∙ ap (λ t. cond t p (cond (nat_eq d2 z) q (cond (nat_eq d3 z) b w))) (eq-eqb d1 z same)
+
+pub chain-two : (d0 d1 d2 d3 a p q b w z : ℕ) → d0 ≢ z → d1 ≢ z → d2 ≡ z → chain d0 d1 d2 d3 a p q b w z ≡ q
+chain-two d0 d1 d2 d3 a p q b w z no0 no1 same =
+    ap (λ t. cond t a (cond (nat_eq d1 z) p (cond (nat_eq d2 z) q (cond (nat_eq d3 z) b w)))) (ne_eqb d0 z no0)
+    ∙ ap (λ t. cond t p (cond (nat_eq d2 z) q (cond (nat_eq d3 z) b w))) (ne_eqb d1 z no1)
+    ∙ ap (λ t. cond t q (cond (nat_eq d3 z) b w)) (eq-eqb d2 z same)
+
+pub chain-rest : (d0 d1 d2 d3 a p q b w z : ℕ) → d0 ≢ z → d1 ≢ z → d2 ≢ z → chain d0 d1 d2 d3 a p q b w z ≡ cond (nat_eq d3 z) b w
+chain-rest d0 d1 d2 d3 a p q b w z no0 no1 no2 =
+    ap (λ t. cond t a (cond (nat_eq d1 z) p (cond (nat_eq d2 z) q (cond (nat_eq d3 z) b w)))) (ne_eqb d0 z no0)
+    ∙ ap (λ t. cond t p (cond (nat_eq d2 z) q (cond (nat_eq d3 z) b w))) (ne_eqb d1 z no1)
+    ∙ ap (λ t. cond t q (cond (nat_eq d3 z) b w)) (ne_eqb d2 z no2)
+
+abbrev pub turn_one : ℕ → ℕ
+turn_one o = turned_back o
+
+abbrev pub turn_two : ℕ → ℕ
+turn_two o = turned_back (turned_back o)
+
+abbrev pub turn_three : ℕ → ℕ
+turn_three o = turned_back (turned_back (turned_back o))
+
+pub d-zero : (o : ℕ) → dart_after (o / 4 + 1) (o % 4) 0 ≡ o
+d-zero o = omega arith
+
+pub d-one : (o : ℕ) → dart_after (o / 4 + 1) (o % 4) 1 ≡ turn_one o
+d-one o = omega arith
+
+pub d-two : (o : ℕ) → dart_after (o / 4 + 1) (o % 4) 2 ≡ turn_two o
+d-two o = omega arith
+
+pub d-three : (o : ℕ) → dart_after (o / 4 + 1) (o % 4) 3 ≡ turn_three o
+d-three o = omega arith
+
+pub zero-one : (o : ℕ) → o ≢ turn_one o
+zero-one o same = omega (arith, same)
+
+pub zero-two : (o : ℕ) → o ≢ turn_two o
+zero-two o same = omega (arith, same)
+
+pub zero-three : (o : ℕ) → o ≢ turn_three o
+zero-three o same = omega (arith, same)
+
+pub one-two : (o : ℕ) → turn_one o ≢ turn_two o
+one-two o same = omega (arith, same)
+
+pub one-three : (o : ℕ) → turn_one o ≢ turn_three o
+one-three o same = omega (arith, same)
+
+pub two-three : (o : ℕ) → turn_two o ≢ turn_three o
+two-three o same = omega (arith, same)
+
+pub crossing-one : (o : ℕ) → turn_one o / 4 ≡ o / 4
+crossing-one o = omega arith
+
+pub crossing-two : (o : ℕ) → turn_two o / 4 ≡ o / 4
+crossing-two o = omega arith
+
+pub crossing-three : (o : ℕ) → turn_three o / 4 ≡ o / 4
+crossing-three o = omega arith
+
+-- each dart is one of the four at the crossing of o, or at another crossing
+pub data Which (o z : ℕ) : Type 0 where
+  is_zero : z ≡ o → Which o z
+  is_one : z ≡ turn_one o → Which o z
+  is_two : z ≡ turn_two o → Which o z
+  is_three : z ≡ turn_three o → Which o z
+  is_other : z / 4 ≢ o / 4 → Which o z
+
+pub all-four : (o z : ℕ) → z ≢ o → z ≢ turn_one o → z ≢ turn_two o → z / 4 ≡ o / 4 → z ≡ turn_three o
+all-four o z no0 no1 no2 at = omega (arith, no0, no1, no2, at)
+
+pub which : (o z : ℕ) → Which o z
+which o z = elim (cases_eq z o) [
+  | inl same ↦ is_zero same
+  | inr no0 ↦ elim (cases_eq z (turn_one o)) [
+    | inl same ↦ is_one same
+    | inr no1 ↦ elim (cases_eq z (turn_two o)) [
+      | inl same ↦ is_two same
+      | inr no2 ↦ elim (cases_eq (z / 4) (o / 4)) [
+        | inl at ↦ is_three (all-four o z no0 no1 no2 at)
+        | inr apart ↦ is_other apart
+      ]
+    ]
+  ]
+]
+
+-- the new pieces by their darts
+pub record IsMet (o a b next : ℕ) (met : List (ℕ × ℕ)) : Type 0 where
+  pub zero_is : segment_met (cross_met o a b next met) o ≡ a
+  pub one_is : segment_met (cross_met o a b next met) (turn_one o) ≡ next
+  pub two_is : segment_met (cross_met o a b next met) (turn_two o) ≡ next + 1
+  pub three_is : segment_met (cross_met o a b next met) (turn_three o) ≡ b
+  pub other_is : (z : ℕ) → z / 4 ≢ o / 4 → segment_met (cross_met o a b next met) z ≡ segment_met met z
+
+pub is-met : (o a b next : ℕ) (met : List (ℕ × ℕ)) → IsMet o a b next met
+is-met o a b next met =
+    let c = o / 4 + 1 in
+    let s = o % 4 in
+    let d0 = dart_after c s 0 in
+    let d1 = dart_after c s 1 in
+    let d2 = dart_after c s 2 in
+    let d3 = dart_after c s 3 in
+    let e0 = d-zero o in
+    let e1 = d-one o in
+    let e2 = d-two o in
+    let e3 = d-three o in
+    record {
+      zero_is = chain-zero d0 d1 d2 d3 a next (next + 1) b (segment_met met o) o e0;
+      one_is = chain-one d0 d1 d2 d3 a next (next + 1) b (segment_met met (turn_one o)) (turn_one o)
+          (λ same. zero-one o (sym e0 ∙ same)) e1;
+      two_is = chain-two d0 d1 d2 d3 a next (next + 1) b (segment_met met (turn_two o)) (turn_two o)
+          (λ same. zero-two o (sym e0 ∙ same)) (λ same. one-two o (sym e1 ∙ same)) e2;
+      three_is =
+          chain-rest d0 d1 d2 d3 a next (next + 1) b (segment_met met (turn_three o)) (turn_three o)
+          (λ same. zero-three o (sym e0 ∙ same)) (λ same. one-three o (sym e1 ∙ same)) (λ same. two-three o (sym e2 ∙ same))
+          ∙ ap (λ t. cond t b (segment_met met (turn_three o))) (eq-eqb d3 (turn_three o) e3);
+      other_is = λ z apart.
+          chain-rest d0 d1 d2 d3 a next (next + 1) b (segment_met met z) z
+          (λ same. apart (ap (λ w. w / 4) (sym same ∙ e0)))
+          (λ same. apart (ap (λ w. w / 4) (sym same ∙ e1) ∙ crossing-one o))
+          (λ same. apart (ap (λ w. w / 4) (sym same ∙ e2) ∙ crossing-two o))
+          ∙ ap (λ t. cond t b (segment_met met z)) (ne_eqb d3 z (λ same. apart (ap (λ w. w / 4) (sym same ∙ e3) ∙ crossing-three o)));
+    }
+
+-- the darts that are met after a crossing
+pub or_true_rest : (b : Bool) → (b || true) ≡ true
+or_true_rest true = refl
+or_true_rest false = refl
+
+pub met-other : (o a b next z : ℕ) (met : List (ℕ × ℕ)) → z / 4 ≢ o / 4 → is_met (cross_met o a b next met) z ≡ is_met met z
+met-other o a b next z met apart =
+    let c = o / 4 + 1 in
+    let s = o % 4 in
+    let rest = is_met met z in
+    ap (λ t. t || (nat_eq (dart_after c s 1) z || (nat_eq (dart_after c s 2) z || (nat_eq (dart_after c s 3) z || rest))))
+    (ne_eqb (dart_after c s 0) z (λ same. apart (ap (λ w. w / 4) (sym same ∙ d-zero o))))
+    ∙ ap (λ t. t || (nat_eq (dart_after c s 2) z || (nat_eq (dart_after c s 3) z || rest)))
+    (ne_eqb (dart_after c s 1) z (λ same. apart (ap (λ w. w / 4) (sym same ∙ d-one o) ∙ crossing-one o)))
+    ∙ ap (λ t. t || (nat_eq (dart_after c s 3) z || rest))
+    (ne_eqb (dart_after c s 2) z (λ same. apart (ap (λ w. w / 4) (sym same ∙ d-two o) ∙ crossing-two o)))
+    ∙ ap (λ t. t || rest) (ne_eqb (dart_after c s 3) z (λ same. apart (ap (λ w. w / 4) (sym same ∙ d-three o) ∙ crossing-three o)))
+
+pub met-here : (o a b next z : ℕ) (met : List (ℕ × ℕ)) → z / 4 ≡ o / 4 → is_met (cross_met o a b next met) z ≡ true
+met-here o a b next z met at =
+    let c = o / 4 + 1 in
+    let s = o % 4 in
+    let rest = is_met met z in
+    elim (which o z) [
+      | is_zero is ↦
+          ap (λ t. t || (nat_eq (dart_after c s 1) z || (nat_eq (dart_after c s 2) z || (nat_eq (dart_after c s 3) z || rest))))
+          (eq-eqb (dart_after c s 0) z (d-zero o ∙ sym is))
+      | is_one is ↦
+          ap (λ t. nat_eq (dart_after c s 0) z || (t || (nat_eq (dart_after c s 2) z || (nat_eq (dart_after c s 3) z || rest))))
+          (eq-eqb (dart_after c s 1) z (d-one o ∙ sym is))
+          ∙ or_true_rest (nat_eq (dart_after c s 0) z)
+      | is_two is ↦
+          ap (λ t. nat_eq (dart_after c s 0) z || (nat_eq (dart_after c s 1) z || (t || (nat_eq (dart_after c s 3) z || rest))))
+          (eq-eqb (dart_after c s 2) z (d-two o ∙ sym is))
+          ∙ ap (λ t. nat_eq (dart_after c s 0) z || t) (or_true_rest (nat_eq (dart_after c s 1) z))
+          ∙ or_true_rest (nat_eq (dart_after c s 0) z)
+      | is_three is ↦
+          ap (λ t. nat_eq (dart_after c s 0) z || (nat_eq (dart_after c s 1) z || (nat_eq (dart_after c s 2) z || (t || rest))))
+          (eq-eqb (dart_after c s 3) z (d-three o ∙ sym is))
+          ∙ ap (λ t. nat_eq (dart_after c s 0) z || (nat_eq (dart_after c s 1) z || t)) (or_true_rest (nat_eq (dart_after c s 2) z))
+          ∙ ap (λ t. nat_eq (dart_after c s 0) z || t) (or_true_rest (nat_eq (dart_after c s 1) z))
+          ∙ or_true_rest (nat_eq (dart_after c s 0) z)
+      | is_other apart ↦ absurd (apart at)
+    ]
+
+pub dart-there : (n o z : ℕ) → o < 4 * n → z / 4 ≡ o / 4 → z < 4 * n
+dart-there n o z o_below at = omega (arith, o_below, at)
+
+-- colours of new pieces
+abbrev pub painted : (ℕ → ℕ) → ℕ → ℕ → ℕ → ℕ → ℕ → ℕ → ℕ → ℕ
+painted colour next p q one two rest piece_is =
+    cond (nat_lt piece_is next) (colour piece_is) (cond (nat_eq piece_is p) one (cond (nat_eq piece_is q) two rest))
+
+pub painted-old : (colour : ℕ → ℕ) (next p q one two rest x : ℕ) → x < next → painted colour next p q one two rest x ≡ colour x
+painted-old colour next p q one two rest x below = under (colour x) (cond (nat_eq x p) one (cond (nat_eq x q) two rest))
+  where
+    under : (old new : ℕ) → cond (nat_lt x next) old new ≡ old
+    under old new = grind (arith, nat_tests)
+
+pub painted-new : (colour : ℕ → ℕ) (next p q one two rest x : ℕ) → next ≤ x
+    → painted colour next p q one two rest x ≡ cond (nat_eq x p) one (cond (nat_eq x q) two rest)
+painted-new colour next p q one two rest x from = over (colour x) (cond (nat_eq x p) one (cond (nat_eq x q) two rest))
+  where
+    over : (old new : ℕ) → cond (nat_lt x next) old new ≡ new
+    over old new = grind (arith, nat_tests)
+
+pub respects-old : (f g : ℕ → ℕ) (next : ℕ) (joins : List (ℕ × ℕ)) → ((x : ℕ) → x < next → g x ≡ f x) → AreBelow next joins
+    → Respects f joins → Respects g joins
+respects-old f g next [] same below holds = tt
+respects-old f g next (pair ∷ joins) same below holds =
+    (same pair.0 below.0.0 ∙ holds.0 ∙ sym (same pair.1 below.0.1), respects-old f g next joins same below.1 holds.1)
+
+pub before_or : (q next : ℕ) → (q < next) ⊎ (next ≤ q)
+before_or q next = grind (arith)
+
+-- one of the next four pieces, or of the next six
+pub data FourNext (q next : ℕ) : Type 0 where
+  next_zero : q ≡ next → FourNext q next
+  next_one : q ≡ next + 1 → FourNext q next
+  next_two : q ≡ next + 2 → FourNext q next
+  next_three : q ≡ next + 2 + 1 → FourNext q next
+
+pub four_next : (q next : ℕ) → q < next + 2 + 2 → next ≤ q → FourNext q next
+four_next q next below late = elim (cases_eq q next) [
+  | inl same ↦ next_zero same
+  | inr no0 ↦ elim (cases_eq q (next + 1)) [
+    | inl same ↦ next_one same
+    | inr no1 ↦ elim (cases_eq q (next + 2)) [
+      | inl same ↦ next_two same
+      | inr no2 ↦ next_three (omega (arith, below, late, no0, no1, no2))
+    ]
+  ]
+]

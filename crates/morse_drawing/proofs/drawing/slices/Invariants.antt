@@ -1,0 +1,5 @@
+use Rattle.morse_drawing.specs.Progress.{IsPageAfter}
+use Rattle.morse_drawing.proofs.drawing.slices.Given as goal
+
+abbrev pub invariant-steps : goal.invariant-steps
+invariant-steps l = IsPageAfter l.diagram l.counter l.page

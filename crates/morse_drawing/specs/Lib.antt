@@ -1,0 +1,9 @@
+pub mod Pages
+pub mod Texts
+pub mod Sketches
+pub mod Joins
+pub mod ReadBack
+pub mod DartRows
+pub mod Progress
+pub mod Seen
+pub mod OpenEnds

@@ -1,0 +1,5 @@
+pub mod Reduced
+pub mod Stops
+pub mod Marks
+pub mod Blocks
+pub mod Degrees

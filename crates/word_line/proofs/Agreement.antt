@@ -1,0 +1,281 @@
+-- What `clap` says of words is what the machine does with them.
+use Rattle.std.proofs.Common.{◌≡◌, ℕ, Bool, true, false, List, [], ◌∷◌, ◌++◌, Option, Some, None, refl, sym, ap, ap₂, cond, ◌∙◌, ◌||◌, ◌⊎◌, inl, inr}
+use Rattle.std.specs.Option.{option_map, option_and_then}
+use Rattle.std.specs.Prelude.{codes}
+use Rattle.std.specs.Str.{bytes_eq}
+use Rattle.clap.specs.Lexer.{long_of}
+use Rattle.clap.specs.Walk.{Held, used, nothing_held, reacted, Row, Text, idle, after_flag, long_met, option, plain_word, settled}
+use Rattle.clap.specs.Walk as walk
+use Rattle.clap.specs.Faults.{long_fault, use_fault}
+use Rattle.clap.specs.Kinds.{Kinds, or_else}
+use Rattle.clap.specs.declared.error.kind.ErrorKind.{ErrorKind}
+use Rattle.clap.specs.declared.error.kind.ErrorKind.TheVariants as kind
+use Rattle.word_line.specs.Pieces.{Key, field, workers, to, number, mark, key_name}
+use Rattle.word_line.proofs.Rules.{Slot, by_id, id_of, key_of, rule_at, shape}
+use Rattle.word_line.proofs.Rows.{Pending, nothing, one, Use, all_of, Fits, has, held_at, held_waiting, same_id, settle_fault-fits, settle_fault-waiting, settled_fits, use_fault-again, use_fault-first, used_more}
+use Rattle.word_line.proofs.Machine.{IsText, Look, Mode, added, doomed, doomed_trailing, ended_fits, ends, fault_long, fault_short, fault_text, found_from, found_nil, held_skip, in_mode, is_ending, is_long, is_short, is_text, leads, look, met_long, met_text, option_step, place_of, ready, ready_step, rows_taken, sort_ending, sort_long, sort_short, sort_text, stops, taken, text_first, text_second, trail_first, trail_second, trailing, value_step, waits, walk_at, with_task}
+
+-- ---- `clap` is the machine
+
+abbrev pub Next : Type 0
+Next = Option (Mode × List Use)
+
+abbrev rows_after : Next → List Text → Option (List Row)
+rows_after next words = option_and_then with_task (option_and_then (λ n. taken n.0 n.1 words) next)
+
+place_two : (uses : List Use) → has None uses ≡ true → place_of uses ≡ 2
+place_two uses is = rw is refl
+
+place_one : (uses : List Use) → has None uses ≡ false → place_of uses ≡ 1
+place_one uses is = rw is refl
+
+place_some : (uses : List Use) → (place_of uses ≡ 1) ⊎ (place_of uses ≡ 2)
+place_some uses = go (has None uses)
+  where
+    go : (b : Bool) → ◌≡◌ {A = ℕ} (cond b 2 1) 1 ⊎ ◌≡◌ {A = ℕ} (cond b 2 1) 2
+    go true = inr refl
+    go false = inl refl
+
+has_push : (slot : Slot) (uses : List Use) (given : Use) → has slot (uses ++ given ∷ []) ≡ (has slot uses || bytes_eq (id_of given.0) (id_of slot))
+has_push slot [] given = or_no (bytes_eq (id_of given.0) (id_of slot))
+  where
+    or_no : (b : Bool) → (b || false) ≡ b
+    or_no true = refl
+    or_no false = refl
+has_push slot (first ∷ uses) given = go (bytes_eq (id_of first.0) (id_of slot)) (has_push slot uses given)
+  where
+    go : (b : Bool) → has slot (uses ++ given ∷ []) ≡ (has slot uses || bytes_eq (id_of given.0) (id_of slot))
+        → (b || has slot (uses ++ given ∷ [])) ≡ ((b || has slot uses) || bytes_eq (id_of given.0) (id_of slot))
+    go true rest = refl
+    go false rest = rest
+
+key_differs : (key : Key) → bytes_eq (key_name key) (codes "task") ≡ false
+key_differs field = refl
+key_differs workers = refl
+key_differs to = refl
+key_differs number = refl
+key_differs mark = refl
+
+place_push : (uses : List Use) (key : Key) (value : Text) → place_of (uses ++ (Some key, value) ∷ []) ≡ place_of uses
+place_push uses key value =
+    ap (λ b. cond b 2 1) (has_push None uses (Some key, value) ∙ ap (λ b. has None uses || b) (key_differs key) ∙ or_no (has None uses))
+  where
+    or_no : (b : Bool) → (b || false) ≡ b
+    or_no true = refl
+    or_no false = refl
+
+place_push-task : (uses : List Use) (value : Text) → place_of (uses ++ (None, value) ∷ []) ≡ 2
+place_push-task uses value = ap (λ b. cond b 2 1) (has_push None uses (None, value) ∙ ap (λ b. has None uses || b) (same_id None) ∙ or_yes (has None uses))
+  where
+    or_yes : (b : Bool) → (b || true) ≡ true
+    or_yes true = refl
+    or_yes false = refl
+
+-- behind `--`
+trailing_is : (words : List Text) (uses : List Use) (pending : Pending) → Fits uses pending
+    → found_from (walk_at idle true (place_of (all_of uses pending)) (held_at uses pending)) words
+    ≡ rows_taken trailing (all_of uses pending) words
+trailing_is [] uses pending fits =
+    found_nil (walk_at idle true (place_of (all_of uses pending)) (held_at uses pending)) [] (held_at (all_of uses pending) nothing)
+    (settle_fault-fits uses pending fits) (settled_fits uses pending fits) ∙ ended_fits (all_of uses pending)
+trailing_is (word ∷ words) uses pending fits =
+    go (λ fresh. trailing_is words (all_of uses pending) (one (None, word)) fresh) (has None (all_of uses pending)) refl
+  where
+    all : List Use
+    all = all_of uses pending
+
+    go : (has None all ≡ false → found_from (walk_at idle true (place_of (all ++ (None, word) ∷ [])) (held_at all (one (None, word)))) words
+        ≡ rows_taken trailing (all ++ (None, word) ∷ []) words) → (b : Bool) → has None all ≡ b → found_from (walk_at idle true (place_of all) (held_at uses pending)) (word ∷ words) ≡ rows_taken trailing all (word ∷ words)
+    go rest true is = ap (λ place. found_from (walk_at idle true place (held_at uses pending)) (word ∷ words)) (place_two all is)
+        ∙ trail_second idle (held_at uses pending) word words ∙ sym (rw is refl)
+    go rest false is = ap (λ place. found_from (walk_at idle true place (held_at uses pending)) (word ∷ words)) (place_one all is)
+        ∙ trail_first uses pending word words fits
+        ∙ ap (λ place. found_from (walk_at idle true place (held_at all (one (None, word)))) words) (sym (place_push-task all word))
+        ∙ rest is ∙ sym (rw is refl)
+
+-- what `clap` says of words is what the machine does with them, where nothing waits for a value, and where an option does
+record Agrees (words : List Text) : Type 0 where
+  at_ready : (uses : List Use) (pending : Pending) → Fits uses pending
+      → found_from (walk_at idle false (place_of (all_of uses pending)) (held_at uses pending)) words ≡ rows_taken ready (all_of uses pending) words
+  at_waits : (uses : List Use) (key : Key)
+      → found_from (walk_at (option (id_of (Some key))) false (place_of uses) (held_waiting uses (Some key))) words ≡ rows_taken (waits key) uses words
+
+ready_nil : (uses : List Use) (pending : Pending) → Fits uses pending
+    → found_from (walk_at idle false (place_of (all_of uses pending)) (held_at uses pending)) [] ≡ rows_taken ready (all_of uses pending) []
+ready_nil uses pending fits =
+    found_nil (walk_at idle false (place_of (all_of uses pending)) (held_at uses pending)) [] (held_at (all_of uses pending) nothing)
+    (settle_fault-fits uses pending fits) (settled_fits uses pending fits) ∙ ended_fits (all_of uses pending)
+
+waits_nil : (uses : List Use) (key : Key)
+    → found_from (walk_at (option (id_of (Some key))) false (place_of uses) (held_waiting uses (Some key))) [] ≡ rows_taken (waits key) uses []
+waits_nil uses key =
+    let w = walk_at (option (id_of (Some key))) false (place_of uses) (held_waiting uses (Some key)) in
+    found_nil w (kind.InvalidValue ∷ []) (settled shape.rules w.held) (settle_fault-waiting uses (Some key)) refl
+
+-- a text where nothing waits
+ready_text : (word : Text) (words : List Text) → Agrees words → (uses : List Use) (pending : Pending) → Fits uses pending → IsText word
+    → (b : Bool) → has None (all_of uses pending) ≡ b
+    → found_from (walk_at idle false (place_of (all_of uses pending)) (held_at uses pending)) (word ∷ words)
+    ≡ rows_after (in_mode ready (added (all_of uses pending) None word)) words
+ready_text word words agrees uses pending fits is true some =
+    let all = all_of uses pending in
+    ap (λ place. found_from (walk_at idle false place (held_at uses pending)) (word ∷ words)) (place_two all some)
+    ∙ text_second uses pending word words is ∙ sym (rw some refl)
+ready_text word words agrees uses pending fits is false none =
+    let all = all_of uses pending in
+    ap (λ place. found_from (walk_at idle false place (held_at uses pending)) (word ∷ words)) (place_one all none)
+    ∙ text_first uses pending word words fits is
+    ∙ ap (λ place. found_from (walk_at idle false place (held_at all (one (None, word)))) words) (sym (place_push-task all word))
+    ∙ agrees.at_ready all (one (None, word)) none ∙ sym (rw none refl)
+
+-- an option where nothing waits
+ready_value : (word : Text) (words : List Text) → Agrees words → (uses : List Use) (pending : Pending) → Fits uses pending
+    → bytes_eq word (45 ∷ 45 ∷ []) ≡ false → (name value : Text) → long_of word ≡ Some (name, Some value)
+    → (key : Key) → key_of name ≡ Some key → (b : Bool) → has (Some key) (all_of uses pending) ≡ b
+    → found_from (walk_at idle false (place_of (all_of uses pending)) (held_at uses pending)) (word ∷ words)
+    ≡ rows_after (in_mode ready (added (all_of uses pending) (Some key) value)) words
+ready_value word words agrees uses pending fits dashes name value is key named true some =
+    let h = held_at uses pending in
+    let all = all_of uses pending in
+    let fault : long_fault shape.rules false (Some (rule_at (Some key))) (Some value) h ≡ kind.ArgumentConflict ∷ [] =
+    ap₂ (λ (f : Kinds) (s : Held). or_else f (use_fault false (rule_at (Some key)) (value ∷ []) s.rows)) (settle_fault-fits uses pending fits) (settled_fits uses pending fits)
+    ∙ use_fault-again (Some key) value all some in
+    stops idle (place_of all) h word words kind.ArgumentConflict []
+    (fault_long h word name (Some value) dashes is
+    ∙ ap (λ k. long_fault shape.rules false (option_map (λ key. rule_at (Some key)) k) (Some value) h) named ∙ fault)
+    ∙ sym (rw some refl)
+ready_value word words agrees uses pending fits dashes name value is key named false none =
+    let h = held_at uses pending in
+    let all = all_of uses pending in
+    let fault : long_fault shape.rules false (Some (rule_at (Some key))) (Some value) h ≡ [] =
+    ap₂ (λ (f : Kinds) (s : Held). or_else f (use_fault false (rule_at (Some key)) (value ∷ []) s.rows)) (settle_fault-fits uses pending fits) (settled_fits uses pending fits)
+    ∙ use_fault-first (Some key) value all none in
+    let next : reacted shape.rules (rule_at (Some key)) (value ∷ []) h ≡ held_at (all ++ (Some key, value) ∷ []) nothing =
+    ap₂ (λ (rows : List Row) (skip : ℕ). record { rows = rows; pending = None; skip = skip })
+    (ap (λ (s : Held). used (rule_at (Some key)) (value ∷ []) s.rows) (settled_fits uses pending fits) ∙ used_more (Some key) value all none) (held_skip uses pending) in
+    leads idle (place_of all) h word words (reacted shape.rules (rule_at (Some key)) (value ∷ []) h, walk.next idle)
+    (met_long idle (place_of all) h word name (Some value) dashes is
+    ∙ ap (λ k. let out = long_met shape.rules (option_map (λ key. rule_at (Some key)) k) (Some value) h in after_flag shape.rules idle word out.0 out.1) named)
+    (fault_long h word name (Some value) dashes is
+    ∙ ap (λ k. long_fault shape.rules false (option_map (λ key. rule_at (Some key)) k) (Some value) h) named ∙ fault) refl
+    ∙ ap₂ (λ place held. found_from (walk_at idle false place held) words) (sym (place_push all key value)) next
+    ∙ agrees.at_ready (all ++ (Some key, value) ∷ []) nothing tt ∙ sym (rw none refl)
+
+ready_name : (word : Text) (words : List Text) → Agrees words → (uses : List Use) (pending : Pending) → Fits uses pending
+    → bytes_eq word (45 ∷ 45 ∷ []) ≡ false → (name : Text) → long_of word ≡ Some (name, None)
+    → (key : Key) → key_of name ≡ Some key
+    → found_from (walk_at idle false (place_of (all_of uses pending)) (held_at uses pending)) (word ∷ words)
+    ≡ rows_after (Some (waits key, all_of uses pending)) words
+ready_name word words agrees uses pending fits dashes name is key named =
+    let h = held_at uses pending in
+    let all = all_of uses pending in
+    let next : record (settled shape.rules h) { pending = Some (key_name key, []) } ≡ held_waiting all (Some key) =
+    ap (λ (s : Held). record s { pending = Some (key_name key, []) }) (settled_fits uses pending fits) in
+    leads idle (place_of all) h word words (record (settled shape.rules h) { pending = Some (key_name key, []) }, walk.next (option (key_name key)))
+    (met_long idle (place_of all) h word name None dashes is
+    ∙ ap (λ k. let out = long_met shape.rules (option_map (λ key. rule_at (Some key)) k) None h in after_flag shape.rules idle word out.0 out.1) named)
+    (fault_long h word name None dashes is
+    ∙ ap (λ k. long_fault shape.rules false (option_map (λ key. rule_at (Some key)) k) None h) named ∙ settle_fault-fits uses pending fits) refl
+    ∙ ap (λ held. found_from (walk_at (option (key_name key)) false (place_of all) held) words) next
+    ∙ agrees.at_waits all key
+
+ready_long : (word : Text) (words : List Text) → Agrees words → (uses : List Use) (pending : Pending) → Fits uses pending
+    → bytes_eq word (45 ∷ 45 ∷ []) ≡ false → (name : Text) (value : Option Text) → long_of word ≡ Some (name, value)
+    → (key : Option Key) → key_of name ≡ key
+    → found_from (walk_at idle false (place_of (all_of uses pending)) (held_at uses pending)) (word ∷ words)
+    ≡ rows_after (option_step (all_of uses pending) key value) words
+ready_long word words agrees uses pending fits dashes name value is None named =
+    let h = held_at uses pending in
+    stops idle (place_of (all_of uses pending)) h word words kind.UnknownArgument []
+    (fault_long h word name value dashes is
+    ∙ ap (λ k. long_fault shape.rules false (option_map (λ key. rule_at (Some key)) k) value h) named)
+ready_long word words agrees uses pending fits dashes name None is (Some key) named =
+    ready_name word words agrees uses pending fits dashes name is key named
+ready_long word words agrees uses pending fits dashes name (Some value) is (Some key) named =
+    ready_value word words agrees uses pending fits dashes name value is key named (has (Some key) (all_of uses pending)) refl
+
+ready_cons : (word : Text) (words : List Text) → Agrees words → (uses : List Use) (pending : Pending) → Fits uses pending → Look word
+    → found_from (walk_at idle false (place_of (all_of uses pending)) (held_at uses pending)) (word ∷ words)
+    ≡ rows_taken ready (all_of uses pending) (word ∷ words)
+ready_cons word words agrees uses pending fits (is_ending is) =
+    let all = all_of uses pending in
+    ends idle (place_of all) (held_at uses pending) word words is ∙ trailing_is words uses pending fits
+    ∙ ap (λ sort. rows_after (ready_step all sort word) words) (sym (sort_ending word is))
+ready_cons word words agrees uses pending fits (is_long dashes name value is) =
+    let all = all_of uses pending in
+    ready_long word words agrees uses pending fits dashes name value is (key_of name) refl
+    ∙ ap (λ sort. rows_after (ready_step all sort word) words) (sym (sort_long word name value dashes is))
+ready_cons word words agrees uses pending fits (is_short dashes no_name flags is x head) =
+    let all = all_of uses pending in
+    stops idle (place_of all) (held_at uses pending) word words kind.UnknownArgument []
+    (fault_short (held_at uses pending) word flags x (held_skip uses pending) dashes no_name is head)
+    ∙ ap (λ sort. rows_after (ready_step all sort word) words) (sym (sort_short word flags x dashes no_name is head))
+ready_cons word words agrees uses pending fits (is_text is) =
+    let all = all_of uses pending in
+    ready_text word words agrees uses pending fits is (has None all) refl
+    ∙ ap (λ sort. rows_after (ready_step all sort word) words) (sym (sort_text word is))
+
+-- a flag where an option waits is refused
+waiting_fault : (uses : List Use) (waiting : Key) (key : Option Key) (value : Option Text) → (k : ErrorKind) × (ks : Kinds)
+    × (long_fault shape.rules false (option_map (λ key. rule_at (Some key)) key) value (held_waiting uses (Some waiting)) ≡ k ∷ ks)
+waiting_fault uses waiting None value = (kind.UnknownArgument, [], refl)
+waiting_fault uses waiting (Some key) None = (kind.InvalidValue, [], settle_fault-waiting uses (Some waiting))
+waiting_fault uses waiting (Some key) (Some value) = (kind.InvalidValue, [], rw (settle_fault-waiting uses (Some waiting)) refl)
+
+-- a word where an option waits
+waits_text : (word : Text) (words : List Text) → Agrees words → (uses : List Use) (key : Key) → IsText word
+    → (b : Bool) → has (Some key) uses ≡ b
+    → found_from (walk_at (option (key_name key)) false (place_of uses) (held_waiting uses (Some key))) (word ∷ words)
+    ≡ rows_after (in_mode ready (added uses (Some key) word)) words
+waits_text word words agrees uses key is b same = lead ∙ go b same
+  where
+    h : Held
+    h = held_waiting uses (Some key)
+
+    over : plain_word shape.rules (option (key_name key)) word h ≡ (held_at uses (one (Some key, word)), walk.next idle)
+    over = rw (by_id (Some key), same_id (Some key)) refl
+
+    lead : found_from (walk_at (option (key_name key)) false (place_of uses) h) (word ∷ words)
+        ≡ found_from (walk_at idle false (place_of uses) (held_at uses (one (Some key, word)))) words
+    lead = leads (option (key_name key)) (place_of uses) h word words (held_at uses (one (Some key, word)), walk.next idle)
+        (met_text (option (key_name key)) (place_of uses) h word refl refl is ∙ over) (fault_text h word refl is) refl
+
+    go : (b : Bool) → has (Some key) uses ≡ b → found_from (walk_at idle false (place_of uses) (held_at uses (one (Some key, word)))) words
+        ≡ rows_after (in_mode ready (added uses (Some key) word)) words
+    go true some = doomed (place_of uses) uses (Some key, word) words some (place_some uses) ∙ sym (rw some refl)
+    go false none = ap (λ place. found_from (walk_at idle false place (held_at uses (one (Some key, word)))) words) (sym (place_push uses key word))
+        ∙ agrees.at_ready uses (one (Some key, word)) none ∙ sym (rw none refl)
+
+waits_cons : (word : Text) (words : List Text) → Agrees words → (uses : List Use) (key : Key) → Look word
+    → found_from (walk_at (option (id_of (Some key))) false (place_of uses) (held_waiting uses (Some key))) (word ∷ words)
+    ≡ rows_taken (waits key) uses (word ∷ words)
+waits_cons word words agrees uses key (is_ending is) =
+    let h = held_waiting uses (Some key) in
+    ends (option (key_name key)) (place_of uses) h word words is
+    ∙ doomed_trailing (option (key_name key)) (place_of uses) h words kind.InvalidValue [] (settle_fault-waiting uses (Some key)) (place_some uses)
+    ∙ ap (λ sort. rows_after (value_step uses key sort word) words) (sym (sort_ending word is))
+waits_cons word words agrees uses key (is_long dashes name value is) =
+    let h = held_waiting uses (Some key) in
+    let fault = waiting_fault uses key (key_of name) value in
+    stops (option (key_name key)) (place_of uses) h word words fault.0 fault.1 (fault_long h word name value dashes is ∙ fault.2)
+    ∙ ap (λ sort. rows_after (value_step uses key sort word) words) (sym (sort_long word name value dashes is))
+waits_cons word words agrees uses key (is_short dashes no_name flags is x head) =
+    let h = held_waiting uses (Some key) in
+    stops (option (key_name key)) (place_of uses) h word words kind.UnknownArgument [] (fault_short h word flags x refl dashes no_name is head)
+    ∙ ap (λ sort. rows_after (value_step uses key sort word) words) (sym (sort_short word flags x dashes no_name is head))
+waits_cons word words agrees uses key (is_text is) =
+    waits_text word words agrees uses key is (has (Some key) uses) refl
+    ∙ ap (λ sort. rows_after (value_step uses key sort word) words) (sym (sort_text word is))
+
+agree : (words : List Text) → Agrees words
+agree [] = record { at_ready = ready_nil; at_waits = waits_nil }
+agree (word ∷ words) =
+    let rest = agree words in
+    record {
+      at_ready = λ uses pending fits. ready_cons word words rest uses pending fits (look word);
+      at_waits = λ uses key. waits_cons word words rest uses key (look word);
+    }
+
+-- the rows that `clap` finds in the words, where it takes them
+pub found_is_taken : (words : List Text) → found_from (walk_at idle false 1 nothing_held) words ≡ rows_taken ready [] words
+found_is_taken words = (agree words).at_ready [] nothing tt

@@ -1,0 +1,116 @@
+-- Words that name an option, by their looks.
+use Rattle.std.proofs.Common.{◌≡◌, ◌==◌, ◌&&◌, inl, inr, Bool, true, false, [], ◌∷◌, ◌++◌, length, Option, Some, None, refl, sym, ap, ap₂, cond, ◌∙◌, arith, true≢false, get_or}
+use Rattle.std.proofs.lemmas.Bool.{cases_lt, eqb-true, ne_eqb}
+use Rattle.std.proofs.lemmas.List.Sums.{fails_before_first, passes_at_first, split_at_first}
+use Rattle.clap.proofs.CutLemmas.{Lacks, before_first-Lacks, list_any-Lacks, list_any-at}
+use Rattle.std.proofs.lemmas.Option.{none-some, same_Some}
+use Rattle.std.proofs.lemmas.Slice.Eq.{bytes_eq-Decides}
+use Rattle.std.specs.Prelude.{codes}
+use Rattle.std.specs.List.{after_first, before_first, position_or_len}
+use Rattle.std.specs.Option.{option_and_then}
+use Rattle.std.specs.Str.{bytes_eq}
+use Rattle.clap.specs.Lexer.{has_byte, long_of, long_of_rest, name_and_value, short_of_rest, strip_byte}
+use Rattle.clap.specs.Walk.{Text}
+use Rattle.word_line.specs.Pieces.{HasNoDash, Key, field, workers, to, number, mark, key_name}
+use Rattle.word_line.proofs.Rules.{key_of}
+use Rattle.word_line.proofs.Machine.{IsText}
+
+-- ---- the looks of words
+
+-- a text with no dash looks like a text
+pub no_dash_text : (word : Text) → HasNoDash word → IsText word
+no_dash_text [] plain = record { dashes = refl; no_name = refl; no_flags = inl refl }
+no_dash_text (x ∷ word) plain =
+    let differs : (x == 45) ≡ false = ne_eqb x 45 plain in
+    record {
+      dashes = ap (λ b. b && bytes_eq word (45 ∷ [])) differs;
+      no_name = ap (λ (b : Bool). option_and_then long_of_rest (option_and_then (strip_byte 45) (cond b (Some word) None))) differs;
+      no_flags = inl (ap (λ (b : Bool). option_and_then short_of_rest (cond b (Some word) None)) differs);
+    }
+
+-- a name, and what stands behind `=` if there is something
+abbrev with_value : Text → Option Text → Text
+with_value name None = name
+with_value name (Some value) = name ++ 61 ∷ value
+
+cut_is : (rest : Text) → with_value (before_first (λ x. x == 61) rest) (cond (has_byte 61 rest) (Some (after_first (λ x. x == 61) rest)) None) ≡ rest
+cut_is rest = elim (cases_lt (position_or_len (λ x. x == 61) rest) (length rest)) [
+  | inl below ↦
+      let hit : (get_or rest (position_or_len (λ x. x == 61) rest) 0 == 61) ≡ true = passes_at_first (λ x. x == 61) rest 0 below in
+      let split : rest ≡ before_first (λ x. x == 61) rest ++ 61 ∷ after_first (λ x. x == 61) rest =
+      split_at_first (λ x. x == 61) rest 0 below
+      ∙ ap (λ x. before_first (λ x. x == 61) rest ++ x ∷ after_first (λ x. x == 61) rest) (eqb-true _ 61 hit) in
+      let has_it : has_byte 61 rest ≡ true =
+      ap (has_byte 61) split ∙ list_any-at 61 (before_first (λ x. x == 61) rest) (after_first (λ x. x == 61) rest) in
+      ap (λ b. with_value (before_first (λ x. x == 61) rest) (cond b (Some (after_first (λ x. x == 61) rest)) None)) has_it ∙ sym split
+  | inr past ↦
+      let lacks : Lacks 61 rest = λ i low is. true≢false (sym (ap (λ x. x == 61) is) ∙ fails_before_first (λ x. x == 61) rest i 0 (omega (arith, low, past))) in
+      ap (λ b. with_value (before_first (λ x. x == 61) rest) (cond b (Some (after_first (λ x. x == 61) rest)) None)) (list_any-Lacks 61 rest lacks)
+      ∙ before_first-Lacks 61 rest lacks
+]
+
+name_value-is : (rest name : Text) (value : Option Text) → name_and_value rest ≡ (name, value) → rest ≡ with_value name value
+name_value-is rest name value same = sym (cut_is rest) ∙ ap (λ (p : Text × Option Text). with_value p.0 p.1) same
+
+-- the word of a name and maybe a value
+pub long_of-is : (word name : Text) (value : Option Text) → long_of word ≡ Some (name, value) → word ≡ 45 ∷ 45 ∷ with_value name value
+long_of-is [] name value same = absurd (none-some (name, value) same)
+long_of-is (a ∷ word) name value same = first (a == 45) refl same
+  where
+    third : (rest : Text) → long_of_rest rest ≡ Some (name, value) → rest ≡ with_value name value
+    third [] same = absurd (none-some (name, value) same)
+    third (x ∷ rest) same = name_value-is (x ∷ rest) name value (same_Some (name_and_value (x ∷ rest)) (name, value) same)
+
+    second : (word : Text) → option_and_then long_of_rest (strip_byte 45 word) ≡ Some (name, value) → word ≡ 45 ∷ with_value name value
+    second [] same = absurd (none-some (name, value) same)
+    second (b ∷ word) same = go (b == 45) refl same
+      where
+        go : (t : Bool) → (b == 45) ≡ t → option_and_then long_of_rest (cond t (Some word) None) ≡ Some (name, value) → b ∷ word ≡ 45 ∷ with_value name value
+        go true is same = ap₂ (λ c more. c ∷ more) (eqb-true b 45 is) (third word same)
+        go false is same = absurd (none-some (name, value) same)
+
+    first : (t : Bool) → (a == 45) ≡ t → option_and_then long_of_rest (option_and_then (strip_byte 45) (cond t (Some word) None)) ≡ Some (name, value)
+        → a ∷ word ≡ 45 ∷ 45 ∷ with_value name value
+    first true is same = ap₂ (λ c more. c ∷ more) (eqb-true a 45 is) (second word same)
+    first false is same = absurd (none-some (name, value) same)
+
+pub long_of-name : (key : Key) → long_of (codes "--" ++ key_name key) ≡ Some (key_name key, None)
+long_of-name field = refl
+long_of-name workers = refl
+long_of-name to = refl
+long_of-name number = refl
+long_of-name mark = refl
+
+pub long_of-joined : (key : Key) (value : Text) → long_of (codes "--" ++ (key_name key ++ (codes "=" ++ value))) ≡ Some (key_name key, Some value)
+long_of-joined field value = refl
+long_of-joined workers value = refl
+long_of-joined to value = refl
+long_of-joined number value = refl
+long_of-joined mark value = refl
+
+pub dashes-name : (key : Key) (more : Text) → bytes_eq (codes "--" ++ (key_name key ++ more)) (45 ∷ 45 ∷ []) ≡ false
+dashes-name field more = refl
+dashes-name workers more = refl
+dashes-name to more = refl
+dashes-name number more = refl
+dashes-name mark more = refl
+
+pub key_of-name : (key : Key) → key_of (key_name key) ≡ Some key
+key_of-name field = refl
+key_of-name workers = refl
+key_of-name to = refl
+key_of-name number = refl
+key_of-name mark = refl
+
+chosen_key : {P : Type 0} (b : Bool) (x : Key) (o : Option Key) (y : Key) → cond b (Some x) o ≡ Some y → (b ≡ true → x ≡ y → P) → (o ≡ Some y → P) → P
+chosen_key true x o y same this other = this refl (same_Some x y same)
+chosen_key false x o y same this other = other same
+
+pub key_of-is : (name : Text) (key : Key) → key_of name ≡ Some key → name ≡ key_name key
+key_of-is name key same =
+    chosen_key (bytes_eq (codes "field") name) field _ key same (λ is same. sym ((bytes_eq-Decides (codes "field") name).0 is) ∙ ap key_name same) (λ same.
+    chosen_key (bytes_eq (codes "workers") name) workers _ key same (λ is same. sym ((bytes_eq-Decides (codes "workers") name).0 is) ∙ ap key_name same) (λ same.
+    chosen_key (bytes_eq (codes "to") name) to _ key same (λ is same. sym ((bytes_eq-Decides (codes "to") name).0 is) ∙ ap key_name same) (λ same.
+    chosen_key (bytes_eq (codes "number") name) number _ key same (λ is same. sym ((bytes_eq-Decides (codes "number") name).0 is) ∙ ap key_name same) (λ same.
+    chosen_key (bytes_eq (codes "mark") name) mark _ key same (λ is same. sym ((bytes_eq-Decides (codes "mark") name).0 is) ∙ ap key_name same) (λ same.
+    absurd (none-some key same))))))

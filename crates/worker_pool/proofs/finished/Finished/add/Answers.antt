@@ -1,8 +1,0 @@
-use Rattle.worker_pool.proofs.DoneLemmas.{done_more}
-use Rattle.worker_pool.proofs.finished.Finished.add.Goals as goal
-
-pub returns-clause-done : goal.returns-clause-done
-returns-clause-done g c =
-    done_more g.F.PrimeField.P c.args.self.now.blocks.items c.push-2.new.self.items c.args.self.now.committed.items c.push.new.self.items c.args.block
-    c.finish.new.self c.version-committed.result c.requires c.version-committed.ensures.version c.finish.ensures.history c.in_ok-finish.ensures.zero
-    c.in_ok-push-2.ensures.items c.in_ok-push.ensures.items

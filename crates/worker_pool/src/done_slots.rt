@@ -1,0 +1,114 @@
+//! Slots for the blocks of a diagram that are cancelled to zero in any order, one slot at each
+//! quantum degree.
+
+ghost use Rattle.std.specs.Prelude.{◌≡◌, ◌<◌, IfOk, IfSome, None, length, pos};
+ghost use Rattle.std.specs.Prelude.{slice_index_or, slice_set};
+ghost use Rattle.worker_pool.specs.Outcomes.{AreBlocksAt, AreDegreesOf, AreDone, IsDone};
+ghost use Rattle.worker_pool.specs.Outcomes.{origin_of};
+ghost use Rattle.worker_pool.specs.Slots.{AreDoneSlots, AreEmpty};
+
+use crate::building::build_one;
+use crate::finished::{DoneBlock, Finished, finished_one};
+use cube_signs::Cube;
+use kh_types::NoMemory;
+use prime_field::PrimeField;
+use std::alloc::Global;
+
+/// A slot for the block of each quantum degree, once it is cancelled to zero.
+pub(crate) type DoneSlots<F> = Vec<Option<DoneBlock<F>>>;
+
+/// So many empty slots.
+pub(crate) fn no_blocks<F: PrimeField>(
+    alloc: Global,
+    count: usize,
+) -> Result<DoneSlots<F>, NoMemory>
+    ensures { IfOk result (λ slots. AreEmpty count slots.items) }
+{
+    let mut slots = Vec::with_capacity(alloc, count)?;
+    'slots: for _ in 0..count {
+        slots.push(None)?;
+    }
+    Ok(slots)
+}
+
+/// Puts a block into the slot of its degree.
+pub(crate) fn put<F: PrimeField>(
+    slots: &mut DoneSlots<F>,
+    cube: &Cube,
+    degrees: &[i16],
+    one: DoneBlock<F>,
+)
+    requires diagram { one.0.diagram ≡ cube.now }
+    requires done { IsDone F.P one.0 one.1 }
+    requires slots { AreDoneSlots F.P cube.now degrees.now slots.old.items }
+    ensures { AreDoneSlots F.P cube.now degrees.now slots.new.items }
+{
+    let Some(place) = place_of(degrees, one.0.degree()) else {
+        return;
+    };
+    if place < slots.len() {
+        slots[place] = Some(one);
+    }
+}
+
+/// The first place that has a degree.
+fn place_of(degrees: &[i16], degree: i16) -> Option<usize>
+    ensures { IfSome result (λ place. slice_index_or degrees.now place (pos 0) ≡ degree) }
+{
+    'places: for place in 0..degrees.len() {
+        if degrees[place] == degree {
+            return Some(place);
+        }
+    }
+    None
+}
+
+/// The blocks in the order of their degrees. What is missing is built, and cancelled by the caller.
+pub(crate) fn in_order<F: PrimeField>(
+    alloc: Global,
+    cube: &Cube,
+    degrees: &[i16],
+    mut slots: DoneSlots<F>,
+) -> Result<Finished<F>, NoMemory>
+    requires degrees { AreDegreesOf cube.now degrees.now }
+    requires slots { AreDoneSlots F.P cube.now degrees.now slots.items }
+    ensures blocks { IfOk result (λ done. AreBlocksAt cube.now degrees.now done.blocks.items) }
+    ensures done { IfOk result (λ done. AreDone F.P done.blocks.items done.committed.items) }
+{
+    let mut done = Finished::new(alloc, degrees.len())?;
+    'places: for place in 0..degrees.len() {
+        done.push(done_at(alloc, cube, degrees, &mut slots, place)?)?;
+    }
+    Ok(done)
+}
+
+/// The block at one place, out of its slot, or else built and cancelled.
+fn done_at<F: PrimeField>(
+    alloc: Global,
+    cube: &Cube,
+    degrees: &[i16],
+    slots: &mut DoneSlots<F>,
+    place: usize,
+) -> Result<DoneBlock<F>, NoMemory>
+    requires degrees { AreDegreesOf cube.now degrees.now }
+    requires place { place < length degrees.now }
+    requires slots { AreDoneSlots F.P cube.now degrees.now slots.old.items }
+    ensures slots { AreDoneSlots F.P cube.now degrees.now slots.new.items }
+    ensures origin { IfOk result (λ one.
+        origin_of one.0 ≡ (cube.now, slice_index_or degrees.now place (pos 0))) }
+    ensures done { IfOk result (λ one. IsDone F.P one.0 one.1) }
+{
+    match take_done(slots, place) {
+        Some(one) => Ok(one),
+        None => finished_one(alloc, build_one(alloc, cube, degrees, place)?),
+    }
+}
+
+/// What is in a slot, which is left empty.
+fn take_done<F: PrimeField>(slots: &mut DoneSlots<F>, place: usize) -> Option<DoneBlock<F>>
+    requires { place < length slots.old.items }
+    ensures taken { result ≡ slice_index_or slots.old.items place result }
+    ensures empty { slots.new.items ≡ slice_set slots.old.items place None }
+{
+    slots[place].take()
+}

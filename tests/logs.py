@@ -1,0 +1,238 @@
+#!/usr/bin/env python3
+"""Compares `kh verify` with a plain second reading of logs, and has it and that reading judge what `kh certify` writes.
+
+    tests/logs.py PROGRAM [--edits N]
+
+Thirty diagrams over each field are certified by one worker and by four, who write the same; `verify` and the plain reading accept each log,
+and its table is that of `homology`. Twenty good logs, of which `certify` writes some and the plain reading the others, are edited N times
+(5,000): a digit is another; a line is lost, doubled, exchanged with another, or moved to the next block; the field, the diagram or a row of
+the table is another; the end is cut off. Each result is accepted or refused as the plain reading says, with the line and the cause, by the
+program and by `show/verify.py`. Texts of 64 MiB that are no logs are refused within a second. `tests/program` runs all of this behind its
+rows, with fewer edits; the rows of logs are `tests/log_rows.py`. The last line is 'N passed, M failed'.
+"""
+import importlib.machinery
+import importlib.util
+import itertools
+import os
+import random
+import subprocess
+import sys
+
+import known_diagrams
+import log_rows
+import plain_cube
+import plain_diagrams as codes
+import plain_logs
+from log_rows import CURL, LONGEST
+from running import Child, Long, fault_of, slowness, tell_all, told
+
+TOP = os.path.dirname(os.path.dirname(os.path.abspath(__file__)))
+VERIFIER = os.path.join(TOP, "show", "verify.py")
+EDITS = 5_000
+IN_THE_GATE = 1_000
+CERTIFIED = 30
+GENERATORS = 10_000
+BY_THE_DEFINITION = 2_500
+LARGE = (30_000, 300_000)
+FIELDS = "2357"
+WORDS = ("cancel 0 0 0", "cancel 0 0", "cancel -1 0 0", "block 1", "block -1", "block", "table 2", "log 1", "", " ", "field 3", "end")
+SPELLINGS = ("00", "-0", "+1", "1 ", " 1", "-1", "1000", "12345678", "9999999", "1\r", "1.0", "\u0661", "")
+
+
+def size_of(text):
+    return plain_cube.generator_count(codes.read(text))
+
+
+def certified_texts():
+    """The texts of thirty diagrams, from no crossings to ten."""
+    return [text for _, text in known_diagrams.begun() if size_of(text) <= GENERATORS][:CERTIFIED]
+
+
+def certify(child, text, field, *words):
+    """What the program writes of a diagram over a field, whatever it is."""
+    return child.run(["certify", "--field", str(field), *words], text.encode()).wrote.decode(errors="replace")
+
+
+def verified(child, text, field):
+    """What `verify` has to write of a log: what `homology` writes, without its last line."""
+    table = child.run(["homology", "--field", str(field)], text.encode()).wrote.decode(errors="replace")
+    return "verified\n" + table[: table.rfind("\n", 0, -1) + 1]
+
+
+def certificate_faults(child, text, field):
+    """What is wrong with the log of a diagram over a field: with its first lines, its worth, or the number of workers."""
+    log, name = certify(child, text, field), f"certify over {field}"
+    lines = log.splitlines()
+    named = lines[:1] == ["log 1"] and codes.read(lines[1]) == codes.read(text) and lines[2] == f"field {field}"
+    yield f"{name}, its diagram and field", None if named else f"{lines[:3]} and not {text}"
+    yield f"{name}, by verify", fault_of(child, ["verify"], log, 0, verified(child, text, field))
+    same = certify(child, text, field, "--workers", "4") == log
+    yield f"{name}, by four workers", None if same else f"another log of {text}"
+    if size_of(text) <= BY_THE_DEFINITION:
+        came, wanted = plain_logs.verdict(log.encode()), (0, "verified\n" + plain_cube.table(known_diagrams.diagram_of(text), field))
+        yield f"{name}, by the plain reading", None if came == wanted else f"{came} of {log[:500]!r}"
+
+
+def certificates(child):
+    """What the program writes of thirty diagrams over each field, and of larger ones over two and three elements."""
+    for text in certified_texts():
+        for field in map(int, FIELDS):
+            yield from certificate_faults(child, text, field)
+    for text in (text for _, text in known_diagrams.begun() if LARGE[0] <= size_of(text) <= LARGE[1]):
+        for field in (2, 3):
+            yield from certificate_faults(child, text, field)
+
+
+def refusals(child):
+    """A code that `homology` refuses, `certify` refuses alike."""
+    for text in ("PD[X[1,2,1,2]]", "PD[", "[[1,1,2]]", "GaussCode[1]", "PD[]" + ";"):
+        status, wrote = child.run(["homology"], text.encode())[:2]
+        yield "certify, a refusal", fault_of(child, ["certify"], text, status, wrote.decode())
+
+
+def good_logs(child):
+    """Twenty good logs: what the program writes, and what the plain reading does with pivots that it draws."""
+    logs = [certify(child, text, FIELDS[number % 4]) for number, text in enumerate(certified_texts()[:18:2])]
+    draw = random.Random("logs")
+    for number, diagram in enumerate(known_diagrams.drawn("logs", 11, most=4)):
+        logs.append(plain_logs.written(diagram, int(FIELDS[number % 4]), lambda pivots: draw.choice(sorted(pivots))))
+    return logs
+
+
+def edited(draw, log, others):
+    """The log after a change."""
+    lines = log.split("\n")
+    at, far = (draw.randrange(len(lines)) for _ in range(2))
+    kind = draw.randrange(12)
+    if kind == 0:
+        return changed_digit(draw, log)
+    if kind == 1:
+        del lines[at]
+    elif kind == 2:
+        lines.insert(at, lines[at])
+    elif kind == 3:
+        lines[at], lines[far] = lines[far], lines[at]
+    elif kind == 4:
+        lines.insert(far, lines.pop(at))
+    elif kind == 5:
+        return moved_to_the_next_block(draw, lines)
+    elif kind == 6:
+        lines[2:3] = [f"field {draw.choice('2357469')}"]
+    elif kind == 7:
+        lines[1:2] = draw.choice(others).split("\n")[1:2]
+    elif kind == 8:
+        return log[: draw.randrange(len(log))]
+    elif kind == 9:
+        lines[at] = draw.choice(WORDS)
+    elif kind == 10:
+        words = lines[at].split(" ")
+        words[draw.randrange(len(words))] = draw.choice(SPELLINGS)
+        lines[at] = " ".join(words)
+    else:
+        return log[: draw.randrange(len(log))] + draw.choice("\0\r\n \t-09jx\u00e9") + log[draw.randrange(len(log)) :]
+    return "\n".join(lines)
+
+
+def changed_digit(draw, log):
+    places = [at for at, letter in enumerate(log) if letter.isdigit()]
+    at = draw.choice(places)
+    return log[:at] + draw.choice("0123456789") + log[at + 1 :]
+
+
+def moved_to_the_next_block(draw, lines):
+    """A cancellation stands behind the head of the block that follows."""
+    steps = [at for at, line in enumerate(lines) if line.startswith("cancel ")]
+    if steps:
+        at = draw.choice(steps)
+        behind = [far for far in range(at, len(lines)) if lines[far].startswith("block ")]
+        lines.insert(behind[0] if behind else len(lines) - 1, lines.pop(at))
+    return "\n".join(lines)
+
+
+def edits(child, count):
+    """Edited logs, and logs that are cut at each byte, as the plain reading judges them."""
+    logs, draw, other = good_logs(child), random.Random("edits"), second_verifier()
+    given = [CURL[:size] for size in range(len(CURL))] + logs
+    while len(given) < count:
+        log = draw.choice(logs)
+        for _ in range(draw.choice((1, 1, 1, 2, 3))):
+            log = edited(draw, log, logs) or "log 1\n"
+        given.append(log)
+    for log in given:
+        wanted = plain_logs.verdict(log.encode())
+        yield "verify, an edited log", fault_of(child, ["verify"], log, *wanted)
+        came = other(log.encode())
+        yield "show/verify.py, an edited log", None if came == wanted else f"{came} and not {wanted} on {log[:600]!r}"
+
+
+def second_verifier():
+    """What gives the status and the text of `show/verify.py` on a log, without a process for each."""
+    loader = importlib.machinery.SourceFileLoader("second_verifier", VERIFIER)
+    module = importlib.util.module_from_spec(importlib.util.spec_from_loader(loader.name, loader))
+    loader.exec_module(module)
+
+    def verdict(log):
+        try:
+            status, lines = module.verify(log)
+        except module.Fails as stop:
+            status, lines = 1, [b"refused log line %d %s" % stop.args]
+        return status, b"".join(line + b"\n" for line in lines).decode(errors="replace")
+
+    return verdict
+
+
+def verifier_runs():
+    """Runs of `show/verify.py` as a program on the rows of logs, but for those of millions of bytes."""
+    for name, words, given, status, text in log_rows.ROWS:
+        if words == ["verify"] and len(given) < LONGEST:
+            log = given if isinstance(given, bytes) else given.encode()
+            done = subprocess.run([sys.executable, VERIFIER], input=log, capture_output=True)
+            came = done.returncode, done.stdout.decode(), done.stderr.decode()
+            yield f"show/verify.py, {name}", None if came == (status, text, "") else f"{came} and not {status}, {text!r}"
+
+
+HEADS = ("", "log 1\n", "log 1\nPD[X[1,1,2,2]]\nfield 2\nblock -1\n", "log 1\nPD[X[1,1,2,2]]\nfield 2\nblock -1\nblock 1\n", CURL)
+FILLERS = (
+    *(("one line", "x"), ("empty lines", "\n"), ("digits", "7"), ("cancellations", "cancel 0 0 0\n"), ("blocks", "block -1\n")),
+    *(("spaces", " "), ("one long cancellation", "cancel "), ("bytes 0", "\0"), ("rows", "j 3 i 1 dim 1\n"), ("brackets", "PD[")),
+)
+SHORTER, HOSTILE_SECONDS, HOSTILE_KILOBYTES = 70_000, 1, 4 * LONGEST // 1024
+
+
+def hostile(child):
+    """Texts of 64 MiB that are no logs: each is refused as a shorter one is, within a second and in four times its size."""
+    for name, filler in FILLERS:
+        for head in HEADS:
+            first, again = head.encode(), filler.encode()
+            wanted = plain_logs.verdict(first + again * SHORTER)
+            came = child.run(["verify"], Long(LONGEST, again, first))
+            right = (came.status, came.wrote, came.said) == (wanted[0], wanted[1].encode(), b"")
+            case = f"verify, {name} behind {len(head)} bytes"
+            yield case, None if right else f"{came.status}, {came.wrote[:300]!r} and not {wanted}"
+            yield f"{case}, time", None if came.seconds <= HOSTILE_SECONDS * slowness() else f"{came.seconds:.2f} seconds"
+            yield f"{case}, memory", f"{came.kilobytes} KB" if child.takes_more(came, HOSTILE_KILOBYTES) else None
+
+
+def faults(program, word="", count=IN_THE_GATE):
+    """The name of each case, and what is wrong with it, if anything is; with a word, of those whose names have it."""
+    child, begun = Child(program), []
+    if told(program, "verify"):
+        begun += [hostile(child)]
+    if told(program, "verify", "certify"):
+        begun += [certificates(child), refusals(child), edits(child, count)]
+    for group in (*begun, verifier_runs()):
+        yield from ((name, fault) for name, fault in group if word in name)
+
+
+def row_faults(program):
+    """What is wrong with the rows of logs, which `tests/program` has itself."""
+    child = Child(program)
+    for name, words, given, status, text in log_rows.ROWS:
+        yield name, fault_of(child, words, given, status, text)
+
+
+if __name__ == "__main__":
+    arguments = sys.argv[1:]
+    wanted_edits = int(arguments[2]) if arguments[1:2] == ["--edits"] and len(arguments) == 3 else EDITS
+    tried = itertools.chain(row_faults(arguments[0]), faults(arguments[0], "", wanted_edits)) if len(arguments) in (1, 3) else None
+    sys.exit(tell_all(tried) if tried else __doc__)

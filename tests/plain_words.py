@@ -1,0 +1,53 @@
+"""A plain second reading of the words that follow the program's name, from `docs/FORMATS.md` alone.
+
+`command_of(words)` gives the command and its options, or None where the words give none.
+"""
+import re
+
+COMMANDS = ("homology", "jones", "check", "convert", "schedule", "edit", "bench")
+COMMANDS += ("draw", "certify", "verify", "reduced", "mirror", "reverse", "union")
+NEEDED = {"bench": "--number", "reduced": "--mark"}
+
+# The values of each option, and what it is worth where it does not stand there.
+OPTIONS = {
+    "--field": (re.compile("[2357]"), "2"),
+    "--workers": (re.compile("0?[1-9]|[1-5][0-9]|6[0-4]"), "1"),
+    "--to": (re.compile("pd|gauss"), "pd"),
+    "--number": (re.compile("[0-9]{1,7}"), None),
+    "--mark": (re.compile("[01]?[0-9]{1,2}|2[0-4][0-9]|25[0-5]"), None),
+}
+
+
+def sorted_out(words, options):
+    """The commands and the options with their values, in the order of the words; None where a word is neither."""
+    commands, given, left = [], [], list(words)
+    while left:
+        word = left.pop(0)
+        name, equals, value = word.partition("=")
+        if word == "--":
+            return commands + left, given
+        if word in options:
+            if not left:
+                return None
+            given.append((word, left.pop(0)))
+        elif equals and name in options:
+            given.append((name, value))
+        elif word.startswith("-"):
+            return None
+        else:
+            commands.append(word)
+    return commands, given
+
+
+def command_of(words, commands=COMMANDS, options=OPTIONS):
+    """A table of the command and of the values of all options, or None."""
+    found = sorted_out(words, options)
+    if not found or len(found[0]) != 1 or found[0][0] not in commands:
+        return None
+    (task,), given = found
+    values = dict(given)
+    if len(values) < len(given) or not all(options[name][0].fullmatch(value) for name, value in given):
+        return None
+    if task in NEEDED and NEEDED[task] not in values:
+        return None
+    return {"task": task, **{name: values.get(name, without) for name, (_, without) in options.items()}}
