@@ -7,6 +7,7 @@ import functools
 import os
 import re
 import signal
+import struct
 import time
 from typing import NamedTuple
 
@@ -48,6 +49,14 @@ WORK, WORK_SECONDS = 300_000, 0.03
 
 # The kilobytes by which runs that do the same differ.
 SLACK = 4_096
+
+# What stands at the head of a program's file, and of each of its parts: where the parts are told, their size and number; the kind of
+# a part, its place in the file, its place in memory, its sizes in both. The kinds that matter: what is loaded, and the loader's name.
+HEAD, PART = struct.Struct("<32xQ14xHH"), struct.Struct("<I4xQQ8xQQ8x")
+LOADED, LOADER = 1, 3
+
+# The bytes that the system takes beside the parts, at most: the first stack with the words and the environment, and its own pages.
+BESIDE = 512 * 1024
 
 
 class Long:
@@ -164,6 +173,26 @@ def waited(child, seconds):
         signal.setitimer(signal.ITIMER_REAL, 0)
         signal.signal(signal.SIGALRM, before)
     return os.waitstatus_to_exitcode(status), usage
+
+
+def parts_of(path):
+    """The bytes of a program's file, and its parts; a script has none."""
+    with open(path, "rb") as file:
+        text = file.read()
+    if not text.startswith(b"\x7fELF"):
+        return text, []
+    first, size, count = HEAD.unpack_from(text)
+    return text, [PART.unpack_from(text, first + size * place) for place in range(count)]
+
+
+@functools.lru_cache(maxsize=None)
+def begins_in(program):
+    """The bytes of address space in which the system begins a program for certain; in less a signal may end it before its first step."""
+    text, parts = parts_of(program)
+    loaded = [(at, at + size) for kind, _, at, _, size in parts if kind == LOADED]
+    loaders = [text[place : place + size].rstrip(b"\0") for kind, place, _, size, _ in parts if kind == LOADER]
+    own = max(end for _, end in loaded) - min(at for at, _ in loaded) if loaded else 0
+    return own + (sum(map(begins_in, loaders)) or BESIDE)
 
 
 @functools.lru_cache(maxsize=None)
