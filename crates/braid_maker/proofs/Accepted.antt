@@ -7,7 +7,7 @@ use Rattle.kh_types.specs.Components.{component_count}
 use Rattle.kh_types.proofs.AcceptedLemmas.{HasArcsTwice-directed, IsAccepted-is}
 use Rattle.circle_smoothing.specs.GeneratorCounts.{generator_count}
 use Rattle.orient_arcs.proofs.Bridge.{IsDirected-renumbered}
-use Rattle.orient_arcs.proofs.AlikeCrossings.{AreAlike-renumbered}
+use Rattle.orient_arcs.proofs.AlikeCrossings.{AreAlike-renumbered, AreAlike-then}
 use Rattle.braid_maker.specs.Braids.{lower_left_is_over, left_of}
 use Rattle.braid_maker.specs.Closures.{AreLetters, closure, closure_parts, code_of_number, letters_of, straight_count}
 use Rattle.orient_arcs.specs.Parts.{ArePaired, Parts}
@@ -17,7 +17,7 @@ use Rattle.kh_types.specs.Accepted.{IsDirected}
 use Rattle.braid_maker.proofs.AlikeCodes.{IsCheckerboard-alike_braid, face_count-alike_braid}
 use Rattle.braid_maker.proofs.CircleJoins.{IsBraidCode, generator_count-braid}
 use Rattle.braid_maker.proofs.ComponentJoins.{component_count-braid}
-use Rattle.braid_maker.proofs.Names.{AreAlike-named, AreAlike-then}
+use Rattle.braid_maker.proofs.Names.{AreAlike-named}
 use Rattle.braid_maker.proofs.Paired.{ArePaired-named}
 
 -- what renumbering gives of parts: a directed code that is alike to them

@@ -12,6 +12,7 @@ use Rattle.braid_maker.specs.Words.{closed_crossings, touches}
 use Rattle.orient_arcs.specs.Renumbered.{renamed_crossing}
 use Rattle.braid_maker.specs.Closures.{bottom_arc, is_bottom, arc_name, named_parts}
 use Rattle.braid_maker.proofs.Partners.{HasArcsTwice-braid}
+use Rattle.orient_arcs.proofs.AlikeCrossings.{AreAlike-then}
 
 -- what a search in a range says
 data Search (test : ℕ → Bool) (a n : ℕ) : Type 0 where
@@ -89,14 +90,3 @@ AreAlike-named strands n left is_over loops =
           (arcs (dart_at other) (IsDart-at crossings other other_below)).positive
           (sym (arc_of-renamed f crossings place below) ∙ same ∙ arc_of-renamed f crossings other other_below);
     }
-
-pub AreAlike-then : (crossings others third : List (List ℕ)) → AreAlike crossings others → AreAlike others third → AreAlike crossings third
-AreAlike-then crossings others third first second = record {
-  size = second.size ∙ first.size;
-  onward = λ place other below other_below same.
-      second.onward place other (omega (arith, below, first.size)) (omega (arith, other_below, first.size))
-      (first.onward place other below other_below same);
-  back = λ place other below other_below same.
-      first.back place other below other_below
-      (second.back place other (omega (arith, below, first.size)) (omega (arith, other_below, first.size)) same);
-}

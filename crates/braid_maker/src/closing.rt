@@ -27,7 +27,7 @@ pub fn closure(strands: u8, letters: &[i8]) -> RawCode
     renumber(&closure_parts(strands, letters))
 }
 
-// The crossings under the names of their arcs, with their directions, and the loops.
+/// The crossings under the names of their arcs, with their directions, and the loops.
 #[tactic(auto, using(kh_types::proofs::Ranges::range_steps))]
 fn closure_parts(strands: u8, letters: &[i8]) -> Parts
     requires strands { strands ≤ STRANDS }
@@ -47,7 +47,7 @@ fn closure_parts(strands: u8, letters: &[i8]) -> Parts
     }
 }
 
-// The crossing at a place under the names of its arcs.
+/// The crossing at a place under the names of its arcs.
 fn named_crossing(strands: u8, letters: &[i8], place: usize) -> Crossing
     requires strands { strands ≤ STRANDS }
     requires few { length letters.now ≤ LETTERS }
@@ -64,7 +64,7 @@ fn named_crossing(strands: u8, letters: &[i8], place: usize) -> Crossing
     ])
 }
 
-// The name of an arc.
+/// The name of an arc.
 fn name_of(strands: u8, letters: &[i8], arc: u8) -> u8
     requires strands { strands ≤ STRANDS }
     requires few { length letters.now ≤ LETTERS }
@@ -74,7 +74,7 @@ fn name_of(strands: u8, letters: &[i8], arc: u8) -> u8
     bottom_of(strands, letters, arc).unwrap_or(strands + arc)
 }
 
-// The position through whose bottom an arc goes, if there is one.
+/// The position through whose bottom an arc goes, if there is one.
 fn bottom_of(strands: u8, letters: &[i8], arc: u8) -> Option<u8>
     requires strands { strands ≤ STRANDS }
     requires few { length letters.now ≤ LETTERS }
@@ -84,7 +84,7 @@ fn bottom_of(strands: u8, letters: &[i8], arc: u8) -> Option<u8>
     (1..strands + 1).find(|position| is_bottom(letters, arc, *position))
 }
 
-// How many strands pass no crossing.
+/// How many strands pass no crossing.
 fn straight_count(strands: u8, letters: &[i8]) -> u8
     requires { strands ≤ STRANDS }
     ensures { result ≡ straight_count strands letters.now }

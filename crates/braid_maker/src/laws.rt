@@ -17,7 +17,8 @@ ghost use Rattle.braid_maker.specs.Words.{closed_crossings};
 ghost use Rattle.braid_maker.specs.Braids.{braid_crossings, braid_code};
 ghost use Rattle.braid_maker.specs.Closures.{closure, code_of_number, letters_of, AreLetters};
 
-/// Closures worked out: how many pieces, faces and loops, the trefoil, the figure eight knot, and the number 0.
+/// Closures worked out: how many pieces, faces and loops, the trefoil, the figure eight knot, and
+/// the number 0.
 pub fn known_closures()
     ensures pieces { piece_count (braid_crossings (pos 1 ∷ pos 1 ∷ neg_ℤ (pos 3) ∷ pos 3 ∷ []))
         ≡ 2 }
@@ -60,8 +61,8 @@ pub fn closed_braids_are_planar()
         → face_count others ≡ planar_face_count others }
 {}
 
-/// The closure of each braid is accepted. Its components and loops are at most as many as its strands,
-/// and it has at most 2^strands times 3^letters generators.
+/// The closure of each braid is accepted. Its components and loops are at most as many as its
+/// strands, and it has at most 2^strands times 3^letters generators.
 pub fn closures_are_accepted()
     ensures accepted { (strands : ℕ) (letters : List ℤ) → AreLetters strands letters
         → strands ≤ COMPONENTS → IsTrue (accepted (closure strands letters)) }

@@ -32,7 +32,7 @@ pub fn from_number(number: u32) -> Result<Diagram, NumberLimit>
     Ok(accepted_diagram(&closure(3, &letters_of(number))))
 }
 
-// The diagram of an accepted code.
+/// The diagram of an accepted code.
 fn accepted_diagram(raw: &RawCode) -> Diagram
     requires { IsTrue (accepted raw.now) }
     ensures { result ≡ raw.now }
@@ -43,7 +43,7 @@ fn accepted_diagram(raw: &RawCode) -> Diagram
     }
 }
 
-// The letters of a number's digits.
+/// The letters of a number's digits.
 #[tactic(auto, using(crate::proofs::Digits::first_none))]
 fn letters_of(number: u32) -> ArrayVec<i8, DIGITS>
     ensures letters { result.items ≡ letters_of 10 number }
@@ -58,7 +58,7 @@ fn letters_of(number: u32) -> ArrayVec<i8, DIGITS>
     letters
 }
 
-// Adds the letter of a digit.
+/// Adds the letter of a digit.
 fn push_letter(letters: &mut ArrayVec<i8, DIGITS>, digit: u32)
     requires { length letters.old.items < 10 }
     ensures { letters.new.items ≡ letters.old.items ++ letter_of digit ∷ [] }
@@ -66,7 +66,7 @@ fn push_letter(letters: &mut ArrayVec<i8, DIGITS>, digit: u32)
     letters.push(letter_of(digit));
 }
 
-// The letter of a digit.
+/// The letter of a digit.
 fn letter_of(digit: u32) -> i8
     ensures { result ≡ letter_of digit }
 {

@@ -57,7 +57,7 @@ pub fn is_straight(letters: &[i8], position: u8) -> bool
     !is_touched(letters, position)
 }
 
-// Whether the strand at a position passes a crossing.
+/// Whether the strand at a position passes a crossing.
 fn is_touched(letters: &[i8], position: u8) -> bool
     ensures { result ≡ list_any (touches (left_of letters.now) position)
         (range_with_len 0 (length letters.now)) }
@@ -65,7 +65,7 @@ fn is_touched(letters: &[i8], position: u8) -> bool
     (0..letters.len()).any(|place| touches(letters, position, place))
 }
 
-// The arc that leaves the last crossing on the strand at a position.
+/// The arc that leaves the last crossing on the strand at a position.
 fn bottom_arc(letters: &[i8], position: u8) -> u8
     requires { length letters.now ≤ LETTERS }
     ensures { result ≡ bottom_arc (length letters.now) (left_of letters.now) position }
@@ -74,7 +74,7 @@ fn bottom_arc(letters: &[i8], position: u8) -> u8
     arc_above(letters, position, last)
 }
 
-// The arc that comes in from below at a position.
+/// The arc that comes in from below at a position.
 fn arc_below(letters: &[i8], position: u8, place: usize) -> u8
     requires few { length letters.now ≤ LETTERS }
     requires place { place < length letters.now }
@@ -84,7 +84,7 @@ fn arc_below(letters: &[i8], position: u8, place: usize) -> u8
     arc_above(letters, position, previous(letters, position, place))
 }
 
-// The last crossing before a place that the strand at a position passes, going round.
+/// The last crossing before a place that the strand at a position passes, going round.
 fn previous(letters: &[i8], position: u8, place: usize) -> usize
     requires { place < length letters.now }
     ensures place { result ≡ previous (length letters.now)
@@ -97,7 +97,7 @@ fn previous(letters: &[i8], position: u8, place: usize) -> usize
     }
 }
 
-// The last crossing below a place that the strand at a position passes.
+/// The last crossing below a place that the strand at a position passes.
 fn last_below(letters: &[i8], position: u8, end: usize) -> Option<usize>
     requires { end ≤ length letters.now }
     ensures last { result ≡ last_below (touches (left_of letters.now) position) end }
@@ -110,7 +110,7 @@ fn last_below(letters: &[i8], position: u8, end: usize) -> Option<usize>
     last
 }
 
-// A place, where the strand at a position passes its crossing, else another.
+/// A place, where the strand at a position passes its crossing, else another.
 fn later(letters: &[i8], position: u8, place: usize, last: Option<usize>) -> Option<usize>
     requires last { last ≡ last_below (touches (left_of letters.now) position) place }
     requires within { IfSome last (λ other. other < place) }
@@ -124,7 +124,7 @@ fn later(letters: &[i8], position: u8, place: usize, last: Option<usize>) -> Opt
     }
 }
 
-// The arc that leaves a crossing upwards at a position.
+/// The arc that leaves a crossing upwards at a position.
 fn arc_above(letters: &[i8], position: u8, place: usize) -> u8
     requires { place < LETTERS }
     ensures arc { result ≡ arc_above (left_of letters.now) position place }
@@ -138,7 +138,7 @@ fn arc_above(letters: &[i8], position: u8, place: usize) -> u8
     }
 }
 
-// Whether the crossing at a place is on the strand at a position.
+/// Whether the crossing at a place is on the strand at a position.
 fn touches(letters: &[i8], position: u8, place: usize) -> bool
     ensures { result ≡ touches (left_of letters.now) position place }
 {

@@ -26,6 +26,7 @@ use Rattle.cancel_step.specs.RankSums.{live_places}
 use Rattle.cancel_step.proofs.HistoryEnds.{length-half}
 use Rattle.shared_block.specs.AllBlocks.{AreBlocksOf, degrees_of_blocks}
 use Rattle.shared_block.specs.BlockHistories.{BlockHistory, HasLegalHistory}
+use Rattle.kh_types.proofs.MappedLists.{count-all}
 
 -- of the integers from -n to n at most one is a given one
 
@@ -146,11 +147,6 @@ sum_by-part-le : {X : Type 0} (f : X → ℕ) (test : X → Bool) (xs : List X) 
 sum_by-part-le f test xs =
     let last = length xs - suffix_len (λ x. not (test x)) xs in
     omega (arith, sum_by-take-drop f (take last xs) (position_or_len test xs), sum_by-take-le f xs last)
-
--- of places that are all alive all count
-count-all : {X : Type 0} (xs : List X) → count_by (λ is_alive. is_alive) (map (λ x. true) xs) ≡ length xs
-count-all [] = refl
-count-all (x ∷ xs) = omega (arith, sum_by-cons (λ b. cond b 1 0) true (map (λ y. true) xs), count-all xs)
 
 -- the block at j has a place for each generator there
 live_places-block : (p : ℕ) (code : Code) (j : ℤ)

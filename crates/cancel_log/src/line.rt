@@ -2,7 +2,7 @@
 
 use cancel_step::Pivot;
 
-/// What a line behind the third says.
+/// What a line behind the third says. This project's rule.
 #[derive(Clone, Copy, Debug, PartialEq, Eq)]
 pub enum LogLine {
     /// `cancel I A B`.

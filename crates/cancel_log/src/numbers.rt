@@ -26,10 +26,8 @@ pub(crate) fn degree_in(word: &[u8]) -> Option<i16>
     if !is_printed(word) {
         return None;
     }
-    match signed_number_of(word, DEGREE_DIGITS) {
-        Some(degree) => Some(degree as i16),
-        None => None,
-    }
+    let degree = signed_number_of(word, DEGREE_DIGITS)?;
+    Some(degree as i16)
 }
 
 /// Whether the digits of a word, behind a minus sign if it has one, do not begin with a 0, unless

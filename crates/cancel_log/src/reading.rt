@@ -3,7 +3,6 @@
 ghost use Rattle.std.specs.Prelude.{◌≡◌, ◌≢◌, ◌≤◌, ℕ, Err, IfOk, length};
 ghost use Rattle.kh_types.specs.Code.{Code};
 ghost use Rattle.kh_types.specs.Table.{table};
-ghost use Rattle.prime_field.specs.Residues.{IsSmallPrime};
 ghost use Rattle.kh_lex.specs.Lines.{lines_of};
 ghost use Rattle.cancel_log.specs.LinesLeft.{AreFew};
 ghost use Rattle.cancel_log.specs.Verdicts.{IsLogOf, IsVerdict, IsVerdictBehind};
@@ -17,13 +16,13 @@ use crate::{LogCause, LogStop};
 use cube_signs::check_size;
 use jones_sum::Table;
 use kh_types::Diagram;
-use prime_field::{F2, F3, F5, F7, PrimeField};
+use prime_field::{Elements, F2, F3, F5, F7, FieldSize, PrimeField};
 use shared_block::whole_table;
 use std::alloc::Global;
 use table_text::print_table;
 
 /// The table that a log proves, or the first line that fails and why. Whoever wrote the log is not
-/// trusted: each pivot is tested in the block that those before it leave.
+/// trusted: each pivot is tested in the block that those before it leave. This project's rule.
 #[tactic(auto, using(crate::proofs::WholeLogs::verdicts))]
 pub fn verify_log(alloc: Global, text: &[u8]) -> Result<Table, LogStop>
     requires { length text.now ≤ LOG_BYTES }
@@ -39,22 +38,20 @@ pub fn verify_log(alloc: Global, text: &[u8]) -> Result<Table, LogStop>
 /// What the lines from the fourth on come to, over the field of so many elements.
 fn table_behind(
     alloc: Global,
-    field: u8,
+    field: FieldSize,
     diagram: &Diagram,
     lines: &mut Lines<'_>,
 ) -> Result<Table, LogStop>
-    requires field { IsSmallPrime field }
     requires fourth { lines.old.number ≡ 4 }
     requires few { AreFew lines.old }
     ensures { result ≢ Err LogStop.NoMemory
         → IsVerdictBehind field diagram.now lines.old.rest result }
 {
-    match field {
-        2 => table_over::<F2>(alloc, diagram, lines),
-        3 => table_over::<F3>(alloc, diagram, lines),
-        5 => table_over::<F5>(alloc, diagram, lines),
-        7 => table_over::<F7>(alloc, diagram, lines),
-        _ => unreachable!(),
+    match field.elements() {
+        Elements::Two => table_over::<F2>(alloc, diagram, lines),
+        Elements::Three => table_over::<F3>(alloc, diagram, lines),
+        Elements::Five => table_over::<F5>(alloc, diagram, lines),
+        Elements::Seven => table_over::<F7>(alloc, diagram, lines),
     }
 }
 

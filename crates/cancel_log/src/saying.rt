@@ -45,12 +45,8 @@ fn behind<'a>(line: &'a [u8], front: &[u8]) -> Option<&'a [u8]>
 fn pivot_in(text: &[u8]) -> Option<Pivot>
     ensures { IsPivotIn text.now result }
 {
-    let Some((degree, places)) = cut_at_space(text) else {
-        return None;
-    };
-    let Some((column, row)) = cut_at_space(places) else {
-        return None;
-    };
+    let (degree, places) = cut_at_space(text)?;
+    let (column, row) = cut_at_space(places)?;
     pivot_of(degree, column, row)
 }
 
@@ -75,10 +71,8 @@ fn cut_at_space(text: &[u8]) -> Option<(&[u8], &[u8])>
     ensures some { IfSome result (λ parts. IsCutAtSpace text.now parts.0.now parts.1.now) }
     ensures none { result ≡ None → HasNoSpace text.now }
 {
-    match first_space(text) {
-        Some(space) => Some((&text[..space], &text[space + 1..])),
-        None => None,
-    }
+    let space = first_space(text)?;
+    Some((&text[..space], &text[space + 1..]))
 }
 
 /// The place of the first space.

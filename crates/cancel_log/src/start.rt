@@ -13,14 +13,14 @@ use crate::lines::Lines;
 use crate::{LogCause, LogStop};
 use kh_types::{Diagram, INPUT_BYTES, NoMemory};
 use pd_code::{PdStop, read_pd};
+use prime_field::FieldSize;
 use std::alloc::Global;
 
 /// What the first three lines of a log name.
 #[derive(Drop)]
 pub(crate) struct Start {
     pub(crate) diagram: Diagram,
-    /// The number of elements of the field.
-    pub(crate) field: u8,
+    pub(crate) field: FieldSize,
 }
 
 /// Takes the first three lines of a log.
@@ -48,10 +48,7 @@ fn take_log_line(lines: &mut Lines<'_>) -> Result<(), LogStop>
     if is_log_line(lines) {
         Ok(())
     } else {
-        Err(LogStop::Line {
-            line: 1,
-            cause: LogCause::Text,
-        })
+        Err(stop_at(1, LogCause::Text))
     }
 }
 
@@ -75,24 +72,12 @@ fn take_diagram(alloc: Global, lines: &mut Lines<'_>) -> Result<Diagram, LogStop
         stop ≢ LogStop.NoMemory → LacksDiagramLine lines.old.rest stop) }
 {
     let Some(text) = lines.next() else {
-        return Err(LogStop::Line {
-            line: 2,
-            cause: LogCause::Text,
-        });
+        return Err(stop_at(2, LogCause::Text));
     };
     if text.len() > INPUT_BYTES {
-        return Err(LogStop::Line {
-            line: 2,
-            cause: LogCause::Text,
-        });
+        return Err(stop_at(2, LogCause::Text));
     }
-    match diagram_of(alloc, text)? {
-        Some(diagram) => Ok(diagram),
-        None => Err(LogStop::Line {
-            line: 2,
-            cause: LogCause::Diagram,
-        }),
-    }
+    diagram_of(alloc, text)?.ok_or(stop_at(2, LogCause::Diagram))
 }
 
 /// The diagram that a text names, if it names one.
@@ -114,47 +99,45 @@ fn diagram_of(alloc: Global, text: &[u8]) -> Result<Option<Diagram>, NoMemory>
 
 /// Takes the line of the field.
 #[tactic(auto, using(crate::proofs::StartLines::fields))]
-fn take_field(lines: &mut Lines<'_>) -> Result<u8, LogStop>
+fn take_field(lines: &mut Lines<'_>) -> Result<FieldSize, LogStop>
     ensures prime { IfOk result IsSmallPrime }
     ensures ok { IfOk result (λ field. TakesLine lines.old (field_line field) lines.new) }
     ensures lacks { IfErr result (λ stop.
         (stop ≡ LogStop.Line 3 LogCause.Text) × LacksFieldLine lines.old.rest) }
 {
-    match field_next(lines) {
-        Some(field) => Ok(field),
-        None => Err(LogStop::Line {
-            line: 3,
-            cause: LogCause::Text,
-        }),
-    }
+    field_next(lines).ok_or(stop_at(3, LogCause::Text))
 }
 
 /// Takes a line, if there is one, and answers the field whose line it is.
 #[tactic(auto, using(crate::proofs::StartLines::fields))]
-fn field_next(lines: &mut Lines<'_>) -> Option<u8>
+fn field_next(lines: &mut Lines<'_>) -> Option<FieldSize>
     ensures prime { IfSome result IsSmallPrime }
     ensures some { IfSome result (λ field. TakesLine lines.old (field_line field) lines.new) }
     ensures none { result ≡ None → LacksFieldLine lines.old.rest }
 {
-    match lines.next() {
-        Some(line) => field_in(line),
-        None => None,
-    }
+    field_in(lines.next()?)
+}
+
+/// The stop at a line, for a cause.
+fn stop_at(line: u32, cause: LogCause) -> LogStop
+    ensures { result ≡ LogStop.Line line cause }
+{
+    LogStop::Line { line, cause }
 }
 
 /// The field whose line a line is.
 #[tactic(auto, using(crate::proofs::StartLines::primes))]
-fn field_in(line: &[u8]) -> Option<u8>
+fn field_in(line: &[u8]) -> Option<FieldSize>
     ensures { IsFieldLine line.now result }
 {
     if line == b"field 2".as_slice() {
-        Some(2)
+        Some(FieldSize::TWO)
     } else if line == b"field 3".as_slice() {
-        Some(3)
+        Some(FieldSize::THREE)
     } else if line == b"field 5".as_slice() {
-        Some(5)
+        Some(FieldSize::FIVE)
     } else if line == b"field 7".as_slice() {
-        Some(7)
+        Some(FieldSize::SEVEN)
     } else {
         None
     }

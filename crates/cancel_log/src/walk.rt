@@ -1,5 +1,5 @@
-//! The blocks of a log, line by line: each line cancels in the last block that has begun, begins the
-//! next, or closes. One block is in memory at a time.
+//! The blocks of a log, line by line: each line cancels in the last block that has begun, begins
+//! the next, or closes. One block is in memory at a time.
 
 ghost use Rattle.std.specs.Prelude.{◌≡◌, ◌&&◌, length, nat_lt, pos, slice_index_or, true, None, IfOk, OnOk};
 ghost use Rattle.std.specs.List.{Contains};

@@ -7,10 +7,7 @@ use Rattle.std.proofs.lemmas.List.Sums.{sum_by-cons}
 use Rattle.kh_types.specs.Complex.{Complex, Pivot, IsComplex, IsPivot, degree_of, alive_count, without_place, cancel}
 use Rattle.sparse_block.proofs.ComplexMatrices.{entry-stands}
 use Rattle.sparse_block.proofs.CancelledDegrees.{Where, where_is, degree-at_pivot, degree-after_pivot, degree-before_pivot, degree-elsewhere}
-
--- the places from place n on, after one of them has died
-abbrev places_from : ℕ → ℕ → List Bool → List Bool
-places_from place n alive = map (λ at. if nat_eq at.0 place then false else at.1) (enumerate_from n alive)
+use Rattle.kh_types.proofs.CancelLemmas.{places_from}
 
 places_from-past : (place n : ℕ) (alive : List Bool) → place < n → places_from place n alive ≡ alive
 places_from-past place n [] past = refl

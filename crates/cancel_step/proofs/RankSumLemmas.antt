@@ -9,7 +9,7 @@ use Rattle.kh_types.specs.Complex.{Complex, Pivot, IsComplex, IsPivot, empty_deg
 use Rattle.kh_types.proofs.CancelLemmas.{degrees-cancel}
 use Rattle.prime_field.specs.Residues.{IsField}
 use Rattle.sparse_block.proofs.ComplexMatrices.{entry-stands}
-use Rattle.sparse_block.proofs.CancelledComplexes.{degree_of-number}
+use Rattle.kh_types.proofs.ComplexLemmas.{degree_of-number}
 use Rattle.cancel_step.specs.RankSums.{rank_out, rank_sum, live_places}
 use Rattle.cancel_step.proofs.ListSums.{sum_by-one_more, sum_by-two_more, sum_by-nothing}
 use Rattle.cancel_step.proofs.ZeroLemmas.{rank_out-zero}

@@ -9,7 +9,7 @@ use Rattle.std.proofs.lemmas.List.Sums.{AllPass-from_list_all}
 use Rattle.kh_types.specs.Rank.{has_entry, rank}
 use Rattle.kh_types.specs.Complex.{Complex, Degree, Pivot, IsPivot, empty_degree, degree_from, degree_of, entry_in, alive_count, dimension_of, is_zero}
 use Rattle.kh_types.proofs.RankLemmas.{rank-none}
-use Rattle.sparse_block.proofs.CancelledComplexes.{degree_of-number}
+use Rattle.kh_types.proofs.ComplexLemmas.{degree_of-number}
 use Rattle.cancel_step.specs.RankSums.{rank_out}
 
 abbrev is_zero_matrix : List (List ℕ) → Bool

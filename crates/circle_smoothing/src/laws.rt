@@ -1,4 +1,5 @@
-//! What an edge does to the circles, what the numbers of circles are, known diagrams, and the limit.
+//! What an edge does to the circles, what the numbers of circles are, known diagrams, and the
+//! limit.
 
 pub mod edges;
 pub mod generators;

@@ -1,4 +1,5 @@
-//! What labels and signs of components stand for: a directed code, whose crossings have these signs.
+//! What labels and signs of components stand for: a directed code, whose crossings have these
+//! signs.
 
 ghost use Rattle.std.specs.Prelude.{◌≡◌, ◌≢◌, ◌-◌, ℕ, ℤ, List, length, pos, None};
 ghost use Rattle.std.specs.List.{All, flat_map};

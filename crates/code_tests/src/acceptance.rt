@@ -1,12 +1,14 @@
-//! What no clause says of acceptance: that acceptance is the one that is meant, that the calls succeed, and what known diagrams come to.
+//! What no clause says of acceptance: that acceptance is the one that is meant, that the calls
+//! succeed, and what known diagrams come to.
 
 use crate::plain_acceptance;
 use arrayvec::ArrayVec;
 use kh_types::{CodeFault, Crossing, Diagram, RawCode, Words, count_faces};
 use std::test::Fail;
 
-/// All codes of one crossing and of two over the arcs 1 to 4. How many have each of their arcs twice, and how many of these
-/// are accepted, was counted by a Python program written for this test from the rules of acceptance.
+/// All codes of one crossing and of two over the arcs 1 to 4. How many have each of their arcs
+/// twice, and how many of these are accepted, was counted by a Python program written for this test
+/// from the rules of acceptance.
 #[test]
 fn accepts_what_the_plain_acceptance_accepts(rt: HostRuntime) {
     for (count, words, arrangements, accepted) in [(1, 256, 6, 4), (2, 65_536, 2_520, 120)] {
@@ -38,7 +40,8 @@ fn loops_alone_are_accepted_up_to_twenty_eight(rt: HostRuntime) {
     }
 }
 
-/// Curls of both signs, the Hopf link, a circle that lies over another, the left-handed trefoil and the figure eight knot.
+/// Curls of both signs, the Hopf link, a circle that lies over another, the left-handed trefoil and
+/// the figure eight knot.
 #[test]
 fn known_diagrams_have_their_codes_and_signs(rt: HostRuntime) -> Result<(), Fail> {
     for (crossings, signs) in [
@@ -85,8 +88,8 @@ fn known_diagrams_have_their_codes_and_signs(rt: HostRuntime) -> Result<(), Fail
     Ok(())
 }
 
-/// No clause speaks of time. A torus link of twenty crossings is accepted; the virtual knot that the same two strands
-/// make where each runs into the other has no checkerboard.
+/// No clause speaks of time. A torus link of twenty crossings is accepted; the virtual knot that
+/// the same two strands make where each runs into the other has no checkerboard.
 #[test]
 fn twenty_crossings_are_not_slow(rt: HostRuntime) {
     let link = Diagram::try_new(&two_strands((1, 21)));
@@ -132,8 +135,8 @@ pub(crate) fn code(arcs: &[[u8; 4]], loops: u8) -> RawCode {
     RawCode { crossings, loops }
 }
 
-// Two strands that cross twenty times, each under and over in turn. They begin with the arcs 1 and 21, and run into the arcs
-// that are given.
+/// Two strands that cross twenty times, each under and over in turn. They begin with the arcs 1 and
+/// 21, and run into the arcs that are given.
 fn two_strands(ends: (u8, u8)) -> RawCode {
     let mut crossings = ArrayVec::new();
     for turn in 0..20u8 {
@@ -156,7 +159,7 @@ fn two_strands(ends: (u8, u8)) -> RawCode {
     }
 }
 
-// The code whose slots hold the digits of a number to the base 4, each plus 1, from the lowest on.
+/// The code whose slots hold the digits of a number to the base 4, each plus 1, from the lowest on.
 fn code_of_word(count: u8, word: u32) -> RawCode {
     let mut crossings = ArrayVec::new();
     let mut digits = word;

@@ -5,10 +5,11 @@ use braid_maker::{LETTERS, NUMBERS, NumberLimit, STRANDS, are_letters, closure, 
 use kh_types::{Diagram, RawCode};
 use std::test::Fail;
 
-/// Braids with the crossings and loops of their closures. Worked by hand: one strand, strands without
-/// letters, a curl, the Hopf link, a circle over another, the right-handed trefoil, a curl beside two
-/// loops. The others by `closure` of `bench/braids.py`, which walks up each strand, arc by arc: eight
-/// strands in one component, and sixteen letters on two, three, eight and five strands.
+/// Braids with the crossings and loops of their closures. Worked by hand: one strand, strands
+/// without letters, a curl, the Hopf link, a circle over another, the right-handed trefoil, a curl
+/// beside two loops. The others by `closure` of `bench/braids.py`, which walks up each strand, arc
+/// by arc: eight strands in one component, and sixteen letters on two, three, eight and five
+/// strands.
 const BRAIDS: &[(u8, &[i8], &[[u8; 4]], u8)] = &[
     (1, &[], &[], 1),
     (8, &[], &[], 8),
@@ -158,7 +159,8 @@ fn known_braids_have_their_closures(rt: HostRuntime) {
     }
 }
 
-/// The digits are read least first: the number 1 begins with the letter -1, whose crossing is negative.
+/// The digits are read least first: the number 1 begins with the letter -1, whose crossing is
+/// negative.
 #[test]
 fn numbers_have_their_diagrams(rt: HostRuntime) -> Result<(), Fail> {
     let first = from_number(0)?;

@@ -29,9 +29,10 @@ const ARCS_OF_THE_RINGS: [(u8, u8); 12] = [
     (2, 9),
 ];
 
-/// Of each component its first arc and its length, and of each arc the number of its component and the arc that follows, worked
-/// by hand from the codes: two curls, and from the Knot Atlas the Hopf link (L2a1), the trefoil (3_1) and the Borromean rings
-/// (L6a4). Two loops are added to each, which are not counted.
+/// Of each component its first arc and its length, and of each arc the number of its component and
+/// the arc that follows, worked by hand from the codes: two curls, and from the Knot Atlas the Hopf
+/// link (L2a1), the trefoil (3_1) and the Borromean rings (L6a4). Two loops are added to each,
+/// which are not counted.
 #[test]
 fn known_diagrams_have_their_components(rt: HostRuntime) -> Result<(), Fail> {
     for (crossings, wanted, arcs) in [
@@ -58,7 +59,7 @@ fn known_diagrams_have_their_components(rt: HostRuntime) -> Result<(), Fail> {
     Ok(())
 }
 
-// A diagram has these components and arcs, and two loops.
+/// A diagram has these components and arcs, and two loops.
 fn has_components(
     rt: &impl Abort,
     crossings: &[[u8; 4]],

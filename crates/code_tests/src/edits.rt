@@ -1,4 +1,5 @@
-//! Histories of moves, and the texts of edits. The rows were written by hand from the rules of scripts.
+//! Histories of moves, and the texts of edits. The rows were written by hand from the rules of
+//! scripts.
 
 use diagram_moves::{Move, MoveFault, Side};
 use known_links::{CURL, TREFOIL, diagram_of};
@@ -148,7 +149,7 @@ fn slide(first: u8, second: u8, third: u8) -> EditLine {
     })
 }
 
-// A text that has a wrong line, and the number of the first.
+/// A text that has a wrong line, and the number of the first.
 const WRONG_EDITS: [(&[u8], u32); 24] = [
     (b"r1 drop 256", 1),
     (b"r1 drop 0255", 1),

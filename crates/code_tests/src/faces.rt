@@ -4,8 +4,9 @@ use face_walk::{faces, left_of, piece_of, pieces, right_of};
 use known_links::{FIGURE_EIGHT, HOPF, TREFOIL, diagram_of};
 use std::test::Fail;
 
-/// The slots of each crossing; the lengths of the faces, in order; the faces at the left and at the right of each arc; the pieces
-/// of the crossings. They were found by a Python program that was written for this test from the rule of the face step.
+/// The slots of each crossing; the lengths of the faces, in order; the faces at the left and at the
+/// right of each arc; the pieces of the crossings. They were found by a Python program that was
+/// written for this test from the rule of the face step.
 struct Row {
     crossings: &'static [[u8; 4]],
     lengths: &'static [u8],

@@ -20,8 +20,8 @@ const OVER_FIRST: [Crossing; 1] = [Crossing([2, 2, 1, 1])];
 
 const NEGATIVE: [Crossing; 1] = [Crossing([2, 1, 1, 2])];
 
-// What some texts stand for: the crossings, and the number of loops. The trefoil is that of the
-// Knot Atlas page "3_1"; the other rows are worked by hand.
+/// What some texts stand for: the crossings, and the number of loops. The trefoil is that of the
+/// Knot Atlas page "3_1"; the other rows are worked by hand.
 #[test]
 fn reads_crossings(rt: HostRuntime) -> Result<(), Fail> {
     let trefoil = TREFOIL.as_slice();
@@ -119,7 +119,7 @@ fn refuses_other_texts_at_their_places(rt: HostRuntime) {
     }
 }
 
-// Why no code is read from a text, if it is short enough to be read and has none.
+/// Why no code is read from a text, if it is short enough to be read and has none.
 fn stop_of(alloc: Global, text: &[u8]) -> Option<GaussStop> {
     if text.len() <= INPUT_BYTES {
         read_gauss(alloc, text).err()
@@ -170,7 +170,7 @@ const FIRST_FAULTS: [(&str, GaussStop); 18] = [
     ),
 ];
 
-// Each fault before the ones that the text has besides.
+/// Each fault before the ones that the text has besides.
 #[test]
 fn names_the_first_fault(rt: HostRuntime) {
     for (text, wanted) in FIRST_FAULTS {
@@ -197,7 +197,7 @@ fn counts_what_is_too_many(rt: HostRuntime) -> Result<(), Fail> {
     Ok(())
 }
 
-// A text of so many loops, and a group of so many labels behind them if there are any.
+/// A text of so many loops, and a group of so many labels behind them if there are any.
 fn text_with(alloc: Global, labels: u32, loops: u32) -> Result<Vec<u8>, Fail> {
     let mut text = Vec::from_slice(alloc, b"GaussCode[")?;
     for _ in 0..loops {
@@ -258,9 +258,9 @@ const BORROMEAN_RINGS: [[u8; 4]; 6] = [
     [2, 9, 3, 10],
 ];
 
-/// The trefoil (3_1), the figure eight knot (4_1), the Hopf link (L2a1) and the Borromean rings (L6a4) as the Knot Atlas lists
-/// their PD codes and Gauss codes; the signs, and the other rows, are worked by hand: curls, a circle that lies over another, and
-/// loops.
+/// The trefoil (3_1), the figure eight knot (4_1), the Hopf link (L2a1) and the Borromean rings
+/// (L6a4) as the Knot Atlas lists their PD codes and Gauss codes; the signs, and the other rows,
+/// are worked by hand: curls, a circle that lies over another, and loops.
 #[test]
 fn prints_known_diagrams(rt: HostRuntime) -> Result<(), Fail> {
     let trefoil = [[1, 4, 2, 5], [3, 6, 4, 1], [5, 2, 6, 3]];

@@ -1,4 +1,5 @@
-//! JSON texts: that they are answered where there is memory, which no clause says; and which bytes the kit takes for JSON.
+//! JSON texts: that they are answered where there is memory, which no clause says; and which bytes
+//! the kit takes for JSON.
 
 use json_code::{JsonStop, read_json};
 use kh_types::{CROSSINGS, Crossing, INPUT_BYTES, RawCode};
@@ -6,7 +7,7 @@ use std::alloc::{AllocError, Global};
 use std::process::Abort;
 use std::test::Fail;
 
-// A text and its one crossing.
+/// A text and its one crossing.
 const CROSSING_ROWS: [(&str, Crossing); 5] = [
     ("[[1,1,2,2]]", Crossing([1, 1, 2, 2])),
     (" [ [ 1 ,\t1,\r2,\n2 ] ] ", Crossing([1, 1, 2, 2])),
@@ -18,7 +19,7 @@ const CROSSING_ROWS: [(&str, Crossing); 5] = [
     ),
 ];
 
-// A text that is JSON, and the crossing and the slot of its first wrong member.
+/// A text that is JSON, and the crossing and the slot of its first wrong member.
 const SHAPE_ROWS: [(&str, u32, u8); 26] = [
     ("7", 0, 0),
     ("null", 0, 0),
@@ -48,7 +49,7 @@ const SHAPE_ROWS: [(&str, u32, u8); 26] = [
     ("[[1,1,2,2],7,[3]]", 2, 0),
 ];
 
-// A text that is no JSON.
+/// A text that is no JSON.
 const OTHER_ROWS: [&[u8]; 26] = [
     b"",
     b" ",
@@ -78,7 +79,7 @@ const OTHER_ROWS: [&[u8]; 26] = [
     b"\xef\xbb\xbf[[1,1,2,2]]",
 ];
 
-// What a text reads as, which is short enough.
+/// What a text reads as, which is short enough.
 fn read(rt: &impl Abort, alloc: Global, text: &[u8]) -> Result<RawCode, JsonStop> {
     assert!(rt; text.len() <= INPUT_BYTES);
     read_json(alloc, text)
@@ -143,7 +144,7 @@ fn reads_as_deep_as_127_arrays(rt: HostRuntime) -> Result<(), Fail> {
     Ok(())
 }
 
-// Arrays within each other, as many as said.
+/// Arrays within each other, as many as said.
 fn nested(alloc: Global, depth: usize) -> Result<Vec<u8>, AllocError> {
     let mut text = vec![in alloc; b'['; depth]?;
     for _ in 0..depth {
@@ -180,7 +181,7 @@ fn counts_as_many_crossings_as_there_are(rt: HostRuntime) -> Result<(), Fail> {
     Ok(())
 }
 
-// An array of one element, as often as said.
+/// An array of one element, as often as said.
 fn listed(alloc: Global, element: &str, count: usize) -> Result<Vec<u8>, AllocError> {
     let mut text = Vec::from_slice(alloc, b"[")?;
     for index in 0..count {

@@ -1,4 +1,5 @@
-//! Tests of codes and their texts: what no clause says of readers, printers, acceptance, components and faces.
+//! Tests of codes and their texts: what no clause says of readers, printers, acceptance, components
+//! and faces.
 #![tactic(auto)]
 
 #[cfg(test)]

@@ -32,8 +32,8 @@ fn worked_mirrors_and_reversals(rt: HostRuntime) -> Result<(), Fail> {
     Ok(())
 }
 
-/// A reversal of a reversal is the diagram. A mirror of a mirror is, but where a circle of two arcs lies
-/// under another and enters the first listed crossing on its second arc.
+/// A reversal of a reversal is the diagram. A mirror of a mirror is, but where a circle of two arcs
+/// lies under another and enters the first listed crossing on its second arc.
 #[test]
 fn mirrors_and_reversals_come_back(rt: HostRuntime) -> Result<(), Fail> {
     for link in LINKS {

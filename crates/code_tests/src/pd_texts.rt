@@ -13,7 +13,7 @@ const TREFOIL_CROSSINGS: [Crossing; 3] = [
     Crossing([5, 2, 6, 3]),
 ];
 
-// The trefoil as on the Knot Atlas page "3_1", in spellings that people paste.
+/// The trefoil as on the Knot Atlas page "3_1", in spellings that people paste.
 #[test]
 fn reads_the_trefoil_in_many_spellings(rt: HostRuntime) -> Result<(), Fail> {
     let texts = [
@@ -78,7 +78,7 @@ fn refuses_other_texts_at_their_places(rt: HostRuntime) {
     }
 }
 
-// Why no code is read from a text, if it is short enough to be read and has none.
+/// Why no code is read from a text, if it is short enough to be read and has none.
 fn stop_of(alloc: Global, text: &[u8]) -> Option<PdStop> {
     if text.len() <= INPUT_BYTES {
         read_pd(alloc, text).err()
@@ -101,7 +101,7 @@ fn refuses_large_numbers_at_their_places(rt: HostRuntime) {
     }
 }
 
-// Where the text is cut off it ends too early; `P` alone is another word.
+/// Where the text is cut off it ends too early; `P` alone is another word.
 #[test]
 fn refuses_each_beginning_of_the_trefoil(rt: HostRuntime) {
     for end in 0..TREFOIL.len() {
@@ -152,7 +152,7 @@ fn counts_the_items_that_are_too_many(rt: HostRuntime) -> Result<(), Fail> {
     Ok(())
 }
 
-// A text of so many crossings and loops.
+/// A text of so many crossings and loops.
 fn text_with(alloc: Global, crossings: u32, loops: u32) -> Result<Vec<u8>, Fail> {
     let mut text = Vec::from_slice(alloc, b"PD[")?;
     for _ in 0..crossings {

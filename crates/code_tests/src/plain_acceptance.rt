@@ -1,8 +1,10 @@
-//! Acceptance once more, plain and slow, for codes of up to seven crossings, as a second opinion on the one that is proved.
+//! Acceptance once more, plain and slow, for codes of up to seven crossings, as a second opinion on
+//! the one that is proved.
 //!
-//! It goes another way. Numbers below 32 are arcs, crossings, or darts (four for each crossing, in the order of its slots),
-//! and a set of them is a word of bits. The class of a number grows from it until nothing more joins, and the checkerboard
-//! tries every choice of bits. The rules are this project's own, as in the definition of an accepted code.
+//! It goes another way. Numbers below 32 are arcs, crossings, or darts (four for each crossing, in
+//! the order of its slots), and a set of them is a word of bits. The class of a number grows from
+//! it until nothing more joins, and the checkerboard tries every choice of bits. The rules are this
+//! project's own, as in the definition of an accepted code.
 
 use arrayvec::ArrayVec;
 use kh_types::Crossing;
@@ -11,7 +13,8 @@ type Set = u32;
 
 type Pairs = ArrayVec<(u32, u32), 64>;
 
-/// Whether crossings keep the rules. The limit on components and loops is left out: so few crossings do not come near it.
+/// Whether crossings keep the rules. The limit on components and loops is left out: so few
+/// crossings do not come near it.
 pub(crate) fn accepts(crossings: &[Crossing]) -> bool {
     let passes = passes_of(crossings);
     let ends = ends_of_arcs(crossings);
@@ -31,12 +34,12 @@ pub(crate) fn stands_twice(crossings: &[Crossing]) -> bool {
     })
 }
 
-// Of the arcs of a component exactly one has its next number outside of it.
+/// Of the arcs of a component exactly one has its next number outside of it.
 fn is_interval(component: Set) -> bool {
     (component & !(component >> 1)).count_ones() == 1
 }
 
-// The under pass goes to the next arc, and so does the over pass in one of its directions.
+/// The under pass goes to the next arc, and so does the over pass in one of its directions.
 fn goes_on(passes: &Pairs, crossing: Crossing) -> bool {
     let [i, j, k, l] = crossing.0.map(u32::from);
     k == next(passes, i) && (l == next(passes, j) || j == next(passes, l))
@@ -52,7 +55,7 @@ fn next(passes: &Pairs, arc: u32) -> u32 {
     }
 }
 
-// Where the component of an arc has two arcs, at most one under pass comes in on this one.
+/// Where the component of an arc has two arcs, at most one under pass comes in on this one.
 fn comes_back(crossings: &[Crossing], passes: &Pairs, arc: u32) -> bool {
     let unders = crossings
         .iter()
@@ -60,7 +63,7 @@ fn comes_back(crossings: &[Crossing], passes: &Pairs, arc: u32) -> bool {
     class_of(passes, arc).count_ones() != 2 || unders.count() < 2
 }
 
-// Some choice of a bit for each crossing gives the two ends of every arc different colours.
+/// Some choice of a bit for each crossing gives the two ends of every arc different colours.
 fn has_checkerboard(crossings: &[Crossing], ends: &Pairs) -> bool {
     (0..only(crossing_count(crossings))).any(|choice| {
         ends.iter().all(|(dart, other)| colour(choice, *dart) != colour(choice, *other))
@@ -71,7 +74,8 @@ fn colour(choice: Set, dart: u32) -> bool {
     has(choice, dart / 4) != (dart % 2 == 1)
 }
 
-// A drawing of n crossings in k pieces has n + 2k faces on the sphere, and fewer on any other surface.
+/// A drawing of n crossings in k pieces has n + 2k faces on the sphere, and fewer on any other
+/// surface.
 fn is_on_a_sphere(crossings: &[Crossing], ends: &Pairs) -> bool {
     let faces = class_count(&face_steps(ends), dart_count(crossings));
     let pieces = class_count(&contacts(ends), crossing_count(crossings));
@@ -81,7 +85,7 @@ fn is_on_a_sphere(crossings: &[Crossing], ends: &Pairs) -> bool {
     faces == wanted
 }
 
-// From a dart on to the slot before the other end of its arc.
+/// From a dart on to the slot before the other end of its arc.
 fn face_steps(ends: &Pairs) -> Pairs {
     let mut steps = Pairs::new();
     for (dart, other) in ends {
@@ -90,7 +94,7 @@ fn face_steps(ends: &Pairs) -> Pairs {
     steps
 }
 
-// From crossing to crossing along an arc.
+/// From crossing to crossing along an arc.
 fn contacts(ends: &Pairs) -> Pairs {
     let mut contacts = Pairs::new();
     for (dart, other) in ends {
@@ -99,7 +103,7 @@ fn contacts(ends: &Pairs) -> Pairs {
     contacts
 }
 
-// From an end of an arc to the other, both ways.
+/// From an end of an arc to the other, both ways.
 fn ends_of_arcs(crossings: &[Crossing]) -> Pairs {
     let mut ends = Pairs::new();
     for dart in 0..dart_count(crossings) {
@@ -112,7 +116,7 @@ fn ends_of_arcs(crossings: &[Crossing]) -> Pairs {
     ends
 }
 
-// From arc to arc under and over each crossing.
+/// From arc to arc under and over each crossing.
 fn passes_of(crossings: &[Crossing]) -> Pairs {
     let mut passes = Pairs::new();
     for crossing in crossings {
@@ -123,7 +127,7 @@ fn passes_of(crossings: &[Crossing]) -> Pairs {
     passes
 }
 
-// Of the numbers below a count, those that are the least of their class.
+/// Of the numbers below a count, those that are the least of their class.
 fn class_count(pairs: &Pairs, count: u32) -> u32 {
     let mut classes = 0u32;
     for member in 0..count {
@@ -134,8 +138,8 @@ fn class_count(pairs: &Pairs, count: u32) -> u32 {
     classes
 }
 
-// What a number is joined with. Each time that all pairs are gone over they add a number, or nothing is left to add, so as
-// many times as there are pairs are enough.
+/// What a number is joined with. Each time that all pairs are gone over they add a number, or
+/// nothing is left to add, so as many times as there are pairs are enough.
 fn class_of(pairs: &Pairs, member: u32) -> Set {
     let mut class = only(member);
     for _ in 0..pairs.len() {

@@ -137,7 +137,8 @@ fn set(numbers: &mut Numbers, name: u8, number: u8) {
     }
 }
 
-/// What passes say of names: which stand, the next of each, and the crossing that it enters from over, or 0.
+/// What passes say of names: which stand, the next of each, and the crossing that it enters from
+/// over, or 0.
 #[derive(Drop)]
 struct Names {
     stand: Numbers,

@@ -5,7 +5,7 @@ use std::alloc::Global;
 use std::test::Fail;
 use undo_stack::{SCRIPT_LINES, ScheduleLine, ScriptStop, read_schedule};
 
-// A text that has a wrong line, and the number of the first.
+/// A text that has a wrong line, and the number of the first.
 const WRONG_ROWS: [(&[u8], u32); 42] = [
     (b"look 1 +1", 1),
     (b"look +1 1", 1),
@@ -120,7 +120,7 @@ fn stops_at_the_first_wrong_line(rt: HostRuntime) {
     }
 }
 
-// A text, repeated, and then another.
+/// A text, repeated, and then another.
 fn repeated(alloc: Global, text: &str, times: usize, last: &str) -> Result<Vec<u8>, Fail> {
     let mut bytes = Vec::new(alloc);
     for _ in 0..times {
@@ -130,7 +130,8 @@ fn repeated(alloc: Global, text: &str, times: usize, last: &str) -> Result<Vec<u
     Ok(bytes)
 }
 
-// Texts of so many equal pieces and a last one, at the limit on lines and above, and what stops their reading.
+/// Texts of so many equal pieces and a last one, at the limit on lines and above, and what stops
+/// their reading.
 const LONG_TEXTS: [(&str, usize, &str, Option<ScriptStop>); 10] = [
     ("\n", SCRIPT_LINES, "", None),
     ("commit 1\n", SCRIPT_LINES, "", None),

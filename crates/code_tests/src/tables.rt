@@ -6,9 +6,9 @@ use std::alloc::Global;
 use std::test::Fail;
 use table_text::{TABLE_BYTES, TableStop, print_jones, print_table, read_table};
 
-/// The table of the left-handed trefoil over two elements. Knot Atlas, page "3_1", has the dimensions
-/// over the rationals, at j -9, -5, -3 and -1; the 2-torsion at i -2 and j -7 adds one there and one
-/// at i -3.
+/// The table of the left-handed trefoil over two elements. Knot Atlas, page "3_1", has the
+/// dimensions over the rationals, at j -9, -5, -3 and -1; the 2-torsion at i -2 and j -7 adds one
+/// there and one at i -3.
 const TREFOIL_TABLE: &[u8; 110] =
     b"table 2\nfield 2\nj -9 i -3 dim 1\nj -7 i -3 dim 1\nj -7 i -2 dim 1\nj -5 i -2 dim 1\nj -3 i 0 dim 1\nj -1 i 0 dim 1\n";
 
@@ -114,8 +114,8 @@ fn refuses_other_texts_at_their_places(rt: HostRuntime) {
     }
 }
 
-/// Where the text is cut off behind a line feed, but that of its first line, it is a table's; else its
-/// last line is wrong.
+/// Where the text is cut off behind a line feed, but that of its first line, it is a table's; else
+/// its last line is wrong.
 #[test]
 fn refuses_the_last_line_of_each_other_beginning(rt: HostRuntime) {
     let mut place = 0;

@@ -23,7 +23,8 @@ fn bits_are_counted_from_the_lowest(rt: HostRuntime) {
     }
 }
 
-/// What is derived has no clause: an equality that always holds would leave the tests above without meaning.
+/// What is derived has no clause: an equality that always holds would leave the tests above without
+/// meaning.
 #[test]
 fn other_values_are_not_equal(rt: HostRuntime) -> Result<(), Fail> {
     expect_apart(&rt, &faults());
@@ -78,7 +79,7 @@ fn the_default_crossing_is_blank(rt: HostRuntime) {
     assert_eq!(rt; Crossing::default().0, [0, 0, 0, 0]);
 }
 
-// Each value is equal to itself and to none of the others.
+/// Each value is equal to itself and to none of the others.
 fn expect_apart<T: PartialEq>(rt: &impl Abort, values: &[T]) {
     for (place, value) in values.iter().enumerate() {
         for (other_place, other) in values.iter().enumerate() {
@@ -91,7 +92,7 @@ fn expect_apart<T: PartialEq>(rt: &impl Abort, values: &[T]) {
     }
 }
 
-// Each fault, and some again with another number.
+/// Each fault, and some again with another number.
 fn faults() -> [CodeFault; 14] {
     [
         CodeFault::ArcRange {

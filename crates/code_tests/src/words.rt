@@ -1,40 +1,41 @@
 //! Lines of words, and what each comes to. The rows are this project's.
 
 use kh_types::Words;
+use prime_field::FieldSize;
 use std::alloc::Global;
 use std::test::Fail;
 use word_line::{Command, Form, Task, WordStop, read_words};
 
 const HOMOLOGY: Command = Command {
     task: Task::Homology,
-    field: 2,
+    field: FieldSize::TWO,
     workers: 1,
     to: Form::Pd,
     number: None,
     mark: None,
 };
 
-// Lines that mean a command, and the command.
+/// Lines that mean a command, and the command.
 const COMMANDS: [(&[&str], Command); 16] = [
     (&["homology"], HOMOLOGY),
     (
         &["--field=3", "homology"],
         Command {
-            field: 3,
+            field: FieldSize::THREE,
             ..HOMOLOGY
         },
     ),
     (
         &["--field", "3", "homology"],
         Command {
-            field: 3,
+            field: FieldSize::THREE,
             ..HOMOLOGY
         },
     ),
     (
         &["homology", "--field", "5"],
         Command {
-            field: 5,
+            field: FieldSize::FIVE,
             ..HOMOLOGY
         },
     ),
@@ -43,7 +44,7 @@ const COMMANDS: [(&[&str], Command); 16] = [
     (
         &["--field=7", "--", "homology"],
         Command {
-            field: 7,
+            field: FieldSize::SEVEN,
             ..HOMOLOGY
         },
     ),
@@ -88,7 +89,7 @@ const COMMANDS: [(&[&str], Command); 16] = [
         &["--field", "5", "edit"],
         Command {
             task: Task::Edit,
-            field: 5,
+            field: FieldSize::FIVE,
             ..HOMOLOGY
         },
     ),
@@ -119,7 +120,7 @@ const COMMANDS: [(&[&str], Command); 16] = [
     ),
 ];
 
-// Lines that mean none.
+/// Lines that mean none.
 const USAGES: [&[&str]; 58] = [
     &[],
     &[""],

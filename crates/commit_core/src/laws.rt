@@ -97,10 +97,10 @@ pub fn all_events_have_a_run()
 {}
 
 /// The turns that a worker takes at a block under a lock are those of the core, whichever worker
-/// and block it is and whatever the others hold. A look that fits the history is the core's look at the
-/// block with this history, and where nothing is left to do under the lock the core answers that
-/// the block is zero. A commit of a look at the history as it is now is taken, and one of a look at
-/// another length is stale, with both lengths.
+/// and block it is and whatever the others hold. A look that fits the history is the core's look at
+/// the block with this history, and where nothing is left to do under the lock the core answers
+/// that the block is zero. A commit of a look at the history as it is now is taken, and one of a
+/// look at another length is stale, with both lengths.
 pub fn turns_under_a_lock_are_those_of_the_core()
     ensures look { (p worker hint : ℕ) (state : CoreState) (j : ℤ) (held : BlockHistory)
         (copy : BlockCopy) → IsField p → IsTrue (accepted held.diagram)

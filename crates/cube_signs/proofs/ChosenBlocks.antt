@@ -34,9 +34,10 @@ use Rattle.cube_signs.proofs.ChosenColumns.{AreColumnsTo-moved}
 use Rattle.cube_signs.proofs.GeneratorPlaces.{length-generators_at}
 use Rattle.cube_signs.proofs.ListComplexes.{AreLists, IsComplex-list_complex}
 use Rattle.cube_signs.proofs.ListMatrices.{SquareToZero, between, generator_number}
-use Rattle.cube_signs.proofs.NamedBlocks.{map-alike, map-map, map-places}
+use Rattle.cube_signs.proofs.NamedBlocks.{map-alike, map-places, named_of}
 use Rattle.cube_signs.proofs.StateLists.{images-more}
 use Rattle.cube_signs.proofs.StepLemmas.{each-more}
+use Rattle.std.proofs.lemmas.Simd.{map-map}
 
 -- sums over a list whose elements have the same terms
 sum_by-same : {X : Type 0} (f g : X → ℕ) (xs : List X) → All (λ x. f x ≡ g x) xs → sum_by f xs ≡ sum_by g xs
@@ -190,9 +191,6 @@ matrix-columns p code tails heads columns are =
 -- a degree by its parts, and a complex with names by its own
 abbrev degree_of : List Bool → List (List ℕ) → Degree
 degree_of alive matrix = record { alive = alive; matrix = matrix }
-
-abbrev named_of : ℤ → List Degree → List (List Generator) → NamedComplex
-named_of low degrees names = record { complex = record { low = low; degrees = degrees }; names = names }
 
 pub AreChosenParts-columns : (choice : Generator → Bool) (p : ℕ) (code : Code) (j : ℤ) (count : ℕ) (names : List (List Generator))
     (columns : List (List (List Entry))) → 1 < p → IsTrue (accepted code) → generator_count code ≤ GENERATORS

@@ -11,7 +11,7 @@ use Rattle.std.proofs.lemmas.Map.Made.{Contains-tail}
 use Rattle.kh_types.proofs.Lists.{Contains-flat_map}
 use Rattle.sparse_block.specs.declared.entry.Entry.{Entry}
 use Rattle.sparse_block.specs.Entries.{value_at}
-use Rattle.sparse_block.proofs.AscendingLemmas.{Ascend, ascend-earlier}
+use Rattle.sparse_block.proofs.AscendingLemmas.{Ascend, ascend-earlier, increasing-tail}
 use Rattle.sparse_block.proofs.EntryLemmas.{value_at-here, value_at-later}
 
 -- a column at a place: the entries there have one value, and there is an entry where this is not 0
@@ -54,12 +54,6 @@ Contains-later x y xs (k, below, is) = (suc k, omega (arith, below), is)
 
 Contains-first : {X : Type 0} (x : X) (xs : List X) → Contains (x ∷ xs) x
 Contains-first x xs = (zero, omega arith, refl)
-
--- lists of numbers that ascend
-increasing-tail : (x : ℕ) (xs : List ℕ) → IsStrictlyIncreasing (x ∷ xs) → IsStrictlyIncreasing xs
-increasing-tail x xs ascending k within =
-    let next : suc k + 1 ≡ suc (k + 1) = omega arith in
-    subst (λ (n : ℕ). slice_index xs k < slice_index (x ∷ xs) n) next (ascending (suc k) (omega arith))
 
 increasing-first : (x : ℕ) (xs : List ℕ) → IsStrictlyIncreasing (x ∷ xs) → (k : ℕ) → k < length xs → x < slice_index xs k
 increasing-first x [] ascending k below = absurd (omega (arith, below))

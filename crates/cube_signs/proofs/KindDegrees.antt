@@ -25,7 +25,8 @@ use Rattle.cube_signs.specs.Blocks.{block_degrees}
 use Rattle.cube_signs.specs.KindShapes.{all_kind_shapes, has_kind, kind_shape, kind_shapes, shapes_of_kind}
 use Rattle.cube_signs.specs.Shapes.{degrees_of, has_degree, have_degree, shape_of}
 use Rattle.cube_signs.specs.declared.shape.Shape.{Shape}
-use Rattle.cube_signs.proofs.ShapeLemmas.{have_degree-states, list_any-flat_map, list_any-map, same-passes, shape-made}
+use Rattle.cube_signs.proofs.ShapeLemmas.{have_degree-states, list_any-flat_map, same-passes, shape-made}
+use Rattle.kh_types.proofs.MappedLists.{list_any-map}
 
 -- a list has elements that pass where their number is not 0
 any-one : (b any : Bool) (count : ℕ) → any ≡ not (nat_eq count 0) → (b || any) ≡ not (nat_eq (cond b 1 0 + count) 0)

@@ -14,39 +14,25 @@ use Rattle.kh_types.specs.Generators.{Generator}
 use Rattle.kh_types.specs.Rank.{rank}
 use Rattle.kh_types.specs.Table.{IsWithin, from_minus}
 use Rattle.kh_types.proofs.MatrixTests.{entry-past_rows}
-use Rattle.kh_types.proofs.QuantumDegrees.{IsWithin-place, place-IsWithin}
+use Rattle.kh_types.proofs.QuantumDegrees.{IsWithin-place, place-IsWithin, within_or_not}
 use Rattle.kh_types.proofs.RankLemmas.{rank-zeros}
 use Rattle.kh_types.proofs.ListSums.{sum_by-alike}
 use Rattle.cube_signs.specs.Chosen.{coefficients, list_complex, list_degree}
 use Rattle.cube_signs.proofs.ListMatrices.{SquareToZero, coefficients-square, entry-below, entry-column_past, length-coefficients, length-row}
+use Rattle.kh_types.proofs.MappedLists.{count-all}
+use Rattle.cube_squares.proofs.BlockComplexes.{all_alive}
+use Rattle.cube_squares.proofs.BlockDegrees.{get_or-from_minus, length-from_minus}
 
 -- what the lists have: beyond n they are empty, and the coefficients square to zero
 pub record AreLists (p : ℕ) (code : Code) (n : ℕ) (lists : ℤ → List Generator) : Type 0 where
   pub beyond : (i : ℤ) → (IsWithin n i → ⊥) → lists i ≡ []
   pub square : (i : ℤ) → SquareToZero p code (lists i) (lists (i +ℤ pos 1))
 
--- an integer is from -n to n, or it is not
-pub within_or_not : (n : ℕ) (i : ℤ) → IsWithin n i ⊎ (IsWithin n i → ⊥)
-within_or_not n (pos m) = elim (cases_lt n m) [
-  | inl past ↦ inr (λ within. let place = place-IsWithin n (pos m) within in omega (arith, ints, past, place.1, place.2))
-  | inr small ↦ inl (IsWithin-place n (m + n) (pos m) (omega arith) (omega (arith, ints)))
-]
-within_or_not n (negsuc m) = elim (cases_lt m n) [
-  | inl small ↦ inl (IsWithin-place n (n - suc m) (negsuc m) (omega arith) (omega (arith, ints)))
-  | inr past ↦ inr (λ within. let place = place-IsWithin n (negsuc m) within in omega (arith, ints, past, place.1, place.2))
-]
-
 -- the dimension at i
 abbrev pub list_dimension : ℕ → Code → (ℤ → List Generator) → ℤ → ℕ
 list_dimension p code lists i =
     length (lists i) - rank p (coefficients p code (lists i) (lists (i +ℤ pos 1)))
     - rank p (coefficients p code (lists (i -ℤ pos 1)) (lists (i -ℤ pos 1 +ℤ pos 1)))
-
-get_or-from_minus : (n k : ℕ) (d : ℤ) → k < 2 * n + 1 → get_or (from_minus n) k d ≡ pos k -ℤ pos n
-get_or-from_minus n k d below = get_or-map-range_with_len (λ m. pos m -ℤ pos n) 0 (2 * n + 1) k k d below (omega arith)
-
-length-from_minus : (n : ℕ) → length (from_minus n) ≡ 2 * n + 1
-length-from_minus n = length-map-range_with_len (λ m. pos m -ℤ pos n) 0 (2 * n + 1)
 
 size-list_complex : (p : ℕ) (code : Code) (n : ℕ) (lists : ℤ → List Generator)
     → length (list_complex p code n lists).degrees ≡ 2 * n + 1
@@ -111,7 +97,7 @@ places-list_complex p code n lists i beyond =
     ap length (alive-list_complex p code n lists i beyond) ∙ length-map (lists i) (λ generator. true)
 
 -- the rank of a matrix without columns
-rank-empty_rows : {X : Type 0} (p : ℕ) (xs : List X) → rank p (map (λ x. []) xs) ≡ 0
+pub rank-empty_rows : {X : Type 0} (p : ℕ) (xs : List X) → rank p (map (λ x. []) xs) ≡ 0
 rank-empty_rows p [] = refl
 rank-empty_rows p (x ∷ xs) = rank-zeros p [] (map (λ x. []) xs) (All-nil (λ n. n ≡ 0)) ∙ rank-empty_rows p xs
 
@@ -132,10 +118,6 @@ rank-list_complex p code n lists i beyond = elim (degree-list_complex p code n l
       ∙ sym (rank-no_tails p code (lists i) (lists (i +ℤ pos 1)) (beyond i outside))
 ]
 
-count-all : {X : Type 0} (xs : List X) → count_by (λ is_alive. is_alive) (map (λ x. true) xs) ≡ length xs
-count-all [] = refl
-count-all (x ∷ xs) = omega (arith, sum_by-cons (λ b. cond b 1 0) true (map (λ y. true) xs), count-all xs)
-
 pub alive_count-list_complex : (p : ℕ) (code : Code) (n : ℕ) (lists : ℤ → List Generator) (i : ℤ)
     → ((i : ℤ) → (IsWithin n i → ⊥) → lists i ≡ []) → alive_count (list_complex p code n lists) i ≡ length (lists i)
 alive_count-list_complex p code n lists i beyond =
@@ -151,13 +133,6 @@ dimension_of-list_complex p code n lists i beyond =
       rank-list_complex p code n lists i beyond,
       rank-list_complex p code n lists (i -ℤ pos 1) beyond,
     )
-
--- all places are alive
-all_alive : {X : Type 0} (xs : List X) (place : ℕ) → slice_index_or (map (λ x. true) xs) place true ≡ true
-all_alive [] zero = refl
-all_alive [] (suc place) = refl
-all_alive (x ∷ xs) zero = refl
-all_alive (x ∷ xs) (suc place) = all_alive xs place
 
 not_dead : (p : ℕ) (code : Code) (n : ℕ) (lists : ℤ → List Generator) (i : ℤ) (place : ℕ)
     → ((i : ℤ) → (IsWithin n i → ⊥) → lists i ≡ [])

@@ -35,6 +35,7 @@ use Rattle.cube_signs.specs.Columns.{generators_from, AreAllColumns, AreParts, A
 use Rattle.cube_squares.proofs.BlockComplexes.{product_entry-block}
 use Rattle.cube_squares.proofs.BlockDegrees.{cube_degree, degree-at, degree-found, first_degree}
 use Rattle.cube_signs.proofs.GeneratorPlaces.{length-generators_at}
+use Rattle.std.proofs.lemmas.Simd.{map-map}
 
 -- lists by their places
 take-at : {X : Type 0} (n : ℕ) (xs : List X) (d : X) → n ≤ length xs → take n xs ≡ map (λ k. get_or xs k d) (range_with_len 0 n)
@@ -47,10 +48,6 @@ take-at {X} (suc n) xs d within =
 
 pub at-places : {X : Type 0} (xs : List X) (d : X) → xs ≡ map (λ k. get_or xs k d) (range_with_len 0 (length xs))
 at-places xs d = sym (take_all (length xs) xs (omega arith)) ∙ take-at (length xs) xs d (omega arith)
-
-pub map-map : {X Y Z : Type 0} (f : Y → Z) (g : X → Y) (xs : List X) → map f (map g xs) ≡ map (λ x. f (g x)) xs
-map-map f g [] = refl
-map-map {X} {Y} {Z} f g (x ∷ xs) = ap (λ (zs : List Z). f (g x) ∷ zs) (map-map f g xs)
 
 pub map-alike : {X : Type 0} (f g : ℕ → X) (n : ℕ) → ((k : ℕ) → k < n → f k ≡ g k)
     → map f (range_with_len 0 n) ≡ map g (range_with_len 0 n)
@@ -108,7 +105,7 @@ none-behind code j = elim (cases_lt 0 (length (generators_at code (first_degree 
 abbrev degree_of : List Bool → List (List ℕ) → Degree
 degree_of alive matrix = record { alive = alive; matrix = matrix }
 
-abbrev named_of : ℤ → List Degree → List (List Generator) → NamedComplex
+abbrev pub named_of : ℤ → List Degree → List (List Generator) → NamedComplex
 named_of low degrees names = record { complex = record { low = low; degrees = degrees }; names = names }
 
 pub AreParts-columns : (p : ℕ) (code : Code) (j low : ℤ) (count : ℕ) (names : List (List Generator)) (columns : List (List (List Entry)))
@@ -237,10 +234,3 @@ pub length-names : (code : Code) (low j : ℤ) (count : ℕ) (names : List (Vec 
 length-names code low j count names is =
     sym (length-map names (λ (v : Vec Generator). v.items)) ∙ ap length is
     ∙ length-map-range_with_len (λ k. generators_at code (low +ℤ pos k) j) 0 count
-
--- a small prime is above 1
-pub prime-above : (p : ℕ) → IsSmallPrime p → 1 < p
-prime-above p (inl two) = omega arith
-prime-above p (inr (inl three)) = omega arith
-prime-above p (inr (inr (inl five))) = omega arith
-prime-above p (inr (inr (inr seven))) = omega arith

@@ -25,6 +25,7 @@ use Rattle.kh_types.proofs.Ranges.{list_any-below, list_any-below_none, list_any
 use Rattle.cube_signs.specs.Blocks.{has_block}
 use Rattle.cube_signs.specs.Shapes.{degrees_of, degrees_to, gives_degree, has_degree, have_degree, is_given, shape_of}
 use Rattle.cube_signs.specs.declared.shape.Shape.{Shape}
+use Rattle.kh_types.proofs.MappedLists.{list_any-map}
 
 -- a shape by its parts, and whether a number that is given is within a limit
 abbrev pub record_of : ℕ → ℕ → ℤ → Shape
@@ -39,11 +40,6 @@ pub same-passes : (a b : Bool) → (a ≡ true → b ≡ true) → (b ≡ true �
 same-passes true b forth back = sym (forth refl)
 same-passes false true forth back = back refl
 same-passes false false forth back = refl
-
--- searches in images and in lists put together
-pub list_any-map : {X Y : Type 0} (p : Y → Bool) (f : X → Y) (xs : List X) → list_any p (map f xs) ≡ list_any (λ x. p (f x)) xs
-list_any-map p f [] = refl
-list_any-map p f (x ∷ xs) = ap (λ b. p (f x) || b) (list_any-map p f xs)
 
 pub list_any-flat_map : {X Y : Type 0} (p : Y → Bool) (f : X → List Y) (xs : List X)
     → list_any p (flat_map f xs) ≡ list_any (λ x. list_any p (f x)) xs

@@ -15,6 +15,7 @@ use Rattle.kh_types.proofs.Lists.{position_or_len-map}
 use Rattle.cube_signs.specs.Columns.{flags_of}
 use Rattle.cube_squares.proofs.BlockDegrees.{degree-placed, first-is}
 use Rattle.cube_signs.proofs.StateLists.{images-more}
+use Rattle.std.proofs.lemmas.Simd.{map-map}
 
 -- whether the first degrees have a generator
 abbrev pub flag_at : Code → ℤ → ℕ → Bool
@@ -26,10 +27,6 @@ flags_to code j count = map (flag_at code j) (range_with_len 0 count)
 pub some-test : {X : Type 0} (xs : List X) → not (nat_eq (length xs) 0) ≡ not (is_empty xs)
 some-test [] = refl
 some-test (x ∷ xs) = ap not (ne_eqb (suc (length xs)) 0 (omega arith))
-
-map-map : {X Y Z : Type 0} (f : Y → Z) (g : X → Y) (xs : List X) → map f (map g xs) ≡ map (λ x. f (g x)) xs
-map-map f g [] = refl
-map-map {X} {Y} {Z} f g (x ∷ xs) = ap (λ (zs : List Z). f (g x) ∷ zs) (map-map f g xs)
 
 pub flags-more : (code : Code) (i j : ℤ) (made next : List Bool) (flag : Bool) (size k : ℕ) → made ≡ flags_to code j k
     → i ≡ neg_ℤ (pos (length code.crossings)) +ℤ pos k → size ≡ length (generators_at code i j) → flag ≡ not (nat_eq size 0)

@@ -1,5 +1,5 @@
-//! The blocks over chosen generators: those with v- on the circle that is given for each state. Their
-//! columns are those of the cube, with the rows numbered anew.
+//! The blocks over chosen generators: those with v- on the circle that is given for each state.
+//! Their columns are those of the cube, with the rows numbered anew.
 
 ghost use Rattle.std.specs.Prelude.{◌≡◌, ◌+◌, ◌*◌, ◌<◌, ◌≤◌, ◌++◌, ◌∷◌, [], length, map, All};
 ghost use Rattle.std.specs.Prelude.{pos, neg_ℤ, ◌+ℤ◌, ◌≤ℤ◌, slice_index, slice_index_or};

@@ -1,5 +1,5 @@
-//! Where the generators of a block stand: one pass over all states finds how many generators of each
-//! degree the states before each one have.
+//! Where the generators of a block stand: one pass over all states finds how many generators of
+//! each degree the states before each one have.
 
 ghost use Rattle.std.specs.Prelude.{◌≡◌, ◌^◌, ◌<◌, length, map, ◌≤◌, All, IfOk};
 ghost use Rattle.kh_types.specs.Generators.{generators_at, one_count, states};

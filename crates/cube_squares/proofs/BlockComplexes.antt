@@ -51,7 +51,7 @@ product_entry-block p code j i row column positive is =
     (range_with_len 0 (length (generators_at code next j))))
     ∙ differentials-square p code i j row column positive is
 
-all_alive : {X : Type 0} (xs : List X) (place : ℕ) → slice_index_or (map (λ x. true) xs) place true ≡ true
+pub all_alive : {X : Type 0} (xs : List X) (place : ℕ) → slice_index_or (map (λ x. true) xs) place true ≡ true
 all_alive [] zero = refl
 all_alive [] (suc place) = refl
 all_alive (x ∷ xs) zero = refl

@@ -76,10 +76,10 @@ pub first-is : (is : List ℤ) (d : ℤ) → 0 < length is → first_or_zero is 
 first-is [] d some = absurd (omega arith)
 first-is (i ∷ is) d some = refl
 
-get_or-from_minus : (n k : ℕ) (d : ℤ) → k < 2 * n + 1 → get_or (from_minus n) k d ≡ pos k -ℤ pos n
+pub get_or-from_minus : (n k : ℕ) (d : ℤ) → k < 2 * n + 1 → get_or (from_minus n) k d ≡ pos k -ℤ pos n
 get_or-from_minus n k d below = get_or-map-range_with_len (λ m. pos m -ℤ pos n) 0 (2 * n + 1) k k d below (omega arith)
 
-length-from_minus : (n : ℕ) → length (from_minus n) ≡ 2 * n + 1
+pub length-from_minus : (n : ℕ) → length (from_minus n) ≡ 2 * n + 1
 length-from_minus n = length-map-range_with_len (λ m. pos m -ℤ pos n) 0 (2 * n + 1)
 
 -- the degree at a place of the block, by where the block's degrees begin

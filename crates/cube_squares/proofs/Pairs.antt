@@ -11,7 +11,7 @@ use Rattle.kh_types.specs.Acceptance.{accepted}
 use Rattle.kh_types.specs.Bits.{bit}
 use Rattle.kh_types.specs.Code.{Code, IsCrossing, place_of}
 use Rattle.kh_types.specs.Circles.{circle_count}
-use Rattle.kh_types.specs.Differential.{coefficient_at, edge_sign, is_edge}
+use Rattle.kh_types.specs.Differential.{coefficient, coefficient_at, edge_sign, is_edge}
 use Rattle.kh_types.specs.Generators.{Generator, generator_of, generators, generators_of, states}
 use Rattle.kh_types.specs.Edges.{state_behind}
 use Rattle.kh_types.proofs.EdgeBits.{bit-set_other, bit-set_there, set-within}
@@ -21,6 +21,7 @@ use Rattle.cube_squares.proofs.Marks.{one_if}
 use Rattle.cube_squares.proofs.TouchedCircles.{fits}
 use Rattle.cube_squares.proofs.Paths.{path_count, path_count-turned}
 use Rattle.cube_squares.proofs.Signs.{signs-opposite}
+use Rattle.std.proofs.Math.Pow.{pow-lt}
 
 -- a state is behind another at a crossing
 pub record IsStep (tail head crossing : ℕ) : Type 0 where
@@ -52,6 +53,31 @@ edge_or_zero p code tail head crossing = elim (cases_Bool (is_edge tail head cro
   | inl passes ↦ inl ((is_edge-decides tail head crossing).0 passes)
   | inr fails ↦ inr (ap (λ b. cond (b && fits code tail head crossing) (edge_sign p tail.state crossing) 0) fails)
 ]
+
+-- two crossings lead to two states, so that one alone adds to a coefficient
+
+one-crossing : (state first second : ℕ) → 1 ≤ first → 1 ≤ second → first ≢ second
+    → state_behind state first ≢ state_behind state second
+one-crossing state first second from second_from other same = elim (cases_lt first second) [
+  | inl less ↦
+      let order : place_of first < place_of second = omega (arith, less, from) in
+      omega (arith, same, pow-lt order)
+  | inr more ↦
+      let order : place_of second < place_of first = omega (arith, more, other, second_from) in
+      omega (arith, same, pow-lt order)
+]
+
+pub coefficient-one : (p : ℕ) (code : Code) (tail head : Generator) (crossing : ℕ) → IsCrossing code.crossings crossing
+    → IsStep tail.state head.state crossing
+    → coefficient p code tail head ≡ cond (fits code tail head crossing) (edge_sign p tail.state crossing) 0
+coefficient-one p code tail head crossing is_crossing step =
+    sum_by-single (coefficient_at p code tail head) 1 (length code.crossings) crossing is_crossing.positive
+    (omega (arith, is_crossing.within))
+    (λ other from below differs. elim (edge_or_zero p code tail head other) [
+      | inl too ↦ absurd (one-crossing tail.state other crossing from is_crossing.positive differs (sym too.behind ∙ step.behind))
+      | inr none ↦ none
+    ])
+    ∙ ap (λ b. cond (b && fits code tail head crossing) (edge_sign p tail.state crossing) 0) ((is_edge-decides tail head crossing).1 step)
 
 -- the product of the coefficients along a, to a middle generator, and along b, from there
 abbrev pub product_at : ℕ → Code → Generator → Generator → ℕ → ℕ → Generator → ℕ

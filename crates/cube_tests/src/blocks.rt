@@ -69,7 +69,7 @@ fn the_trefoil_has_this_block(rt: HostRuntime) -> Result<(), Fail> {
     Ok(())
 }
 
-// The block at -5 is that of the table.
+/// The block at -5 is that of the table.
 fn has_block<F: PrimeField>(rt: &impl Abort, alloc: Global, diagram: &Diagram) -> Result<(), Fail> {
     let found = block_at::<F>(alloc, diagram, -5)?;
     assert!(rt; found.is_some());
@@ -83,7 +83,7 @@ fn has_block<F: PrimeField>(rt: &impl Abort, alloc: Global, diagram: &Diagram) -
     Ok(())
 }
 
-// A degree of a block has these generators and columns.
+/// A degree of a block has these generators and columns.
 fn has_degree<F: PrimeField>(rt: &impl Abort, block: &Complex<F>, degree: &Degree) {
     assert_eq!(rt; block.places(degree.i) as usize, degree.names.len());
     assert_eq!(rt; block.alive(degree.i) as usize, degree.names.len());
@@ -112,7 +112,7 @@ fn has_place<F: PrimeField>(rt: &impl Abort, block: &Complex<F>, degree: &Degree
     }
 }
 
-// The block at a quantum degree, if it has one.
+/// The block at a quantum degree, if it has one.
 fn block_at<F: PrimeField>(
     alloc: Global,
     diagram: &Diagram,
@@ -127,7 +127,7 @@ fn block_at<F: PrimeField>(
     Ok(None)
 }
 
-// How many places the first degrees of all blocks of a diagram have.
+/// How many places the first degrees of all blocks of a diagram have.
 fn first_places<F: PrimeField>(alloc: Global, diagram: &Diagram) -> Result<Vec<u32>, NoMemory> {
     let mut places = Vec::new(alloc);
     if check_size(diagram).is_err() {

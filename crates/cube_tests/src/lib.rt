@@ -1,5 +1,5 @@
-//! Tests of the cube: what no clause says of circles, blocks, cancellations, workers, tables and
-//! polynomials.
+//! Tests of the cube: what no clause says of circles, blocks, cancellations, workers, tables,
+//! reduced tables, logs and polynomials.
 #![tactic(auto)]
 
 #[cfg(test)]
@@ -13,7 +13,11 @@ mod homology_tables;
 #[cfg(test)]
 mod locks;
 #[cfg(test)]
+mod logs;
+#[cfg(test)]
 mod polynomials;
+#[cfg(test)]
+mod reduced;
 #[cfg(test)]
 mod shared_blocks;
 #[cfg(test)]

@@ -15,9 +15,10 @@ struct Row {
     coefficients: &'static [i128],
 }
 
-/// The polynomials of knots and links with a name such as 5_2 or L6a4 are those of the Knot Atlas, its
-/// Rolfsen knot table and its Thistlethwaite link table; that of the Whitehead link is Wikipedia's. A
-/// mirror image has that with 1/t for t, and a loop apart multiplies V by -t^(1/2) - t^(-1/2).
+/// The polynomials of knots and links with a name such as 5_2 or L6a4 are those of the Knot Atlas,
+/// its Rolfsen knot table and its Thistlethwaite link table; that of the Whitehead link is
+/// Wikipedia's. A mirror image has that with 1/t for t, and a loop apart multiplies V by -t^(1/2) -
+/// t^(-1/2).
 const ROWS: &[Row] = &[
     Row {
         name: "the unknot",
@@ -298,9 +299,9 @@ const LARGE: &[Large] = &[
     },
 ];
 
-/// The polynomial here is q + q^-1 times V with t^(1/2) = -q. By hand: the unknot has V = 1, so q + q^-1;
-/// the unlink of two components V = -t^(1/2) - t^(-1/2), that is q + q^-1, so q^2 + 2 + q^-2; the Hopf
-/// link V = -t^(-1/2) - t^(-5/2), that is q^-1 + q^-5, so 1 + q^-2 + q^-4 + q^-6.
+/// The polynomial here is q + q^-1 times V with t^(1/2) = -q. By hand: the unknot has V = 1, so q +
+/// q^-1; the unlink of two components V = -t^(1/2) - t^(-1/2), that is q + q^-1, so q^2 + 2 + q^-2;
+/// the Hopf link V = -t^(-1/2) - t^(-5/2), that is q^-1 + q^-5, so 1 + q^-2 + q^-4 + q^-6.
 #[test]
 fn known_links_have_the_polynomials_of_the_tables(rt: HostRuntime) -> Result<(), Fail> {
     for row in ROWS {

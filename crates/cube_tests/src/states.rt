@@ -142,7 +142,7 @@ fn known_diagrams_have_these_circles_and_edges(rt: HostRuntime) -> Result<(), Fa
     Ok(())
 }
 
-// The states of a diagram have so many circles, and the arcs are on these.
+/// The states of a diagram have so many circles, and the arcs are on these.
 fn has_circles(rt: &impl Abort, diagram: &Diagram, row: &Row) {
     let states = 1u32 << diagram.count();
     for state in 0..states {
@@ -154,7 +154,7 @@ fn has_circles(rt: &impl Abort, diagram: &Diagram, row: &Row) {
     has_numbers(rt, &circles(diagram, states / 2), diagram, row.arcs[2]);
 }
 
-// Each arc is on the circle with this number.
+/// Each arc is on the circle with this number.
 fn has_numbers(rt: &impl Abort, circles: &Circles, diagram: &Diagram, numbers: &[u8])
     requires { circles.now.code ≡ diagram.now }
 {
@@ -165,7 +165,7 @@ fn has_numbers(rt: &impl Abort, circles: &Circles, diagram: &Diagram, numbers: &
     }
 }
 
-// A diagram has these merges and splits.
+/// A diagram has these merges and splits.
 fn has_edges(rt: &impl Abort, diagram: &Diagram, row: &Row) {
     for (state, crossing, [a, b, to]) in row.merges {
         let merge = Edge::Merge {
@@ -185,7 +185,7 @@ fn has_edges(rt: &impl Abort, diagram: &Diagram, row: &Row) {
     }
 }
 
-// The edge at a crossing, if there is one.
+/// The edge at a crossing, if there is one.
 fn edge_at(diagram: &Diagram, state: u32, crossing: u8) -> Option<Edge> {
     if state < 1 << diagram.count()
         && 1 <= crossing
@@ -208,7 +208,7 @@ fn curls_apart_have_these_kinds(rt: HostRuntime) -> Result<(), Fail> {
     Ok(())
 }
 
-// So many curls have so many states with none, one, eight and all ones, and so many generators.
+/// So many curls have so many states with none, one, eight and all ones, and so many generators.
 fn has_curls(
     rt: &impl Abort,
     count: usize,

@@ -18,13 +18,13 @@ use Rattle.kinks_and_fingers.specs.Dropping.{HasKinkAt, HasBigonAt, IsPlanarRest
 use Rattle.kinks_and_fingers.specs.DropCircles.{strand_sum}
 use Rattle.kinks_and_fingers.specs.Pulls.{early, late}
 use Rattle.kinks_and_fingers.proofs.KeptCodes.{length-kept, kept-slots, kept-sign, renamed_slots-at, name_at-below, straight-below}
-use Rattle.kinks_and_fingers.proofs.KinkClosing.{kept_are}
+use Rattle.kinks_and_fingers.proofs.KinkClosing.{kept_are, early-low}
 use Rattle.kinks_and_fingers.proofs.KinkDropSums.{state_sum-without_kink}
 use Rattle.kinks_and_fingers.proofs.FingerDrops.{places-two, late-below}
 use Rattle.kinks_and_fingers.proofs.FingerDropSums.{state_sum-without_finger}
 use Rattle.kinks_and_fingers.proofs.ComponentDrops.{components-dropped}
 use Rattle.kinks_and_fingers.proofs.Smoothed.{IsPermutation-late}
-use Rattle.kinks_and_fingers.proofs.Sound.{IsSound-kink, IsSound-finger}
+use Rattle.kinks_and_fingers.proofs.Sound.{IsSound-kink, IsSound-finger, two_below}
 use Rattle.diagram_moves.specs.Joinable.{numbered, IsJoinable}
 use Rattle.diagram_moves.specs.Kept.{IsKeptCode}
 use Rattle.diagram_moves.proofs.Numbered.{IsAccepted-numbered, components-numbered, sign-numbered, state_sum-numbered}
@@ -77,9 +77,6 @@ IsKept-dropped code gone kept k is places kept_below sound sums =
       sums = λ exponent. state_sum-numbered (arc_count code.crossings + 1) (dropped code gone) joinable exponent ∙ sums exponent;
     }
 
-early-low : (n c k i : ℕ) → n ≡ k + 1 → c ≤ k → i < k → early c k i < n
-early-low n c k i size within below = grind (arith, nat_tests)
-
 pub IsKept-kink : (code : Code) (c p : ℕ) → IsTrue (accepted code) → HasKinkAt code.crossings c p
     → IsKeptCode code (numbered (without_kink code c)) (early c (length code.crossings - 1)) (length code.crossings - 1)
 IsKept-kink code c p is kink =
@@ -89,9 +86,6 @@ IsKept-kink code c p is kink =
     (kept_are code c (length code.crossings - 1) size within)
     (λ i below. early-low (length code.crossings) c (length code.crossings - 1) i size within below)
     (IsSound-kink code c p is kink) (λ exponent. state_sum-without_kink code c p is kink exponent)
-
-two_below : (n c d : ℕ) → c < n → d < n → c ≢ d → n ≡ n - 2 + 1 + 1
-two_below n c d c_below d_below apart = omega (arith, c_below, d_below, apart)
 
 pub IsKept-finger : (code : Code) (c d p q : ℕ) → IsTrue (accepted code) → HasBigonAt code.crossings c d p q
     → IsKeptCode code (numbered (without_finger code c d))

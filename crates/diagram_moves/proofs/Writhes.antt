@@ -41,6 +41,7 @@ use Rattle.diagram_moves.proofs.DropLemmas.{bigon-found, kink-found}
 use Rattle.diagram_moves.proofs.FaultLemmas.{both-none, none-within}
 use Rattle.diagram_moves.proofs.SlideLemmas.{IsPlaced-none}
 use Rattle.diagram_moves.proofs.SlidCodes.{IsKept-slid}
+use Rattle.kinks_and_fingers.proofs.Sound.{two_below}
 
 -- the positive crossings of what a move keeps are those among the crossings that stay
 plus-of_kept : (old new : Code) (kept : ℕ → ℕ) (k : ℕ) → IsKeptCode old new kept k
@@ -112,9 +113,6 @@ writhe-kink_dropped code crossing holds none =
 one_of_both : (b : Bool) → one_if b + one_if (not b) ≡ 1
 one_of_both true = refl
 one_of_both false = refl
-
-two_below : (n c d : ℕ) → c < n → d < n → c ≢ d → n ≡ n - 2 + 1 + 1
-two_below n c d c_below d_below apart = omega (arith, c_below, d_below, apart)
 
 writhe-finger_dropped : (code : Code) (first second : ℕ) → IsTrue (accepted code) → finger_drop_fault code first second ≡ None
     → writhe (numbered (without_finger code (place_of first) (place_of second))) ≡ writhe code +ℤ pos 0

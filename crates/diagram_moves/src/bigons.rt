@@ -21,7 +21,7 @@ pub(crate) fn is_bigon(diagram: &Diagram, pair: Pair) -> bool
     pair.first != pair.second && (zero || (one || (two || three)))
 }
 
-// Whether they meet in one from a slot of the first.
+/// Whether they meet in one from a slot of the first.
 #[tactic(auto, using(crate::proofs::Fours::list_any_four))]
 fn has_bigon_at(diagram: &Diagram, pair: Pair, p: u8) -> bool
     requires first { pair.first < length diagram.now.crossings }
@@ -38,7 +38,7 @@ fn has_bigon_at(diagram: &Diagram, pair: Pair, p: u8) -> bool
     zero || (one || (two || three))
 }
 
-// Whether they meet in one from a slot of each.
+/// Whether they meet in one from a slot of each.
 fn is_bigon_at(diagram: &Diagram, pair: Pair, p: u8, q: u8) -> bool
     requires first { pair.first < length diagram.now.crossings }
     requires second { pair.second < length diagram.now.crossings }
@@ -54,7 +54,7 @@ fn is_bigon_at(diagram: &Diagram, pair: Pair, p: u8, q: u8) -> bool
     first_meets && (second_meets && (p + q) % 2 == 1)
 }
 
-// The slot after a slot, counterclockwise.
+/// The slot after a slot, counterclockwise.
 fn after(slot: u8) -> u8
     requires { slot < 4 }
     ensures after { result ≡ after slot }

@@ -68,7 +68,7 @@ fn without_finger(diagram: &Diagram, first: u8, second: u8) -> Diagram
     renumbered(&dropped(diagram, gone))
 }
 
-// What is left without two crossings: arcs are joined straight through them.
+/// What is left without two crossings: arcs are joined straight through them.
 fn dropped(diagram: &Diagram, gone: Pair) -> Parts
     ensures { result ≡ parts_in (without_finger diagram.now gone.first gone.second) }
 {
@@ -82,21 +82,21 @@ fn dropped(diagram: &Diagram, gone: Pair) -> Parts
     }
 }
 
-// Whether a place is one of two.
+/// Whether a place is one of two.
 fn is_of_two(gone: Pair, place: u8) -> bool
     ensures { result ≡ is_of_two gone.first gone.second place }
 {
     gone.first == place || gone.second == place
 }
 
-// Whether it is neither.
+/// Whether it is neither.
 fn stays(gone: Pair, place: u8) -> bool
     ensures { result ≡ stays gone.first gone.second place }
 {
     !is_of_two(gone, place)
 }
 
-// Each arc's class of arcs that are joined straight through, by its least arc.
+/// Each arc's class of arcs that are joined straight through, by its least arc.
 fn straight_names(diagram: &Diagram, gone: Pair) -> ArrayVec<u8, CLASS_MEMBERS>
     ensures { result.items
         ≡ straight_names diagram.now.crossings (is_of_two gone.first gone.second) }
@@ -105,7 +105,7 @@ fn straight_names(diagram: &Diagram, gone: Pair) -> ArrayVec<u8, CLASS_MEMBERS>
     classes_of(count, &straight_pairs(diagram, gone))
 }
 
-// The passes of the two crossings.
+/// The passes of the two crossings.
 #[tactic(auto, using(crate::proofs::DropLemmas::straight_more))]
 fn straight_pairs(diagram: &Diagram, gone: Pair) -> ArrayVec<(u8, u8), ARCS>
     ensures { result.items
@@ -130,7 +130,7 @@ fn push_passes(pairs: &mut ArrayVec<(u8, u8), ARCS>, is_gone: bool, slots: Cross
     }
 }
 
-// The crossing at a place.
+/// The crossing at a place.
 fn slots_at(diagram: &Diagram, place: u8) -> Crossing
     requires { place < length diagram.now.crossings }
     ensures { result ≡ slots_at diagram.now.crossings place }
@@ -138,7 +138,7 @@ fn slots_at(diagram: &Diagram, place: u8) -> Crossing
     diagram.crossings()[usize::from(place)]
 }
 
-// The crossings that stay, under the names of the classes of their arcs.
+/// The crossings that stay, under the names of the classes of their arcs.
 #[tactic(auto, using(crate::proofs::DropLemmas::kept_more))]
 fn kept_crossings(diagram: &Diagram, names: &[u8], gone: Pair) -> ArrayVec<Crossing, CROSSINGS>
     ensures { result.items ≡ kept_to diagram.now.crossings names.now gone.first gone.second
@@ -166,7 +166,7 @@ fn push_crossing(crossings: &mut ArrayVec<Crossing, CROSSINGS>, stays: bool, slo
     }
 }
 
-// A crossing under other names.
+/// A crossing under other names.
 fn renamed(names: &[u8], slots: Crossing) -> Crossing
     ensures { result ≡ renamed_slots names.now slots }
 {
@@ -178,7 +178,7 @@ fn renamed(names: &[u8], slots: Crossing) -> Crossing
     ])
 }
 
-// Their signs.
+/// Their signs.
 #[tactic(auto, using(crate::proofs::DropLemmas::signs_more))]
 fn kept_signs(diagram: &Diagram, gone: Pair) -> ArrayVec<bool, CROSSINGS>
     ensures { result.items
@@ -203,7 +203,7 @@ fn push_sign(signs: &mut ArrayVec<bool, CROSSINGS>, stays: bool, is_positive: bo
     }
 }
 
-// How many classes of arcs stand at no crossing that stays: each becomes a loop.
+/// How many classes of arcs stand at no crossing that stays: each becomes a loop.
 #[tactic(auto, using(kh_types::proofs::Ranges::count_from_one))]
 fn ring_count(diagram: &Diagram, names: &[u8], kept: &[Crossing]) -> u8
     ensures rings { result ≡ count_by (is_ring_in names.now kept.now) (arcs diagram.now.crossings) }
@@ -218,7 +218,7 @@ fn ring_count(diagram: &Diagram, names: &[u8], kept: &[Crossing]) -> u8
     count
 }
 
-// Whether an arc names a class that stands at no crossing that stays.
+/// Whether an arc names a class that stands at no crossing that stays.
 fn is_ring(names: &[u8], kept: &[Crossing], arc: u8) -> bool
     ensures { result ≡ is_ring_in names.now kept.now arc }
 {
@@ -227,14 +227,14 @@ fn is_ring(names: &[u8], kept: &[Crossing], arc: u8) -> bool
     is_name && !stands
 }
 
-// Whether a name stands at some crossing.
+/// Whether a name stands at some crossing.
 fn stands_in(crossings: &[Crossing], name: u8) -> bool
     ensures { result ≡ stands_in crossings.now name }
 {
     crossings.iter().any(|slots| stands_at(*slots, name))
 }
 
-// Whether it stands at one.
+/// Whether it stands at one.
 fn stands_at(slots: Crossing, name: u8) -> bool
     ensures { result ≡ stands_at name slots }
 {

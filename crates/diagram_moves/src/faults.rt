@@ -56,7 +56,7 @@ pub(crate) fn slide_fault(diagram: &Diagram, corners: Corners) -> Option<MoveFau
     }
 }
 
-// The first of three crossings that there is not.
+/// The first of three crossings that there is not.
 fn no_corner(diagram: &Diagram, corners: Corners) -> Option<MoveFault>
     ensures { result ≡ option_or (no_crossing diagram.now corners.first)
         (option_or (no_crossing diagram.now corners.second)
@@ -168,7 +168,7 @@ fn no_bigon(diagram: &Diagram, first: u8, second: u8) -> Option<MoveFault>
     refused_where(!has_bigon, MoveFault::NoBigon { first, second })
 }
 
-// Of a slide at three crossings: there is no triangle, or in each the slots have one parity.
+/// Of a slide at three crossings: there is no triangle, or in each the slots have one parity.
 fn triangle_fault(diagram: &Diagram, corners: Corners) -> Option<MoveFault>
     requires { IsCrossing diagram.now.crossings corners.first }
     ensures { result

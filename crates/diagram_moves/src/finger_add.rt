@@ -52,7 +52,7 @@ pub(crate) fn add_finger(diagram: &Diagram, finger: Finger) -> Result<Diagram, M
     }
 }
 
-// The diagram with a finger whose arcs can be taken, or the fault of the faces.
+/// The diagram with a finger whose arcs can be taken, or the fault of the faces.
 #[tactic(auto, using(crate::proofs::AddLemmas::fingers_on_the_sphere_are_accepted))]
 fn with_finger(diagram: &Diagram, finger: Finger) -> Result<Diagram, MoveFault>
     requires { AreTakenArcs diagram.now finger.over finger.under }
@@ -89,8 +89,8 @@ fn code_with_finger(diagram: &Diagram, finger: Finger) -> RawCode
     }
 }
 
-// The two new crossings: the over arc goes on from a number, the under arc from another; the first
-// crossing is positive or negative, and the under arc passes it first or second.
+/// The two new crossings: the over arc goes on from a number, the under arc from another; the first
+/// crossing is positive or negative, and the under arc passes it first or second.
 #[derive(Clone, Copy)]
 struct Passing {
     over: u8,
@@ -99,7 +99,7 @@ struct Passing {
     in_order: bool,
 }
 
-// The old crossings on the new arcs.
+/// The old crossings on the new arcs.
 #[tactic(auto, using(crate::proofs::AddLemmas::fingered_more, crate::proofs::AddLemmas::length_fingered,))]
 fn moved_crossings(diagram: &Diagram, finger: Finger) -> ArrayVec<Crossing, CROSSINGS>
     requires { AreTakenArcs diagram.now finger.over finger.under }
@@ -116,7 +116,7 @@ fn moved_crossings(diagram: &Diagram, finger: Finger) -> ArrayVec<Crossing, CROS
     crossings
 }
 
-// A crossing on the new arcs.
+/// A crossing on the new arcs.
 fn moved_slots(diagram: &Diagram, finger: Finger, crossing: u8, positive: bool) -> Crossing
     requires arcs { AreTakenArcs diagram.now finger.over finger.under }
     requires crossing { IsCrossing diagram.now.crossings crossing }
@@ -131,7 +131,7 @@ fn moved_slots(diagram: &Diagram, finger: Finger, crossing: u8, positive: bool) 
     ])
 }
 
-// The new arc at a dart of an old crossing that is positive or negative.
+/// The new arc at a dart of an old crossing that is positive or negative.
 fn moved_arc(diagram: &Diagram, finger: Finger, dart: Dart, positive: bool) -> u8
     requires arcs { AreTakenArcs diagram.now finger.over finger.under }
     requires dart { IsDart diagram.now.crossings dart }
@@ -147,7 +147,7 @@ fn moved_arc(diagram: &Diagram, finger: Finger, dart: Dart, positive: bool) -> u
     }
 }
 
-// The number of an old arc, and of its tail.
+/// The number of an old arc, and of its tail.
 fn opened(finger: Finger, arc: u8) -> u8
     requires { arc ≤ ARCS }
     ensures opened { result ≡ opened finger.over finger.under arc }
@@ -158,7 +158,7 @@ fn opened(finger: Finger, arc: u8) -> u8
     arc + over + under
 }
 
-// The number at the head of an old arc.
+/// The number at the head of an old arc.
 fn head_number(finger: Finger, arc: u8) -> u8
     requires { arc ≤ ARCS }
     ensures { result ≡ head_number finger.over finger.under arc }
@@ -203,8 +203,8 @@ fn second_crossing(pass: Passing) -> Crossing
     )
 }
 
-// The crossing of an under pass and an over pass, each given by the arcs from which and to which
-// it goes.
+/// The crossing of an under pass and an over pass, each given by the arcs from which and to which
+/// it goes.
 fn crossing_with(is_positive: bool, under: (u8, u8), over: (u8, u8)) -> Crossing
     ensures { result ≡ crossing_with is_positive under.0 under.1 over.0 over.1 }
 {

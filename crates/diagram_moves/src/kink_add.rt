@@ -60,7 +60,7 @@ fn code_with_kink(diagram: &Diagram, kink: Kink) -> RawCode
     }
 }
 
-// The old crossings on the new arcs.
+/// The old crossings on the new arcs.
 #[tactic(auto, using(crate::proofs::AddLemmas::kinked_more, crate::proofs::AddLemmas::length_kinked,))]
 fn moved_crossings(diagram: &Diagram, arc: u8) -> ArrayVec<Crossing, CROSSINGS>
     requires { IsTakenArc diagram.now arc }
@@ -76,7 +76,7 @@ fn moved_crossings(diagram: &Diagram, arc: u8) -> ArrayVec<Crossing, CROSSINGS>
     crossings
 }
 
-// The crossing at a place, on the new arcs.
+/// The crossing at a place, on the new arcs.
 fn moved_slots(diagram: &Diagram, arc: u8, place: u8, is_positive: bool) -> Crossing
     requires arc { IsArc diagram.now.crossings arc }
     requires few { length diagram.now.crossings ≤ CROSSINGS }

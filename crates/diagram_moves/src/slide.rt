@@ -48,7 +48,7 @@ fn slid_at(diagram: &Diagram, corners: Corners) -> Diagram
     slid_from(diagram, corners.first, taken_slot(diagram, corners))
 }
 
-// The diagram after a slide at the triangle of a slot of a crossing.
+/// The diagram after a slide at the triangle of a slot of a crossing.
 fn slid_from(diagram: &Diagram, crossing: u8, slot: u8) -> Diagram
     requires crossing { IsCrossing diagram.now.crossings crossing }
     requires slot { slot < 4 }
@@ -61,7 +61,7 @@ fn slid_from(diagram: &Diagram, crossing: u8, slot: u8) -> Diagram
     renumbered(&slid_parts(diagram, Triangle { x, y, z }))
 }
 
-// The crossings after a slide, with the signs of before.
+/// The crossings after a slide, with the signs of before.
 fn slid_parts(diagram: &Diagram, triangle: Triangle) -> Parts
     requires { AreDarts diagram.now.crossings triangle.x triangle.y triangle.z }
     ensures { result ≡ parts_in (slid_strands diagram.now triangle.x triangle.y triangle.z) }
@@ -85,7 +85,7 @@ fn slid(diagram: &Diagram, triangle: Triangle) -> ArrayVec<Crossing, CROSSINGS>
     crossings
 }
 
-// A crossing after the slide.
+/// A crossing after the slide.
 #[tactic(auto, using(crate::proofs::SlideLemmas::slid_four))]
 fn slid_crossing(diagram: &Diagram, triangle: Triangle, place: u8) -> Crossing
     requires triangle { AreDarts diagram.now.crossings triangle.x triangle.y triangle.z }
@@ -100,7 +100,7 @@ fn slid_crossing(diagram: &Diagram, triangle: Triangle, place: u8) -> Crossing
     ])
 }
 
-// The arc at a slot of a crossing after the slide.
+/// The arc at a slot of a crossing after the slide.
 fn slid_arc(diagram: &Diagram, triangle: Triangle, place: u8, slot: u8) -> u8
     requires triangle { AreDarts diagram.now.crossings triangle.x triangle.y triangle.z }
     requires place { place < length diagram.now.crossings }
@@ -112,7 +112,7 @@ fn slid_arc(diagram: &Diagram, triangle: Triangle, place: u8, slot: u8) -> u8
     arc_there(diagram, source(triangle, 4 * place + slot))
 }
 
-// The arc of a dart; 0 where there is none.
+/// The arc of a dart; 0 where there is none.
 fn arc_there(diagram: &Diagram, dart: u8) -> u8
     ensures { result ≡ arc_there diagram.now.crossings dart }
 {
@@ -122,7 +122,7 @@ fn arc_there(diagram: &Diagram, dart: u8) -> u8
     }
 }
 
-// The dart whose arc comes to a dart.
+/// The dart whose arc comes to a dart.
 fn source(triangle: Triangle, dart: u8) -> u8
     ensures { result ≡ source triangle.x triangle.y triangle.z dart }
 {
@@ -138,8 +138,8 @@ fn source(triangle: Triangle, dart: u8) -> u8
     }
 }
 
-// The dart whose arc comes some slots on from a corner of the triangle, whose face goes on to one
-// dart and comes from another.
+/// The dart whose arc comes some slots on from a corner of the triangle, whose face goes on to one
+/// dart and comes from another.
 fn corner(next: u8, last: u8, steps: u8) -> u8
     requires { steps < 4 }
     ensures { result ≡ slice_index (corner next last) steps }
@@ -147,7 +147,7 @@ fn corner(next: u8, last: u8, steps: u8) -> u8
     [on(next, 3), on(last, 2), on(next, 1), last][usize::from(steps)]
 }
 
-// How many slots a dart is on from another of the same crossing.
+/// How many slots a dart is on from another of the same crossing.
 fn steps_from(from: u8, dart: u8) -> u8
     ensures steps { result ≡ steps_from from dart }
     ensures within { result < 4 }
@@ -155,7 +155,7 @@ fn steps_from(from: u8, dart: u8) -> u8
     (dart % 4 + 4 - from % 4) % 4
 }
 
-// The dart some slots on from a dart, round the same crossing.
+/// The dart some slots on from a dart, round the same crossing.
 fn on(dart: u8, steps: u8) -> u8
     requires { steps < 4 }
     ensures { result ≡ on dart steps }

@@ -68,7 +68,7 @@ pub(crate) fn taken_slot(diagram: &Diagram, corners: Corners) -> u8
     }
 }
 
-// Whether a slide can be made at the triangle of a slot of the first crossing.
+/// Whether a slide can be made at the triangle of a slot of the first crossing.
 fn is_slidable_at(diagram: &Diagram, corners: Corners, slot: u8) -> bool
     requires first { IsCrossing diagram.now.crossings corners.first }
     requires slot { slot < 4 }
@@ -82,7 +82,7 @@ fn is_slidable_at(diagram: &Diagram, corners: Corners, slot: u8) -> bool
     is_there && has_heights(x, y, z)
 }
 
-// Whether the face of a slot of the first crossing is a triangle with a dart at each of the three.
+/// Whether the face of a slot of the first crossing is a triangle with a dart at each of the three.
 fn is_triangle(diagram: &Diagram, corners: Corners, slot: u8) -> bool
     requires first { IsCrossing diagram.now.crossings corners.first }
     requires slot { slot < 4 }
@@ -98,14 +98,14 @@ fn is_triangle(diagram: &Diagram, corners: Corners, slot: u8) -> bool
     all_of(apart, back == x, at_corners)
 }
 
-// Whether three tests hold.
+/// Whether three tests hold.
 fn all_of(first: bool, second: bool, third: bool) -> bool
     ensures { result ≡ (first && (second && third)) }
 {
     first && (second && third)
 }
 
-// Whether three crossings are different.
+/// Whether three crossings are different.
 fn are_apart(corners: Corners) -> bool
     ensures { result
         ≡ (not (nat_eq corners.first corners.second)
@@ -116,7 +116,7 @@ fn are_apart(corners: Corners) -> bool
     corners.first != corners.second && later
 }
 
-// Whether two darts are at the second and the third of three crossings, in either order.
+/// Whether two darts are at the second and the third of three crossings, in either order.
 fn are_at(y: u8, z: u8, corners: Corners) -> bool
     ensures { result
         ≡ ((is_at_crossing y corners.second && is_at_crossing z corners.third)
@@ -127,7 +127,7 @@ fn are_at(y: u8, z: u8, corners: Corners) -> bool
     in_order || turned_round
 }
 
-// Whether the first of two darts is at one crossing and the second at another.
+/// Whether the first of two darts is at one crossing and the second at another.
 fn are_at_two(y: u8, z: u8, crossing: u8, other: u8) -> bool
     ensures { result ≡ (is_at_crossing y crossing && is_at_crossing z other) }
 {
@@ -157,14 +157,14 @@ pub(crate) fn step(diagram: &Diagram, dart: u8) -> u8
     turned(diagram.partner_at(dart))
 }
 
-// Whether a dart is at a crossing.
+/// Whether a dart is at a crossing.
 fn is_at(dart: u8, crossing: u8) -> bool
     ensures { result ≡ is_at_crossing dart crossing }
 {
     dart / 4 == crossing.saturating_sub(1)
 }
 
-// Whether the slots of three darts do not have one parity.
+/// Whether the slots of three darts do not have one parity.
 fn has_heights(x: u8, y: u8, z: u8) -> bool
     ensures { result ≡ has_heights x y z }
 {

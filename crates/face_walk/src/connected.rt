@@ -14,16 +14,16 @@ use crate::class_numbers::class_number;
 use arrayvec::ArrayVec;
 use kh_types::{CLASS_MEMBERS, Diagram, class_count, classes_of};
 
-/// The number of connected pieces, in which arcs run from crossing to crossing. Loops count for none.
-/// Source: this project's rule.
+/// The number of connected pieces, in which arcs run from crossing to crossing. Loops count for
+/// none. Source: this project's rule.
 pub fn pieces(diagram: &Diagram) -> u8
     ensures { result ≡ piece_count diagram.now.crossings }
 {
     class_count(&pieces_of(diagram)) as u8
 }
 
-/// The piece that a crossing is in; crossings are numbered from 1, and pieces from 0 by their least crossing.
-/// Source: this project's rule.
+/// The piece that a crossing is in; crossings are numbered from 1, and pieces from 0 by their least
+/// crossing. Source: this project's rule.
 pub fn piece_of(diagram: &Diagram, crossing: u8) -> u8
     requires { IsCrossing diagram.now.crossings crossing }
     ensures piece { result ≡ piece_number diagram.now.crossings crossing }

@@ -1,4 +1,5 @@
-//! The faces of a diagram as it is drawn on the sphere, and its connected pieces, each with a number.
+//! The faces of a diagram as it is drawn on the sphere, and its connected pieces, each with a
+//! number.
 #![tactic(auto)]
 
 mod class_numbers;

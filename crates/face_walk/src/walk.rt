@@ -10,7 +10,8 @@ ghost use Rattle.kh_types.specs.Walks.{IsWalked};
 use arrayvec::ArrayVec;
 use kh_types::{CLASS_MEMBERS, Diagram, classes_of, is_least, turned};
 
-/// The face of each dart, by the place of its least dart. Each face is walked once, from its least dart.
+/// The face of each dart, by the place of its least dart. Each face is walked once, from its least
+/// dart.
 #[tactic(auto, using(crate::proofs::FaceCycles::walks))]
 pub fn faces_of(diagram: &Diagram) -> ArrayVec<u8, CLASS_MEMBERS>
     ensures faces { result.items ≡ faces_of diagram.now.crossings }
@@ -55,7 +56,8 @@ fn walk_from(diagram: &Diagram, classes: &mut [u8], least: u8)
     }
 }
 
-/// The place of the dart that follows in a face: from the other end of the arc on to the slot before it.
+/// The place of the dart that follows in a face: from the other end of the arc on to the slot
+/// before it.
 fn place_after(diagram: &Diagram, place: u8) -> u8
     requires few { length diagram.now.crossings ≤ CROSSINGS }
     requires place { place < dart_count diagram.now.crossings }

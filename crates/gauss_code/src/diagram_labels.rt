@@ -28,7 +28,7 @@ pub fn component_labels(alloc: Global, diagram: &Diagram) -> Result<Vec<Vec<i8>>
     Ok(groups)
 }
 
-// Of the labels of all arcs those of some that follow one another.
+/// Of the labels of all arcs those of some that follow one another.
 fn labels_from(alloc: Global, labels: &[i8], first: u8, count: u8) -> Result<Vec<i8>, NoMemory>
     requires positive { 1 ≤ first }
     requires within { first - 1 + count ≤ length labels.now }
@@ -39,7 +39,7 @@ fn labels_from(alloc: Global, labels: &[i8], first: u8, count: u8) -> Result<Vec
     Ok(Vec::from_slice(alloc, &labels[start..end])?)
 }
 
-// The labels of the passes that the arcs enter, in the order of the arcs.
+/// The labels of the passes that the arcs enter, in the order of the arcs.
 #[tactic(auto, using(kh_types::proofs::Ranges::range_steps))]
 fn arc_labels(diagram: &Diagram) -> ArrayVec<i8, ARCS>
     ensures labels { result.items
@@ -54,7 +54,7 @@ fn arc_labels(diagram: &Diagram) -> ArrayVec<i8, ARCS>
     labels
 }
 
-// The label of the pass that an arc enters.
+/// The label of the pass that an arc enters.
 fn entering_label(diagram: &Diagram, arc: u8) -> i8
     requires arc { IsArc diagram.now.crossings arc }
     requires few { length diagram.now.crossings ≤ CROSSINGS }

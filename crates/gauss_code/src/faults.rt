@@ -35,7 +35,7 @@ pub fn first_gauss_fault(listing: &Listing, tokens: &[Token]) -> Option<GaussSto
     sign_fault(listing, tokens)
 }
 
-// There are too many crossings.
+/// There are too many crossings.
 fn crossing_limit(body: &Body) -> Option<GaussStop>
     requires { length (labels_of body.now) ≤ INPUT_BYTES }
     ensures { result ≡ crossing_limit body.now }
@@ -50,7 +50,7 @@ fn crossing_limit(body: &Body) -> Option<GaussStop>
     }
 }
 
-// There are too many loops.
+/// There are too many loops.
 fn loop_limit(body: &Body) -> Option<GaussStop>
     requires { loop_group_count body.now ≤ INPUT_BYTES }
     ensures { result ≡ loop_limit body.now }
@@ -65,7 +65,7 @@ fn loop_limit(body: &Body) -> Option<GaussStop>
     }
 }
 
-// A label is bad.
+/// A label is bad.
 fn label_fault(body: &Body, tokens: &[Token]) -> Option<GaussStop>
     requires { crossing_count body.now ≤ CROSSINGS }
     ensures { result ≡ label_fault body.now (number_places tokens.now) }
@@ -77,7 +77,7 @@ fn label_fault(body: &Body, tokens: &[Token]) -> Option<GaussStop>
     })
 }
 
-// There are labels and no signs, or signs, and not as many as crossings.
+/// There are labels and no signs, or signs, and not as many as crossings.
 fn sign_count_fault(listing: &Listing) -> Option<GaussStop>
     requires { HasFewNumbers listing.now }
     ensures { result ≡ option_or (no_signs listing.now) (sign_count listing.now) }
@@ -93,7 +93,7 @@ fn sign_count_fault(listing: &Listing) -> Option<GaussStop>
     }
 }
 
-// A sign is bad.
+/// A sign is bad.
 fn sign_fault(listing: &Listing, tokens: &[Token]) -> Option<GaussStop>
     requires { HasFewNumbers listing.now }
     ensures { result ≡ sign_fault listing.now (number_places tokens.now) }
@@ -104,7 +104,7 @@ fn sign_fault(listing: &Listing, tokens: &[Token]) -> Option<GaussStop>
     })
 }
 
-// The place of the number behind so many others, and 0 where there are no more.
+/// The place of the number behind so many others, and 0 where there are no more.
 fn number_place(tokens: &[Token], at: usize) -> u32
     ensures { result ≡ slice_index (number_places tokens.now) at }
 {
@@ -120,7 +120,7 @@ fn number_place(tokens: &[Token], at: usize) -> u32
     0
 }
 
-// Whether a token is a number.
+/// Whether a token is a number.
 fn is_number_token(token: &Token) -> bool
     ensures { result ≡ is_number_token token.now }
 {

@@ -19,7 +19,7 @@ pub fn bad_label(labels: &[i32]) -> Option<usize>
     (0..labels.len()).find(|at| is_bad_label(labels, *at))
 }
 
-// Whether the label at a place names no crossing or equals an earlier one.
+/// Whether the label at a place names no crossing or equals an earlier one.
 fn is_bad_label(labels: &[i32], at: usize) -> bool
     requires { at < length labels.now }
     ensures { result ≡ is_bad_label labels.now at }
@@ -28,14 +28,14 @@ fn is_bad_label(labels: &[i32], at: usize) -> bool
     names_none(labels.len() / 2, label) || stands_in(&labels[..at], label)
 }
 
-// Whether a label is one of some labels.
+/// Whether a label is one of some labels.
 fn stands_in(labels: &[i32], label: i32) -> bool
     ensures { result ≡ list_any (int_eq label) labels.now }
 {
     labels.iter().any(|other| label == *other)
 }
 
-// Whether a label names none of some crossings.
+/// Whether a label names none of some crossings.
 fn names_none(crossings: usize, label: i32) -> bool
     ensures { result ≡ names_none crossings label }
 {
@@ -50,7 +50,7 @@ pub fn bad_sign(signs: &[i32]) -> Option<usize>
     (0..signs.len()).find(|at| is_bad_sign(listed_number(signs, *at)))
 }
 
-// Whether a sign is neither 1 nor -1.
+/// Whether a sign is neither 1 nor -1.
 fn is_bad_sign(sign: i32) -> bool
     ensures { result ≡ is_bad_sign sign }
 {

@@ -1,4 +1,5 @@
-//! Reads and prints signed Gauss codes: a text lists the labels of its components and the signs of its crossings, and these are a code.
+//! Reads and prints signed Gauss codes: a text lists the labels of its components and the signs of
+//! its crossings, and these are a code.
 #![tactic(auto)]
 
 mod diagram_labels;

@@ -146,7 +146,7 @@ impl Body {
     }
 }
 
-// The number of labels in groups.
+/// The number of labels in groups.
 fn count_in_groups(groups: &[Vec<i32>]) -> usize
     requires { length (labels_held groups.now) ≤ INPUT_BYTES }
     ensures { result ≡ length (labels_held groups.now) }
@@ -158,7 +158,7 @@ fn count_in_groups(groups: &[Vec<i32>]) -> usize
     count
 }
 
-// Adds the labels of groups, for which there is room.
+/// Adds the labels of groups, for which there is room.
 fn push_groups(labels: &mut ArrayVec<i32, LABELS>, groups: &[Vec<i32>])
     requires { length labels.old.items + length (labels_held groups.now) ≤ LABELS }
     ensures { labels.new.items ≡ labels.old.items ++ labels_held groups.now }
@@ -168,7 +168,7 @@ fn push_groups(labels: &mut ArrayVec<i32, LABELS>, groups: &[Vec<i32>])
     }
 }
 
-// Adds labels, for which there is room.
+/// Adds labels, for which there is room.
 fn push_labels(labels: &mut ArrayVec<i32, LABELS>, more: &[i32])
     requires { length labels.old.items + length more.now ≤ LABELS }
     ensures { labels.new.items ≡ labels.old.items ++ more.now }

@@ -68,7 +68,7 @@ impl Model for GaussProgress {
 }
 
 impl GaussProgress {
-    // The machine at its beginning.
+    /// The machine at its beginning.
     fn new(alloc: Global) -> GaussProgress
         ensures { result ≡ start }
     {
@@ -79,7 +79,7 @@ impl GaussProgress {
         }
     }
 
-    // Enters a state by a symbol.
+    /// Enters a state by a symbol.
     fn enter(&mut self, alloc: Global, next: State, symbol: Symbol) -> Result<(), AllocError>
         ensures { OnOk result (self.new ≡ entered next symbol self.old) }
     {
@@ -131,7 +131,7 @@ pub fn listing_of(alloc: Global, text: &[u8], tokens: &[Token]) -> Result<Listin
     }
 }
 
-// Where a symbol leads from a state, if the grammar has it there.
+/// Where a symbol leads from a state, if the grammar has it there.
 fn next_state(state: State, symbol: Symbol) -> Option<State>
     ensures { result ≡ gauss_step state symbol }
 {

@@ -38,7 +38,7 @@ impl Model for Pass {
 impl Default for Pass {
     ghost is_default = { λ pass. pass ≡ no_pass };
 
-    // No pass.
+    /// No pass.
     fn default() -> Pass {
         Pass {
             label: 0,
@@ -74,7 +74,7 @@ pub fn push_passes(passes: &mut ArrayVec<Pass, LABELS>, labels: &[i32])
     }
 }
 
-// The pass at a place of a component, turned where it is, whose first arc is given.
+/// The pass at a place of a component, turned where it is, whose first arc is given.
 fn pass_at(first: u8, labels: &[i32], at: usize) -> Pass
     requires at { at < length labels.now }
     requires few { first + length labels.now ≤ LABELS + 1 }
@@ -92,7 +92,7 @@ fn pass_at(first: u8, labels: &[i32], at: usize) -> Pass
     }
 }
 
-// The place where the label at a place of a turned component is listed.
+/// The place where the label at a place of a turned component is listed.
 fn place_before_turning(labels: &[i32], at: usize) -> usize
     requires at { at < length labels.now }
     ensures label { listed_number labels.now result ≡ listed_number (turned_labels labels.now) at }
@@ -113,7 +113,7 @@ pub fn crossing_at(passes: &[Pass], signs: &[i32], at: usize) -> Crossing
     slots_between(under, over, listed_number(signs, at))
 }
 
-// The label of the over pass of the crossing at a place.
+/// The label of the over pass of the crossing at a place.
 fn over_label(at: usize) -> i32
     requires { at < CROSSINGS }
     ensures { result ≡ pos (at + 1) }
@@ -121,7 +121,7 @@ fn over_label(at: usize) -> i32
     at as i32 + 1
 }
 
-// The label of the under pass of the crossing at a place.
+/// The label of the under pass of the crossing at a place.
 fn under_label(at: usize) -> i32
     requires { at < CROSSINGS }
     ensures { result ≡ neg_ℤ (pos (at + 1)) }
@@ -129,21 +129,21 @@ fn under_label(at: usize) -> i32
     -(at as i32 + 1)
 }
 
-// The pass with a label.
+/// The pass with a label.
 fn pass_of(passes: &[Pass], label: i32) -> Pass
     ensures { result ≡ pass_of passes.now label }
 {
     pass_with(passes, label).unwrap_or(Pass::default())
 }
 
-// The pass with a label, if there is one.
+/// The pass with a label, if there is one.
 fn pass_with(passes: &[Pass], label: i32) -> Option<Pass>
     ensures { result ≡ find (λ pass. int_eq pass.label label) passes.now }
 {
     passes.iter().copied().find(|pass| pass.label == label)
 }
 
-// The crossing of an under pass and an over pass, with a sign.
+/// The crossing of an under pass and an over pass, with a sign.
 fn slots_between(under: Pass, over: Pass, sign: i32) -> Crossing
     ensures { result ≡ slots_between under over sign }
 {

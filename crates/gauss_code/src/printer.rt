@@ -9,9 +9,9 @@ use crate::diagram_labels::{component_labels, signs_of};
 use kh_types::{Crossing, Diagram, LOOPS, NoMemory};
 use std::alloc::Global;
 
-/// The signed Gauss text of a diagram: its components in order, each from the pass that its least arc enters, its loops, and the
-/// signs of its crossings.
-/// Source: Knot Atlas, "Gauss Codes"; the braces, the signs and the spaces are this project's rule.
+/// The signed Gauss text of a diagram: its components in order, each from the pass that its least
+/// arc enters, its loops, and the signs of its crossings. Source: Knot Atlas, "Gauss Codes"; the
+/// braces, the signs and the spaces are this project's rule.
 pub fn print_gauss(alloc: Global, diagram: &Diagram) -> Result<Vec<u8>, NoMemory>
     ensures text { IfOk result (λ text. text.items ≡ gauss_text diagram.now) }
     ensures reads_back { diagram.now.loops ≤ LOOPS →
@@ -22,7 +22,7 @@ pub fn print_gauss(alloc: Global, diagram: &Diagram) -> Result<Vec<u8>, NoMemory
     Ok(text.into_bytes())
 }
 
-// The same as a string.
+/// The same as a string.
 fn gauss_text(alloc: Global, diagram: &Diagram) -> Result<String, NoMemory>
     ensures { IfOk result (λ text. string_bytes text ≡ gauss_text diagram.now) }
 {
@@ -34,7 +34,7 @@ fn gauss_text(alloc: Global, diagram: &Diagram) -> Result<String, NoMemory>
     Ok(text)
 }
 
-// Each crossing has four slots by its type, which is known of one once it is read.
+/// Each crossing has four slots by its type, which is known of one once it is read.
 fn read_crossings(crossings: &[Crossing])
     ensures { All (λ slots. length slots ≡ 4) crossings.now }
 {
@@ -43,7 +43,8 @@ fn read_crossings(crossings: &[Crossing])
     }
 }
 
-// Adds the components and loops of a diagram: each as a group, but one component alone without braces.
+/// Adds the components and loops of a diagram: each as a group, but one component alone without
+/// braces.
 fn push_body(alloc: Global, text: &mut String, diagram: &Diagram) -> Result<(), NoMemory>
     ensures { OnOk result (
         string_bytes text.new ≡ string_bytes text.old ++ body_text (listing_of diagram.now).body) }
@@ -58,7 +59,7 @@ fn push_body(alloc: Global, text: &mut String, diagram: &Diagram) -> Result<(), 
     push_groups(alloc, text, &groups)
 }
 
-// Adds groups, with a comma and a space between any two.
+/// Adds groups, with a comma and a space between any two.
 fn push_groups(alloc: Global, text: &mut String, groups: &[Vec<i8>]) -> Result<(), NoMemory>
     ensures { OnOk result (string_bytes text.new ≡ string_bytes text.old
         ++ body_text (body_of_groups (map (λ group. group.items) groups.now))) }
@@ -74,7 +75,7 @@ fn push_groups(alloc: Global, text: &mut String, groups: &[Vec<i8>]) -> Result<(
     Ok(())
 }
 
-// Adds a group.
+/// Adds a group.
 fn push_group(alloc: Global, text: &mut String, labels: &[i8]) -> Result<(), NoMemory>
     ensures { OnOk result (string_bytes text.new ≡ string_bytes text.old ++ group_text labels.now) }
 {
@@ -84,7 +85,7 @@ fn push_group(alloc: Global, text: &mut String, labels: &[i8]) -> Result<(), NoM
     Ok(())
 }
 
-// Adds numbers, with a comma and a space between any two.
+/// Adds numbers, with a comma and a space between any two.
 fn push_numbers(alloc: Global, text: &mut String, numbers: &[i8]) -> Result<(), NoMemory>
     ensures { OnOk result (
         string_bytes text.new ≡ string_bytes text.old ++ numbers_text numbers.now) }
@@ -100,7 +101,7 @@ fn push_numbers(alloc: Global, text: &mut String, numbers: &[i8]) -> Result<(), 
     Ok(())
 }
 
-// Adds a number.
+/// Adds a number.
 fn push_number(alloc: Global, text: &mut String, number: i8) -> Result<(), NoMemory>
     ensures { OnOk result (
         string_bytes text.new ≡ string_bytes text.old ++ signed_decimal number) }

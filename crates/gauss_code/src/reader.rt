@@ -35,7 +35,7 @@ pub fn read_gauss(alloc: Global, text: &[u8]) -> Result<RawCode, GaussStop>
     }
 }
 
-// The code of a listing that has no fault.
+/// The code of a listing that has no fault.
 fn listed_code(listing: &Listing) -> RawCode
     requires crossings { crossing_count listing.now.body ≤ CROSSINGS }
     requires loops { loop_group_count listing.now.body ≤ LOOPS }
@@ -51,7 +51,7 @@ fn listed_code(listing: &Listing) -> RawCode
     }
 }
 
-// The crossings that passes make.
+/// The crossings that passes make.
 #[tactic(auto, using(kh_types::proofs::Ranges::range_steps))]
 fn crossings_of(passes: &[Pass], signs: &[i32], count: usize) -> ArrayVec<Crossing, CROSSINGS>
     requires { count ≤ CROSSINGS }

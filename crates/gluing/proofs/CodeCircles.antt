@@ -43,7 +43,7 @@ smoothing_by-below n false w x y z w_below x_below y_below z_below = ((w_below, 
 abbrev at_dart : (ℕ → ℕ → ℕ) → ℕ → ℕ
 at_dart arc dart = arc (dart / 4) (dart % 4)
 
-smoothing_of-darts : (arc : ℕ → ℕ → ℕ) (smoothing place : ℕ) (quadruple : List ℕ)
+pub smoothing_of-darts : (arc : ℕ → ℕ → ℕ) (smoothing place : ℕ) (quadruple : List ℕ)
     → ((slot : ℕ) → slot < 4 → arc_in quadruple slot ≡ arc place slot)
     → smoothing_of smoothing quadruple ≡ renamed (at_dart arc) (smoothing_of smoothing (darts_of place))
 smoothing_of-darts arc smoothing place quadruple same =
@@ -61,7 +61,7 @@ smoothing_of-darts arc smoothing place quadruple same =
     (same 2 (omega arith) ∙ sym (ap₂ arc q2 r2)) (same 3 (omega arith) ∙ sym (ap₂ arc q3 r3))
     ∙ smoothing_by-renamed (at_dart arc) (nat_eq smoothing 0) (4 * place) (4 * place + 1) (4 * place + 2) (4 * place + 3)
 
-smoothings-from : (arc : ℕ → ℕ → ℕ) (state at : ℕ) (xs : List (List ℕ))
+pub smoothings-from : (arc : ℕ → ℕ → ℕ) (state at : ℕ) (xs : List (List ℕ))
     → ((k slot : ℕ) → k < length xs → slot < 4 → arc_in (slice_index_or xs k []) slot ≡ arc (at + k) slot)
     → flat_map (λ c. smoothing_of (bit state c.0) c.1) (enumerate_from at xs)
     ≡ renamed (at_dart arc) (flat_map (λ place. smoothing_of (bit state place) (darts_of place)) (range_with_len at (length xs)))
@@ -84,7 +84,7 @@ smoothings_of-darts crossings state =
     smoothings-from (arc_by_place crossings) state 0 crossings
     (λ k slot below slot_below. let e : k ≡ 0 + k = omega arith in ap (λ j. arc_by_place crossings j slot) e)
 
-dart_smoothings-from : (n state at count : ℕ) → at + count ≤ n
+pub dart_smoothings-from : (n state at count : ℕ) → at + count ≤ n
     → AreBelow (4 * n) (flat_map (λ place. smoothing_of (bit state place) (darts_of place)) (range_with_len at count))
 dart_smoothings-from n state at zero within = tt
 dart_smoothings-from n state at (suc count) within =

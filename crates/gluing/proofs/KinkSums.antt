@@ -10,7 +10,7 @@ use Rattle.kh_types.proofs.Ranges.{range-append}
 use Rattle.gluing.specs.Terms.{term_at, signed_by_count}
 
 -- one circle more
-circle_coefficient-more : (k : ℕ) (x : ℤ)
+pub circle_coefficient-more : (k : ℕ) (x : ℤ)
     → circle_coefficient (k + 1) x ≡ circle_coefficient k (x -ℤ pos 1) + circle_coefficient k (x +ℤ pos 1)
 circle_coefficient-more k x = let e : k + 1 ≡ suc k = omega arith in ap (λ n. circle_coefficient n x) e
 

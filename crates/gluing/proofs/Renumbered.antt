@@ -13,6 +13,7 @@ use Rattle.gluing.proofs.Renamed.{class_count-renamed}
 use Rattle.gluing.proofs.CodeCircles.{smoothings_of-darts, dart_smoothings-below, class_count-circles}
 use Rattle.gluing.proofs.Stubs.{renamed-twice}
 use Rattle.gluing.proofs.SlidCodes.{smoothings-hold}
+use Rattle.kh_types.proofs.IntSums.{int_sum-alike}
 
 circle_count-renumbered : (f : ℕ → ℕ) (old new : Code) → IsRenumbered f old new → HoldsArcs old → HoldsArcs new → (state : ℕ)
     → circle_count new state ≡ circle_count old state
@@ -35,10 +36,6 @@ circle_count-renumbered f old new same holds new_holds state =
     let first = class_count-circles old state old_below in
     let second = class_count-circles new state (smoothings-hold new state new_holds) in
     omega (arith, law, classes, first, second)
-
-int_sum-alike : (f g : ℕ → ℤ) → ((x : ℕ) → f x ≡ g x) → (xs : List ℕ) → int_sum (map f xs) ≡ int_sum (map g xs)
-int_sum-alike f g same [] = refl
-int_sum-alike f g same (x ∷ xs) = ap₂ (λ a b. a +ℤ b) (same x) (int_sum-alike f g same xs)
 
 pub sum_with-renumbered : (f : ℕ → ℕ) (old new : Code) (plus minus : ℕ) → IsRenumbered f old new → HoldsArcs old → HoldsArcs new
     → (exponent : ℤ) → sum_with plus minus new exponent ≡ sum_with plus minus old exponent

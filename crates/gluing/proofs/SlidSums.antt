@@ -152,7 +152,7 @@ eight-inside t u n c d e base c_below d_below e_below c_d c_e d_e at_c at_d at_e
     ∙ eight-listed (u 0) (u 1) (u 2) (u 3) (u 4) (u 5) (u 6) (u 7)
 
 -- a term with the sign by a sum, not by a difference
-signed_by-difference : (r minus x : ℕ) → kh.signed_by (pos r -ℤ pos minus) x ≡ signed_by_count (r + minus) x
+pub signed_by-difference : (r minus x : ℕ) → kh.signed_by (pos r -ℤ pos minus) x ≡ signed_by_count (r + minus) x
 signed_by-difference r minus x = by_parity (pos r -ℤ pos minus) r minus x refl
   where
     same_parity : (i k x : ℕ) → i % 2 ≡ k % 2 → signed_by_parity i x ≡ signed_by_parity k x

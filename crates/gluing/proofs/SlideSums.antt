@@ -11,7 +11,7 @@ use Rattle.std.proofs.lemmas.List.{map-append}
 use Rattle.kh_types.specs.StateSum.{int_sum}
 use Rattle.gluing.specs.Slides.{InsideTerm, inside_value, inside_sum, Tally, is_counted_by, zero_or_one, counted_at, counted, tallies_of, opposite, have_one_sum, inside_terms, triangle_before, triangle_after, is_slidable}
 use Rattle.gluing.proofs.KinkSums.{int_sum-append}
-use Rattle.gluing.proofs.SlideTable.{have_one_sum-slide}
+use Rattle.gluing.proofs.SlideTable.{have_one_sum-slide, both_true}
 
 -- x, some times over
 abbrev times : ℕ → ℤ → ℤ
@@ -50,10 +50,6 @@ one_more false plus minus x =
 first_count : (is_minus : Bool) (x : ℤ) → times (zero_or_one (not is_minus)) x -ℤ times (zero_or_one is_minus) x ≡ cond is_minus (neg_ℤ x) x
 first_count true x = omega (arith, ints)
 first_count false x = omega (arith, ints)
-
-both_true : (a b : Bool) → (a && b) ≡ true → (a ≡ true) × (b ≡ true)
-both_true true b both = (refl, both)
-both_true false b both = (both, absurd (grind (arith, both)))
 
 true_or_false : (b : Bool) → (b ≡ true) ⊎ (b ≡ false)
 true_or_false true = inl refl

@@ -11,6 +11,7 @@ use Rattle.gluing.specs.Terms.{term_at, signed_by_count}
 use Rattle.gluing.specs.Slides.{inside_sum, terms_of_state, term_exponents, ends_joined, closed_inside, is_slidable, triangle_before, triangle_after}
 use Rattle.gluing.proofs.KinkSums.{signed_by-add, signed_by-next, int_sum-append}
 use Rattle.gluing.proofs.SlideSums.{inside_sum-append, inside_sum-slide}
+use Rattle.kh_types.proofs.IntSums.{int_sum-alike}
 
 -- what the rest of a diagram is worth, where the state of its other crossings has some ones, and its circles are told by how the
 -- ends are joined
@@ -101,10 +102,6 @@ inside_sum-states rest crossings [] = refl
 inside_sum-states rest crossings (state ∷ states) =
     inside_sum-append rest (terms_of_state crossings state) (flat_map (terms_of_state crossings) states)
     ∙ ap (λ s. inside_sum rest (terms_of_state crossings state) +ℤ s) (inside_sum-states rest crossings states)
-
-int_sum-alike : (f g : ℕ → ℤ) → ((x : ℕ) → f x ≡ g x) → (xs : List ℕ) → int_sum (map f xs) ≡ int_sum (map g xs)
-int_sum-alike f g same [] = refl
-int_sum-alike f g same (x ∷ xs) = ap₂ (λ a b. a +ℤ b) (same x) (int_sum-alike f g same xs)
 
 -- what the eight states of a triangle add to the state sum, with one state of the rest
 abbrev pub inside_term : ℕ → ℕ → ℤ → ℕ → (List ℕ → ℕ) → List (List ℕ) → ℕ → ℤ

@@ -21,10 +21,10 @@ by_bit-at b x y is_zero = ap (λ k. cond (nat_eq k 0) x y) is_zero
 by_bit-off : (b : ℕ) (x y : ℤ) → b ≡ 1 → cond (nat_eq b 0) x y ≡ y
 by_bit-off b x y is_one = ap (λ k. cond (nat_eq k 0) x y) is_one
 
-sums_over : (ℕ → ℤ) → ℕ → ℤ
+unfoldable pub sums_over : (ℕ → ℤ) → ℕ → ℤ
 sums_over f n = int_sum (map f (range_with_len 0 (2 ^ n)))
 
-doubled : (f g : ℕ → ℤ) (n : ℕ) → ((state : ℕ) → state < 2 ^ n → f state +ℤ f (2 ^ n + state) ≡ g state)
+pub doubled : (f g : ℕ → ℤ) (n : ℕ) → ((state : ℕ) → state < 2 ^ n → f state +ℤ f (2 ^ n + state) ≡ g state)
     → sums_over f (suc n) ≡ sums_over g n
 unfolding sums_over
 doubled f g n pairs =

@@ -9,25 +9,8 @@ use Rattle.std.proofs.lemmas.List.FromFn.{get_or-map-range_with_len, fill_by_all
 use Rattle.kh_types.specs.Table.{from_minus, IsWithin}
 use Rattle.kh_types.specs.StateSum.{Term, terms, terms_text, polynomial_text}
 use Rattle.kh_types.specs.declared.limits.TheConstants.{EXPONENT}
-use Rattle.kh_types.proofs.QuantumDegrees.{IsWithin-place, place-IsWithin}
+use Rattle.kh_types.proofs.QuantumDegrees.{IsWithin-place, place-IsWithin, map-from_minus_agree}
 use Rattle.jones_sum.specs.Coefficients.{coefficients_of, element_at, coefficient_in}
-
--- what two functions make of a range on which they agree
-pub map-range_agree : {X : Type 0} (f g : ℕ → X) (a n : ℕ) → ((x : ℕ) → a ≤ x → x < a + n → f x ≡ g x)
-    → map f (range_with_len a n) ≡ map g (range_with_len a n)
-map-range_agree f g a zero same = refl
-map-range_agree {X} f g a (suc n) same =
-    ap (λ (x : X). x ∷ map f (range_with_len (a + 1) n)) (same a (omega arith) (omega arith))
-    ∙ ap (λ (xs : List X). g a ∷ xs) (map-range_agree f g (a + 1) n (λ x from below. same x (omega arith) (omega arith)))
-
--- what two functions make of the numbers from -n to n, on which they agree
-pub map-from_minus_agree : {X : Type 0} (f g : ℤ → X) (n : ℕ) → ((i : ℤ) → IsWithin n i → f i ≡ g i)
-    → map f (from_minus n) ≡ map g (from_minus n)
-map-from_minus_agree f g n same =
-    map-map f (λ k. pos k -ℤ pos n) (range_with_len 0 (2 * n + 1))
-    ∙ map-range_agree (λ k. f (pos k -ℤ pos n)) (λ k. g (pos k -ℤ pos n)) 0 (2 * n + 1)
-    (λ k from below. same (pos k -ℤ pos n) (IsWithin-place n k (pos k -ℤ pos n) (omega arith) refl))
-    ∙ sym (map-map g (λ k. pos k -ℤ pos n) (range_with_len 0 (2 * n + 1)))
 
 -- what a function makes of the numbers from -n to n, at a place
 pub get_or-map-from_minus : {X : Type 0} (f : ℤ → X) (n k : ℕ) (d : X) → k < 2 * n + 1

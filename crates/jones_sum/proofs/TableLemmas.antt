@@ -97,7 +97,7 @@ total_of-le homology is =
 
 -- the rows of a diagram are within the limits
 
-IsWithin-le : (n m : ℕ) (i : ℤ) → n ≤ m → IsWithin n i → IsWithin m i
+pub IsWithin-le : (n m : ℕ) (i : ℤ) → n ≤ m → IsWithin n i → IsWithin m i
 IsWithin-le n m i few within =
     let place = place-IsWithin n i within in
     IsWithin-place m (place.0 + m - n) i (omega (arith, place.1, few)) (omega (arith, ints, place.2, few))
@@ -128,7 +128,7 @@ row_at-within p code row is few small (some, same) =
 -- the rows of a diagram ascend
 
 -- a list behind another, where each element of the one is related to each of the other
-AllPairs-append : {X : Type 0} (R : X → X → Type 0) (xs ys : List X) → AllPairs R xs → AllPairs R ys
+pub AllPairs-append : {X : Type 0} (R : X → X → Type 0) (xs ys : List X) → AllPairs R xs → AllPairs R ys
     → ((k l : ℕ) (d : X) → k < length xs → l < length ys → R (get_or xs k d) (get_or ys l d)) → AllPairs R (xs ++ ys)
 AllPairs-append R xs ys first second across i j d less below =
     let n = length xs in

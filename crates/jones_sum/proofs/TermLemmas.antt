@@ -4,6 +4,7 @@ use Rattle.std.proofs.lemmas.Int.{ints}
 use Rattle.kh_types.specs.StateSum.{circle_coefficient, signed_by, signed_by_parity}
 use Rattle.circle_smoothing.specs.Binomials.{binomial}
 use Rattle.jones_sum.proofs.CircleLemmas.{circle_coefficient-below, circle_coefficient-odd, circle_coefficient-even}
+use Rattle.kh_types.proofs.AlternatingSums.{signed_by-less}
 
 -- what gives the exponent, as far as it is raised and lowered
 pub circle_coefficient-lowered : (k raised lowered : ℕ) (exponent : ℤ) → exponent +ℤ pos (k + lowered) ≡ pos raised
@@ -23,20 +24,12 @@ circle_coefficient-raised k raised lowered exponent is above even =
 
 pub ruleset ways = (circle_coefficient-lowered, circle_coefficient-other_parity, circle_coefficient-raised)
 
--- the sign
-by_parity : (x y size : ℕ) → x % 2 ≡ y % 2 → signed_by_parity x size ≡ signed_by_parity y size
-by_parity x y size same = ap (λ bit. cond (nat_eq bit 0) (pos size) (neg_ℤ (pos size))) same
-
-difference : (degree : ℤ) (a b size : ℕ) → degree ≡ pos a -ℤ pos b → signed_by degree size ≡ signed_by_parity (a + b) size
-difference (pos above) a b size is = by_parity above (a + b) size (omega (arith, ints, is))
-difference (negsuc below) a b size is = by_parity (suc below) (a + b) size (omega (arith, ints, is))
-
 pub signed_by-even : (a b size : ℕ) → (a + b) % 2 ≡ 0 → signed_by (pos a -ℤ pos b) size ≡ pos size
 signed_by-even a b size even =
-    difference (pos a -ℤ pos b) a b size refl ∙ ap (λ bit. cond (nat_eq bit 0) (pos size) (neg_ℤ (pos size))) even
+    signed_by-less (pos a -ℤ pos b) a b size refl ∙ ap (λ bit. cond (nat_eq bit 0) (pos size) (neg_ℤ (pos size))) even
 
 pub signed_by-odd : (a b size : ℕ) → (a + b) % 2 ≡ 1 → signed_by (pos a -ℤ pos b) size ≡ neg_ℤ (pos size)
 signed_by-odd a b size odd =
-    difference (pos a -ℤ pos b) a b size refl ∙ ap (λ bit. cond (nat_eq bit 0) (pos size) (neg_ℤ (pos size))) odd
+    signed_by-less (pos a -ℤ pos b) a b size refl ∙ ap (λ bit. cond (nat_eq bit 0) (pos size) (neg_ℤ (pos size))) odd
 
 pub ruleset signs = (signed_by-even, signed_by-odd)

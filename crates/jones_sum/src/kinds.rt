@@ -10,8 +10,8 @@ ghost use Rattle.jones_sum.specs.Kinds.{counted_sum, kind_term};
 
 use circle_smoothing::{COLUMNS, KINDS, StateKinds};
 
-/// The number of states of each kind. So the state sum is the sum of the terms of all kinds, each as
-/// often as it is counted.
+/// The number of states of each kind. So the state sum is the sum of the terms of all kinds, each
+/// as often as it is counted.
 pub fn state_counts(kinds: &StateKinds) -> [u32; KINDS]
     ensures sums { (exponent : ℤ) → counted_sum (kind_term
         (plus_count kinds.now.crossings) (minus_count kinds.now.crossings) exponent) result

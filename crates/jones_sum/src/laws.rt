@@ -19,9 +19,9 @@ ghost use Rattle.jones_sum.specs.WorkedTables.{trefoil_table};
 
 use crate::table::Table;
 
-/// The coefficients of (q + q^-1)^k at the exponents -k, -k + 2 and so on are binomial coefficients:
-/// in how many ways circles can be chosen of k, to give q where the others give q^-1. Those of all
-/// other exponents are 0.
+/// The coefficients of (q + q^-1)^k at the exponents -k, -k + 2 and so on are binomial
+/// coefficients: in how many ways circles can be chosen of k, to give q where the others give q^-1.
+/// Those of all other exponents are 0.
 pub fn circles_give_binomial_coefficients()
     ensures ways { (k chosen : ℕ)
         → circle_coefficient k (pos (2 * chosen) -ℤ pos k) ≡ binomial k chosen }

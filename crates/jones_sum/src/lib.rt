@@ -15,5 +15,5 @@ pub use characteristic::euler;
 pub use finding::{jones, state_sum};
 pub use laurent::{COEFFICIENTS, Laurent, exponent_at};
 pub use laws::table_laws;
-pub use row::Row;
+pub use row::{Row, push_row};
 pub use table::Table;

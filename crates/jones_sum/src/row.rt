@@ -1,9 +1,12 @@
 //! Rows of homology tables.
 
-ghost use Rattle.std.specs.Prelude.{◌≡◌, ◌↔◌, IsTrue};
+ghost use Rattle.std.specs.Prelude.{◌≡◌, ◌↔◌, [], ◌∷◌, ◌++◌, IsTrue, OnErr, OnOk};
+ghost use Rattle.std.specs.List.{filter};
 ghost use Rattle.kh_types.specs.StateSum.{signed_by};
+ghost use Rattle.kh_types.specs.Table.{is_shown};
 ghost use Rattle.jones_sum.specs.Tables.{IsBefore};
 
+use kh_types::NoMemory;
 use std::marker::Model;
 
 /// A row of a homology table: the quantum degree j, the homological degree i and the dimension.
@@ -45,4 +48,17 @@ impl Row {
             -dim
         }
     }
+}
+
+/// Adds a row to those of a table, where its dimension is above 0: a table shows no others. This
+/// project's rule.
+pub fn push_row(rows: &mut Vec<Row>, row: Row) -> Result<(), NoMemory>
+    ensures ok { OnOk result
+        (rows.new.items ≡ rows.old.items ++ filter is_shown (row ∷ [])) }
+    ensures err { OnErr result (rows.new.items ≡ rows.old.items) }
+{
+    if row.dim > 0 {
+        rows.push(row)?;
+    }
+    Ok(())
 }

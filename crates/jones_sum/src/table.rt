@@ -8,8 +8,8 @@ use crate::laws::table_laws;
 use crate::row::Row;
 use std::marker::Model;
 
-/// The homology table of a diagram over a field: a row for each two degrees with a dimension above 0,
-/// ascending by j, then by i. Contracts see the definition's table.
+/// The homology table of a diagram over a field: a row for each two degrees with a dimension above
+/// 0, ascending by j, then by i. Contracts see the definition's table.
 #[derive(Debug, Drop)]
 pub struct Table {
     pub(crate) field: u8,

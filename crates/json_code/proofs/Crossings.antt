@@ -7,7 +7,8 @@ use Rattle.serde_json.specs.Find.{as_array}
 use Rattle.json_code.specs.declared.stop.JsonStop.{JsonStop}
 use Rattle.json_code.specs.declared.stop.JsonStop.TheVariants.{Shape, JsonText, CrossingLimit, NoMemory}
 use Rattle.json_code.specs.Values.{array_of, whole_number, array_of_numbers}
-use Rattle.json_code.specs.Reading.{HoldsNumber, IsNoArray, IsWrongAt, IsWrongSlot, json_arc_named}
+use Rattle.json_code.specs.Reading.{HoldsNumber, IsNoArray, IsWrongAt, IsWrongSlot}
+use Rattle.kh_types.specs.RawCodes.{arc_named}
 use Rattle.json_code.specs.Steps.{and_then, json_arc_at, json_arcs_at, crossing_in_element, elements_of, if_four, number_of_value}
 use Rattle.json_code.proofs.Elements.{elements_of-items_of, items_of-elements_of}
 
@@ -47,7 +48,7 @@ four_members (a ∷ b ∷ c ∷ d ∷ e ∷ more) i j k l p q r s few = absurd (
 
 -- what there is of the members of a crossing: the arcs that four numbers name, or the first wrong slot
 abbrev pub AreArcs : ℕ → List Data → Result (List ℕ) JsonStop → Type 0
-AreArcs crossing members (Ok arcs) = (numbers : List ℕ) × (length numbers ≡ 4) × (members ≡ map whole_number numbers) × (arcs ≡ map json_arc_named numbers)
+AreArcs crossing members (Ok arcs) = (numbers : List ℕ) × (length numbers ≡ 4) × (members ≡ map whole_number numbers) × (arcs ≡ map arc_named numbers)
 AreArcs crossing members (Err (Shape at slot)) = (at ≡ crossing) × IsWrongSlot members slot
 AreArcs crossing members (Err _) = ⊥
 
@@ -58,7 +59,7 @@ module _ (crossing : ℕ) (members : List Data) where
 
   -- the arc of a number that was looked for
   abbrev arc_of_found : ℕ → Option ℕ → Result ℕ JsonStop
-  arc_of_found slot found = ok_or (option_map json_arc_named found) (Shape crossing slot)
+  arc_of_found slot found = ok_or (option_map arc_named found) (Shape crossing slot)
 
   -- slots hold numbers up to one that holds none
   wrong : (slot : ℕ) → slot < 4 → ((earlier : ℕ) → earlier < slot → HoldsNumber members earlier) → at slot ≡ None → IsWrongSlot members slot
@@ -68,7 +69,7 @@ module _ (crossing : ℕ) (members : List Data) where
   held slot n e = (n, found-holds (slice_get members slot) n e)
 
   four_found : (i j k l : ℕ) → at 0 ≡ Some i → at 1 ≡ Some j → at 2 ≡ Some k → at 3 ≡ Some l → (more : Bool) → nat_lt 4 (length members) ≡ more
-      → AreArcs crossing members (cond more (Err (Shape crossing 4)) (Ok (map json_arc_named (i ∷ j ∷ k ∷ l ∷ []))))
+      → AreArcs crossing members (cond more (Err (Shape crossing 4)) (Ok (map arc_named (i ∷ j ∷ k ∷ l ∷ []))))
   four_found i j k l p q r s true e = (
     refl,
     record {
@@ -79,17 +80,17 @@ module _ (crossing : ℕ) (members : List Data) where
   four_found i j k l p q r s false e = (i ∷ j ∷ k ∷ l ∷ [], refl, four_members members i j k l (found-holds _ i p) (found-holds _ j q) (found-holds _ k r) (found-holds _ l s) (grind arith), refl)
 
   three_found : (i j k : ℕ) → at 0 ≡ Some i → at 1 ≡ Some j → at 2 ≡ Some k → (found : Option ℕ) → at 3 ≡ found
-      → AreArcs crossing members (and_then (λ l. if_four crossing members (json_arc_named i ∷ json_arc_named j ∷ json_arc_named k ∷ l ∷ [])) (arc_of_found 3 found))
+      → AreArcs crossing members (and_then (λ l. if_four crossing members (arc_named i ∷ arc_named j ∷ arc_named k ∷ l ∷ [])) (arc_of_found 3 found))
   three_found i j k p q r None s = (refl, wrong 3 (omega arith) (below_more _ 2 (below_more _ 1 (below_more _ 0 (below_none _) (held 0 i p)) (held 1 j q)) (held 2 k r)) s)
   three_found i j k p q r (Some l) s = four_found i j k l p q r s (nat_lt 4 (length members)) refl
 
   two_found : (i j : ℕ) → at 0 ≡ Some i → at 1 ≡ Some j → (found : Option ℕ) → at 2 ≡ found
-      → AreArcs crossing members (and_then (λ k. and_then (λ l. if_four crossing members (json_arc_named i ∷ json_arc_named j ∷ k ∷ l ∷ [])) (json_arc_at crossing 3 members)) (arc_of_found 2 found))
+      → AreArcs crossing members (and_then (λ k. and_then (λ l. if_four crossing members (arc_named i ∷ arc_named j ∷ k ∷ l ∷ [])) (json_arc_at crossing 3 members)) (arc_of_found 2 found))
   two_found i j p q None r = (refl, wrong 2 (omega arith) (below_more _ 1 (below_more _ 0 (below_none _) (held 0 i p)) (held 1 j q)) r)
   two_found i j p q (Some k) r = three_found i j k p q r (at 3) refl
 
   one_found : (i : ℕ) → at 0 ≡ Some i → (found : Option ℕ) → at 1 ≡ found
-      → AreArcs crossing members (and_then (λ j. and_then (λ k. and_then (λ l. if_four crossing members (json_arc_named i ∷ j ∷ k ∷ l ∷ [])) (json_arc_at crossing 3 members)) (json_arc_at crossing 2 members)) (arc_of_found 1 found))
+      → AreArcs crossing members (and_then (λ j. and_then (λ k. and_then (λ l. if_four crossing members (arc_named i ∷ j ∷ k ∷ l ∷ [])) (json_arc_at crossing 3 members)) (json_arc_at crossing 2 members)) (arc_of_found 1 found))
   one_found i p None q = (refl, wrong 1 (omega arith) (below_more _ 0 (below_none _) (held 0 i p)) q)
   one_found i p (Some j) q = two_found i j p q (at 2) refl
 
@@ -103,7 +104,7 @@ module _ (crossing : ℕ) (members : List Data) where
 
 -- an element is the crossing of the arcs that four numbers name, or it is wrong
 abbrev pub IsElementRead : ℕ → Data → Result (List ℕ) JsonStop → Type 0
-IsElementRead crossing element (Ok arcs) = (numbers : List ℕ) × (length numbers ≡ 4) × (element ≡ array_of_numbers numbers) × (arcs ≡ map json_arc_named numbers)
+IsElementRead crossing element (Ok arcs) = (numbers : List ℕ) × (length numbers ≡ 4) × (element ≡ array_of_numbers numbers) × (arcs ≡ map arc_named numbers)
 IsElementRead crossing element (Err (Shape at slot)) = (at ≡ crossing) × IsWrongAt element slot
 IsElementRead crossing element (Err _) = ⊥
 
@@ -178,7 +179,7 @@ right_not_wrong numbers slot four (inr x) =
     four_right numbers slot four (subst (λ m. IsWrongSlot m slot) same x.2)
 
 -- four numbers are read as their arcs
-pub crossing_of-numbers : (crossing : ℕ) (numbers : List ℕ) → length numbers ≡ 4 → crossing_in_element crossing (array_of_numbers numbers) ≡ Ok (map json_arc_named numbers)
+pub crossing_of-numbers : (crossing : ℕ) (numbers : List ℕ) → length numbers ≡ 4 → crossing_in_element crossing (array_of_numbers numbers) ≡ Ok (map arc_named numbers)
 crossing_of-numbers crossing [] four = absurd (omega arith)
 crossing_of-numbers crossing (i ∷ []) four = absurd (omega arith)
 crossing_of-numbers crossing (i ∷ j ∷ []) four = absurd (omega arith)

@@ -13,7 +13,8 @@ use Rattle.serde_json.specs.Read.{read}
 use Rattle.json_code.specs.declared.stop.JsonStop.{JsonStop}
 use Rattle.json_code.specs.declared.stop.JsonStop.TheVariants.{JsonText, Shape, CrossingLimit, NoMemory}
 use Rattle.json_code.specs.Values.{IsJson, array_of, array_of_numbers}
-use Rattle.json_code.specs.Reading.{HasFour, IsNoArray, IsNoJson, IsJsonReading, IsWrongAt, json_arc_named}
+use Rattle.json_code.specs.Reading.{HasFour, IsNoArray, IsNoJson, IsJsonReading, IsWrongAt}
+use Rattle.kh_types.specs.RawCodes.{arc_named}
 use Rattle.json_code.specs.Steps.{and_then, json_code_of, code_of_crossings, code_of_elements, crossing_in_element, crossings_from, elements_of, after_crossings, json_reading_of}
 use Rattle.json_code.proofs.Crossings.{IsElementRead, as_array-none, crossing_of-numbers, crossing_of-sound, crossing_of-wrong}
 use Rattle.json_code.proofs.Elements.{elements_of-items_of, items_of-elements_of}
@@ -32,7 +33,7 @@ record IsStop (first : ℕ) (elements : List Data) (crossing slot : ℕ) : Type 
 
 -- what is made of elements: the crossings of quadruples, or where the first wrong one is wrong
 abbrev AreCrossings : ℕ → List Data → Result (List (List ℕ)) JsonStop → Type 0
-AreCrossings first elements (Ok crossings) = (quadruples : List (List ℕ)) × All HasFour quadruples × (elements ≡ map array_of_numbers quadruples) × (crossings ≡ map (map json_arc_named) quadruples)
+AreCrossings first elements (Ok crossings) = (quadruples : List (List ℕ)) × All HasFour quadruples × (elements ≡ map array_of_numbers quadruples) × (crossings ≡ map (map arc_named) quadruples)
 AreCrossings first elements (Err (Shape crossing slot)) = IsStop first elements crossing slot
 AreCrossings first elements (Err _) = ⊥
 
@@ -133,15 +134,15 @@ preceded_by-cons arcs front (Err stop) = refl
 
 -- quadruples are read as their arcs, and then what comes behind them, which has the next number
 crossings_from-quadruples : (first next : ℕ) (quadruples : List (List ℕ)) (later : List Data) → next ≡ length quadruples + first → All HasFour quadruples
-    → crossings_from first (map array_of_numbers quadruples ++ later) ≡ after_crossings (map (map json_arc_named) quadruples) (crossings_from next later)
+    → crossings_from first (map array_of_numbers quadruples ++ later) ≡ after_crossings (map (map arc_named) quadruples) (crossings_from next later)
 crossings_from-quadruples first next [] later e fours =
     let same : first ≡ next = omega arith in
     ap (λ n. crossings_from n later) same ∙ sym (preceded_by-nil (crossings_from next later))
 crossings_from-quadruples first next (numbers ∷ quadruples) later e fours =
-    let made : crossing_in_element first (array_of_numbers numbers) ≡ Ok (map json_arc_named numbers) = crossing_of-numbers first numbers (fours 0 [] (omega arith)) in
+    let made : crossing_in_element first (array_of_numbers numbers) ≡ Ok (map arc_named numbers) = crossing_of-numbers first numbers (fours 0 [] (omega arith)) in
     let others = crossings_from-quadruples (first + 1) next quadruples later (omega arith) (λ k d lt. fours (suc k) d (omega arith)) in
     ap (and_then (λ arcs. after_crossings (arcs ∷ []) (crossings_from (first + 1) (map array_of_numbers quadruples ++ later)))) made
-    ∙ ap (after_crossings (map json_arc_named numbers ∷ [])) others ∙ preceded_by-cons (map json_arc_named numbers) (map (map json_arc_named) quadruples) (crossings_from next later)
+    ∙ ap (after_crossings (map arc_named numbers ∷ [])) others ∙ preceded_by-cons (map arc_named numbers) (map (map arc_named) quadruples) (crossings_from next later)
 
 -- the code of an array is that of its elements
 json_code_of-array : (elements : List Data) → json_code_of (array_of elements) ≡ code_of_elements elements
@@ -168,17 +169,17 @@ code_is : (code : Code) (crossings : List (List ℕ)) → code.crossings ≡ cro
 code_is code crossings same none = λ i. Ok (record { crossings = same i; loops = none i })
 
 -- quadruples alone are read as their arcs
-crossings_from-fours : (quadruples : List (List ℕ)) → All HasFour quadruples → crossings_from 1 (map array_of_numbers quadruples) ≡ Ok (map (map json_arc_named) quadruples)
+crossings_from-fours : (quadruples : List (List ℕ)) → All HasFour quadruples → crossings_from 1 (map array_of_numbers quadruples) ≡ Ok (map (map arc_named) quadruples)
 crossings_from-fours quadruples fours =
     ap (crossings_from 1) (sym (append-nil (map array_of_numbers quadruples))) ∙ crossings_from-quadruples 1 (length quadruples + 1) quadruples [] refl fours
-    ∙ ap Ok (append-nil (map (map json_arc_named) quadruples))
+    ∙ ap Ok (append-nil (map (map arc_named) quadruples))
 
 -- quadruples and then a wrong element are read as where that is wrong
 crossings_from-wrong : (crossing slot : ℕ) (quadruples : List (List ℕ)) (element : Data) (later : List Data) → crossing ≡ length quadruples + 1 → All HasFour quadruples → IsWrongAt element slot
     → crossings_from 1 (map array_of_numbers quadruples ++ element ∷ later) ≡ Err (Shape crossing slot)
 crossings_from-wrong crossing slot quadruples element later numbered fours wrong =
     crossings_from-quadruples 1 crossing quadruples (element ∷ later) numbered fours
-    ∙ ap (λ r. after_crossings (map (map json_arc_named) quadruples) (and_then (λ arcs. after_crossings (arcs ∷ []) (crossings_from (crossing + 1) later)) r)) (crossing_of-wrong crossing element slot wrong)
+    ∙ ap (λ r. after_crossings (map (map arc_named) quadruples) (and_then (λ arcs. after_crossings (arcs ∷ []) (crossings_from (crossing + 1) later)) r)) (crossing_of-wrong crossing element slot wrong)
 
 -- the array of few enough elements is read as they are
 json_code_of-few : (elements : List Data) (r : Result (List (List ℕ)) JsonStop) → length elements ≤ CROSSINGS → crossings_from 1 elements ≡ r → json_code_of (array_of elements) ≡ and_then code_of_crossings r

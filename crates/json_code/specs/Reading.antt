@@ -1,15 +1,12 @@
 -- What a JSON text reads as. The form of these texts is this project's rule.
-use Rattle.std.specs.Prelude.{◌≡◌, ◌≢◌, ℕ, ◌+◌, ◌<◌, ◌≤◌, nat_le, if◌then◌else◌, ◌⊎◌, List, ◌∷◌, ◌++◌, length, map, All, Some, Result, Ok, Err, slice_get}
+use Rattle.std.specs.Prelude.{◌≡◌, ◌≢◌, ℕ, ◌+◌, ◌<◌, ◌≤◌, ◌⊎◌, List, ◌∷◌, ◌++◌, length, map, All, Some, Result, Ok, Err, slice_get}
 use Rattle.kh_types.specs.Code.{Code}
+use Rattle.kh_types.specs.RawCodes.{arc_named}
 use Rattle.kh_types.specs.declared.limits.TheConstants.{CROSSINGS}
 use Rattle.serde_json.specs.Data.{Data}
 use Rattle.json_code.specs.declared.stop.JsonStop.{JsonStop}
 use Rattle.json_code.specs.declared.stop.JsonStop.TheVariants.{JsonText, Shape, CrossingLimit, NoMemory}
 use Rattle.json_code.specs.Values.{IsJson, array_of, whole_number, array_of_numbers}
-
--- the arc that a number names; 0, which is no arc, for a number above 255
-abbrev pub json_arc_named : ℕ → ℕ
-json_arc_named n = if nat_le n 255 then n else 0
 
 -- there are four numbers
 abbrev pub HasFour : List ℕ → Type 0
@@ -22,7 +19,7 @@ pub record ReadsAsJson (text : List ℕ) (code : Code) : Type 0 where
   pub json : IsJson text (array_of (map array_of_numbers quadruples))
   pub fours : All HasFour quadruples
   pub within : length quadruples ≤ CROSSINGS
-  pub arcs : code.crossings ≡ map (map json_arc_named) quadruples
+  pub arcs : code.crossings ≡ map (map arc_named) quadruples
   pub no_loops : code.loops ≡ 0
 
 -- a text is no JSON

@@ -10,7 +10,7 @@ use Rattle.serde_json.specs.Find.{as_array, as_number, as_u64}
 use Rattle.serde_json.specs.Read.{read}
 use Rattle.json_code.specs.declared.stop.JsonStop.{JsonStop}
 use Rattle.json_code.specs.declared.stop.JsonStop.TheVariants.{JsonText, Shape, CrossingLimit}
-use Rattle.json_code.specs.Reading.{json_arc_named}
+use Rattle.kh_types.specs.RawCodes.{arc_named}
 
 -- the elements of an array, in order
 abbrev pub elements_of : Items → List Data
@@ -33,7 +33,7 @@ number_of_value value = option_and_then as_u64 (as_number value)
 -- the arc at a slot of the members of a crossing
 abbrev pub json_arc_at : ℕ → ℕ → List Data → Result ℕ JsonStop
 json_arc_at crossing slot members =
-    ok_or (option_map json_arc_named (option_and_then number_of_value (slice_get members slot))) (Shape crossing slot)
+    ok_or (option_map arc_named (option_and_then number_of_value (slice_get members slot))) (Shape crossing slot)
 
 -- the arcs, unless there is a fifth member
 abbrev pub if_four : ℕ → List Data → List ℕ → Result (List ℕ) JsonStop

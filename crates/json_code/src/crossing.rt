@@ -2,14 +2,15 @@
 
 ghost use Rattle.std.specs.Prelude.{◌≡◌, map};
 ghost use Rattle.serde_json.specs.View.{view};
-ghost use Rattle.json_code.specs.Reading.{json_arc_named};
+ghost use Rattle.kh_types.specs.RawCodes.{arc_named};
 ghost use Rattle.json_code.specs.Steps.{json_arc_at, json_arcs_at, crossing_in_element};
 
 use crate::stop::JsonStop;
 use kh_types::Crossing;
 use serde_json::Value;
 
-/// The crossing that an element is, or its first wrong slot. The number of the crossing is counted from 1.
+/// The crossing that an element is, or its first wrong slot. The number of the crossing is counted
+/// from 1.
 pub fn crossing_of(element: &Value, crossing: u32) -> Result<Crossing, JsonStop>
     ensures { result ≡ crossing_in_element crossing (view element.now) }
 {
@@ -19,7 +20,7 @@ pub fn crossing_of(element: &Value, crossing: u32) -> Result<Crossing, JsonStop>
     }
 }
 
-// The arcs that the members of a crossing name, or the first wrong slot.
+/// The arcs that the members of a crossing name, or the first wrong slot.
 fn json_arcs_at(members: &[Value], crossing: u32) -> Result<Crossing, JsonStop>
     ensures { result ≡ json_arcs_at crossing (map view members.now) }
 {
@@ -33,19 +34,19 @@ fn json_arcs_at(members: &[Value], crossing: u32) -> Result<Crossing, JsonStop>
     Ok(Crossing([i, j, k, l]))
 }
 
-// The arc that the member at a slot names, if that is a number.
+/// The arc that the member at a slot names, if that is a number.
 fn json_arc_at(members: &[Value], crossing: u32, slot: u8) -> Result<u8, JsonStop>
     ensures { result ≡ json_arc_at crossing slot (map view members.now) }
 {
     let number = members.get(slot as usize).and_then(Value::as_u64);
     number
-        .map(json_arc_named)
+        .map(arc_named)
         .ok_or(JsonStop::Shape { crossing, slot })
 }
 
-// The arc that a number names; 0, which is no arc, for a number above 255.
-fn json_arc_named(number: u64) -> u8
-    ensures { result ≡ json_arc_named number }
+/// The arc that a number names; 0, which is no arc, for a number above 255.
+fn arc_named(number: u64) -> u8
+    ensures { result ≡ arc_named number }
 {
     u8::try_from(number).unwrap_or(0)
 }

@@ -17,12 +17,14 @@ pub fn each_text_has_one_reading()
         IsJsonReading text a → IsJsonReading text b → a ≡ b }
 {}
 
-/// `as_u64` gives a number for that whole number alone, so it gives none for any value that is no whole number.
+/// `as_u64` gives a number for that whole number alone, so it gives none for any value that is no
+/// whole number.
 pub fn as_u64_gives_whole_numbers()
     ensures { (value : Data) (n : ℕ) → (number_of_value value ≡ Some n) ↔ (value ≡ whole_number n) }
 {}
 
-/// What some texts read as: the trefoil, no crossing, large numbers, wrong slots, too many elements, no array, no JSON.
+/// What some texts read as: the trefoil, no crossing, large numbers, wrong slots, too many
+/// elements, no array, no JSON.
 pub fn worked_texts()
     ensures trefoil { json_reading_of (codes "[[1,4,2,5], [3,6,4,1], [5,2,6,3]]") ≡ Ok (record {
       crossings = (1 ∷ 4 ∷ 2 ∷ 5 ∷ []) ∷ (3 ∷ 6 ∷ 4 ∷ 1 ∷ []) ∷ (5 ∷ 2 ∷ 6 ∷ 3 ∷ []) ∷ [];

@@ -1,4 +1,5 @@
-//! Reads the code of a diagram from a JSON text: an array of crossings, each an array of four numbers.
+//! Reads the code of a diagram from a JSON text: an array of crossings, each an array of four
+//! numbers.
 #![tactic(auto)]
 
 mod crossing;

@@ -13,8 +13,9 @@ use kh_types::{CROSSINGS, Crossing, INPUT_BYTES, RawCode};
 use serde_json::Value;
 use std::alloc::Global;
 
-/// Reads a JSON text: an array of crossings, each an array of four numbers. A number above 255 is read as 0, which is no
-/// arc, and there are no loops. Memory may run out on any text but the empty one. This project's rule.
+/// Reads a JSON text: an array of crossings, each an array of four numbers. A number above 255 is
+/// read as 0, which is no arc, and there are no loops. Memory may run out on any text but the empty
+/// one. This project's rule.
 pub fn read_json(alloc: Global, text: &[u8]) -> Result<RawCode, JsonStop>
     requires { length text.now ≤ INPUT_BYTES }
     ensures reads { result ≢ Err JsonStop.NoMemory → IsJsonReading text.now result }
@@ -26,7 +27,7 @@ pub fn read_json(alloc: Global, text: &[u8]) -> Result<RawCode, JsonStop>
     json_code_of(&value)
 }
 
-// The code that a JSON value stands for.
+/// The code that a JSON value stands for.
 fn json_code_of(value: &Value) -> Result<RawCode, JsonStop>
     requires { element_count (view value.now) ≤ INPUT_BYTES + 1 }
     ensures code { result ≡ json_code_of (view value.now) }
@@ -42,7 +43,7 @@ fn json_code_of(value: &Value) -> Result<RawCode, JsonStop>
     }
 }
 
-// The code that the elements of an array stand for.
+/// The code that the elements of an array stand for.
 fn code_of_elements(elements: &[Value]) -> Result<RawCode, JsonStop>
     requires { length elements.now ≤ INPUT_BYTES + 1 }
     ensures code { result ≡ code_of_elements (map view elements.now) }
@@ -60,7 +61,7 @@ fn code_of_elements(elements: &[Value]) -> Result<RawCode, JsonStop>
     })
 }
 
-// The crossings that elements are, of which there are few enough; or the first that is wrong.
+/// The crossings that elements are, of which there are few enough; or the first that is wrong.
 fn crossings_of(elements: &[Value]) -> Result<ArrayVec<Crossing, CROSSINGS>, JsonStop>
     requires { length elements.now ≤ CROSSINGS }
     ensures ok { IfOk result (λ crossings.

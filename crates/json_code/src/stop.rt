@@ -9,10 +9,12 @@ ghost use Rattle.json_code.specs.declared.stop.JsonStop.TheVariants.{JsonText, N
 pub enum JsonStop {
     /// The text is no JSON.
     JsonText,
-    /// The first crossing that is no array of four numbers, from 1, and the first of its slots 0 to 3 that is missing or holds
-    /// no number, or 4 for a fifth member. A crossing that is no array has slot 0; both are 0 where the text is no array.
+    /// The first crossing that is no array of four numbers, from 1, and the first of its slots 0 to
+    /// 3 that is missing or holds no number, or 4 for a fifth member. A crossing that is no array
+    /// has slot 0; both are 0 where the text is no array.
     Shape { crossing: u32, slot: u8 },
-    /// The array has `count` elements, and these are more than `CROSSINGS`. It comes before a crossing that is wrong.
+    /// The array has `count` elements, and these are more than `CROSSINGS`. It comes before a
+    /// crossing that is wrong.
     CrossingLimit { count: u32 },
     /// Memory ran out, whatever the text is.
     NoMemory,

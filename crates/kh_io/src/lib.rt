@@ -1,4 +1,5 @@
-//! Bytes in and out: where they come from, where they go, and a count of faults that shows each failure.
+//! Bytes in and out: where they come from, where they go, and a count of faults that shows each
+//! failure.
 #![tactic(auto)]
 
 mod counts;

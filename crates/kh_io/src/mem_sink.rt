@@ -14,8 +14,8 @@ use kh_types::NoMemory;
 use std::alloc::Global;
 use std::marker::Model;
 
-/// A sink that keeps what is written, at most so much in all and in a write, and fails in chosen writes.
-/// Contracts see it as a `Store`. Writes are numbered from 1, and take no memory.
+/// A sink that keeps what is written, at most so much in all and in a write, and fails in chosen
+/// writes. Contracts see it as a `Store`. Writes are numbered from 1, and take no memory.
 #[derive(Debug, Drop)]
 pub struct MemSink {
     written: Vec<u8>,

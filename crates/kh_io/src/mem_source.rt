@@ -12,8 +12,8 @@ use kh_types::NoMemory;
 use std::alloc::Global;
 use std::marker::Model;
 
-/// A source that gives the bytes it was made of, at most so many in a read, and fails in chosen reads.
-/// Contracts see it as a `Supply`. Reads are numbered from 1.
+/// A source that gives the bytes it was made of, at most so many in a read, and fails in chosen
+/// reads. Contracts see it as a `Supply`. Reads are numbered from 1.
 #[derive(Debug, Drop)]
 pub struct MemSource {
     bytes: Vec<u8>,
@@ -88,7 +88,7 @@ impl Source for MemSource {
     }
 }
 
-// Copies a prefix of the bytes into the buffer, at most a piece of them, and answers how many.
+/// Copies a prefix of the bytes into the buffer, at most a piece of them, and answers how many.
 fn copy_prefix(bytes: &[u8], piece: usize, buffer: &mut [u8]) -> usize
     ensures count { result ≡ min piece (min (length bytes.now) (length buffer.old)) }
     ensures prefix { take result buffer.new ≡ take result bytes.now }

@@ -18,7 +18,8 @@ pub trait Source {
     /// How often reading has failed. It never falls, and stays at the last value of u64.
     ghost faults: { Self → ℕ };
 
-    /// A count that a read raises by one at most. A source that counts its reads tells how many there were; another keeps it at 0.
+    /// A count that a read raises by one at most. A source that counts its reads tells how many
+    /// there were; another keeps it at 0.
     ghost reads: { Self → ℕ };
 
     /// Puts bytes at the start of the buffer and answers how many, 0 only at the end.

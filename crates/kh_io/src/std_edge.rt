@@ -1,5 +1,5 @@
-//! Readers and writers of std as sources and sinks: the edge of the program.
-//! What a terminal or a file gives and takes is trusted; what std promises of a reader or a writer is passed on.
+//! Readers and writers of std as sources and sinks: the edge of the program. What a terminal or a
+//! file gives and takes is trusted; what std promises of a reader or a writer is passed on.
 
 ghost use Rattle.std.specs.Prelude.{◌≡◌, ℕ, ◌<◌, ◌≤◌, ◌+◌, length, take, IfOk, None};
 ghost use Rattle.std.specs.Io.{ReadsAtMost, WritesAtMost};
@@ -12,8 +12,9 @@ use crate::source::{Failed, Source};
 use std::io::{Read, Write};
 use std::marker::Model;
 
-/// A reader of std as a source, which does not know its bytes. A read is one read of the reader, and an error of std is a fault
-/// that is counted. Where the bytes that the reader has left are known, a read takes a prefix of them, and none if it failed.
+/// A reader of std as a source, which does not know its bytes. A read is one read of the reader,
+/// and an error of std is a fault that is counted. Where the bytes that the reader has left are
+/// known, a read takes a prefix of them, and none if it failed.
 #[derive(Drop)]
 pub struct StdSource<R: Read + Drop> {
     reader: R,
@@ -61,9 +62,11 @@ impl<R: Read + Drop> Source for StdSource<R> {
     }
 }
 
-/// A writer of std as a sink, which does not know what is written. A write is one write of the writer and, if that took bytes, one
-/// flush; it fails, and counts a fault, where either does or nothing was taken. Where the writer's contents are known, the bytes
-/// taken are appended to them, and in a write that failed at most a prefix of the piece: all that was taken, if the flush failed.
+/// A writer of std as a sink, which does not know what is written. A write is one write of the
+/// writer and, if that took bytes, one flush; it fails, and counts a fault, where either does or
+/// nothing was taken. Where the writer's contents are known, the bytes taken are appended to them,
+/// and in a write that failed at most a prefix of the piece: all that was taken, if the flush
+/// failed.
 #[derive(Drop)]
 pub struct StdSink<W: Write + Drop> {
     writer: W,
@@ -113,7 +116,7 @@ impl<W: Write + Drop> Sink for StdSink<W> {
     }
 }
 
-// Writes once and flushes. It fails where std does, and where nothing was taken.
+/// Writes once and flushes. It fails where std does, and where nothing was taken.
 fn write_through<W: Write>(writer: &mut W, piece: &[u8]) -> Result<usize, Failed>
     ensures some { IfOk result (λ count. 0 < count) }
     ensures bound { WritesAtMost result piece.now }

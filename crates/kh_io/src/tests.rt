@@ -1,4 +1,5 @@
-//! What no clause says: that the calls succeed, and what the edge does with readers and writers of which std promises nothing.
+//! What no clause says: that the calls succeed, and what the edge does with readers and writers of
+//! which std promises nothing.
 
 mod edge;
 mod memory;

@@ -43,7 +43,8 @@ impl From<AllocError> for ReadStop {
     }
 }
 
-/// All bytes of a source that has at most `INPUT_BYTES`. It stops at the first fault, and where there are more.
+/// All bytes of a source that has at most `INPUT_BYTES`. It stops at the first fault, and where
+/// there are more.
 pub fn read_all<S: Source>(alloc: Global, source: &mut S) -> Result<Vec<u8>, ReadStop>
     ensures bytes { IfOk result (λ bytes. IfSome (S.left source.old) (λ all. bytes.items ≡ all)) }
     ensures end { OnOk result (IsAtEnd (S.left source.new)) }
@@ -61,7 +62,8 @@ pub fn read_all<S: Source>(alloc: Global, source: &mut S) -> Result<Vec<u8>, Rea
     read_most(alloc, source, INPUT_BYTES as u32)
 }
 
-/// All bytes of a source that has at most so many. It stops at the first fault, and where there are more.
+/// All bytes of a source that has at most so many. It stops at the first fault, and where there are
+/// more.
 pub fn read_most<S: Source>(alloc: Global, source: &mut S, most: u32) -> Result<Vec<u8>, ReadStop>
     requires { most < 2 ^ 32 - 2 }
     ensures bytes { IfOk result (λ bytes. IfSome (S.left source.old) (λ all. bytes.items ≡ all)) }
@@ -91,7 +93,8 @@ pub fn read_most<S: Source>(alloc: Global, source: &mut S, most: u32) -> Result<
     }
 }
 
-/// Writes all the bytes. It stops at the first fault, with a prefix of them written. No bytes are no write.
+/// Writes all the bytes. It stops at the first fault, with a prefix of them written. No bytes are
+/// no write.
 pub fn write_all<K: Sink>(sink: &mut K, bytes: &[u8]) -> Result<(), Failed>
     ensures whole { OnOk result (Appends (K.written sink.old) (K.written sink.new) bytes.now) }
     ensures prefix { (n : ℕ) × Appends (K.written sink.old) (K.written sink.new) (take n bytes.now) }

@@ -19,7 +19,7 @@ pub fn size_of(digits: &[u8], most: u32) -> u32
     size
 }
 
-// A number with one more digit behind it, and one above a limit for any number that is above it.
+/// A number with one more digit behind it, and one above a limit for any number that is above it.
 fn capped_with_digit(size: u32, digit: u8, most: u32) -> u32
     requires most { most < 10 ^ NUMBER_DIGITS }
     requires size { size ≤ most + 1 }

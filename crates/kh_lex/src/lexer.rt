@@ -29,7 +29,7 @@ pub fn tokens(alloc: Global, text: &[u8]) -> Result<Vec<Token>, LexStop>
     Ok(tokens)
 }
 
-// Adds the token that a piece is, if it is one.
+/// Adds the token that a piece is, if it is one.
 fn push_piece(tokens: &mut Vec<Token>, piece: &Option<Token>) -> Result<(), AllocFailed<Token>>
     ensures { OnOk result (tokens.new.items ≡ tokens.old.items ++ option_to_list piece.now) }
 {

@@ -1,4 +1,5 @@
-//! What the readers of texts share: codes are cut into tokens, which mean symbols; other texts into lines, words and numbers.
+//! What the readers of texts share: codes are cut into tokens, which mean symbols; other texts into
+//! lines, words and numbers.
 #![tactic(auto)]
 
 mod digits;

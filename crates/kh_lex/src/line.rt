@@ -32,7 +32,7 @@ pub fn line_at(text: &[u8], place: usize) -> &[u8]
     &rest[..size]
 }
 
-// The bytes of a text before the first line feed.
+/// The bytes of a text before the first line feed.
 fn line_length(text: &[u8]) -> usize
     ensures { result ≡ prefix_len (is_unlike is_line_feed) text.now }
 {

@@ -24,7 +24,7 @@ pub fn words_of(alloc: Global, line: &[u8]) -> Result<Vec<&[u8]>, NoMemory>
     Ok(words)
 }
 
-// Adds a word, if there are bytes.
+/// Adds a word, if there are bytes.
 fn push_word<'a>(words: &mut Vec<&'a [u8]>, word: &'a [u8]) -> Result<(), NoMemory>
     ensures added { OnOk result (map (λ w. w.now) words.new.items
         ≡ map (λ w. w.now) words.old.items ++ filter has_bytes (word.now ∷ [])) }
@@ -35,7 +35,7 @@ fn push_word<'a>(words: &mut Vec<&'a [u8]>, word: &'a [u8]) -> Result<(), NoMemo
     Ok(())
 }
 
-// The bytes from a place on up to a gap.
+/// The bytes from a place on up to a gap.
 fn word_at(line: &[u8], place: usize) -> &[u8]
     ensures word { result.now ≡ first_section is_gap (drop place line.now) }
     ensures within { length result.now ≤ length line.now }
@@ -45,14 +45,14 @@ fn word_at(line: &[u8], place: usize) -> &[u8]
     &rest[..size]
 }
 
-// The bytes of a line before the first gap.
+/// The bytes of a line before the first gap.
 fn word_length(line: &[u8]) -> usize
     ensures { result ≡ prefix_len (is_unlike is_gap) line.now }
 {
     line.iter().take_while(|byte| !is_gap(**byte)).count()
 }
 
-// Whether a byte is a gap: a space, a tab or a carriage return. A line feed ends the line.
+/// Whether a byte is a gap: a space, a tab or a carriage return. A line feed ends the line.
 fn is_gap(byte: u8) -> bool
     ensures { result ≡ is_gap byte }
 {

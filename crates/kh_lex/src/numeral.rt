@@ -24,7 +24,8 @@ pub fn number_of(word: &[u8], limit: usize) -> Option<u32>
     }
 }
 
-/// The number with a sign that a word writes, if behind at most one minus sign it is digits as above.
+/// The number with a sign that a word writes, if behind at most one minus sign it is digits as
+/// above.
 pub fn signed_number_of(word: &[u8], limit: usize) -> Option<i32>
     requires { limit ≤ NUMBER_DIGITS }
     ensures number { result ≡ signed_numeral_of limit word.now }
@@ -38,14 +39,14 @@ pub fn signed_number_of(word: &[u8], limit: usize) -> Option<i32>
     })
 }
 
-// Whether a word is digits, one at least and no more than a limit.
+/// Whether a word is digits, one at least and no more than a limit.
 fn is_numeral(word: &[u8], limit: usize) -> bool
     ensures { result ≡ is_numeral limit word.now }
 {
     !word.is_empty() && word.len() <= limit && are_digits(word)
 }
 
-// Whether a word is nothing but digits.
+/// Whether a word is nothing but digits.
 fn are_digits(word: &[u8]) -> bool
     ensures { result ≡ list_all is_ascii_digit word.now }
 {

@@ -42,21 +42,22 @@ pub fn rest_from(text: &[u8], place: usize) -> &[u8]
     text.get(place..).unwrap_or(&[])
 }
 
-// The byte at a place, and 0 past the end.
+/// The byte at a place, and 0 past the end.
 fn byte_at(text: &[u8], place: usize) -> u8
     ensures { result ≡ slice_index text.now place }
 {
     text.get(place).copied().unwrap_or(0)
 }
 
-/// Whether a byte is blank: a space, a tab, a carriage return or a line feed. Source: this project's rule.
+/// Whether a byte is blank: a space, a tab, a carriage return or a line feed. Source: this
+/// project's rule.
 pub fn is_blank(byte: u8) -> bool
     ensures { result ≡ is_blank byte }
 {
     byte == b' ' || byte == b'\t' || byte == b'\r' || byte == b'\n'
 }
 
-// The token that begins a text.
+/// The token that begins a text.
 fn token_at(place: u32, text: &[u8]) -> Result<Token, LexStop>
     requires { length text.now ≤ INPUT_BYTES }
     ensures { result ≡ token_at place text.now }
@@ -70,7 +71,7 @@ fn token_at(place: u32, text: &[u8]) -> Result<Token, LexStop>
     }
 }
 
-// The word that begins a text.
+/// The word that begins a text.
 fn word_at(place: u32, text: &[u8]) -> Token
     requires { length text.now ≤ INPUT_BYTES }
     ensures { result ≡ word_at place text.now }
@@ -83,7 +84,7 @@ fn word_at(place: u32, text: &[u8]) -> Token
     }
 }
 
-// The letters that begin a text.
+/// The letters that begin a text.
 fn letter_count(text: &[u8]) -> usize
     ensures run { result ≡ prefix_len is_ascii_alphabetic text.now }
     ensures within { result ≤ length text.now }
@@ -93,14 +94,14 @@ fn letter_count(text: &[u8]) -> usize
         .count()
 }
 
-// Whether a text begins with a number.
+/// Whether a text begins with a number.
 fn begins_number(text: &[u8]) -> bool
     ensures { result ≡ begins_number text.now }
 {
     byte_at(text, sign_length(text)).is_ascii_digit()
 }
 
-// The number that begins a text.
+/// The number that begins a text.
 fn number_at(place: u32, text: &[u8]) -> Result<Token, LexStop>
     requires { length text.now ≤ INPUT_BYTES }
     ensures { result ≡ number_at place text.now }
@@ -137,7 +138,7 @@ pub fn sign_length(text: &[u8]) -> usize
     if has_minus(text) { 1 } else { 0 }
 }
 
-// The digits of the number that begins a text.
+/// The digits of the number that begins a text.
 #[tactic(auto, using(crate::proofs::Runs::take_while_passes))]
 fn digits_at(text: &[u8]) -> &[u8]
     ensures digits { result.now ≡ digits_at text.now }
@@ -148,14 +149,14 @@ fn digits_at(text: &[u8]) -> &[u8]
     &rest[..count]
 }
 
-// The digits that begin a text.
+/// The digits that begin a text.
 fn digit_count(text: &[u8]) -> usize
     ensures { result ≡ prefix_len is_ascii_digit text.now }
 {
     text.iter().take_while(|byte| byte.is_ascii_digit()).count()
 }
 
-// The mark that begins a text.
+/// The mark that begins a text.
 fn mark_at(place: u32, text: &[u8]) -> Result<Token, LexStop>
     ensures { result ≡ mark_at place text.now }
 {
@@ -170,7 +171,7 @@ fn mark_at(place: u32, text: &[u8]) -> Result<Token, LexStop>
     }
 }
 
-// The mark that a byte is.
+/// The mark that a byte is.
 fn mark_of(byte: u8) -> Option<Kind>
     ensures { result ≡ mark_of byte }
 {

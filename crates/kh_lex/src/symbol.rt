@@ -53,7 +53,7 @@ pub fn symbol_of(text: &[u8], token: &Token) -> Symbol
     }
 }
 
-// The bytes of a token.
+/// The bytes of a token.
 fn bytes_of<'a>(text: &'a [u8], token: &Token) -> &'a [u8]
     requires { EndsWithin (length text.now) token.now }
     ensures { result.now ≡ bytes_of text.now token.now }
@@ -62,7 +62,7 @@ fn bytes_of<'a>(text: &'a [u8], token: &Token) -> &'a [u8]
     &text[place..place + token.length as usize]
 }
 
-// What a word means.
+/// What a word means.
 fn word_symbol(word: &[u8]) -> Symbol
     ensures { result ≡ word_symbol word.now }
 {

@@ -1,4 +1,5 @@
-//! The program `kh`: it gives the real words, input and output to the top call, and ends with the number of its status.
+//! The program `kh`: it gives the real words, input and output to the top call, and ends with the
+//! number of its status.
 #![tactic(auto)]
 
 #[cfg(test)]
@@ -23,8 +24,8 @@ fn main(rt: HostRuntime) -> ExitCode {
     exit_of(&rt, &rt)
 }
 
-/// Does all that the program does, over a system's words, input and output and with threads, and answers what the program ends
-/// with.
+/// Does all that the program does, over a system's words, input and output and with threads, and
+/// answers what the program ends with.
 fn exit_of<T: Threads + Wait + Sync>(
     threads: &T,
     rt: &(impl Input + Print + Env + AllocGlobal),

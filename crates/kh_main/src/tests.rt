@@ -1,15 +1,20 @@
-//! The program over a system of the tests' own, whose words, input and output are known: what no clause says of it.
+//! The program over a system of the tests' own, whose words, input and output are known: what no
+//! clause says of it.
 
 mod gates;
 mod system;
 
 use crate::exit_of;
 use crate::words::words_of;
+use kh_io::{MemSink, MemSource};
+use kh_types::Words;
+use kh_work::{Status, run, run_alone};
 use std::process::{Abort, ExitCode};
 use std::sync::Wait;
 use std::test::Fail;
 use std::thread::Threads;
 use system::System;
+use worker_pool::Free;
 
 const TREFOIL: &[u8] = b"PD[X[1,4,2,5], X[3,6,4,1], X[5,2,6,3]]";
 
@@ -26,7 +31,8 @@ jones -1*q^-9 1*q^-5 1*q^-3 1*q^-1
 
 const USAGE: &str = "usage: kh COMMAND [OPTIONS]\n";
 
-// Command lines, with the program's name, and what each comes to where the trefoil is the input: a status and a text.
+/// Command lines, with the program's name, and what each comes to where the trefoil is the input: a
+/// status and a text.
 const LINES: [(&[&[u8]], u8, &str); 12] = [
     (&[b"kh", b"homology"], 0, TREFOIL_TABLE),
     (&[b"", b"homology"], 0, TREFOIL_TABLE),
@@ -42,7 +48,7 @@ const LINES: [(&[&[u8]], u8, &str); 12] = [
     (&[b"kh", b"homology", b"--workers", b"65"], 2, USAGE),
 ];
 
-// The program ends with this status, and has written this text.
+/// The program ends with this status, and has written this text.
 fn ends<R: Abort + Threads + Wait + Sync>(rt: &R, system: &System<'_>, exit: u8, text: &[u8]) {
     assert_eq!(rt; exit_of(rt, system), ExitCode::from(exit));
     system.has_written(rt, text);
@@ -54,6 +60,24 @@ fn a_command_line_comes_to_a_status_and_a_text(rt: HostRuntime) -> Result<(), Fa
         let system = System::new(rt.alloc(), line, TREFOIL, 1_000)?;
         ends(&rt, &system, exit, text.as_bytes());
     }
+    Ok(())
+}
+
+#[test]
+fn run_alone_does_what_run_does_with_workers(rt: HostRuntime) -> Result<(), Fail> {
+    let mut words = Words::new(rt.alloc())?;
+    for word in ["homology", "--workers", "3"] {
+        words.push(rt.alloc(), word)?;
+    }
+    let mut source = MemSource::new(rt.alloc(), TREFOIL, 7, &[])?;
+    let mut sink = MemSink::new(rt.alloc(), 4_096, 5, &[])?;
+    let mut other_source = MemSource::new(rt.alloc(), TREFOIL, 7, &[])?;
+    let mut other_sink = MemSink::new(rt.alloc(), 4_096, 5, &[])?;
+    let status = run(&rt, rt.alloc(), &words, &mut source, &mut sink, &Free);
+    let alone = run_alone(rt.alloc(), &words, &mut other_source, &mut other_sink);
+    assert!(rt; status == Status::Done && alone == status);
+    assert!(rt; other_sink.bytes() == sink.bytes());
+    assert!(rt; other_sink.bytes() == TREFOIL_TABLE.as_bytes());
     Ok(())
 }
 

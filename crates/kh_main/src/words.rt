@@ -11,8 +11,9 @@ use std::env::Args;
 use std::io::ErrorKind;
 use std::rt::Env;
 
-/// The words after the program's name, in their order. Where one of the arguments is no text the answer is the status `Usage`,
-/// and out of memory it is `NoMemory`. Which arguments a system has is known to no proof.
+/// The words after the program's name, in their order. Where one of the arguments is no text the
+/// answer is the status `Usage`, and out of memory it is `NoMemory`. Which arguments a system has
+/// is known to no proof.
 pub fn words_of<R: Env + AllocGlobal>(rt: &R) -> Result<Words, Status>
     ensures stop { IfErr result (λ status. (status ≡ Status.Usage) ⊎ (status ≡ Status.NoMemory)) }
 {
@@ -22,7 +23,8 @@ pub fn words_of<R: Env + AllocGlobal>(rt: &R) -> Result<Words, Status>
     }
 }
 
-/// How the program ends where a system does not give its words: out of memory, or one of them is no text.
+/// How the program ends where a system does not give its words: out of memory, or one of them is no
+/// text.
 fn status_without_words(kind: ErrorKind) -> Status
     ensures memory { kind ≡ ErrorKind.OutOfMemory → result ≡ Status.NoMemory }
     ensures other { kind ≢ ErrorKind.OutOfMemory → result ≡ Status.Usage }

@@ -1,4 +1,4 @@
--- The reply of the command `convert` to a diagram.
+-- The reply of the command `convert` to a diagram. All of it is this project's rule.
 use Rattle.std.specs.Prelude.{ℕ, List, ◌++◌, codes}
 use Rattle.kh_types.specs.Code.{Code}
 use Rattle.pd_code.specs.Printing.{pd_text}

@@ -1,4 +1,4 @@
--- The reply of the command `draw` to a diagram.
+-- The reply of the command `draw` to a diagram. All of it is this project's rule.
 use Rattle.kh_types.specs.Code.{Code}
 use Rattle.morse_drawing.specs.Pages.{slices_of}
 use Rattle.morse_drawing.specs.Texts.{drawing_text}

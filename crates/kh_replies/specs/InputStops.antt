@@ -1,4 +1,4 @@
--- What a stop with a reply says.
+-- What a stop with a reply says. All of it is this project's rule.
 use Rattle.kh_replies.specs.declared.input.InputStop.{InputStop}
 use Rattle.kh_replies.specs.declared.input.InputStop.TheVariants as stops
 use Rattle.kh_replies.specs.Replies.{Reply}

@@ -1,4 +1,5 @@
--- The reply of the command `jones` to a diagram.
+-- The reply of the command `jones` to a diagram: its unnormalised Jones polynomial (Bar-Natan 2002, section 2), in a text of this
+-- project's own.
 use Rattle.std.specs.Prelude.{ℕ, List}
 use Rattle.kh_types.specs.Code.{Code}
 use Rattle.kh_types.specs.StateSum.{polynomial_text, state_sum}

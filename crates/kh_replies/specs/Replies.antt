@@ -1,4 +1,4 @@
--- Replies: what a run answers, as plain data.
+-- Replies: what a run answers, as plain data. All of it is this project's rule.
 use Rattle.std.specs.Prelude.{ℕ, List}
 use Rattle.kh_replies.specs.declared.status.Status.{Status}
 use Rattle.kh_replies.specs.declared.reply.Reply.TheInside.{Inside}

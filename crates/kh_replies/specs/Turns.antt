@@ -1,4 +1,4 @@
--- The replies of the commands `mirror` and `reverse` to a diagram.
+-- The replies of the commands `mirror` and `reverse` to a diagram. All of it is this project's rule.
 use Rattle.kh_types.specs.Code.{Code}
 use Rattle.link_algebra.specs.Mirrors.{mirror_of, reversal_of}
 use Rattle.word_line.specs.declared.command.Form.TheVariants.{Pd}

@@ -10,7 +10,7 @@ use kh_types::{Diagram, NoMemory};
 use orient_arcs::components;
 use std::alloc::Global;
 
-/// How many things of each kind a diagram has.
+/// How many things of each kind a diagram has. Source: this project's rule.
 #[derive(Clone, Copy)]
 pub struct Counts {
     /// All crossings.
@@ -29,7 +29,7 @@ pub struct Counts {
     pub loops: u8,
 }
 
-/// The line that a diagram is accepted, with its counts.
+/// The line that a diagram is accepted, with its counts. Source: this project's rule.
 pub fn reply_to_check(alloc: Global, diagram: &Diagram) -> Result<Reply, NoMemory>
     ensures { IfOk result (λ reply. reply ≡ check_reply diagram.now) }
 {
@@ -37,7 +37,7 @@ pub fn reply_to_check(alloc: Global, diagram: &Diagram) -> Result<Reply, NoMemor
     Ok(reply_with(Status::Done, line))
 }
 
-// The counts of a diagram.
+/// The counts of a diagram.
 fn diagram_counts(diagram: &Diagram) -> Counts
     ensures { result ≡ diagram_counts diagram.now }
 {
@@ -52,7 +52,7 @@ fn diagram_counts(diagram: &Diagram) -> Counts
     }
 }
 
-// The line of some counts.
+/// The line of some counts.
 fn counts_line(alloc: Global, counts: Counts) -> Result<String, NoMemory>
     ensures { IfOk result (λ line. string_bytes line ≡ counts_line counts) }
 {

@@ -11,7 +11,7 @@ use pd_code::print_pd;
 use std::alloc::Global;
 use word_line::Form;
 
-/// The text of a diagram in a form, and a line feed.
+/// The text of a diagram in a form, and a line feed. Source: this project's rule.
 pub fn reply_to_convert(alloc: Global, form: Form, diagram: &Diagram) -> Result<Reply, NoMemory>
     ensures { IfOk result (λ reply. reply ≡ convert_reply form diagram.now) }
 {
@@ -20,7 +20,7 @@ pub fn reply_to_convert(alloc: Global, form: Form, diagram: &Diagram) -> Result<
     Ok(reply_made(Status::Done, text))
 }
 
-// The text of a diagram in a form.
+/// The text of a diagram in a form.
 fn text_in(alloc: Global, form: Form, diagram: &Diagram) -> Result<Vec<u8>, NoMemory>
     ensures { IfOk result (λ text. text.items ≡ text_in form diagram.now) }
 {

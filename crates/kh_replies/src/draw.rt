@@ -9,7 +9,7 @@ use kh_types::{Diagram, NoMemory};
 use morse_drawing::{print_slices, slices};
 use std::alloc::Global;
 
-/// The text of the drawing of a diagram.
+/// The text of the drawing of a diagram. Source: this project's rule.
 pub fn reply_to_draw(alloc: Global, diagram: &Diagram) -> Result<Reply, NoMemory>
     ensures { IfOk result (λ reply. reply ≡ draw_reply diagram.now) }
 {

@@ -26,7 +26,7 @@ pub enum InputForm {
     Json,
 }
 
-/// Why an input gives no diagram.
+/// Why an input gives no diagram. Source: this project's rule.
 #[derive(Debug, Drop)]
 pub enum InputStop {
     /// It is refused with this reply.
@@ -45,7 +45,8 @@ impl From<NoMemory> for InputStop {
     }
 }
 
-/// The diagram of the bytes of an input, which are the text of a code in one of the forms.
+/// The diagram of the bytes of an input, which are the text of a code in one of the forms. Source:
+/// this project's rule.
 pub fn read_diagram(alloc: Global, bytes: &[u8]) -> Result<Diagram, InputStop>
     requires { length bytes.now ≤ INPUT_BYTES }
     ensures diagram { IfOk result (λ code. IsDiagramRead bytes.now (Ok code)) }
@@ -59,7 +60,7 @@ pub fn read_diagram(alloc: Global, bytes: &[u8]) -> Result<Diagram, InputStop>
     }
 }
 
-// The code that bytes are the text of.
+/// The code that bytes are the text of.
 fn read_code(alloc: Global, bytes: &[u8]) -> Result<RawCode, InputStop>
     requires { length bytes.now ≤ INPUT_BYTES }
     ensures code { IfOk result (λ code. IsCodeRead bytes.now (Ok code)) }
@@ -73,7 +74,7 @@ fn read_code(alloc: Global, bytes: &[u8]) -> Result<RawCode, InputStop>
     }
 }
 
-// The form of an input.
+/// The form of an input.
 fn input_form(bytes: &[u8]) -> InputForm
     ensures { result ≡ input_form bytes.now }
 {
@@ -84,14 +85,14 @@ fn input_form(bytes: &[u8]) -> InputForm
     }
 }
 
-// The first byte that is no blank.
+/// The first byte that is no blank.
 fn first_byte(bytes: &[u8]) -> Option<u8>
     ensures { result ≡ first_byte bytes.now }
 {
     bytes.iter().copied().find(|byte| !is_blank(*byte))
 }
 
-// The code of a JSON text.
+/// The code of a JSON text.
 fn read_json_code(alloc: Global, bytes: &[u8]) -> Result<RawCode, InputStop>
     requires { length bytes.now ≤ INPUT_BYTES }
     ensures code { IfOk result (λ code. IsJsonRead bytes.now (Ok code)) }
@@ -104,7 +105,7 @@ fn read_json_code(alloc: Global, bytes: &[u8]) -> Result<RawCode, InputStop>
     }
 }
 
-// The code of a signed Gauss text.
+/// The code of a signed Gauss text.
 fn read_gauss_code(alloc: Global, bytes: &[u8]) -> Result<RawCode, InputStop>
     requires { length bytes.now ≤ INPUT_BYTES }
     ensures code { IfOk result (λ code. IsGaussRead bytes.now (Ok code)) }
@@ -117,7 +118,7 @@ fn read_gauss_code(alloc: Global, bytes: &[u8]) -> Result<RawCode, InputStop>
     }
 }
 
-// The code of a PD text.
+/// The code of a PD text.
 fn read_pd_code(alloc: Global, bytes: &[u8]) -> Result<RawCode, InputStop>
     requires { length bytes.now ≤ INPUT_BYTES }
     ensures code { IfOk result (λ code. IsPdRead bytes.now (Ok code)) }

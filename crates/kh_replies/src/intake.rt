@@ -20,7 +20,7 @@ pub enum Intake {
     Nothing,
 }
 
-/// What a task reads.
+/// What a task reads. Source: this project's rule.
 pub fn intake_of(task: Task) -> Intake
     ensures { result ≡ intake_of task }
 {

@@ -11,7 +11,7 @@ use kh_types::{Diagram, NoMemory};
 use std::alloc::Global;
 use table_text::print_jones;
 
-/// The Jones line of a diagram.
+/// The Jones line of a diagram. Source: Bar-Natan 2002, section 2; the text is this project's rule.
 pub fn reply_to_jones(alloc: Global, diagram: &Diagram) -> Result<Reply, NoMemory>
     ensures { IfOk result (λ reply. reply ≡ jones_reply diagram.now) }
 {
@@ -21,7 +21,8 @@ pub fn reply_to_jones(alloc: Global, diagram: &Diagram) -> Result<Reply, NoMemor
     ))
 }
 
-/// The text of this line, with its line feed, given the kinds of the diagram's states.
+/// The text of this line, with its line feed, given the kinds of the diagram's states. Source: this
+/// project's rule.
 pub fn jones_line(alloc: Global, kinds: &StateKinds) -> Result<Vec<u8>, NoMemory>
     ensures { IfOk result (λ text. text.items ≡ jones_line kinds.now) }
 {

@@ -1,4 +1,5 @@
-//! What a task reads, how its input is cut and read, every line of a refusal, and the replies that need no cube.
+//! What a task reads, how its input is cut and read, every line of a refusal, and the replies that
+//! need no cube.
 #![tactic(auto)]
 
 mod check;

@@ -13,14 +13,14 @@ use kh_types::{CROSSINGS, CodeFault, LOOPS, NoMemory};
 use pd_code::PdStop;
 use std::alloc::Global;
 
-/// The reply to words that give no command.
+/// The reply to words that give no command. Source: this project's rule.
 pub fn usage(alloc: Global) -> Result<Reply, NoMemory>
     ensures { IfOk result (λ reply. reply ≡ usage) }
 {
     fixed_reply(alloc, Status::Usage, "usage: kh COMMAND [OPTIONS]\n")
 }
 
-/// The reply to more bytes than a limit.
+/// The reply to more bytes than a limit. Source: this project's rule.
 pub fn too_many_bytes(alloc: Global, limit: u32) -> Result<Reply, NoMemory>
     ensures { IfOk result (λ reply. reply ≡ too_many_bytes limit) }
 {
@@ -28,56 +28,58 @@ pub fn too_many_bytes(alloc: Global, limit: u32) -> Result<Reply, NoMemory>
     limit_on(alloc, "bytes", most + 1, most)
 }
 
-/// The reply to more crossings than a diagram may have.
+/// The reply to more crossings than a diagram may have. Source: this project's rule.
 pub fn too_many_crossings(alloc: Global, count: u32) -> Result<Reply, NoMemory>
     ensures { IfOk result (λ reply. reply ≡ too_many_crossings count) }
 {
     limit_on(alloc, "crossings", count.into(), CROSSINGS as u128)
 }
 
-/// The reply to more loops than a text may have.
+/// The reply to more loops than a text may have. Source: this project's rule.
 pub fn too_many_loops(alloc: Global, count: u32) -> Result<Reply, NoMemory>
     ensures { IfOk result (λ reply. reply ≡ too_many_loops count) }
 {
     limit_on(alloc, "loops", count.into(), LOOPS as u128)
 }
 
-/// The reply to a diagram with more generators than one whose homology is computed.
+/// The reply to a diagram with more generators than one whose homology is computed. Source: this
+/// project's rule.
 pub fn too_many_generators(alloc: Global, count: u128) -> Result<Reply, NoMemory>
     ensures { IfOk result (λ reply. reply ≡ too_many_generators count) }
 {
     limit_on(alloc, "generators", count, GENERATORS as u128)
 }
 
-/// The reply to a script with more lines than a limit.
+/// The reply to a script with more lines than a limit. Source: this project's rule.
 pub fn too_many_lines(alloc: Global, count: u32, limit: usize) -> Result<Reply, NoMemory>
     ensures { IfOk result (λ reply. reply ≡ too_many_lines count limit) }
 {
     limit_on(alloc, "lines", count.into(), limit as u128)
 }
 
-/// The reply to a number that is none of a diagram.
+/// The reply to a number that is none of a diagram. Source: this project's rule.
 pub fn too_large_number(alloc: Global, number: u32) -> Result<Reply, NoMemory>
     ensures { IfOk result (λ reply. reply ≡ too_large_number number) }
 {
     limit_on(alloc, "number", number.into(), (NUMBERS - 1).into())
 }
 
-/// The reply to a script with a line that is no command.
+/// The reply to a script with a line that is no command. Source: this project's rule.
 pub fn refused_line(alloc: Global, line: u32) -> Result<Reply, NoMemory>
     ensures { IfOk result (λ reply. reply ≡ refused_line line) }
 {
     refused_with(alloc, "line ", line)
 }
 
-/// The reply to a mark that is neither an arc nor a loop of a diagram.
+/// The reply to a mark that is neither an arc nor a loop of a diagram. Source: this project's rule.
 pub fn refused_mark(alloc: Global, mark: u8) -> Result<Reply, NoMemory>
     ensures { IfOk result (λ reply. reply ≡ refused_mark mark) }
 {
     refused_with(alloc, "mark ", mark.into())
 }
 
-/// The reply to a log with a line that fails, and the word of its cause.
+/// The reply to a log with a line that fails, and the word of its cause. Source: this project's
+/// rule.
 pub fn refused_log_line(alloc: Global, line: u32, cause: &str) -> Result<Reply, NoMemory>
     ensures { IfOk result (λ reply. reply ≡ refused_log_line line cause.now) }
 {
@@ -85,7 +87,7 @@ pub fn refused_log_line(alloc: Global, line: u32, cause: &str) -> Result<Reply, 
     Ok(reply_with(Status::CodeRefused, text))
 }
 
-/// The reply to a PD text that is read as no code.
+/// The reply to a PD text that is read as no code. Source: this project's rule.
 pub fn pd_refusal(alloc: Global, stop: PdStop) -> Result<Reply, NoMemory>
     ensures { IfOk result (λ reply. IsPdRefusal stop reply) }
 {
@@ -98,7 +100,7 @@ pub fn pd_refusal(alloc: Global, stop: PdStop) -> Result<Reply, NoMemory>
     }
 }
 
-/// The reply to a signed Gauss text that is read as no code.
+/// The reply to a signed Gauss text that is read as no code. Source: this project's rule.
 pub fn gauss_refusal(alloc: Global, stop: GaussStop) -> Result<Reply, NoMemory>
     ensures { IfOk result (λ reply. IsGaussRefusal stop reply) }
 {
@@ -116,7 +118,7 @@ pub fn gauss_refusal(alloc: Global, stop: GaussStop) -> Result<Reply, NoMemory>
     }
 }
 
-/// The reply to a JSON text that is read as no code.
+/// The reply to a JSON text that is read as no code. Source: this project's rule.
 pub fn json_refusal(alloc: Global, stop: JsonStop) -> Result<Reply, NoMemory>
     ensures { IfOk result (λ reply. IsJsonRefusal stop reply) }
 {
@@ -130,7 +132,7 @@ pub fn json_refusal(alloc: Global, stop: JsonStop) -> Result<Reply, NoMemory>
     }
 }
 
-/// The reply to the code of a text, which breaks a rule of acceptance.
+/// The reply to the code of a text, which breaks a rule of acceptance. Source: this project's rule.
 pub fn fault_refusal(alloc: Global, fault: CodeFault) -> Result<Reply, NoMemory>
     requires { IsTextFault fault }
     ensures { IfOk result (λ reply. IsFaultRefusal fault reply) }
@@ -174,7 +176,7 @@ pub fn fault_refusal(alloc: Global, fault: CodeFault) -> Result<Reply, NoMemory>
     }
 }
 
-// The reply that a limit on things of a name is passed, by so many of them.
+/// The reply that a limit on things of a name is passed, by so many of them.
 fn limit_on(alloc: Global, name: &str, count: u128, most: u128) -> Result<Reply, NoMemory>
     ensures { IfOk result (λ reply. reply ≡ limit_on name.now count most) }
 {
@@ -182,7 +184,7 @@ fn limit_on(alloc: Global, name: &str, count: u128, most: u128) -> Result<Reply,
     Ok(reply_with(Status::Limit, line))
 }
 
-// The reply that a code is refused, with words that say why, and a number behind them.
+/// The reply that a code is refused, with words that say why, and a number behind them.
 fn refused_with(alloc: Global, words: &str, number: u32) -> Result<Reply, NoMemory>
     ensures { IfOk result (λ reply. reply ≡ refused_with words.now number) }
 {
@@ -190,7 +192,7 @@ fn refused_with(alloc: Global, words: &str, number: u32) -> Result<Reply, NoMemo
     Ok(reply_with(Status::CodeRefused, line))
 }
 
-// The same with two numbers, each behind words of its own.
+/// The same with two numbers, each behind words of its own.
 fn refused_with_both(
     alloc: Global,
     words: &str,

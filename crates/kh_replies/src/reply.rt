@@ -9,6 +9,7 @@ use std::alloc::Global;
 use std::marker::Model;
 
 /// A status, and the bytes to write with it. Contracts see it as plain data of the same name.
+/// Source: this project's rule.
 #[derive(Debug, Drop)]
 pub struct Reply {
     status: Status,
@@ -26,14 +27,14 @@ impl Model for Reply {
 }
 
 impl Reply {
-    /// How the run ends once the bytes are written.
+    /// How the run ends once the bytes are written. Source: this project's rule.
     pub fn status(&self) -> Status
         ensures { result ≡ self.now.status }
     {
         self.status
     }
 
-    /// All that the run writes.
+    /// All that the run writes. Source: this project's rule.
     pub fn bytes(&self) -> &[u8]
         ensures { result.now ≡ self.now.text }
     {
@@ -41,21 +42,21 @@ impl Reply {
     }
 }
 
-/// The reply of a status and the bytes to write.
+/// The reply of a status and the bytes to write. Source: this project's rule.
 pub fn reply_made(status: Status, text: Vec<u8>) -> Reply
     ensures { result ≡ reply_of status text.items }
 {
     Reply { status, text }
 }
 
-/// The reply of a status and a text.
+/// The reply of a status and a text. Source: this project's rule.
 pub fn reply_with(status: Status, text: String) -> Reply
     ensures { result ≡ reply_of status (string_bytes text) }
 {
     reply_made(status, text.into_bytes())
 }
 
-/// The reply of a status and a line that is known beforehand.
+/// The reply of a status and a line that is known beforehand. Source: this project's rule.
 pub fn fixed_reply(alloc: Global, status: Status, line: &str) -> Result<Reply, NoMemory>
     ensures { IfOk result (λ reply. reply ≡ reply_of status line.now) }
 {

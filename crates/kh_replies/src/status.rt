@@ -2,12 +2,14 @@
 
 ghost use Rattle.std.specs.Prelude.{◌≡◌};
 
-/// How a run ended. Each status has a number, which is the program's exit status. Source: this project's rule.
+/// How a run ended. Each status has a number, which is the program's exit status. Source: this
+/// project's rule.
 #[derive(Clone, Copy, Debug, PartialEq, Eq)]
 pub enum Status {
     /// 0: the answer was written.
     Done,
-    /// 1: the input is no code of an accepted diagram, a line of its script is no command or one of its log fails, or a mark is none.
+    /// 1: the input is no code of an accepted diagram, a line of its script is no command or one of
+    /// its log fails, or a mark is none.
     CodeRefused,
     /// 2: the words give no command.
     Usage,
@@ -26,7 +28,7 @@ pub enum Status {
 impl Status {
     ghost use Rattle.kh_replies.specs.Statuses.{status_number};
 
-    /// The number of the status, 0 to 7.
+    /// The number of the status, 0 to 7. Source: this project's rule.
     pub fn number(self) -> u8
         ensures { result ≡ status_number self }
     {

@@ -13,7 +13,8 @@ use link_algebra::{UnionFault, union};
 use std::alloc::Global;
 use word_line::Form;
 
-/// The reply to a diagram and the text of a second one, which is read now.
+/// The reply to a diagram and the text of a second one, which is read now. Source: this project's
+/// rule.
 pub fn reply_to_union(alloc: Global, first: &Diagram, text: &[u8]) -> Result<Reply, NoMemory>
     requires few { length text.now ≤ INPUT_BYTES }
     ensures { IfOk result (λ reply. IsUnionReply first.now text.now reply) }
@@ -25,7 +26,7 @@ pub fn reply_to_union(alloc: Global, first: &Diagram, text: &[u8]) -> Result<Rep
     }
 }
 
-// The reply to two diagrams.
+/// The reply to two diagrams.
 fn reply_to_pair(alloc: Global, first: &Diagram, second: &Diagram) -> Result<Reply, NoMemory>
     ensures { IfOk result (λ reply. reply ≡ union_reply first.now second.now) }
 {
@@ -36,7 +37,7 @@ fn reply_to_pair(alloc: Global, first: &Diagram, second: &Diagram) -> Result<Rep
     }
 }
 
-// The refusal of a second code: a line that says so before its own.
+/// The refusal of a second code: a line that says so before its own.
 fn second_refused(alloc: Global, refusal: &Reply) -> Result<Reply, NoMemory>
     ensures { IfOk result (λ reply. reply ≡ second_refused refusal.now) }
 {

@@ -26,7 +26,7 @@ rows_from-sizes entry n (row ∷ rows) =
     ap₂ (λ size sizes. size ∷ sizes) first (rows_from-sizes entry (n + 1) rows)
 
 -- the places from place n on, after one of them has died
-abbrev places_from : ℕ → ℕ → List Bool → List Bool
+abbrev pub places_from : ℕ → ℕ → List Bool → List Bool
 places_from place n alive = map (λ at. if nat_eq at.0 place then false else at.1) (enumerate_from n alive)
 
 places_from-length : (place n : ℕ) (alive : List Bool) → length (places_from place n alive) ≡ length alive

@@ -17,20 +17,11 @@ use Rattle.kh_types.specs.Accepted.{IsAccepted}
 use Rattle.kh_types.proofs.Lists.{AllByRecursion-append, AllByRecursion-first, AllByRecursion-second}
 use Rattle.kh_types.proofs.JoinedClasses.{classes_of-same}
 use Rattle.kh_types.proofs.ClassCounts.{class_count-append, class_count-wider, class_count-components, class_count-circles}
+use Rattle.kh_types.proofs.JoinedSlots.{smoothings_from, pairs_by}
 
 -- the ends of the under pass of a crossing
 abbrev under_of : List ℕ → List (ℕ × ℕ)
 under_of slots = (arc_in slots 0, arc_in slots 2) ∷ []
-
--- what a smoothing joins, by whether it is the 0-smoothing
-abbrev pairs_by : Bool → List ℕ → List (ℕ × ℕ)
-pairs_by is_zero slots =
-    cond is_zero ((arc_in slots 0, arc_in slots 1) ∷ (arc_in slots 2, arc_in slots 3) ∷ [])
-    ((arc_in slots 0, arc_in slots 3) ∷ (arc_in slots 1, arc_in slots 2) ∷ [])
-
--- what all smoothings of a state join, from a place on
-abbrev smoothings_from : ℕ → ℕ → List (List ℕ) → List (ℕ × ℕ)
-smoothings_from state place crossings = flat_map (λ at. smoothing_of (bit state at.0) at.1) (enumerate_from place crossings)
 
 -- with the ends of the under pass, a smoothing joins those of the over pass too
 over-joined : (f : ℕ → ℕ) (is_zero : Bool) (slots : List ℕ) → Respects f (pairs_by is_zero slots)

@@ -69,7 +69,7 @@ agree-fold m xs ys (pair ∷ pairs) xs_long ys_long below agree =
     ∙ ap (λ c. merged (slice_index ys pair.0) (slice_index ys pair.1) c) (agree z z_below)
     ∙ sym (slice_index-joined ys pair z (omega arith)))
 
-merged-other : (x y class : ℕ) → x < class → y < class → merged x y class ≡ class
+pub merged-other : (x y class : ℕ) → x < class → y < class → merged x y class ≡ class
 merged-other x y class x_below y_below = grind (arith, nat_tests)
 
 -- a number that is alone stays alone after pairs of smaller numbers

@@ -10,6 +10,7 @@ use Rattle.kh_types.specs.Darts.{dart_at, dart_place, arc_of, times, first_dart,
 use Rattle.kh_types.proofs.Lists.{count_by-map}
 use Rattle.kh_types.proofs.Ranges.{find-map}
 use Rattle.kh_types.proofs.RangeCounts.{count_by-one_more, found-counted, only-counted}
+use Rattle.kh_types.proofs.DartLemmas.{is_partner_at, is_dart_of}
 
 -- darts by their places
 
@@ -52,13 +53,6 @@ same_place : (place other : ℕ) → is_same_dart (dart_at place) (dart_at other
 same_place place other holds =
     let both = and_parts (nat_eq (place / 4 + 1) (other / 4 + 1)) (nat_eq (place % 4) (other % 4)) holds in
     omega (arith, eqb-true (place / 4 + 1) (other / 4 + 1) both.0, eqb-true (place % 4) (other % 4) both.1)
-
--- whether the dart at a place is of an arc, or is the partner of a dart
-abbrev is_dart_of : List (List ℕ) → ℕ → ℕ → Bool
-is_dart_of crossings arc place = nat_eq (arc_of crossings (dart_at place)) arc
-
-abbrev is_partner_at : List (List ℕ) → Dart → ℕ → Bool
-is_partner_at crossings dart place = is_partner crossings dart (dart_at place)
 
 -- the places of the darts of an arc are as many as its darts
 count-is_dart_of : (crossings : List (List ℕ)) (arc : ℕ)

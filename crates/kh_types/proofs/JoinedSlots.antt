@@ -96,7 +96,7 @@ arc_at-slot crossings crossing slot below =
 -- what has one value at the two slots of each pair of a smoothing has one value at a slot and the one joined with it, and the other
 -- way round
 
-abbrev pairs_by : Bool → List ℕ → List (ℕ × ℕ)
+abbrev pub pairs_by : Bool → List ℕ → List (ℕ × ℕ)
 pairs_by is_zero slots =
     cond is_zero ((arc_in slots 0, arc_in slots 1) ∷ (arc_in slots 2, arc_in slots 3) ∷ [])
     ((arc_in slots 0, arc_in slots 3) ∷ (arc_in slots 1, arc_in slots 2) ∷ [])
@@ -122,7 +122,7 @@ by-slots g false slots same = (sym (same 0 (omega arith)), (sym (same 1 (omega a
 
 -- the same of all crossings of a list, the first of which stands at a place
 
-abbrev smoothings_from : ℕ → ℕ → List (List ℕ) → List (ℕ × ℕ)
+abbrev pub smoothings_from : ℕ → ℕ → List (List ℕ) → List (ℕ × ℕ)
 smoothings_from state place crossings = flat_map (λ at. smoothing_of (bit state at.0) at.1) (enumerate_from place crossings)
 
 crossing-from : (g : ℕ → ℕ) (state place : ℕ) (crossings : List (List ℕ)) → Respects g (smoothings_from state place crossings)

@@ -55,3 +55,8 @@ pub mod ListSums
 pub mod Prefixes
 pub mod MappedLists
 pub mod Integers
+pub mod IntSums
+pub mod AlternatingSums
+pub mod LabelDegrees
+pub mod FilteredLists
+pub mod RowSums

@@ -1,9 +1,9 @@
 -- Sums over lists: of sums, of multiples, of images, by places, and of which one term counts.
-use Rattle.std.proofs.Common.{◌≡◌, ◌≢◌, ℕ, zero, suc, ◌+◌, ◌-◌, ◌*◌, ◌<◌, ◌≤◌, ◌∙◌, List, [], ◌∷◌, length, get_or, map, refl, sym, ap, ap₂, arith, Bool, true, false, cond}
+use Rattle.std.proofs.Common.{◌≡◌, ◌≢◌, ℕ, zero, suc, ◌+◌, ◌-◌, ◌*◌, ◌<◌, ◌≤◌, ◌∙◌, List, [], ◌∷◌, length, get_or, map, refl, sym, ap, ap₂, arith, Bool, true, false, cond, inl, inr}
 use Rattle.std.specs.Prelude.{nat_eq}
 use Rattle.std.specs.List.{filter, flat_map, sum_by, range_with_len}
 use Rattle.std.proofs.Math.Path.{fun_ext}
-use Rattle.std.proofs.lemmas.Bool.{eq-eqb, eqb-true}
+use Rattle.std.proofs.lemmas.Bool.{eq-eqb, eqb-true, cases_eq}
 use Rattle.std.proofs.lemmas.List.Sums.{sum_by-cons, sum_by-append}
 use Rattle.std.proofs.lemmas.List.Folds.{sum_by-zero}
 use Rattle.kh_types.proofs.Ranges.{range_around}
@@ -81,7 +81,7 @@ sum_by-filter f p (x ∷ xs) =
     step false = omega arith
 
 -- by the places of a list
-shifted : (h : ℕ → ℕ) (a n : ℕ) → sum_by h (range_with_len (a + 1) n) ≡ sum_by (λ i. h (suc i)) (range_with_len a n)
+pub shifted : (h : ℕ → ℕ) (a n : ℕ) → sum_by h (range_with_len (a + 1) n) ≡ sum_by (λ i. h (suc i)) (range_with_len a n)
 shifted h a zero = refl
 shifted h a (suc n) =
     sum_by-cons h (a + 1) (range_with_len (a + 1 + 1) n)
@@ -104,3 +104,14 @@ sum_by-range_alike f g a (suc n) alike =
     ∙ ap₂ (λ x y. x + y) (alike a (omega arith) (omega arith))
     (sum_by-range_alike f g (a + 1) n (λ x above below. alike x (omega arith) (omega arith)))
     ∙ sym (sum_by-cons g a (range_with_len (a + 1) n))
+
+-- a sum that is not 0 has a term that is not
+pub sum_by-some : (f : ℕ → ℕ) (a n : ℕ) → sum_by f (range_with_len a n) ≢ 0 → (k : ℕ) × (a ≤ k) × (k < a + n) × (f k ≢ 0)
+sum_by-some f a zero some = absurd (some refl)
+sum_by-some f a (suc n) some = elim (cases_eq (f a) 0) [
+  | inr here ↦ (a, omega arith, omega arith, here)
+  | inl none ↦
+      let later = sum_by-some f (a + 1) n
+      (λ rest. some (sum_by-cons f a (range_with_len (a + 1) n) ∙ omega (arith, none, rest))) in
+      (later.0, omega (arith, later.1), omega (arith, later.2), later.3)
+]

@@ -17,7 +17,7 @@ use Rattle.kh_types.proofs.Residues.{same-equal}
 use Rattle.kh_types.proofs.PivotLemmas.{rank-same, rank-pivot, rank-zeros, leaves-row, leaves-column}
 use Rattle.kh_types.proofs.Removed.{without, rank-without}
 use Rattle.kh_types.proofs.Reduced.{entry_left, leaves-entry_left, entry-reduced, length-reduced, matrix-reduced}
-use Rattle.kh_types.proofs.RankLemmas.{slice_index-none}
+use Rattle.kh_types.proofs.RankLemmas.{slice_index-none, after_turn}
 
 -- a row with an entry leads with one
 pub record Leads (row : List ℕ) : Type 0 where
@@ -58,11 +58,6 @@ no_row rows none i =
 -- an entry below p that is not 0 is not 0 modulo p
 pub other-below : (p x : ℕ) → x < p → x ≢ 0 → ¬ Same p x 0
 other-below p x below other same = other (omega (arith, mod-eq_of_lt below, zero-mod p, same))
-
--- what a turn gives, at the place of the row that it takes
-abbrev after_turn : ℕ → ℕ → List (List ℕ) → Option ℕ → ℕ
-after_turn steps p rows place =
-    option_map_or (λ at. suc (rank_within steps p (reduced_by p (slice_index_or rows at []) (remove rows at)))) place 0
 
 rank-turn : (p n steps : ℕ) (rows : List (List ℕ)) (place : Option ℕ) → HasInverses p → IsMatrix p n rows
     → position has_entry rows ≡ place

@@ -1,5 +1,5 @@
 -- The sizes of the degrees of generators, and which degrees have generators.
-use Rattle.std.proofs.Common.{◌≡◌, ℕ, ◌+◌, ◌-◌, ◌*◌, ◌/◌, ◌^◌, ◌<◌, ◌≤◌, ◌∙◌, List, [], ℤ, pos, ◌+ℤ◌, ◌-ℤ◌, inl, inr, refl, sym, length, get_or, true, subst, arith}
+use Rattle.std.proofs.Common.{◌≡◌, ℕ, ◌+◌, ◌-◌, ◌*◌, ◌/◌, ◌^◌, ◌<◌, ◌≤◌, ◌∙◌, List, [], ℤ, pos, negsuc, ◌+ℤ◌, ◌-ℤ◌, ◌⊎◌, inl, inr, map, suc, refl, sym, length, get_or, true, subst, arith}
 use Rattle.std.specs.List.{All, range_with_len}
 use Rattle.std.specs.Ordering.{int_eq}
 use Rattle.std.proofs.lemmas.Bool.{and_parts, cases_lt}
@@ -18,9 +18,11 @@ use Rattle.kh_types.specs.Directions.{is_positive_in, plus_count, minus_count}
 use Rattle.kh_types.specs.Circles.{circle_count}
 use Rattle.kh_types.specs.Generators.{Generator, one_count, homological_degree, quantum_degree, generators, has_degrees, generators_at}
 use Rattle.kh_types.specs.Accepted.{IsAccepted}
-use Rattle.kh_types.specs.Table.{IsWithin}
+use Rattle.kh_types.specs.Table.{IsWithin, from_minus}
 use Rattle.kh_types.proofs.Lists.{All-some}
 use Rattle.kh_types.proofs.CircleBound.{circle_count-le, circle_count-within}
+use Rattle.kh_types.proofs.Ranges.{map-range_agree}
+use Rattle.std.proofs.lemmas.Simd.{map-map}
 
 -- the numbers from -n to n by their places
 
@@ -35,6 +37,26 @@ pub place-IsWithin : (n : ℕ) (i : ℤ) → IsWithin n i → (k : ℕ) × (k < 
 place-IsWithin n i (k, below, is) =
     let within : k < 2 * n + 1 = omega (arith, length-map-range_with_len (λ m. pos m -ℤ pos n) 0 (2 * n + 1)) in
     (k, within, sym is ∙ get_or-map-range_with_len (λ m. pos m -ℤ pos n) 0 (2 * n + 1) k k i within (omega arith))
+
+-- what two functions make of the numbers from -n to n, on which they agree
+pub map-from_minus_agree : {X : Type 0} (f g : ℤ → X) (n : ℕ) → ((i : ℤ) → IsWithin n i → f i ≡ g i)
+    → map f (from_minus n) ≡ map g (from_minus n)
+map-from_minus_agree f g n same =
+    map-map f (λ k. pos k -ℤ pos n) (range_with_len 0 (2 * n + 1))
+    ∙ map-range_agree (λ k. f (pos k -ℤ pos n)) (λ k. g (pos k -ℤ pos n)) 0 (2 * n + 1)
+    (λ k from below. same (pos k -ℤ pos n) (IsWithin-place n k (pos k -ℤ pos n) (omega arith) refl))
+    ∙ sym (map-map g (λ k. pos k -ℤ pos n) (range_with_len 0 (2 * n + 1)))
+
+-- an integer is from -n to n, or it is not
+pub within_or_not : (n : ℕ) (i : ℤ) → IsWithin n i ⊎ (IsWithin n i → ⊥)
+within_or_not n (pos m) = elim (cases_lt n m) [
+  | inl past ↦ inr (λ within. let place = place-IsWithin n (pos m) within in omega (arith, ints, past, place.1, place.2))
+  | inr small ↦ inl (IsWithin-place n (m + n) (pos m) (omega arith) (omega (arith, ints)))
+]
+within_or_not n (negsuc m) = elim (cases_lt m n) [
+  | inl small ↦ inl (IsWithin-place n (n - suc m) (negsuc m) (omega arith) (omega (arith, ints)))
+  | inr past ↦ inr (λ within. let place = place-IsWithin n (negsuc m) within in omega (arith, ints, past, place.1, place.2))
+]
 
 -- counts are at most what is counted
 

@@ -169,3 +169,11 @@ map_from_one f n = map-range_with_len_more f 1 n (n + 1) (omega arith)
 
 pub ruleset range_steps =
     (range_from_zero, range_from_one, map_from_zero, map_from_one, length-range_with_len, length-map-range_with_len)
+
+-- what two functions make of a range on which they agree
+pub map-range_agree : {X : Type 0} (f g : ℕ → X) (a n : ℕ) → ((x : ℕ) → a ≤ x → x < a + n → f x ≡ g x)
+    → map f (range_with_len a n) ≡ map g (range_with_len a n)
+map-range_agree f g a zero same = refl
+map-range_agree {X} f g a (suc n) same =
+    ap (λ (x : X). x ∷ map f (range_with_len (a + 1) n)) (same a (omega arith) (omega arith))
+    ∙ ap (λ (xs : List X). g a ∷ xs) (map-range_agree f g (a + 1) n (λ x from below. same x (omega arith) (omega arith)))

@@ -29,7 +29,7 @@ position-cons_no test x xs fails =
     ∙ place_later (nat_lt at (length xs)) at
 
 -- what a turn gives, at the place of the row that it takes
-abbrev after_turn : ℕ → ℕ → List (List ℕ) → Option ℕ → ℕ
+abbrev pub after_turn : ℕ → ℕ → List (List ℕ) → Option ℕ → ℕ
 after_turn steps p rows place =
     option_map_or (λ at. suc (rank_within steps p (reduced_by p (slice_index_or rows at []) (remove rows at)))) place 0
 

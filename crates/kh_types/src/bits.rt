@@ -1,4 +1,5 @@
-//! The bits of numbers: of states and choices, a bit for each crossing, and of labels, a bit for each circle.
+//! The bits of numbers: of states and choices, a bit for each crossing, and of labels, a bit for
+//! each circle.
 
 ghost use Rattle.std.specs.Prelude.{◌≡◌, ◌<◌, ◌≤◌};
 ghost use Rattle.kh_types.specs.Bits.{bit, ones};

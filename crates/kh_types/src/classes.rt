@@ -11,8 +11,9 @@ use arrayvec::ArrayVec;
 /// The most numbers that are put into classes: as many as the largest diagram has darts.
 pub const CLASS_MEMBERS: usize = 4 * CROSSINGS;
 
-/// The class of each number below `count`, which is the least number in it, where the two numbers of each pair are in one
-/// class. A pair may hold any numbers; one that is not below `count` counts as one in the class 0.
+/// The class of each number below `count`, which is the least number in it, where the two numbers
+/// of each pair are in one class. A pair may hold any numbers; one that is not below `count` counts
+/// as one in the class 0.
 pub fn classes_of(count: usize, pairs: &[(u8, u8)]) -> ArrayVec<u8, CLASS_MEMBERS>
     requires { count ≤ CLASS_MEMBERS }
     ensures { result.items ≡ classes_of count pairs.now }

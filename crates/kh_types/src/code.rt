@@ -4,8 +4,8 @@ use crate::limits::CROSSINGS;
 use arrayvec::ArrayVec;
 use std::marker::Model;
 
-/// The arcs that meet at a crossing, counterclockwise from the incoming under arc; their places are the slots 0 to 3.
-/// Source: Knot Atlas, "Planar Diagrams", `X[i, j, k, l]`.
+/// The arcs that meet at a crossing, counterclockwise from the incoming under arc; their places are
+/// the slots 0 to 3. Source: Knot Atlas, "Planar Diagrams", `X[i, j, k, l]`.
 #[derive(Clone, Copy, Debug, PartialEq, Eq, Default)]
 pub struct Crossing(pub [u8; 4]);
 
@@ -19,8 +19,9 @@ impl Model for Crossing {
     ghost inverse = { λ arcs. record { 0 = arcs } };
 }
 
-/// A list of crossings, numbered from 1, and a number of crossingless loops. It may be no diagram's code.
-/// Contracts see it as a `Code`. Source: Knot Atlas, "Planar Diagrams"; the loops are this project's rule.
+/// A list of crossings, numbered from 1, and a number of crossingless loops. It may be no diagram's
+/// code. Contracts see it as a `Code`. Source: Knot Atlas, "Planar Diagrams"; the loops are this
+/// project's rule.
 #[derive(Debug, Drop)]
 pub struct RawCode {
     /// The crossings, in list order.

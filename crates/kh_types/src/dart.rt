@@ -6,7 +6,8 @@ ghost use Rattle.kh_types.specs.Darts.{dart_at, dart_place, turned};
 
 use crate::limits::CROSSINGS;
 
-/// One end of an arc: a crossing, numbered from 1 in the order of the list, and a slot of it, 0 to 3.
+/// One end of an arc: a crossing, numbered from 1 in the order of the list, and a slot of it, 0 to
+/// 3.
 #[derive(Clone, Copy, Debug, PartialEq, Eq, PartialOrd, Ord)]
 pub struct Dart {
     /// The crossing, from 1.

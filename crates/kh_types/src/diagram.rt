@@ -17,8 +17,9 @@ use crate::limits::{COMPONENTS, CROSSINGS};
 use arrayvec::ArrayVec;
 use std::marker::Model;
 
-/// A diagram of an oriented link: a code that is accepted, which is part of its type. Contracts see it as this `Code`.
-/// Crossings are numbered from 1, slots are 0 to 3, and arcs 1 to twice the number of crossings.
+/// A diagram of an oriented link: a code that is accepted, which is part of its type. Contracts see
+/// it as this `Code`. Crossings are numbered from 1, slots are 0 to 3, and arcs 1 to twice the
+/// number of crossings.
 #[derive(Clone, Copy, Debug, PartialEq, Eq)]
 pub struct Diagram {
     table: [Crossing; CROSSINGS],
@@ -43,8 +44,8 @@ impl Model for Diagram {
 }
 
 impl Diagram {
-    /// The diagram with exactly these crossings and loops, or the first rule of acceptance that the code breaks; a code is
-    /// accepted where it breaks none.
+    /// The diagram with exactly these crossings and loops, or the first rule of acceptance that the
+    /// code breaks; a code is accepted where it breaks none.
     #[tactic(auto, unfolding(crate::specs::Acceptance::accepted))]
     pub fn try_new(raw: &RawCode) -> Result<Diagram, CodeFault>
         ensures fault { result_err result ≡ first_fault raw.now }
@@ -190,7 +191,7 @@ fn sign(is_positive: bool) -> i8
     if is_positive { 1 } else { -1 }
 }
 
-// The array that begins with some crossings and is blank behind them.
+/// The array that begins with some crossings and is blank behind them.
 fn table_of(crossings: &[Crossing]) -> [Crossing; CROSSINGS]
     requires { length crossings.now ≤ CROSSINGS }
     ensures { result ≡ filled crossings.now }

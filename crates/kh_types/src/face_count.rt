@@ -6,7 +6,8 @@ ghost use Rattle.kh_types.specs.Faces.{face_count, planar_face_count};
 use crate::acceptance::{face_count, planar_face_count};
 use crate::code::RawCode;
 
-/// How many faces a code has, and how many a drawing on the sphere has: n + 2k for n crossings in k connected pieces.
+/// How many faces a code has, and how many a drawing on the sphere has: n + 2k for n crossings in k
+/// connected pieces.
 #[derive(Clone, Copy, Debug, PartialEq, Eq)]
 pub struct FaceCount {
     /// The number of faces.
@@ -15,8 +16,9 @@ pub struct FaceCount {
     pub wanted: u8,
 }
 
-/// The faces of a code. Loops count for none. Where each of the arcs 1 to 2n stands exactly twice, a face is a cycle of darts,
-/// each followed by the one before the other end of its arc; of any other code the numbers mean nothing. Source: this project's rule.
+/// The faces of a code. Loops count for none. Where each of the arcs 1 to 2n stands exactly twice,
+/// a face is a cycle of darts, each followed by the one before the other end of its arc; of any
+/// other code the numbers mean nothing. Source: this project's rule.
 pub fn count_faces(raw: &RawCode) -> FaceCount
     ensures faces { result.faces ≡ face_count raw.now.crossings }
     ensures wanted { result.wanted ≡ planar_face_count raw.now.crossings }

@@ -1,4 +1,5 @@
-//! Laws of the definitions: each is the contract of a function that does nothing, proved with the crate.
+//! Laws of the definitions: each is the contract of a function that does nothing, proved with the
+//! crate.
 
 pub mod acceptance;
 pub mod accepted;

@@ -1,4 +1,5 @@
-//! The data that all crates share, codes, diagrams and words, and in `specs/` the definitions on which every contract stands.
+//! The data that all crates share, codes, diagrams and words, and in `specs/` the definitions on
+//! which every contract stands.
 #![tactic(auto)]
 
 mod acceptance;
@@ -22,6 +23,8 @@ pub use dart::{Dart, dart_at, dart_place, turned};
 pub use diagram::Diagram;
 pub use face_count::{FaceCount, count_faces};
 pub use fault::CodeFault;
-pub use limits::{ARCS, CIRCLES, COMPONENTS, CROSSINGS, EXPONENT, INPUT_BYTES, LOOPS, WORKERS};
+pub use limits::{
+    ARCS, CIRCLES, COMPONENTS, CROSSINGS, EXPONENT, GREATEST_ARC, INPUT_BYTES, LOOPS, WORKERS,
+};
 pub use memory::NoMemory;
 pub use words::Words;

@@ -2,7 +2,8 @@
 
 use std::alloc::{AllocError, AllocFailed};
 
-/// Out of memory: there was none for what a call had to make. It may stand in place of any answer of a call that allocates.
+/// Out of memory: there was none for what a call had to make. It may stand in place of any answer
+/// of a call that allocates.
 #[derive(Clone, Copy, Debug, PartialEq, Eq)]
 pub struct NoMemory;
 

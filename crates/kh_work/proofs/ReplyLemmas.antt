@@ -80,6 +80,13 @@ bench_reply-diagram field number code diagram small same is =
     ∙ sym (cond-true (nat_lt number NUMBERS) (reply_of Done (bench_text field number (code_of_number number))) (too_large_number number)
     (less-true number NUMBERS small))
 
+-- a number that is none of a diagram is answered by the line of the limit
+pub bench_reply-over : (field number told : ℕ) → (number < NUMBERS → ⊥) → told ≡ number → too_large_number told ≡ bench_reply field number
+bench_reply-over field number told over same =
+    ap too_large_number same
+    ∙ sym (cond-false (nat_lt number NUMBERS) (reply_of Done (bench_text field number (code_of_number number))) (too_large_number number)
+    (less-false number NUMBERS (omega (arith, over))))
+
 pub generators_of_diagram : (number : ℕ) (code diagram : Code) → code ≡ diagram → diagram ≡ code_of_number number
     → ((n : ℕ) → generator_count (code_of_number n) ≤ GENERATORS) → generator_count code ≤ GENERATORS
 generators_of_diagram number code diagram same is few =

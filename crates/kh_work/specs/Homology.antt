@@ -1,4 +1,4 @@
--- The reply of the command `homology` to a diagram.
+-- The reply of the command `homology` to a diagram: its Khovanov homology (Bar-Natan 2002, section 3), in a text of this project's own.
 use Rattle.std.specs.Prelude.{List, ℕ, ◌++◌, nat_lt, if◌then◌else◌}
 use Rattle.kh_types.specs.Code.{Code}
 use Rattle.kh_types.specs.Table.{table, table_text}

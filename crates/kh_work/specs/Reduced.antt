@@ -1,4 +1,4 @@
--- The reply of the command `reduced` to a diagram.
+-- The reply of the command `reduced` to a diagram: its reduced homology (Khovanov 2003, section 3), in a text of this project's own.
 use Rattle.std.specs.Prelude.{◌≡◌, ℕ, List, ◌++◌, codes, nat_lt, if◌then◌else◌, Option, None, Some}
 use Rattle.std.specs.Fmt.{decimal}
 use Rattle.kh_types.specs.Code.{Code}

@@ -1,4 +1,4 @@
--- The promises of a run.
+-- The promises of a run. All of it is this project's rule.
 use Rattle.std.specs.Prelude.{◌≡◌, ◌≢◌, ◌⊎◌, ℕ, ℤ, pos, ◌+ℤ◌, ◌-ℤ◌, ◌≤◌, List, ◌++◌, length, IfOk, IfSome, IsTrue, OnOk, Some, Result, Ok, Err, true}
 use Rattle.std.specs.declared.option.Option.{Option}
 use Rattle.std.specs.Io.KnownBytes.{Appends}
@@ -57,8 +57,8 @@ abbrev pub status_of : ReplyStop → Status
 status_of stops.ReadFault = ReadFault
 status_of stops.NoMemory = NoMemory
 
--- a sink has gained a reply, whole, without a fault, and the status is its status; or its count of faults rose, and it has gained a prefix. Without a
--- reply it is the same
+-- a sink has gained a reply, whole, without a fault, and the status is its status; or its count of faults rose, and it has gained a
+-- prefix. Without a reply it is the same
 abbrev pub IsWritten : Result Reply ReplyStop → Seen → Seen → Type 0 → Status → Type 0
 IsWritten (Ok reply) before after same_sink status =
     (Gives reply status before.bytes after.bytes × (after.faults ≡ before.faults))

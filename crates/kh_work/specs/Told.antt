@@ -1,4 +1,4 @@
--- What a run does to a source and a sink, where their bytes are known.
+-- What a run does to a source and a sink, where their bytes are known. All of it is this project's rule.
 use Rattle.std.specs.Prelude.{◌≡◌, ℕ, ◌≤◌, List, length, take, IfSome}
 use Rattle.std.specs.declared.option.Option.{Option}
 use Rattle.std.specs.Io.KnownBytes.{Appends, Consumes, IsAtEnd}

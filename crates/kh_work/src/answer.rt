@@ -15,7 +15,7 @@ ghost use Rattle.kh_work.specs.Told.{IsKnownAnswer, IsKnownReply, IsTaken, IsRea
 ghost use Rattle.cancel_log.specs.declared.limits.TheConstants.{LOG_BYTES};
 ghost use Rattle.kh_types.specs.declared.limits.TheConstants.{LOOPS};
 ghost use Rattle.word_line.specs.Commands.{IsUsage};
-ghost use Rattle.word_line.specs.Values.{AreWorkers, HasMark, HasNumber, IsFieldSize};
+ghost use Rattle.word_line.specs.Values.{AreWorkers, HasMark, HasNumber};
 
 use crate::byte_limits::byte_limit;
 use crate::commands::{
@@ -33,7 +33,7 @@ use kh_types::{Diagram, INPUT_BYTES, NoMemory, Words};
 use std::alloc::Global;
 use word_line::{Command, Task, WordStop, read_words};
 
-/// Why there is no reply.
+/// Why there is no reply. Source: this project's rule.
 #[derive(Clone, Copy, Debug, PartialEq, Eq)]
 pub enum ReplyStop {
     /// The source failed while it was read.
@@ -52,7 +52,8 @@ impl From<NoMemory> for ReplyStop {
     }
 }
 
-/// A draft of the reply to words and a source, which is read where the words mean a command that reads.
+/// A draft of the reply to words and a source, which is read where the words mean a command that
+/// reads. Source: this project's rule.
 pub fn draft_to<S: Source>(alloc: Global, words: &Words, source: &mut S) -> Result<Draft, ReplyStop>
     ensures known { IfOk result (λ draft.
         IsKnownAnswer (S.left source.old) words.now (reply_in draft)) }
@@ -77,14 +78,13 @@ pub fn draft_to<S: Source>(alloc: Global, words: &Words, source: &mut S) -> Resu
     }
 }
 
-// A draft of the reply of a command to a source, which is read where its task reads.
+/// A draft of the reply of a command to a source, which is read where its task reads.
 fn draft_to_command<S: Source>(
     alloc: Global,
     command: Command,
     source: &mut S,
 ) -> Result<Draft, ReplyStop>
     requires workers { AreWorkers command.workers }
-    requires field { IsFieldSize command.field }
     requires mark { HasMark command.task command.mark }
     requires number { HasNumber command.task command.number }
     ensures known { IfOk result (λ draft.
@@ -107,10 +107,9 @@ fn draft_to_command<S: Source>(
     }
 }
 
-// A draft of the reply of a command that reads nothing to its number.
+/// A draft of the reply of a command that reads nothing to its number.
 fn draft_to_number(alloc: Global, command: Command) -> Result<Draft, NoMemory>
     requires workers { AreWorkers command.workers }
-    requires field { IsFieldSize command.field }
     requires number { HasNumber command.task command.number }
     requires nothing { byte_limit (intake_of command.task) ≡ None }
     ensures blind { IfOk result (λ draft. IsBlindReply command (reply_in draft)) }
@@ -126,7 +125,7 @@ fn draft_to_number(alloc: Global, command: Command) -> Result<Draft, NoMemory>
     }
 }
 
-// A draft of the reply of a command to all bytes of a source, which is to have so many at most.
+/// A draft of the reply of a command to all bytes of a source, which is to have so many at most.
 fn draft_to_source<S: Source>(
     alloc: Global,
     command: Command,
@@ -134,7 +133,6 @@ fn draft_to_source<S: Source>(
     source: &mut S,
 ) -> Result<Draft, ReplyStop>
     requires workers { AreWorkers command.workers }
-    requires field { IsFieldSize command.field }
     requires mark { HasMark command.task command.mark }
     requires reads { byte_limit (intake_of command.task) ≡ Some limit }
     ensures known { IfOk result (λ draft.
@@ -155,12 +153,11 @@ fn draft_to_source<S: Source>(
     }
 }
 
-// A draft of the reply of a command to the bytes of an input, by what its task reads.
+/// A draft of the reply of a command to the bytes of an input, by what its task reads.
 fn draft_to_bytes(alloc: Global, command: Command, bytes: &[u8]) -> Result<Draft, NoMemory>
     requires reads { IsSome (byte_limit (intake_of command.task)) }
     requires few { AreWithin (byte_limit (intake_of command.task)) bytes.now }
     requires workers { AreWorkers command.workers }
-    requires field { IsFieldSize command.field }
     requires mark { HasMark command.task command.mark }
     ensures known { IfOk result (λ draft. IsCommandReply command bytes.now (reply_in draft)) }
     ensures ready { IfOk result IsReady }
@@ -177,11 +174,10 @@ fn draft_to_bytes(alloc: Global, command: Command, bytes: &[u8]) -> Result<Draft
     }
 }
 
-// A draft of the reply of a command that reads a code to the text of one.
+/// A draft of the reply of a command that reads a code to the text of one.
 fn draft_to_code(alloc: Global, command: Command, text: &[u8]) -> Result<Draft, NoMemory>
     requires few { length text.now ≤ INPUT_BYTES }
     requires workers { AreWorkers command.workers }
-    requires field { IsFieldSize command.field }
     requires mark { HasMark command.task command.mark }
     requires intake { intake_of command.task ≡ Intake.Code }
     ensures known { IfOk result (λ draft.
@@ -195,11 +191,10 @@ fn draft_to_code(alloc: Global, command: Command, text: &[u8]) -> Result<Draft, 
     }
 }
 
-// A draft of the reply of a command that reads a code to a diagram.
+/// A draft of the reply of a command that reads a code to a diagram.
 fn draft_to_diagram(alloc: Global, command: Command, diagram: &Diagram) -> Result<Draft, NoMemory>
     requires loops { diagram.now.loops ≤ LOOPS }
     requires workers { AreWorkers command.workers }
-    requires field { IsFieldSize command.field }
     requires mark { HasMark command.task command.mark }
     requires intake { intake_of command.task ≡ Intake.Code }
     ensures known { IfOk result (λ draft.
@@ -220,9 +215,8 @@ fn draft_to_diagram(alloc: Global, command: Command, diagram: &Diagram) -> Resul
     }
 }
 
-// A draft of the reply of `reduced`, which has a mark, to a diagram.
+/// A draft of the reply of `reduced`, which has a mark, to a diagram.
 fn draft_of_reduced(alloc: Global, command: Command, diagram: &Diagram) -> Result<Draft, NoMemory>
-    requires field { IsFieldSize command.field }
     requires mark { HasMark Task.Reduced command.mark }
     ensures known { IfOk result (λ draft.
         IsReducedReply command.field command.mark diagram.now (reply_in draft)) }
@@ -234,7 +228,7 @@ fn draft_of_reduced(alloc: Global, command: Command, diagram: &Diagram) -> Resul
     }
 }
 
-// A draft of the reply of a command that reads a code and a script to the texts of both.
+/// A draft of the reply of a command that reads a code and a script to the texts of both.
 fn draft_to_script(
     alloc: Global,
     command: Command,
@@ -243,7 +237,6 @@ fn draft_to_script(
 ) -> Result<Draft, NoMemory>
     requires few { length text.now ≤ INPUT_BYTES }
     requires short { length script.now ≤ INPUT_BYTES }
-    requires field { IsFieldSize command.field }
     requires intake { intake_of command.task ≡ Intake.CodeAndScript }
     ensures known { IfOk result (λ draft.
         IsDiagramReply (IsScriptedReply command.task command script.now) text.now (reply_in draft)) }
@@ -256,7 +249,8 @@ fn draft_to_script(
     }
 }
 
-// A draft of the reply of a command that reads a code and a script to a diagram and the text of a script.
+/// A draft of the reply of a command that reads a code and a script to a diagram and the text of a
+/// script.
 fn draft_to_scripted(
     alloc: Global,
     command: Command,
@@ -264,7 +258,6 @@ fn draft_to_scripted(
     script: &[u8],
 ) -> Result<Draft, NoMemory>
     requires short { length script.now ≤ INPUT_BYTES }
-    requires field { IsFieldSize command.field }
     requires intake { intake_of command.task ≡ Intake.CodeAndScript }
     ensures known { IfOk result (λ draft.
         IsScriptedReply command.task command script.now diagram.now (reply_in draft)) }
@@ -282,7 +275,7 @@ fn draft_to_scripted(
     }
 }
 
-// A draft of the reply of a command that reads two codes to the texts of both.
+/// A draft of the reply of a command that reads two codes to the texts of both.
 fn draft_to_codes(
     alloc: Global,
     command: Command,
@@ -303,7 +296,8 @@ fn draft_to_codes(
     }
 }
 
-// A draft of the reply of a command that reads two codes to a diagram and the text of a second one.
+/// A draft of the reply of a command that reads two codes to a diagram and the text of a second
+/// one.
 fn draft_to_pair(
     alloc: Global,
     command: Command,
@@ -322,7 +316,7 @@ fn draft_to_pair(
     }
 }
 
-// A draft of the reply of a command that reads a log to its text.
+/// A draft of the reply of a command that reads a log to its text.
 fn draft_to_log(alloc: Global, command: Command, text: &[u8]) -> Result<Draft, NoMemory>
     requires few { length text.now ≤ LOG_BYTES }
     requires intake { intake_of command.task ≡ Intake.Log }

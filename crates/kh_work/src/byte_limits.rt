@@ -7,7 +7,7 @@ use cancel_log::LOG_BYTES;
 use kh_replies::Intake;
 use kh_types::INPUT_BYTES;
 
-/// The most bytes of what is read; none is for what reads nothing.
+/// The most bytes of what is read; none is for what reads nothing. Source: this project's rule.
 pub fn byte_limit(intake: Intake) -> Option<u32>
     ensures { result ≡ byte_limit intake }
 {

@@ -13,7 +13,7 @@ use std::sync::Wait;
 use std::thread::Threads;
 use worker_pool::Gate;
 
-/// The reply of a draft, with no other thread.
+/// The reply of a draft, with no other thread. Source: this project's rule.
 #[tactic(auto, unfolding(crate::specs::Homology::homology_text))]
 pub fn completed_alone(alloc: Global, draft: Draft) -> Result<Reply, NoMemory>
     requires { IsReady draft }
@@ -37,7 +37,8 @@ pub fn completed_alone(alloc: Global, draft: Draft) -> Result<Reply, NoMemory>
     }
 }
 
-/// The reply of a draft, with as many workers as it asks for, which call a gate.
+/// The reply of a draft, with as many workers as it asks for, which call a gate. Source: this
+/// project's rule.
 #[tactic(auto, unfolding(crate::specs::Homology::homology_text))]
 pub fn completed_by<R: Threads + Wait + Sync, G: Gate + Sync>(
     rt: &R,

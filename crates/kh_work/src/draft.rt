@@ -2,22 +2,25 @@
 
 use circle_smoothing::StateKinds;
 use kh_replies::Reply;
+use prime_field::FieldSize;
 
-/// A reply, or what it is to be made of.
+/// A reply, or what it is to be made of. Source: this project's rule.
 #[derive(Drop)]
 pub enum Draft {
     /// The reply is made.
     Made(Reply),
-    /// The homology table of a diagram over a field, by its number of elements, is still to be made, by so many workers, and the Jones line, which
-    /// is read from the kinds of the diagram's states.
+    /// The homology table of a diagram over a field, by its number of elements, is still to be
+    /// made, by so many workers, and the Jones line, which is read from the kinds of the diagram's
+    /// states.
     Table {
-        field: u8,
+        field: FieldSize,
         workers: u32,
         kinds: StateKinds,
     },
-    /// The same table of the diagram of a number, for the counts and the dimension that `bench` writes.
+    /// The same table of the diagram of a number, for the counts and the dimension that `bench`
+    /// writes.
     Bench {
-        field: u8,
+        field: FieldSize,
         workers: u32,
         number: u32,
         kinds: StateKinds,

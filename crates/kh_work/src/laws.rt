@@ -66,8 +66,9 @@ pub fn workers_do_not_change_answers()
         → IsAnswer words bytes reply → IsAnswer other bytes reply }
 {}
 
-/// Words that mean the command `homology`, and bytes that are the text of the code of an accepted diagram within the limits, are
-/// answered by its homology table over the field that the words name, and by the Jones line of its state sum.
+/// Words that mean the command `homology`, and bytes that are the text of the code of an accepted
+/// diagram within the limits, are answered by its homology table over the field that the words
+/// name, and by the Jones line of its state sum.
 pub fn accepted_diagrams_are_answered_by_their_table()
     ensures { (words : List (List ℕ)) (bytes : List ℕ) (command : Command) (code : Code)
         → IsCommand words command → command.task ≡ Task.Homology
@@ -77,8 +78,8 @@ pub fn accepted_diagrams_are_answered_by_their_table()
         (table_text (table command.field code) ++ jones_line code)) }
 {}
 
-/// Words that mean the command `jones`, and bytes that are the text of the code of an accepted diagram, are answered by the Jones
-/// line of its state sum.
+/// Words that mean the command `jones`, and bytes that are the text of the code of an accepted
+/// diagram, are answered by the Jones line of its state sum.
 pub fn accepted_diagrams_are_answered_by_their_polynomial()
     ensures line { (code : Code) → jones_line code ≡ polynomial_text (state_sum code) }
     ensures answer { (words : List (List ℕ)) (bytes : List ℕ) (command : Command) (code : Code)
@@ -87,9 +88,10 @@ pub fn accepted_diagrams_are_answered_by_their_polynomial()
         → IsAnswer words bytes (reply_of Status.Done (jones_line code)) }
 {}
 
-/// Words that mean the command `schedule`, and bytes with the code of an accepted diagram within the limits and a script that is read
-/// as the lines of a schedule, are answered by what the core answers to these lines, by the homology table over the field that the
-/// words name, and by the Jones line.
+/// Words that mean the command `schedule`, and bytes with the code of an accepted diagram within
+/// the limits and a script that is read as the lines of a schedule, are answered by what the core
+/// answers to these lines, by the homology table over the field that the words name, and by the
+/// Jones line.
 pub fn accepted_diagrams_are_answered_by_their_schedule()
     ensures { (words : List (List ℕ)) (bytes : List ℕ) (command : Command) (code : Code)
         (script : List (ℕ × ScheduleLine))
@@ -101,9 +103,11 @@ pub fn accepted_diagrams_are_answered_by_their_schedule()
         ++ (table_text (table command.field code) ++ jones_line code))) }
 {}
 
-/// Words that mean the command `edit`, and bytes with the code of an accepted diagram and a script that is read as the lines of an edit,
-/// are answered by the diagram after each line that is done, and by the line behind them, where it is refused. Every diagram that is
-/// written, that after any number of lines, is accepted and has the first one's state sum. Without lines nothing is written.
+/// Words that mean the command `edit`, and bytes with the code of an accepted diagram and a script
+/// that is read as the lines of an edit, are answered by the diagram after each line that is done,
+/// and by the line behind them, where it is refused. Every diagram that is written, that after any
+/// number of lines, is accepted and has the first one's state sum. Without lines nothing is
+/// written.
 pub fn accepted_diagrams_are_answered_by_their_edit()
     ensures answer { (words : List (List ℕ)) (bytes : List ℕ) (command : Command) (code : Code)
         (script : List (ℕ × EditLine))
@@ -117,8 +121,8 @@ pub fn accepted_diagrams_are_answered_by_their_edit()
         → outcome_reply code [] (edited (edits_in []) (opening_history code)) ≡ reply_of Status.Done [] }
 {}
 
-/// Words that mean the command `draw`, and bytes that are the text of the code of an accepted diagram, are answered by the text of its
-/// drawing.
+/// Words that mean the command `draw`, and bytes that are the text of the code of an accepted
+/// diagram, are answered by the text of its drawing.
 pub fn accepted_diagrams_are_answered_by_their_drawing()
     ensures { (words : List (List ℕ)) (bytes : List ℕ) (command : Command) (code : Code)
         → IsCommand words command → command.task ≡ Task.Draw
@@ -126,10 +130,12 @@ pub fn accepted_diagrams_are_answered_by_their_drawing()
         → IsAnswer words bytes (reply_of Status.Done (drawing_text (slices_of code))) }
 {}
 
-/// Words that mean the command `reduced` with a mark, and bytes that are the text of the code of an accepted diagram, are answered by
-/// the line of the mark, the reduced homology table at it over the field that the words name, and the diagram's Jones line, where the
-/// mark is an arc or a loop and there are few enough generators. (q + q^-1) times the Euler characteristic of that table is the state
-/// sum, which that line shows. Another mark is refused, however many generators there are.
+/// Words that mean the command `reduced` with a mark, and bytes that are the text of the code of an
+/// accepted diagram, are answered by the line of the mark, the reduced homology table at it over
+/// the field that the words name, and the diagram's Jones line, where the mark is an arc or a loop
+/// and there are few enough generators. (q + q^-1) times the Euler characteristic of that table is
+/// the state sum, which that line shows. Another mark is refused, however many generators there
+/// are.
 pub fn accepted_diagrams_are_answered_by_their_reduced_table()
     ensures answer { (words : List (List ℕ)) (bytes : List ℕ) (command : Command) (mark : ℕ) (code : Code)
         → IsCommand words command → command.task ≡ Task.Reduced → command.mark ≡ Some mark
@@ -150,8 +156,9 @@ pub fn accepted_diagrams_are_answered_by_their_reduced_table()
     reduced_euler_characteristic();
 }
 
-/// Words that mean the command `certify`, and bytes that are the text of the code of an accepted diagram within the limits, are
-/// answered by each log of that diagram over the field that the words name which is short enough to be verified, and by nothing else.
+/// Words that mean the command `certify`, and bytes that are the text of the code of an accepted
+/// diagram within the limits, are answered by each log of that diagram over the field that the
+/// words name which is short enough to be verified, and by nothing else.
 pub fn accepted_diagrams_are_answered_by_their_logs()
     ensures answer { (words : List (List ℕ)) (bytes : List ℕ) (command : Command) (code : Code) (text : List ℕ)
         → IsCommand words command → command.task ≡ Task.Certify
@@ -165,9 +172,10 @@ pub fn accepted_diagrams_are_answered_by_their_logs()
         → IsCertificate command.field code reply }
 {}
 
-/// Words that mean the command `verify`, and bytes that are a log of a diagram over a field, are answered by the line `verified` and the
-/// diagram's homology table over that field; and they are answered as done where the bytes are such a log, and nowhere else. So is what
-/// `certify` answers to an accepted diagram within the limits.
+/// Words that mean the command `verify`, and bytes that are a log of a diagram over a field, are
+/// answered by the line `verified` and the diagram's homology table over that field; and they are
+/// answered as done where the bytes are such a log, and nowhere else. So is what `certify` answers
+/// to an accepted diagram within the limits.
 pub fn logs_are_answered_by_their_table()
     ensures answer { (words : List (List ℕ)) (bytes : List ℕ) (command : Command) (field : ℕ) (code : Code)
         → IsCommand words command → command.task ≡ Task.Verify → length bytes ≤ LOG_BYTES
@@ -186,8 +194,9 @@ pub fn logs_are_answered_by_their_table()
         (reply_of Status.Done (codes "verified\n" ++ table_text (table command.field code))) }
 {}
 
-/// Words that mean the command `mirror`, or the command `reverse`, and bytes that are the text of the code of an accepted diagram, are
-/// answered by the planar diagram text of its mirror, or of its reversal.
+/// Words that mean the command `mirror`, or the command `reverse`, and bytes that are the text of
+/// the code of an accepted diagram, are answered by the planar diagram text of its mirror, or of
+/// its reversal.
 pub fn accepted_diagrams_are_answered_by_their_mirror()
     ensures mirrored { (words : List (List ℕ)) (bytes : List ℕ) (command : Command) (code : Code)
         → IsCommand words command → command.task ≡ Task.Mirror
@@ -199,9 +208,10 @@ pub fn accepted_diagrams_are_answered_by_their_mirror()
         → IsAnswer words bytes (reply_of Status.Done (pd_text (reversal_of code) ++ codes "\n")) }
 {}
 
-/// Words that mean the command `union`, and bytes with the codes of two accepted diagrams, are answered by the planar diagram text of
-/// their disjoint union, unless they have too many crossings together or too many loops. Where the second code is refused, the line
-/// `second` stands before that of the refusal.
+/// Words that mean the command `union`, and bytes with the codes of two accepted diagrams, are
+/// answered by the planar diagram text of their disjoint union, unless they have too many crossings
+/// together or too many loops. Where the second code is refused, the line `second` stands before
+/// that of the refusal.
 pub fn accepted_diagrams_are_answered_by_their_union()
     ensures answer { (words : List (List ℕ)) (bytes : List ℕ) (command : Command) (first second : Code)
         → IsCommand words command → command.task ≡ Task.Union → length bytes ≤ INPUT_BYTES
@@ -218,9 +228,10 @@ pub fn accepted_diagrams_are_answered_by_their_union()
         → IsAnswer words bytes (reply_of refusal.status (codes "second\n" ++ refusal.text)) }
 {}
 
-/// Words that mean the command `bench` with a number are answered by three lines of counts of the number's diagram, the sum of all
-/// dimensions of its homology table over the field that the words name being the last, and by its Jones line; where no
-/// diagram has the number they are answered by the limit on numbers.
+/// Words that mean the command `bench` with a number are answered by three lines of counts of the
+/// number's diagram, the sum of all dimensions of its homology table over the field that the words
+/// name being the last, and by its Jones line; where no diagram has the number they are answered by
+/// the limit on numbers.
 pub fn numbers_are_answered_by_their_table()
     ensures table { (words : List (List ℕ)) (bytes : List ℕ) (command : Command) (number : ℕ)
         → IsCommand words command → command.task ≡ Task.Bench → command.number ≡ Some number
@@ -232,7 +243,8 @@ pub fn numbers_are_answered_by_their_table()
         → NUMBERS ≤ number → IsAnswer words bytes (too_large_number number) }
 {}
 
-/// The Jones line of an accepted diagram is that of the graded Euler characteristic of its homology table, over each field.
+/// The Jones line of an accepted diagram is that of the graded Euler characteristic of its homology
+/// table, over each field. Source: Bar-Natan 2002, section 3.
 pub fn jones_line_is_the_euler_characteristic()
     ensures { (field : ℕ) (code : Code) → IsFieldSize field → IsTrue (accepted code) → length code.crossings ≤ CROSSINGS
         → jones_line code ≡ polynomial_text (euler (table field code)) }

@@ -1,4 +1,5 @@
-//! The one call that does all that the program does: from words and bytes to a status and the bytes to write.
+//! The one call that does all that the program does: from words and bytes to a status and the bytes
+//! to write.
 #![tactic(auto)]
 
 mod answer;

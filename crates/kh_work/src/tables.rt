@@ -4,29 +4,28 @@ ghost use Rattle.std.specs.Prelude.{◌≡◌, ◌≤◌, IfOk};
 ghost use Rattle.circle_smoothing.specs.GeneratorCounts.{generator_count};
 ghost use Rattle.circle_smoothing.specs.declared.limits.TheConstants.{GENERATORS};
 ghost use Rattle.kh_types.specs.Table.{table};
-ghost use Rattle.word_line.specs.Values.{AreWorkers, IsFieldSize};
+ghost use Rattle.word_line.specs.Values.{AreWorkers};
 
 use circle_smoothing::StateKinds;
 use jones_sum::Table;
 use kh_types::NoMemory;
-use prime_field::{F2, F3, F5, F7, PrimeField};
+use prime_field::{Elements, F2, F3, F5, F7, FieldSize, PrimeField};
 use std::alloc::Global;
 use std::sync::Wait;
 use std::thread::Threads;
 use worker_pool::{Gate, PoolStop, cancel_kinds, cancel_kinds_alone};
 
-/// The homology table of a diagram over the field of so many elements, made on the caller's thread, given the kinds of the diagram's states.
-pub fn table_alone(alloc: Global, field: u8, kinds: &StateKinds) -> Result<Table, NoMemory>
+/// The homology table of a diagram over the field of so many elements, made on the caller's thread,
+/// given the kinds of the diagram's states. Source: Bar-Natan 2002, section 3.
+pub fn table_alone(alloc: Global, field: FieldSize, kinds: &StateKinds) -> Result<Table, NoMemory>
     requires size { generator_count kinds.now ≤ GENERATORS }
-    requires field { IsFieldSize field }
     ensures { IfOk result (λ made. made ≡ table field kinds.now) }
 {
-    match field {
-        2 => table_alone_over::<F2>(alloc, kinds),
-        3 => table_alone_over::<F3>(alloc, kinds),
-        5 => table_alone_over::<F5>(alloc, kinds),
-        7 => table_alone_over::<F7>(alloc, kinds),
-        _ => unreachable!(),
+    match field.elements() {
+        Elements::Two => table_alone_over::<F2>(alloc, kinds),
+        Elements::Three => table_alone_over::<F3>(alloc, kinds),
+        Elements::Five => table_alone_over::<F5>(alloc, kinds),
+        Elements::Seven => table_alone_over::<F7>(alloc, kinds),
     }
 }
 
@@ -41,30 +40,28 @@ fn table_alone_over<F: PrimeField>(alloc: Global, kinds: &StateKinds) -> Result<
     }
 }
 
-/// The same, made by so many workers. They call a gate in each of their turns, and one
-/// worker works on the caller's thread, without a gate.
+/// The same, made by so many workers. They call a gate in each of their turns, and one worker works
+/// on the caller's thread, without a gate. Source: Bar-Natan 2002, section 3.
 pub fn table_by<R: Threads + Wait + Sync, G: Gate + Sync>(
     rt: &R,
     alloc: Global,
-    field: u8,
+    field: FieldSize,
     workers: u32,
     kinds: &StateKinds,
     gate: &G,
 ) -> Result<Table, NoMemory>
     requires size { generator_count kinds.now ≤ GENERATORS }
     requires workers { AreWorkers workers }
-    requires field { IsFieldSize field }
     ensures { IfOk result (λ made. made ≡ table field kinds.now) }
 {
     if workers == 1 {
         return table_alone(alloc, field, kinds);
     }
-    match field {
-        2 => table_by_over::<R, F2, G>(rt, alloc, workers, kinds, gate),
-        3 => table_by_over::<R, F3, G>(rt, alloc, workers, kinds, gate),
-        5 => table_by_over::<R, F5, G>(rt, alloc, workers, kinds, gate),
-        7 => table_by_over::<R, F7, G>(rt, alloc, workers, kinds, gate),
-        _ => unreachable!(),
+    match field.elements() {
+        Elements::Two => table_by_over::<R, F2, G>(rt, alloc, workers, kinds, gate),
+        Elements::Three => table_by_over::<R, F3, G>(rt, alloc, workers, kinds, gate),
+        Elements::Five => table_by_over::<R, F5, G>(rt, alloc, workers, kinds, gate),
+        Elements::Seven => table_by_over::<R, F7, G>(rt, alloc, workers, kinds, gate),
     }
 }
 

@@ -13,9 +13,10 @@ use std::sync::Wait;
 use std::thread::Threads;
 use worker_pool::Gate;
 
-/// Does all that the program does: takes the words after the program's name, reads the source to its end where they mean a
-/// command that reads, makes the whole answer, and writes it. Answers how the run ended. `homology` and `bench` alone start threads and
-/// may wait, where they have more workers than one, which then call the gate in each of their turns. Source: this project's rule.
+/// Does all that the program does: takes the words after the program's name, reads the source to
+/// its end where they mean a command that reads, makes the whole answer, and writes it. Answers how
+/// the run ended. `homology` and `bench` alone start threads and may wait, where they have more
+/// workers than one, which then call the gate in each of their turns. Source: this project's rule.
 pub fn run<R: Threads + Wait + Sync, S: Source, K: Sink, G: Gate + Sync>(
     rt: &R,
     alloc: Global,
@@ -37,7 +38,8 @@ pub fn run<R: Threads + Wait + Sync, S: Source, K: Sink, G: Gate + Sync>(
     written(sink, made)
 }
 
-/// Does the same on the caller's thread, whatever the number of workers, and waits for nobody. Source: this project's rule.
+/// Does the same on the caller's thread, whatever the number of workers, and waits for nobody.
+/// Source: this project's rule.
 pub fn run_alone<S: Source, K: Sink>(
     alloc: Global,
     words: &Words,

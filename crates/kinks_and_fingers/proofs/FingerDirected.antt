@@ -24,6 +24,7 @@ use Rattle.kinks_and_fingers.proofs.Passed.{HasPass, IsPassed, HasRuns}
 use Rattle.kinks_and_fingers.proofs.FingerSlots.{length-fingered, arc_of-tail, HasPasses}
 use Rattle.kinks_and_fingers.proofs.FingerRuns.{first_number, first_number-opened, first_number-head, HasPasses-first, HasPasses-second, HasSteps-fingered}
 use Rattle.kinks_and_fingers.proofs.FingerDarts.{arc_count-fingered, slots-fingered, head_dart, by_order, two_places-fingered}
+use Rattle.kinks_and_fingers.proofs.KinkDirected.{HasPass-old, HasPass-over, HasPass-under, IsPassed-same}
 
 -- the runs
 
@@ -140,45 +141,6 @@ first_number-run crossings a b y can within less = elim (before-cases crossings 
 ]
 
 -- and it is joined with the next by a pass
-
--- the pass across an old crossing from a head
-HasPass-old : (crossings new : List (List ℕ)) (dart : Dart) (u v : ℕ) → IsDart crossings dart → is_head crossings dart ≡ true
-    → arc_of new dart ≡ u → arc_of new (across dart) ≡ v → HasPass new u v (dart.crossing - 1)
-HasPass-old crossings new dart u v is head from to =
-    let place = dart.crossing - 1 in
-    let here = λ (slot : ℕ) (same : dart.slot ≡ slot). ap (λ s. arc_at new place s) (sym same) ∙ from in
-    let there = λ (slot : ℕ) (same : (dart.slot + 2) % 4 ≡ slot). ap (λ s. arc_at new place s) (sym same) ∙ to in
-    elim (head-cases crossings dart head) [
-      | inl none ↦ inl (here 0 none, there 2 (omega (arith, none)))
-      | inr over ↦ elim over [
-        | inl positive ↦ inr (inr (here 3 positive.1, there 1 (omega (arith, positive.1))))
-        | inr negative ↦ inr (inl (here 1 negative.1, there 3 (omega (arith, negative.1))))
-      ]
-    ]
-
--- the passes of a crossing whose ends are known
-HasPass-under : (crossings : List (List ℕ)) (place : ℕ) (positive : Bool) (u v s t : ℕ)
-    → HasPasses (slots_of crossings (place + 1)) positive u v s t → HasPass crossings u v place
-HasPass-under crossings place positive u v s t passes =
-    let e : place ≡ place + 1 - 1 = omega arith in
-    inl (ap (λ k. arc_at crossings k 0) e ∙ passes.under_from, ap (λ k. arc_at crossings k 2) e ∙ passes.under_to)
-
-HasPass-over : (crossings : List (List ℕ)) (place : ℕ) (positive : Bool) (u v s t : ℕ)
-    → HasPasses (slots_of crossings (place + 1)) positive u v s t → HasPass crossings s t place
-HasPass-over crossings place true u v s t passes =
-    let e : place ≡ place + 1 - 1 = omega arith in
-    inr (inr (ap (λ k. arc_at crossings k 3) e ∙ passes.over_from, ap (λ k. arc_at crossings k 1) e ∙ passes.over_to))
-HasPass-over crossings place false u v s t passes =
-    let e : place ≡ place + 1 - 1 = omega arith in
-    inr (inl (ap (λ k. arc_at crossings k 1) e ∙ passes.over_from, ap (λ k. arc_at crossings k 3) e ∙ passes.over_to))
-
-IsPassed-same : (crossings : List (List ℕ)) (u v u2 v2 place : ℕ) → place < length crossings → HasPass crossings u v place → u ≡ u2
-    → v ≡ v2 → IsPassed crossings u2 v2
-IsPassed-same crossings u v u2 v2 place below passes first second = record {
-  place = place;
-  below = below;
-  passes = subst (λ (w : ℕ). HasPass crossings w v2 place) first (subst (λ (w : ℕ). HasPass crossings u w place) second passes);
-}
 
 second_place : (crossings new : List (List ℕ)) (positive : Bool) (u v s t : ℕ)
     → HasPasses (slots_of new (length crossings + 2)) positive u v s t → HasPasses (slots_of new (length crossings + 1 + 1)) positive u v s t

@@ -26,20 +26,7 @@ use Rattle.kinks_and_fingers.proofs.FingerSizes.{IsDirected-fingered}
 use Rattle.kinks_and_fingers.proofs.FingerSigns.{arc_of-other}
 use Rattle.kinks_and_fingers.proofs.FingerFaces.{HasNewPartners, over_side, under_side, exchanged, IsExchange-exchanged, faces-exchanged}
 use Rattle.kinks_and_fingers.proofs.FingerPieces.{same-pieces, pieces-few, pieces-fewer_apart}
-
--- two darts of an arc are partners, by their places
-partner-of : (crossings : List (List ℕ)) (dart other : Dart) → HasArcsTwice crossings → IsDart crossings dart → IsDart crossings other
-    → dart ≢ other → arc_of crossings dart ≡ arc_of crossings other → partner_at crossings (dart_place dart) ≡ dart_place other
-partner-of crossings dart other twice is other_is apart same =
-    let here = dart_at-place crossings dart is in
-    let there = dart_at-place crossings other other_is in
-    sym
-    (partner_at-only crossings (dart_place dart) (dart_place other) twice (dart_place-below crossings dart is)
-    (record {
-      below = dart_place-below crossings other other_is;
-      differs = λ alike. apart (sym here ∙ ap dart_at (sym alike) ∙ there);
-      same_arc = ap (λ d. arc_of crossings d) there ∙ sym same ∙ ap (λ d. arc_of crossings d) (sym here);
-    }))
+use Rattle.kinks_and_fingers.proofs.KinkFaces.{partner-of, both-ways}
 
 place-apart : (crossings : List (List ℕ)) (dart other : Dart) → IsDart crossings dart → IsDart crossings other → dart ≢ other
     → dart_place dart ≢ dart_place other
@@ -69,16 +56,6 @@ record UnderPairs (n : ℕ) (q : ℕ → ℕ) (ordered : Bool) (tb hb : ℕ) : T
   q_between_back : q (4 * n + (if ordered then 4 else 0)) ≡ 4 * n + (if ordered then 2 else 6)
   q_under_last : q (4 * n + (if ordered then 6 else 2)) ≡ hb
   q_hb : q hb ≡ 4 * n + (if ordered then 6 else 2)
-
--- two darts of an arc, at known places
-both-ways : (crossings : List (List ℕ)) (dart other : Dart) (j k : ℕ) → HasArcsTwice crossings → IsDart crossings dart → IsDart crossings other
-    → dart ≢ other → arc_of crossings dart ≡ arc_of crossings other → dart_place dart ≡ j → dart_place other ≡ k
-    → (partner_at crossings j ≡ k) × (partner_at crossings k ≡ j)
-both-ways crossings dart other j k twice is other_is apart same place other_place = (
-  ap (λ z. partner_at crossings z) (sym place) ∙ partner-of crossings dart other twice is other_is apart same ∙ other_place,
-  ap (λ z. partner_at crossings z) (sym other_place)
-      ∙ partner-of crossings other dart twice other_is is (λ alike. apart (sym alike)) (sym same) ∙ place,
-)
 
 unders : (crossings : List (List ℕ)) (a b : ℕ) (positive ordered : Bool) → AreFingerable crossings a b
     → UnderPairs (length crossings) (partner_at (fingered_crossings crossings a b positive ordered)) ordered

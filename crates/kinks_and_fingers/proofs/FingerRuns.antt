@@ -127,7 +127,7 @@ pub record HasSteps (first : ℕ → ℕ) (slots : List ℕ) : Type 0 where
   pub under : IsStep first (arc_in slots 0) (arc_in slots 2)
   pub over : IsStep first (arc_in slots 1) (arc_in slots 3) ⊎ IsStep first (arc_in slots 3) (arc_in slots 1)
 
-HasSteps-passes : (first : ℕ → ℕ) (slots : List ℕ) (positive : Bool) (u v s t : ℕ) → HasPasses slots positive u v s t
+pub HasSteps-passes : (first : ℕ → ℕ) (slots : List ℕ) (positive : Bool) (u v s t : ℕ) → HasPasses slots positive u v s t
     → IsStep first u v → IsStep first s t → HasSteps first slots
 HasSteps-passes first slots positive u v s t passes under over = record {
   under = subst (λ (z : ℕ). IsStep first z (arc_in slots 2)) (sym passes.under_from) (subst (λ (z : ℕ). IsStep first u z) (sym passes.under_to) under);

@@ -81,14 +81,14 @@ option_or-none : (o : Option ℕ) → option_or o None ≡ o
 option_or-none None = refl
 option_or-none (Some x) = refl
 
-find-longer : (p q : ℕ → Bool) (a n m : ℕ) → ((k : ℕ) → a ≤ k → k < a + n → q k ≡ p k)
+pub find-longer : (p q : ℕ → Bool) (a n m : ℕ) → ((k : ℕ) → a ≤ k → k < a + n → q k ≡ p k)
     → ((k : ℕ) → a + n ≤ k → k < a + n + m → q k ≡ false) → find q (range_with_len a (n + m)) ≡ find p (range_with_len a n)
 find-longer p q a n m alike none =
     ap (λ xs. find q xs) (range-append a n m) ∙ find-append q (range_with_len a n) (range_with_len (a + n) m)
     ∙ ap (λ o. option_or (find q (range_with_len a n)) o) (find-none q (a + n) m (λ k from below. none k from below))
     ∙ option_or-none (find q (range_with_len a n)) ∙ find-alike q p a n alike
 
-find-within : (p : ℕ → Bool) (a n k : ℕ) → find p (range_with_len a n) ≡ Some k → (a ≤ k) × (k < a + n)
+pub find-within : (p : ℕ → Bool) (a n k : ℕ) → find p (range_with_len a n) ≡ Some k → (a ≤ k) × (k < a + n)
 find-within p a zero k found = absurd (cc)
 find-within p a (suc n) k found = elim (cases_Bool (p a)) [
   | inl passes ↦
@@ -150,11 +150,11 @@ nat_lt-opened a b x y = elim (cases_lt x y) [
     both_fail u v x y from other = grind (arith, nat_tests)
 
 -- the test for small components
-small_test : (m : ℕ) (large small : Bool) → m ≤ 2 → (if nat_le 3 m then large else small) ≡ small
+pub small_test : (m : ℕ) (large small : Bool) → m ≤ 2 → (if nat_le 3 m then large else small) ≡ small
 small_test m large small within = grind (arith, nat_tests)
 
 -- one choice under two tests that agree
-one_choice : (o : Option ℕ) (f g : ℕ → Bool) (x y : Bool) → ((k : ℕ) → o ≡ Some k → f k ≡ g k) → x ≡ y
+pub one_choice : (o : Option ℕ) (f g : ℕ → Bool) (x y : Bool) → ((k : ℕ) → o ≡ Some k → f k ≡ g k) → x ≡ y
     → (if is_some o then f (unwrap_or o 0) else x) ≡ (if is_some o then g (unwrap_or o 0) else y)
 one_choice None f g x y alike same = same
 one_choice (Some k) f g x y alike same = alike k refl

@@ -3,11 +3,7 @@ use Rattle.std.proofs.Common.{◌≡◌, ℕ, suc, ◌+◌, ◌*◌, ◌∙◌, 
 use Rattle.std.proofs.lemmas.Int.{ints}
 use Rattle.kh_types.specs.StateSum.{circle_coefficient}
 use Rattle.gluing.specs.Terms.{term_at, signed_by_count}
-use Rattle.gluing.proofs.KinkSums.{signed_by-add, signed_by-next}
-
-circle_coefficient-more : (k : ℕ) (x : ℤ)
-    → circle_coefficient (k + 1) x ≡ circle_coefficient k (x -ℤ pos 1) + circle_coefficient k (x +ℤ pos 1)
-circle_coefficient-more k x = let e : k + 1 ≡ suc k = omega arith in ap (λ n. circle_coefficient n x) e
+use Rattle.gluing.proofs.KinkSums.{signed_by-add, signed_by-next, circle_coefficient-more}
 
 -- two mixed states of one circle count, the straight one, and the one with a circle more
 four : (k s n : ℕ) (x y z : ℤ) → y ≡ x +ℤ pos 1 → z ≡ x -ℤ pos 1

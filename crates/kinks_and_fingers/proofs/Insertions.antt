@@ -13,29 +13,13 @@ use Rattle.kh_types.proofs.EdgeBits.{bit-set_there, bit-set_other}
 use Rattle.kinks_and_fingers.specs.Insertions.{with_bit}
 use Rattle.kinks_and_fingers.specs.Pulls.{early}
 use Rattle.gluing.proofs.KinkSums.{int_sum-doubled}
-
-bit-above : (n state : ℕ) → state < 2 ^ n → bit state n ≡ 0
-bit-above n state below = ap (λ q. q % 2) (div-eq_of_lt below)
-
-bit-highest : (n state : ℕ) → state < 2 ^ n → bit (2 ^ n + state) n ≡ 1
-bit-highest n state below =
-    let turned : 2 ^ n + state ≡ state + 2 ^ n = omega arith in
-    ap (λ s. bit s n) turned ∙ bit-set_there state n (bit-above n state below)
+use Rattle.gluing.proofs.CodeCircles.{bit-highest, bit-above}
+use Rattle.gluing.proofs.SplitStates.{doubled, sums_over}
 
 bit-lower : (n state k : ℕ) → state < 2 ^ n → k < n → bit (2 ^ n + state) k ≡ bit state k
 bit-lower n state k below k_below =
     let turned : 2 ^ n + state ≡ state + 2 ^ n = omega arith in
     ap (λ s. bit s k) turned ∙ bit-set_other state n (bit-above n state below) k (λ same. absurd (omega (arith, k_below, same)))
-
-sums_over : (ℕ → ℤ) → ℕ → ℤ
-sums_over f n = int_sum (map f (range_with_len 0 (2 ^ n)))
-
-doubled : (f g : ℕ → ℤ) (n : ℕ) → ((state : ℕ) → state < 2 ^ n → f state +ℤ f (2 ^ n + state) ≡ g state)
-    → sums_over f (suc n) ≡ sums_over g n
-unfolding sums_over
-doubled f g n pairs =
-    let e : 2 ^ suc n ≡ 2 ^ n + 2 ^ n = pow-suc 2 n ∙ omega arith in
-    ap (λ k. int_sum (map f (range_with_len 0 k))) e ∙ int_sum-doubled g f (2 ^ n) pairs
 
 -- the three cases of a bit more
 

@@ -228,7 +228,7 @@ pub kept_are : (code : Code) (c k : ℕ) → length code.crossings ≡ k + 1 →
     → kept_places code.crossings (nat_eq c) ≡ map (early c k) (range_with_len 0 k)
 kept_are code c k size within = ap (λ n. filter (λ x. not (nat_eq c x)) (range_with_len 0 n)) size ∙ places-but c k within
 
-early-low : (n c k i : ℕ) → n ≡ k + 1 → c ≤ k → i < k → early c k i < n
+pub early-low : (n c k i : ℕ) → n ≡ k + 1 → c ≤ k → i < k → early c k i < n
 early-low n c k i size within below = grind (arith, nat_tests)
 
 pub circles-through : (code : Code) (c p k state new : ℕ) → IsTrue (accepted code) → HasKinkAt code.crossings c p

@@ -308,7 +308,7 @@ first_number-run crossings a y can within less = elim (before-cases crossings a 
 -- and it is joined with the next by a pass
 
 -- the pass across an old crossing from a head
-HasPass-old : (crossings new : List (List ℕ)) (dart : Dart) (u v : ℕ) → IsDart crossings dart → is_head crossings dart ≡ true
+pub HasPass-old : (crossings new : List (List ℕ)) (dart : Dart) (u v : ℕ) → IsDart crossings dart → is_head crossings dart ≡ true
     → arc_of new dart ≡ u → arc_of new (across dart) ≡ v → HasPass new u v (dart.crossing - 1)
 HasPass-old crossings new dart u v is head from to =
     let place = dart.crossing - 1 in
@@ -323,13 +323,13 @@ HasPass-old crossings new dart u v is head from to =
     ]
 
 -- the passes of a crossing whose ends are known
-HasPass-under : (crossings : List (List ℕ)) (place : ℕ) (positive : Bool) (u v s t : ℕ)
+pub HasPass-under : (crossings : List (List ℕ)) (place : ℕ) (positive : Bool) (u v s t : ℕ)
     → HasPasses (slots_of crossings (place + 1)) positive u v s t → HasPass crossings u v place
 HasPass-under crossings place positive u v s t passes =
     let e : place ≡ place + 1 - 1 = omega arith in
     inl (ap (λ k. arc_at crossings k 0) e ∙ passes.under_from, ap (λ k. arc_at crossings k 2) e ∙ passes.under_to)
 
-HasPass-over : (crossings : List (List ℕ)) (place : ℕ) (positive : Bool) (u v s t : ℕ)
+pub HasPass-over : (crossings : List (List ℕ)) (place : ℕ) (positive : Bool) (u v s t : ℕ)
     → HasPasses (slots_of crossings (place + 1)) positive u v s t → HasPass crossings s t place
 HasPass-over crossings place true u v s t passes =
     let e : place ≡ place + 1 - 1 = omega arith in
@@ -352,7 +352,7 @@ HasPass-second crossings a true positive =
 HasPass-second crossings a false positive =
     HasPass-over (kinked_crossings crossings a false positive) (length crossings) positive a (a + 1) (a + 1) (a + 2) (HasPasses-new crossings a false positive)
 
-IsPassed-same : (crossings : List (List ℕ)) (u v u2 v2 place : ℕ) → place < length crossings → HasPass crossings u v place → u ≡ u2
+pub IsPassed-same : (crossings : List (List ℕ)) (u v u2 v2 place : ℕ) → place < length crossings → HasPass crossings u v place → u ≡ u2
     → v ≡ v2 → IsPassed crossings u2 v2
 IsPassed-same crossings u v u2 v2 place below passes first second = record {
   place = place;

@@ -28,10 +28,11 @@ use Rattle.kinks_and_fingers.proofs.Smoothed.{dart_in-below, dart_in-place}
 use Rattle.kinks_and_fingers.proofs.OldDarts.{heads-partner, dart_in-slot}
 use Rattle.kinks_and_fingers.proofs.KinkDrops.{kink-partner}
 use Rattle.kinks_and_fingers.proofs.KeptCodes.{length-kept}
-use Rattle.kinks_and_fingers.proofs.StrandCircles.{count-parts}
+use Rattle.kinks_and_fingers.proofs.StrandCircles.{count-parts, count_by-cons}
 use Rattle.kinks_and_fingers.proofs.KinkClosing.{kept_are, circles-through, circles-closing}
 use Rattle.gluing.proofs.KinkSums.{term_of-positive_kink, term_of-negative_kink}
 use Rattle.kinks_and_fingers.proofs.Insertions.{int_sum-with_bit, HasBit-with_bit}
+use Rattle.gluing.proofs.SlidSums.{signed_by-difference}
 
 -- the sign of a kink
 
@@ -67,9 +68,6 @@ one_if b = cond b 1 0
 
 abbrev one_unless : Bool → ℕ
 one_unless b = cond b 0 1
-
-pub count_by-cons : (p : ℕ → Bool) (x : ℕ) (xs : List ℕ) → count_by p (x ∷ xs) ≡ cond (p x) 1 0 + count_by p xs
-count_by-cons p x xs = sum_by-cons (λ y. cond (p y) 1 0) x xs
 
 pub count-later : (p : ℕ → Bool) (a n : ℕ) → count_by p (range_with_len (a + 1) n) ≡ count_by (λ x. p (x + 1)) (range_with_len a n)
 count-later p a zero = refl
@@ -148,20 +146,6 @@ plus-kept code c below =
     omega (arith, all, signs, parts, own)
 
 -- terms
-
-signed_by-difference : (r minus x : ℕ) → kh.signed_by (pos r -ℤ pos minus) x ≡ signed_by_count (r + minus) x
-signed_by-difference r minus x = by_parity (pos r -ℤ pos minus) r minus x refl
-  where
-    same_parity : (i k x : ℕ) → i % 2 ≡ k % 2 → signed_by_parity i x ≡ signed_by_parity k x
-    same_parity i k x same = ap (λ p. cond (nat_eq p 0) (pos x) (neg_ℤ (pos x))) same
-
-    by_parity : (z : ℤ) (r minus x : ℕ) → z ≡ pos r -ℤ pos minus → kh.signed_by z x ≡ signed_by_count (r + minus) x
-    by_parity (pos i) r minus x is =
-        let e : i + minus ≡ r = omega (arith, ints, is) in
-        same_parity i (r + minus) x (omega (arith, e))
-    by_parity (negsuc i) r minus x is =
-        let e : i + 1 + r ≡ minus = omega (arith, ints, is) in
-        same_parity (suc i) (r + minus) x (omega (arith, e))
 
 pub term-is : (plus minus : ℕ) (exponent : ℤ) (r circles : ℕ) → kh.term_of plus minus exponent r circles ≡ term_at plus minus exponent r circles
 term-is plus minus exponent r circles =

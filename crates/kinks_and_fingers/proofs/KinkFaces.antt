@@ -30,7 +30,7 @@ use Rattle.kinks_and_fingers.proofs.KinkSizes.{IsKinkable-accepted, IsDirected-k
 use Rattle.kinks_and_fingers.proofs.KinkSigns.{arc_of-other}
 
 -- two darts of an arc are partners, by their places
-partner-of : (crossings : List (List ℕ)) (dart other : Dart) → HasArcsTwice crossings → IsDart crossings dart → IsDart crossings other
+pub partner-of : (crossings : List (List ℕ)) (dart other : Dart) → HasArcsTwice crossings → IsDart crossings dart → IsDart crossings other
     → dart ≢ other → arc_of crossings dart ≡ arc_of crossings other → partner_at crossings (dart_place dart) ≡ dart_place other
 partner-of crossings dart other twice is other_is apart same =
     let here = dart_at-place crossings dart is in
@@ -44,7 +44,7 @@ partner-of crossings dart other twice is other_is apart same =
     }))
 
 -- at known places
-both-ways : (crossings : List (List ℕ)) (dart other : Dart) (j k : ℕ) → HasArcsTwice crossings → IsDart crossings dart → IsDart crossings other
+pub both-ways : (crossings : List (List ℕ)) (dart other : Dart) (j k : ℕ) → HasArcsTwice crossings → IsDart crossings dart → IsDart crossings other
     → dart ≢ other → arc_of crossings dart ≡ arc_of crossings other → dart_place dart ≡ j → dart_place other ≡ k
     → (partner_at crossings j ≡ k) × (partner_at crossings k ≡ j)
 both-ways crossings dart other j k twice is other_is apart same place other_place = (

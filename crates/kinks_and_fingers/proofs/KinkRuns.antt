@@ -13,7 +13,7 @@ use Rattle.kh_types.proofs.NextArcs.{component, component-next}
 use Rattle.kinks_and_fingers.specs.FingerAdd.{dart_with}
 use Rattle.kinks_and_fingers.proofs.Passed.{IsStep, IsStep-inside}
 use Rattle.kinks_and_fingers.proofs.FingerSlots.{over_from, over_to, HasPasses}
-use Rattle.kinks_and_fingers.proofs.FingerRuns.{HasSteps}
+use Rattle.kinks_and_fingers.proofs.FingerRuns.{HasSteps, HasSteps-passes}
 use Rattle.kinks_and_fingers.specs.KinkAdds.{raised}
 use Rattle.kinks_and_fingers.specs.KinkCodes.{kinked_crossings, IsKinkable}
 use Rattle.kinks_and_fingers.proofs.Numbers.{last, low, low-raised, low-last, low-part, raised-suc, raised-injective}
@@ -107,20 +107,6 @@ IsStep-under crossings a false = IsStep-middle crossings a
 pub IsStep-over : (crossings : List (List ℕ)) (a : ℕ) (over : Bool) → IsStep (first_number crossings a) (over_start over a) (over_end over a)
 IsStep-over crossings a true = IsStep-middle crossings a
 IsStep-over crossings a false = IsStep-last crossings a
-
-HasSteps-passes : (first : ℕ → ℕ) (slots : List ℕ) (positive : Bool) (u v s t : ℕ) → HasPasses slots positive u v s t
-    → IsStep first u v → IsStep first s t → HasSteps first slots
-HasSteps-passes first slots positive u v s t passes under over = record {
-  under = subst (λ (z : ℕ). IsStep first z (arc_in slots 2)) (sym passes.under_from) (subst (λ (z : ℕ). IsStep first u z) (sym passes.under_to) under);
-  over = by_sign positive
-      (subst (λ (z : ℕ). IsStep first z (arc_in slots (over_to positive))) (sym passes.over_from)
-      (subst (λ (z : ℕ). IsStep first s z) (sym passes.over_to) over));
-}
-  where
-    by_sign : (positive : Bool) → IsStep first (arc_in slots (over_from positive)) (arc_in slots (over_to positive))
-        → IsStep first (arc_in slots 1) (arc_in slots 3) ⊎ IsStep first (arc_in slots 3) (arc_in slots 1)
-    by_sign true is = inr is
-    by_sign false is = inl is
 
 -- a crossing is an old one, or the new one
 pub crossing-cases : (crossings : List (List ℕ)) (a : ℕ) (over positive : Bool) (crossing : ℕ)

@@ -21,7 +21,7 @@ use Rattle.kinks_and_fingers.specs.FingerAdd.{dart_with}
 use Rattle.face_walk.proofs.PlainCounts.{counted}
 use Rattle.kinks_and_fingers.proofs.Numbered.{components-numbered}
 use Rattle.kinks_and_fingers.proofs.Passed.{IsNumbering-runs}
-use Rattle.kinks_and_fingers.proofs.FingerSigns.{sign-large}
+use Rattle.kinks_and_fingers.proofs.FingerSigns.{sign-large, find-within, find-longer, one_choice, small_test}
 use Rattle.kinks_and_fingers.specs.KinkAdds.{raised}
 use Rattle.kinks_and_fingers.specs.KinkCodes.{kinked_crossings, IsKinkable, one_where}
 use Rattle.kinks_and_fingers.proofs.Numbers.{last-other, raised-injective, raised-less, raised-le}
@@ -38,31 +38,6 @@ find-alike p q a zero alike = refl
 find-alike p q a (suc n) alike =
     ap (λ b. cond b (Some a) (find p (range_with_len (a + 1) n))) (alike a (omega arith) (omega arith))
     ∙ ap (λ o. cond (q a) (Some a) o) (find-alike p q (a + 1) n (λ k from below. alike k (omega (arith, from)) (omega (arith, below))))
-
-option_or-none : (o : Option ℕ) → option_or o None ≡ o
-option_or-none None = refl
-option_or-none (Some x) = refl
-
-find-longer : (p q : ℕ → Bool) (a n m : ℕ) → ((k : ℕ) → a ≤ k → k < a + n → q k ≡ p k)
-    → ((k : ℕ) → a + n ≤ k → k < a + n + m → q k ≡ false) → find q (range_with_len a (n + m)) ≡ find p (range_with_len a n)
-find-longer p q a n m alike none =
-    ap (λ xs. find q xs) (range-append a n m) ∙ find-append q (range_with_len a n) (range_with_len (a + n) m)
-    ∙ ap (λ o. option_or (find q (range_with_len a n)) o) (find-none q (a + n) m (λ k from below. none k from below))
-    ∙ option_or-none (find q (range_with_len a n)) ∙ find-alike q p a n alike
-
-find-within : (p : ℕ → Bool) (a n k : ℕ) → find p (range_with_len a n) ≡ Some k → (a ≤ k) × (k < a + n)
-find-within p a zero k found = absurd (cc)
-find-within p a (suc n) k found = elim (cases_Bool (p a)) [
-  | inl passes ↦
-      let is : a ≡ k = same_some a k (sym (ap (λ b. cond b (Some a) (find p (range_with_len (a + 1) n))) passes) ∙ found) in
-      (omega (arith, is), omega (arith, is))
-  | inr fails ↦
-      let rest = find-within p (a + 1) n k (sym (ap (λ b. cond b (Some a) (find p (range_with_len (a + 1) n))) fails) ∙ found) in
-      (omega (arith, rest.0), omega (arith, rest.1))
-]
-  where
-    same_some : (x y : ℕ) → (let one : Option ℕ = Some x in let other : Option ℕ = Some y in one ≡ other) → x ≡ y
-    same_some x y same = cc
 
 -- the component of an old crossing's slot
 component-old : (crossings : List (List ℕ)) (a : ℕ) (over positive : Bool) (dart : Dart) → IsKinkable crossings a
@@ -117,16 +92,6 @@ nat_lt-raised a x y = elim (cases_lt x y) [
 
     both_fail : (u v x y : ℕ) → v ≤ u → y ≤ x → nat_lt u v ≡ nat_lt x y
     both_fail u v x y from other = grind (arith, nat_tests)
-
--- the test for small components
-small_test : (m : ℕ) (large small : Bool) → m ≤ 2 → (if nat_le 3 m then large else small) ≡ small
-small_test m large small within = grind (arith, nat_tests)
-
--- one choice under two tests that agree
-one_choice : (o : Option ℕ) (f g : ℕ → Bool) (x y : Bool) → ((k : ℕ) → o ≡ Some k → f k ≡ g k) → x ≡ y
-    → (if is_some o then f (unwrap_or o 0) else x) ≡ (if is_some o then g (unwrap_or o 0) else y)
-one_choice None f g x y alike same = same
-one_choice (Some k) f g x y alike same = alike k refl
 
 -- in a component of two arcs, which is not that of a, the rules of order and of the under pass give what they gave
 sign-small : (crossings : List (List ℕ)) (a : ℕ) (over positive : Bool) (crossing : ℕ) → IsKinkable crossings a

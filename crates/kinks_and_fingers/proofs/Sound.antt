@@ -32,7 +32,7 @@ IsSound-kink code c p is kink =
       planar = IsPlanarBy-dropped code.crossings (nat_eq c) coloured.0 k kept partner left;
     }
 
-two_below : (n c d : ℕ) → c < n → d < n → c ≢ d → n ≡ n - 2 + 1 + 1
+pub two_below : (n c d : ℕ) → c < n → d < n → c ≢ d → n ≡ n - 2 + 1 + 1
 two_below n c d c_below d_below apart = omega (arith, c_below, d_below, apart)
 
 pub IsSound-finger : (code : Code) (c d p q : ℕ) → IsTrue (accepted code) → HasBigonAt code.crossings c d p q

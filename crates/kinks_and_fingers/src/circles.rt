@@ -1,4 +1,5 @@
-//! The circles of what is left where a kink, or the two crossings of a bigon, are dropped, and its components.
+//! The circles of what is left where a kink, or the two crossings of a bigon, are dropped, and its
+//! components.
 
 ghost use Rattle.std.specs.Prelude.{◌≡◌, ◌<◌, ◌++◌, ℕ, ℤ, true, false, ◌+◌, List, Bool, IsTrue, length, map, nat_eq, slice_index};
 ghost use Rattle.std.specs.List.{range_with_len};

@@ -11,6 +11,7 @@ use Rattle.kh_types.proofs.ListSums.{sum_by-range_alike}
 use Rattle.kh_types.proofs.Ranges.{range-append}
 use Rattle.kh_types.specs.Classes.{AreBelow, class_count, classes_of, is_least, joined, merged, merged_all}
 use Rattle.cube_squares.proofs.Marks.{one_if}
+use Rattle.kh_types.proofs.ClassLemmas.{length-joined}
 
 -- all numbers raised
 abbrev pub lifted : ℕ → List ℕ → List ℕ
@@ -104,9 +105,6 @@ joined-back m front back pair size below first second =
     ∙ ap₂ (λ us vs. us ++ vs)
     (map-kept (merged (m + x) (m + y)) front (λ k inside. merged-under m x y (slice_index front k) (below k inside)))
     (map-lifted (merged (m + x) (m + y)) (merged x y) m back (merged-lifted m x y))
-
-length-joined : (classes : List ℕ) (pair : ℕ × ℕ) → length (joined classes pair) ≡ length classes
-length-joined classes pair = length-map classes (merged (slice_index classes pair.0) (slice_index classes pair.1))
 
 small-joined : (m : ℕ) (classes : List ℕ) (pair : ℕ × ℕ) → length classes ≡ m → AllBelow m classes → pair.0 < m → pair.1 < m
     → AllBelow m (joined classes pair)

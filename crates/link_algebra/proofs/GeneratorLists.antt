@@ -12,7 +12,7 @@ use Rattle.kh_types.specs.Differential.{coefficient, coefficient_at, edge_sign}
 use Rattle.kh_types.specs.Edges.{state_behind}
 use Rattle.kh_types.specs.Generators.{Generator, generator_of, generators, generators_at, generators_of, has_degrees, states}
 use Rattle.kh_types.proofs.Lists.{AllByRecursion-append, Contains-filter, Contains-flat_map, Contains-map}
-use Rattle.kh_types.proofs.ListSums.{sum_by-alike, sum_by-flat_map, sum_by-map, sum_by-single}
+use Rattle.kh_types.proofs.ListSums.{sum_by-alike, sum_by-flat_map, sum_by-map, sum_by-single, sum_by-some}
 use Rattle.kh_types.proofs.RangeImages.{all-map_range}
 use Rattle.cube_squares.proofs.Pairs.{IsStep, edge_or_zero, is_edge-decides}
 use Rattle.cube_squares.proofs.TouchedCircles.{fits}
@@ -71,40 +71,7 @@ length-generators_at code i j =
 
 -- the coefficients along an edge, which is one crossing's
 
-one-crossing : (state first second : ℕ) → 1 ≤ first → 1 ≤ second → first ≢ second
-    → state_behind state first ≢ state_behind state second
-one-crossing state first second from second_from other same = elim (cases_lt first second) [
-  | inl less ↦
-      let order : place_of first < place_of second = omega (arith, less, from) in
-      omega (arith, same, pow-lt order)
-  | inr more ↦
-      let order : place_of second < place_of first = omega (arith, more, other, second_from) in
-      omega (arith, same, pow-lt order)
-]
-
-pub coefficient-one : (p : ℕ) (code : Code) (tail head : Generator) (crossing : ℕ) → IsCrossing code.crossings crossing
-    → IsStep tail.state head.state crossing
-    → coefficient p code tail head ≡ cond (fits code tail head crossing) (edge_sign p tail.state crossing) 0
-coefficient-one p code tail head crossing is_crossing step =
-    sum_by-single (coefficient_at p code tail head) 1 (length code.crossings) crossing is_crossing.positive
-    (omega (arith, is_crossing.within))
-    (λ other from below differs. elim (edge_or_zero p code tail head other) [
-      | inl too ↦ absurd (one-crossing tail.state other crossing from is_crossing.positive differs (sym too.behind ∙ step.behind))
-      | inr none ↦ none
-    ])
-    ∙ ap (λ b. cond (b && fits code tail head crossing) (edge_sign p tail.state crossing) 0) ((is_edge-decides tail head crossing).1 step)
-
 -- a coefficient other than 0 goes along one
-
-sum_by-some : (f : ℕ → ℕ) (a n : ℕ) → sum_by f (range_with_len a n) ≢ 0 → (k : ℕ) × (a ≤ k) × (k < a + n) × (f k ≢ 0)
-sum_by-some f a zero some = absurd (some refl)
-sum_by-some f a (suc n) some = elim (cases_eq (f a) 0) [
-  | inr here ↦ (a, omega arith, omega arith, here)
-  | inl none ↦
-      let later = sum_by-some f (a + 1) n
-      (λ rest. some (sum_by-cons f a (range_with_len (a + 1) n) ∙ omega (arith, none, rest))) in
-      (later.0, omega (arith, later.1), omega (arith, later.2), later.3)
-]
 
 pub coefficient-elsewhere : (p : ℕ) (code : Code) (tail head : Generator) → coefficient p code tail head ≢ 0
     → (crossing : ℕ) × IsCrossing code.crossings crossing × IsStep tail.state head.state crossing

@@ -7,7 +7,7 @@ use Rattle.std.specs.Bool.{Decides}
 use Rattle.std.specs.List.{range_with_len, sum_by}
 use Rattle.std.specs.Ordering.{int_eq}
 use Rattle.std.specs.Prelude.{neg_ℤ}
-use Rattle.kh_types.proofs.ListSums.{sum_by-range_alike}
+use Rattle.kh_types.proofs.ListSums.{sum_by-range_alike, shifted}
 use Rattle.kh_types.proofs.QuantumDegrees.{plus_count-le}
 use Rattle.kh_types.proofs.Ranges.{sum_by-range_more}
 use Rattle.kh_types.specs.Acceptance.{accepted}
@@ -98,14 +98,6 @@ IsOpposite-star f back old new x star turned gen is =
       circles = is.circles;
       minuses = is.minuses;
     }
-
--- sums the other way round
-shifted : (h : ℕ → ℕ) (a n : ℕ) → sum_by h (range_with_len (a + 1) n) ≡ sum_by (λ i. h (suc i)) (range_with_len a n)
-shifted h a zero = refl
-shifted h a (suc n) =
-    sum_by-cons h (a + 1) (range_with_len (a + 1 + 1) n)
-    ∙ ap₂ (λ x y. x + y) (ap h (let e : a + 1 ≡ suc a = omega arith in e)) (shifted h (a + 1) n)
-    ∙ sym (sum_by-cons (λ i. h (suc i)) a (range_with_len (a + 1) n))
 
 pub sum_by-flipped : (f : ℕ → ℕ) (n : ℕ) → sum_by f (range_with_len 0 n) ≡ sum_by (λ k. f (n - 1 - k)) (range_with_len 0 n)
 sum_by-flipped f zero = refl

@@ -13,13 +13,13 @@ use Rattle.kh_types.specs.Code.{Code, IsCrossing, place_of}
 use Rattle.kh_types.specs.Differential.{coefficient}
 use Rattle.kh_types.specs.Generators.{Generator}
 use Rattle.kh_types.specs.Residues.{Same}
-use Rattle.cube_squares.proofs.Pairs.{IsStep}
+use Rattle.cube_squares.proofs.Pairs.{IsStep, coefficient-one}
 use Rattle.cube_squares.proofs.Signs.{ones-set_above}
 use Rattle.cube_squares.proofs.TouchedCircles.{fits}
 use Rattle.link_algebra.proofs.Flips.{bit-flipped, flipped, ones-flipped}
 use Rattle.link_algebra.proofs.MirrorEdges.{AreMirrors, AreStars, AreStars-from, fits-star}
 use Rattle.link_algebra.proofs.Renamings.{IsTurned}
-use Rattle.link_algebra.proofs.GeneratorLists.{IsGenerator, coefficient-elsewhere, coefficient-one}
+use Rattle.link_algebra.proofs.GeneratorLists.{IsGenerator, coefficient-elsewhere}
 use Rattle.link_algebra.proofs.Stars.{IsGenerator-star, IsStar, IsStar-back}
 
 -- -1 to a power, modulo p

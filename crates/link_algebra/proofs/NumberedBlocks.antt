@@ -18,50 +18,9 @@ use Rattle.orient_arcs.proofs.PairedPasses.{heads_of}
 use Rattle.orient_arcs.proofs.Bridge.{below-bound}
 use Rattle.orient_arcs.proofs.ComponentSteps.{order-same, order-turned}
 use Rattle.orient_arcs.proofs.Labels.{turned-cases}
+use Rattle.orient_arcs.proofs.PlacedNumbers.{turned-over, number-left, number-right, number-second, number-first}
 
 -- numbers in lists that are put together
-
-number-left : (xs ys : List ℕ) (x : ℕ) → IsIn x xs → number_in (xs ++ ys) x ≡ number_in xs x
-number-left xs ys x is = ap (λ p. p + 1) (by xs is)
-  where
-    by : (xs : List ℕ) → IsIn x xs → position_or_len (nat_eq x) (xs ++ ys) ≡ position_or_len (nat_eq x) xs
-    by [] is = absurd is
-    by (z ∷ zs) is = elim (cases_eq x z) [
-      | inl same ↦
-          ap (λ b. cond (not b) (1 + position_or_len (nat_eq x) (zs ++ ys)) 0) (eq-eqb x z same)
-          ∙ sym (ap (λ b. cond (not b) (1 + position_or_len (nat_eq x) zs) 0) (eq-eqb x z same))
-      | inr other ↦
-          let later : IsIn x zs = elim is [ inl same ↦ absurd (other same) | inr there ↦ there ] in
-          ap (λ k. cond (not (nat_eq x z)) (1 + k) 0) (by zs later)
-    ]
-
-number-right : (xs ys : List ℕ) (x : ℕ) → (IsIn x xs → ⊥) → number_in (xs ++ ys) x ≡ length xs + number_in ys x
-number-right xs ys x out = let p = by xs out in omega (arith, p)
-  where
-    by : (xs : List ℕ) → (IsIn x xs → ⊥) → position_or_len (nat_eq x) (xs ++ ys) ≡ length xs + position_or_len (nat_eq x) ys
-    by [] out = omega arith
-    by (z ∷ zs) out =
-        let later = by zs (λ there. out (inr there)) in
-        ap (λ b. cond (not b) (1 + position_or_len (nat_eq x) (zs ++ ys)) 0) (neq-eqb x z (λ same. out (inl same))) ∙ omega (arith, later)
-
-number-first : (a b : ℕ) → number_in (b ∷ a ∷ []) b ≡ 1
-number-first a b = ap (λ t. cond (not t) (1 + position_or_len (nat_eq b) (a ∷ [])) 0 + 1) (eq-eqb b b refl)
-
-number-second : (a b : ℕ) → a ≢ b → number_in (b ∷ a ∷ []) a ≡ 2
-number-second a b apart =
-    ap₂ (λ s t. cond (not s) (1 + cond (not t) 1 0) 0 + 1) (neq-eqb a b apart) (eq-eqb a a refl)
-
-turned-over : (label : ℕ → ℤ) (a b : ℕ) → a ≢ b → turned_names label (a ∷ b ∷ []) ≡ b ∷ a ∷ []
-    → (is_over (label a) ≡ true) × (is_over (label b) ≡ true)
-turned-over label a b apart is =
-    by ((is_over (label a) && is_over (label b)) && int_lt (label b) (label a)) refl is
-  where
-    by : (t : Bool) → ((is_over (label a) && is_over (label b)) && int_lt (label b) (label a)) ≡ t
-        → (if t then b ∷ a ∷ [] else a ∷ b ∷ []) ≡ b ∷ a ∷ [] → (is_over (label a) ≡ true) × (is_over (label b) ≡ true)
-    by true test same =
-        and_parts (is_over (label a)) (is_over (label b))
-        (and_parts (is_over (label a) && is_over (label b)) (int_lt (label b) (label a)) test).0
-    by false test same = absurd (apart (ap (λ xs. get_or xs 0 0) same))
 
 -- names that go over the component of a least arc, and begin with it
 pub record GoesOver (crossings : List (List ℕ)) (first : ℕ) (names : List ℕ) : Type 0 where

@@ -7,6 +7,7 @@ use Rattle.std.proofs.lemmas.Bool.Decides.{Decides-int_eq, Decides-like, same_fr
 use Rattle.std.proofs.lemmas.Int.{ints}
 use Rattle.kh_types.specs.StateSum.{circle_coefficient, signed_by, signed_by_parity, term_of}
 use Rattle.link_algebra.proofs.IntSums.{sum_over}
+use Rattle.kh_types.proofs.AlternatingSums.{signed_by_parity-alike}
 
 -- (q + q^-1) ^ k is the same at q^-1
 pub circle_coefficient-opposite : (k : ℕ) (e d : ℤ) → d ≡ neg_ℤ e → circle_coefficient k d ≡ circle_coefficient k e
@@ -23,13 +24,10 @@ circle_coefficient-opposite (suc k) e d is =
     turned : (x y : ℕ) → x + y ≡ y + x
     turned x y = omega arith
 
-by_parity : (x y size : ℕ) → x % 2 ≡ y % 2 → signed_by_parity x size ≡ signed_by_parity y size
-by_parity x y size same = ap (λ bit. cond (nat_eq bit 0) (pos size) (neg_ℤ (pos size))) same
-
 signed_by-opposite : (i j : ℤ) (x : ℕ) → j ≡ neg_ℤ i → signed_by j x ≡ signed_by i x
-signed_by-opposite (pos i) (pos j) x is = by_parity j i x (omega (arith, ints, is))
-signed_by-opposite (pos i) (negsuc j) x is = by_parity (suc j) i x (omega (arith, ints, is))
-signed_by-opposite (negsuc i) (pos j) x is = by_parity j (suc i) x (omega (arith, ints, is))
+signed_by-opposite (pos i) (pos j) x is = signed_by_parity-alike j i x (omega (arith, ints, is))
+signed_by-opposite (pos i) (negsuc j) x is = signed_by_parity-alike (suc j) i x (omega (arith, ints, is))
+signed_by-opposite (negsuc i) (pos j) x is = signed_by_parity-alike j (suc i) x (omega (arith, ints, is))
 signed_by-opposite (negsuc i) (negsuc j) x is = absurd (omega (arith, ints, is))
 
 -- the term of a state with all smoothings exchanged, where the signs are exchanged

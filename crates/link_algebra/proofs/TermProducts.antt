@@ -10,6 +10,7 @@ use Rattle.std.specs.Prelude.{nat_eq}
 use Rattle.kh_types.specs.StateSum.{circle_coefficient, signed_by, signed_by_parity, term_of}
 use Rattle.kh_types.specs.Table.{from_minus}
 use Rattle.link_algebra.proofs.IntSums.{neg-times, spread_right, sum-alike, sum-map, sum-plus, sum-single, sum_over, times-neg}
+use Rattle.kh_types.proofs.AlternatingSums.{signed_by-less}
 
 -- a number with a sign
 abbrev pub signed : Bool → ℤ → ℤ
@@ -26,15 +27,8 @@ parity n = by (n % 2) refl
     by (suc zero) is = inr is
     by (suc (suc r)) is = absurd (omega (arith, is))
 
-by_parity : (x y size : ℕ) → x % 2 ≡ y % 2 → signed_by_parity x size ≡ signed_by_parity y size
-by_parity x y size same = ap (λ bit. cond (nat_eq bit 0) (pos size) (neg_ℤ (pos size))) same
-
-difference : (degree : ℤ) (a b size : ℕ) → degree ≡ pos a -ℤ pos b → signed_by degree size ≡ signed_by_parity (a + b) size
-difference (pos above) a b size is = by_parity above (a + b) size (omega (arith, ints, is))
-difference (negsuc below) a b size is = by_parity (suc below) (a + b) size (omega (arith, ints, is))
-
 pub signed_by-signed : (r m x : ℕ) → signed_by (pos r -ℤ pos m) x ≡ signed (is_even (r + m)) (pos x)
-signed_by-signed r m x = difference (pos r -ℤ pos m) r m x refl
+signed_by-signed r m x = signed_by-less (pos r -ℤ pos m) r m x refl
 
 signed-product : (j k l : ℕ) (x y : ℤ) → l ≡ j + k → signed (is_even j) x *ℤ signed (is_even k) y ≡ signed (is_even l) (x *ℤ y)
 signed-product j k l x y is = elim (parity j) [

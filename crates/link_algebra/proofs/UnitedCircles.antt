@@ -17,6 +17,7 @@ use Rattle.kh_types.specs.Classes.{AreBelow, class_count, classes_of}
 use Rattle.kh_types.specs.Code.{Code, IsArc, arc_count, arc_in}
 use Rattle.link_algebra.proofs.ClassParts.{class_count-append_lists, classes-parts, count-shifted, length-classes, lifted_pairs}
 use Rattle.link_algebra.specs.Unions.{raised_slots, union_of}
+use Rattle.kh_types.proofs.JoinedSlots.{smoothings_from}
 
 -- the slots of crossings hold numbers above 0 and below another
 abbrev pub SlotsHold : ℕ → List ℕ → Type 0
@@ -114,10 +115,6 @@ pairs-below b below slots hold =
         → AreBelow below (cond is_zero (zero_pairs slots) (one_pairs slots))
     either true first second = first
     either false first second = second
-
--- the pairs of all crossings from a place on
-abbrev pub smoothings_from : ℕ → ℕ → List (List ℕ) → List (ℕ × ℕ)
-smoothings_from state place crossings = flat_map (λ at. smoothing_of (bit state at.0) at.1) (enumerate_from place crossings)
 
 front : (state other place : ℕ) (crossings more : List (List ℕ))
     → ((k : ℕ) → place ≤ k → k < place + length crossings → bit state k ≡ bit other k)

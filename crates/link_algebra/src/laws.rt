@@ -70,8 +70,8 @@ pub fn reversals_keep_homology()
         → dimension p (reversal_of code) i j ≡ dimension p code i j }
 {}
 
-/// The union of accepted codes is accepted where their components and loops together are few enough;
-/// it has the components of both, and each crossing keeps its sign.
+/// The union of accepted codes is accepted where their components and loops together are few
+/// enough; it has the components of both, and each crossing keeps its sign.
 pub fn unions_are_accepted()
     ensures accepted { (first second : Code) → IsTrue (accepted first) → IsTrue (accepted second)
         → component_count first.crossings + component_count second.crossings
@@ -87,8 +87,8 @@ pub fn unions_are_accepted()
         ≡ minus_count first.crossings + minus_count second.crossings }
 {}
 
-/// The state sum of a union is the product of the two: its coefficients are sums over all exponents of
-/// the first, which are at most 3n and the components and loops in size.
+/// The state sum of a union is the product of the two: its coefficients are sums over all exponents
+/// of the first, which are at most 3n and the components and loops in size.
 pub fn state_sums_of_unions_are_products()
     ensures { (first second : Code) (most : ℕ) (exponent : ℤ) → IsTrue (accepted first)
         → IsTrue (accepted second)

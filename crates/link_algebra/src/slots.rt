@@ -36,7 +36,7 @@ pub(crate) fn raised_slots(diagram: &Diagram, crossing: u8, by: u8) -> Crossing
     ])
 }
 
-// The arc at a slot of a crossing.
+/// The arc at a slot of a crossing.
 fn arc_at(diagram: &Diagram, crossing: u8, slot: u8) -> u8
     requires crossing { IsCrossing diagram.now.crossings crossing }
     requires slot { slot < 4 }

@@ -14,8 +14,8 @@ use kh_types::{CROSSINGS, Crossing, Diagram};
 use orient_arcs::{Parts, renumber};
 
 /// The mirror of a diagram: every under pass becomes the over pass, and each crossing has the
-/// opposite sign. Its homology is that of the diagram at the opposite degrees. Source: Khovanov 2000;
-/// the numbers of arcs are this project's rule.
+/// opposite sign. Its homology is that of the diagram at the opposite degrees. Source: Khovanov
+/// 2000; the numbers of arcs are this project's rule.
 pub fn mirror(diagram: &Diagram) -> Diagram
     ensures code { result ≡ mirror_of diagram.now }
     ensures dimensions { (p : ℕ) → IsSmallPrime p → (i j : ℤ)
@@ -38,7 +38,7 @@ pub fn reverse(diagram: &Diagram) -> Diagram
     Diagram::of_accepted(&renumber(&reversal_parts(diagram)))
 }
 
-// The crossings of the mirror over the arcs of the diagram, each with the opposite sign.
+/// The crossings of the mirror over the arcs of the diagram, each with the opposite sign.
 #[tactic(auto, using(crate::proofs::PartLemmas::signs_listed))]
 fn mirror_parts(diagram: &Diagram) -> Parts
     ensures { result ≡ mirror_parts diagram.now }
@@ -62,7 +62,7 @@ fn mirror_crossings(diagram: &Diagram) -> ArrayVec<Crossing, CROSSINGS>
     crossings
 }
 
-// A crossing of the mirror.
+/// A crossing of the mirror.
 fn mirror_slots(diagram: &Diagram, crossing: u8) -> Crossing
     requires { IsCrossing diagram.now.crossings crossing }
     ensures { result ≡ mirror_slots diagram.now.crossings crossing }
@@ -70,7 +70,7 @@ fn mirror_slots(diagram: &Diagram, crossing: u8) -> Crossing
     slots_from(diagram, crossing, over_slot(diagram.sign(crossing) > 0))
 }
 
-// The slot where the over pass of a crossing comes in.
+/// The slot where the over pass of a crossing comes in.
 fn over_slot(is_positive: bool) -> u8
     ensures slot { result ≡ over_slot is_positive }
     ensures within { result < 4 }
@@ -78,7 +78,7 @@ fn over_slot(is_positive: bool) -> u8
     if is_positive { 3 } else { 1 }
 }
 
-// The opposite signs.
+/// The opposite signs.
 #[tactic(auto, using(orient_arcs::proofs::StepLemmas::map_take_more))]
 fn opposite(signs: &[bool]) -> ArrayVec<bool, CROSSINGS>
     requires { length signs.now ≤ CROSSINGS }
@@ -91,7 +91,7 @@ fn opposite(signs: &[bool]) -> ArrayVec<bool, CROSSINGS>
     opposite
 }
 
-// The crossings of the reversal over the arcs of the diagram, each with its sign.
+/// The crossings of the reversal over the arcs of the diagram, each with its sign.
 #[tactic(auto, using(crate::proofs::PartLemmas::signs_listed))]
 fn reversal_parts(diagram: &Diagram) -> Parts
     ensures { result ≡ reversal_parts diagram.now }

@@ -30,7 +30,7 @@ pub fn union(first: &Diagram, second: &Diagram) -> Result<Diagram, UnionFault>
     }
 }
 
-// The union, where it is not too large.
+/// The union, where it is not too large.
 fn united(first: &Diagram, second: &Diagram) -> Diagram
     requires crossings { crossings_together first.now second.now ≤ CROSSINGS }
     requires loops { loops_together first.now second.now ≤ LOOPS }

@@ -10,7 +10,7 @@ use Rattle.morse_drawing.specs.DartRows.{IsDrawing, IsIn, other_three}
 use Rattle.morse_drawing.specs.declared.slice.Slice.TheVariants.{Cap, Cross}
 use Rattle.morse_drawing.proofs.SketchParts.Which.{is_one, is_other, is_three, is_two, is_zero}
 use Rattle.morse_drawing.proofs.SketchParts.FourNext.{next_one, next_three, next_two, next_zero}
-use Rattle.morse_drawing.proofs.SketchParts.{piece, dart, made, cross_met, turn_one, turn_two, turn_three, crossing-one, crossing-two, crossing-three, which, is-met, met-other, met-here, dart-there, painted, painted-old, painted-new, respects-old, before_or, four_next}
+use Rattle.morse_drawing.proofs.SketchParts.{segment, dart, made, cross_met, turn_one, turn_two, turn_three, crossing-one, crossing-two, crossing-three, which, is-met, met-other, met-here, dart-there, painted, painted-old, painted-new, respects-old, before_or, four_next}
 
 begun-is : (c next : ℕ) (joins met : List (ℕ × ℕ))
     → sketched (sketched (sketched (made [] next joins met) (Cap 1)) (Cap 3)) (Cross 2 (c + 1) 0)
@@ -29,7 +29,7 @@ sketched-begun n part whole drawn c r is drawing c_below new =
     let o_below : o < 4 * n = omega (arith, c_below) in
     let o_is : o / 4 ≡ c = omega arith in
     let next = r.next in
-    let row_is : r.row ≡ [] = sym is.pieces ∙ ap (map piece) (none_left is.zipped is.darts) in
+    let row_is : r.row ≡ [] = sym is.segments ∙ ap (map segment) (none_left is.zipped is.darts) in
     let first_joins = r.joins ++ (next, next + 1) ∷ [] in
     let joins = first_joins ++ (next + 2, next + 2 + 1) ∷ [] in
     let met = cross_met o (next + 1) (next + 2) (next + 2 + 2) r.met in
@@ -75,14 +75,14 @@ sketched-begun n part whole drawn c r is drawing c_below new =
     subst (λ (w : Sketch). IsSketched n part whole (c ∷ drawn) (o ∷ other_three o) w) (sym end_is)
     (record {
       zipped = (next, o) ∷ (next + 2 + 2, turn_one o) ∷ (next + 2 + 2 + 1, turn_two o) ∷ (next + 2 + 1, turn_three o) ∷ [];
-      pieces = refl;
+      segments = refl;
       darts = refl;
       joins_below = AllByRecursion-append (λ (pair : ℕ × ℕ). (pair.0 < end_next) × (pair.1 < end_next)) first_joins
           ((next + 2, next + 2 + 1) ∷ [])
           (AllByRecursion-append (λ (pair : ℕ × ℕ). (pair.0 < end_next) × (pair.1 < end_next)) r.joins ((next, next + 1) ∷ [])
           (AreBelow-wider next end_next r.joins (omega arith) is.joins_below) ((omega arith, omega arith), tt))
           ((omega arith, omega arith), tt);
-      pieces_below = (omega arith, (omega arith, (omega arith, (omega arith, tt))));
+      segments_below = (omega arith, (omega arith, (omega arith, (omega arith, tt))));
       met_below = λ z z_below z_drawn. elim (which o z) [
         | is_zero at ↦ omega (arith, ap (segment_met met) at, values.zero_is)
         | is_one at ↦ omega (arith, ap (segment_met met) at, values.one_is)

@@ -14,7 +14,7 @@ use Rattle.morse_drawing.specs.DartRows.{IsDrawing, IsIn, other_three}
 use Rattle.morse_drawing.specs.declared.slice.Slice.TheVariants.{Cap, Cross}
 use Rattle.morse_drawing.proofs.SketchParts.Which.{is_one, is_other, is_three, is_two, is_zero}
 use Rattle.morse_drawing.proofs.SketchParts.FourNext.{next_one, next_three, next_two, next_zero}
-use Rattle.morse_drawing.proofs.SketchParts.{piece, dart, made, cross_met, cross-is, parted, all_change, all_both, arc-first, arc-second, arc-other, min_swap, turn_one, turn_two, turn_three, crossing-one, crossing-two, crossing-three, which, is-met, met-other, met-here, dart-there, painted, painted-old, painted-new, respects-old, before_or, four_next}
+use Rattle.morse_drawing.proofs.SketchParts.{segment, dart, made, cross_met, cross-is, parted, all_change, all_both, arc-first, arc-second, arc-other, min_swap, turn_one, turn_two, turn_three, crossing-one, crossing-two, crossing-three, which, is-met, met-other, met-here, dart-there, painted, painted-old, painted-new, respects-old, before_or, four_next}
 
 -- rule 2
 pub sketched-crossed : (n : ℕ) (part whole : ℕ → ℕ) (drawn front back : List ℕ) (x : ℕ) (r : Sketch)
@@ -29,12 +29,12 @@ sketched-crossed n part whole drawn front back x r is pairing drawing x_below x_
     let a = p.at in
     let before = p.before in
     let behind = p.behind in
-    let left = map piece before in
-    let right = map piece behind in
+    let left = map segment before in
+    let right = map segment behind in
     let row_is : r.row ≡ left ++ a ∷ right =
-    sym is.pieces ∙ ap (map piece) p.whole_is ∙ map-append piece before ((a, x) ∷ behind) in
+    sym is.segments ∙ ap (map segment) p.whole_is ∙ map-append segment before ((a, x) ∷ behind) in
     let size : length front ≡ length left =
-    sym (ap (λ zs. length zs) p.front_is) ∙ length-map before dart ∙ sym (length-map before piece) in
+    sym (ap (λ zs. length zs) p.front_is) ∙ length-map before dart ∙ sym (length-map before segment) in
     let joins = r.joins ++ (next, next + 1) ∷ [] in
     let met = cross_met o a next (next + 2) r.met in
     let end = made (left ++ (next + 2) ∷ (next + 2 + 1) ∷ (next + 1) ∷ right) (next + 2 + 2) joins met in
@@ -49,7 +49,7 @@ sketched-crossed n part whole drawn front back x r is pairing drawing x_below x_
     let drawn_all = parts (λ e. IsIn (e.1 / 4) drawn) (all_darts is.zipped (front ++ x ∷ back) is.darts drawing.at_drawn) in
     let drawn_front = AllByRecursion-first (λ (e : ℕ × ℕ). IsIn (e.1 / 4) drawn) before ((a, x) ∷ behind) drawn_all in
     let drawn_back = (AllByRecursion-second (λ (e : ℕ × ℕ). IsIn (e.1 / 4) drawn) before ((a, x) ∷ behind) drawn_all).1 in
-    let below = parts (λ e. e.0 < next) is.pieces_below in
+    let below = parts (λ e. e.0 < next) is.segments_below in
     let below_front = AllByRecursion-first (λ (e : ℕ × ℕ). e.0 < next) before ((a, x) ∷ behind) below in
     let below_back = AllByRecursion-second (λ (e : ℕ × ℕ). e.0 < next) before ((a, x) ∷ behind) below in
     let wider : (e : ℕ × ℕ) → e.0 < next → e.0 < next + 2 + 2 = λ e e_below. omega (arith, e_below) in
@@ -89,14 +89,14 @@ sketched-crossed n part whole drawn front back x r is pairing drawing x_below x_
     subst (λ (w : Sketch). IsSketched n (with_arc part x o) whole (o / 4 ∷ drawn) (front ++ other_three o ++ back) w) (sym end_is)
     (record {
       zipped = before ++ (next + 2, turn_one o) ∷ (next + 2 + 1, turn_two o) ∷ (next + 1, turn_three o) ∷ behind;
-      pieces = map-append piece before ((next + 2, turn_one o) ∷ (next + 2 + 1, turn_two o) ∷ (next + 1, turn_three o) ∷ behind);
+      segments = map-append segment before ((next + 2, turn_one o) ∷ (next + 2 + 1, turn_two o) ∷ (next + 1, turn_three o) ∷ behind);
       darts = map-append dart before ((next + 2, turn_one o) ∷ (next + 2 + 1, turn_two o) ∷ (next + 1, turn_three o) ∷ behind)
           ∙ ap₂ (λ zs ws. zs ++ turn_one o ∷ turn_two o ∷ turn_three o ∷ ws) p.front_is p.back_is
           ∙ sym (append_assoc front (other_three o) back);
       joins_below = AllByRecursion-append (λ (pair : ℕ × ℕ). (pair.0 < next + 2 + 2) × (pair.1 < next + 2 + 2)) r.joins
           ((next, next + 1) ∷ []) (AreBelow-wider next (next + 2 + 2) r.joins (omega arith) is.joins_below)
           ((omega arith, omega arith), tt);
-      pieces_below = AllByRecursion-append (λ (e : ℕ × ℕ). e.0 < next + 2 + 2) before
+      segments_below = AllByRecursion-append (λ (e : ℕ × ℕ). e.0 < next + 2 + 2) before
           ((next + 2, turn_one o) ∷ (next + 2 + 1, turn_two o) ∷ (next + 1, turn_three o) ∷ behind)
           (all_change (λ e. e.0 < next) (λ e. e.0 < next + 2 + 2) before wider below_front) (
             omega arith,

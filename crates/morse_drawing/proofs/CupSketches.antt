@@ -9,7 +9,7 @@ use Rattle.face_walk.specs.AddedArcs.{with_arc}
 use Rattle.morse_drawing.specs.Sketches.{IsSketched, Sketch, segment_met, sketched}
 use Rattle.morse_drawing.specs.DartRows.{IsIn}
 use Rattle.morse_drawing.specs.declared.slice.Slice.TheVariants.{Cup}
-use Rattle.morse_drawing.proofs.SketchParts.{piece, dart, made, pair_of, cup-is, parted, head_of, arc-first, arc-second, arc-other, min_swap}
+use Rattle.morse_drawing.proofs.SketchParts.{segment, dart, made, pair_of, cup-is, parted, head_of, arc-first, arc-second, arc-other, min_swap}
 
 -- rule 3
 pub sketched-closed : (n : ℕ) (part whole : ℕ → ℕ) (drawn front back : List ℕ) (x y : ℕ) (r : Sketch)
@@ -24,19 +24,19 @@ sketched-closed n part whole drawn front back x y r is is_arc is_back apart x_be
     let before = p.before in
     let behind = h.1 in
     let zipped_is : is.zipped ≡ before ++ (a, x) ∷ (b, y) ∷ behind = p.whole_is ∙ ap (λ zs. before ++ pair_of a x ∷ zs) h.2 in
-    let left = map piece before in
-    let right = map piece behind in
+    let left = map segment before in
+    let right = map segment behind in
     let row_is : r.row ≡ left ++ a ∷ b ∷ right =
-    sym is.pieces ∙ ap (map piece) zipped_is ∙ map-append piece before ((a, x) ∷ (b, y) ∷ behind) in
+    sym is.segments ∙ ap (map segment) zipped_is ∙ map-append segment before ((a, x) ∷ (b, y) ∷ behind) in
     let size : length front ≡ length left =
-    sym (ap (λ zs. length zs) p.front_is) ∙ length-map before dart ∙ sym (length-map before piece) in
+    sym (ap (λ zs. length zs) p.front_is) ∙ length-map before dart ∙ sym (length-map before segment) in
     let joins = r.joins ++ (a, b) ∷ [] in
     let end = made (left ++ right) r.next joins r.met in
     let end_is : sketched r (Cup (length front + 1)) ≡ end =
     ap₂ (λ w k. sketched (made w r.next r.joins r.met) (Cup (k + 1))) row_is size ∙ cup-is left right a b r.next r.joins r.met in
     let Both : (P : ℕ × ℕ → Type 0) → AllByRecursion P is.zipped → AllByRecursion P (before ++ (a, x) ∷ (b, y) ∷ behind) =
     λ P holds. subst (λ (zs : List (ℕ × ℕ)). AllByRecursion P zs) zipped_is holds in
-    let below = Both (λ e. e.0 < r.next) is.pieces_below in
+    let below = Both (λ e. e.0 < r.next) is.segments_below in
     let below_two = AllByRecursion-second (λ (e : ℕ × ℕ). e.0 < r.next) before ((a, x) ∷ (b, y) ∷ behind) below in
     let runs : (f : ℕ → ℕ) → Respects f r.joins
     → AllByRecursion (λ (e : ℕ × ℕ). f e.0 ≡ f (segment_met r.met e.1)) (before ++ (a, x) ∷ (b, y) ∷ behind) =
@@ -54,11 +54,11 @@ sketched-closed n part whole drawn front back x y r is is_arc is_back apart x_be
     subst (λ (w : Sketch). IsSketched n (with_arc part x y) whole drawn (front ++ back) w) (sym end_is)
     (record {
       zipped = before ++ behind;
-      pieces = map-append piece before behind;
+      segments = map-append segment before behind;
       darts = map-append dart before behind ∙ ap₂ (λ zs ws. zs ++ ws) p.front_is h.3;
       joins_below = AllByRecursion-append (λ (pair : ℕ × ℕ). (pair.0 < r.next) × (pair.1 < r.next)) r.joins ((a, b) ∷ []) is.joins_below
           ((below_two.0, below_two.1.0), tt);
-      pieces_below = AllByRecursion-append (λ (e : ℕ × ℕ). e.0 < r.next) before behind
+      segments_below = AllByRecursion-append (λ (e : ℕ × ℕ). e.0 < r.next) before behind
           (AllByRecursion-first (λ (e : ℕ × ℕ). e.0 < r.next) before ((a, x) ∷ (b, y) ∷ behind) below) below_two.1.1;
       met_below = is.met_below;
       known = is.known;

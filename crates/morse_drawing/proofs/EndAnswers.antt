@@ -6,19 +6,19 @@ use Rattle.std.proofs.lemmas.Bool.{both_ways, cases_Bool, cases_eq, eq-eqb, eqb-
 use Rattle.std.proofs.lemmas.List.Sums.{sum_by-cons}
 use Rattle.std.proofs.Math.Bool.{or-true}
 use Rattle.kh_types.proofs.ClassLemmas.{classes-finest, classes-together}
-use Rattle.kh_types.proofs.FilteredRanges.{filter-one}
+use Rattle.kh_types.proofs.FilteredRanges.{filter-none, filter-one}
 use Rattle.kh_types.proofs.JoinedClasses.{IsNamed-classes_of}
 use Rattle.kh_types.proofs.ListSums.{sum_by-none, sum_by-range_alike, sum_by-single, sum_by-turned}
 use Rattle.kh_types.proofs.RangeCounts.{list_any-at}
 use Rattle.kh_types.proofs.Ranges.{list_any-below_none}
 use Rattle.morse_drawing.specs.Joins.{are_ends, class_met, is_loop, loop_count, meets_class, pair_with, pairs_from, pairs_of, segment_classes}
-use Rattle.morse_drawing.specs.OpenEnds.{found_pair, has_later}
+use Rattle.morse_drawing.proofs.NumberedEnds.{found_pair, has_later}
 use Rattle.morse_drawing.specs.Sketches.{Sketch, is_met, segment_met}
 use Rattle.morse_drawing.proofs.EndTimes.{hit-apart, hit-same, times}
 use Rattle.morse_drawing.proofs.Ends.{Ends}
 use Rattle.morse_drawing.proofs.Ends.DartEnd.{bare, opened, paired_with}
 use Rattle.morse_drawing.proofs.Ends.SegmentEnd.{at_dart, in_row, on_loop}
-use Rattle.morse_drawing.proofs.Pairs.{and_both, and_first, and_second, filter-none, flat-range, lt-true, true-lt}
+use Rattle.morse_drawing.proofs.Pairs.{and_both, and_first, and_second, flat-range, lt-true, true-lt}
 
 -- the ends of what is read of slices
 abbrev pub EndsOf : ℕ → (ℕ → ℕ) → Sketch → List ℕ → ℕ → Type 0

@@ -6,7 +6,7 @@ use Rattle.std.proofs.lemmas.Bool.{cases_eq, eq-eqb, ne_eqb}
 use Rattle.kh_types.proofs.ListSums.{sum_by-none, sum_by-plus}
 use Rattle.std.proofs.lemmas.List.Sums.{sum_by-cons}
 use Rattle.morse_drawing.specs.DartRows.{IsIn}
-use Rattle.morse_drawing.specs.OpenEnds.{relabelled}
+use Rattle.morse_drawing.proofs.NumberedEnds.{relabelled}
 
 abbrev pub hit : ℕ → ℕ → ℕ
 hit z n = cond (nat_eq z n) 1 0

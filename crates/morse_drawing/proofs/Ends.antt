@@ -4,7 +4,7 @@ use Rattle.std.specs.List.{AllByRecursion}
 use Rattle.std.proofs.lemmas.Bool.{cases_eq}
 use Rattle.kh_types.specs.Classes.{AreBelow, Respects}
 use Rattle.kh_types.proofs.Lists.{AllByRecursion-append, AllByRecursion-first, AllByRecursion-second}
-use Rattle.morse_drawing.specs.OpenEnds.{relabelled}
+use Rattle.morse_drawing.proofs.NumberedEnds.{relabelled}
 use Rattle.morse_drawing.specs.Sketches.{is_met, segment_met}
 use Rattle.morse_drawing.proofs.EndTimes.{hit-apart, relabelled-old, relabelled-other, times, times-old, times-other}
 

@@ -87,7 +87,7 @@ cross-right limit number at crossing slot r from within positive least unmet bel
 pub row-length : (n : ℕ) (part whole : ℕ → ℕ) (drawn row : List ℕ) (r : Sketch) → IsSketched n part whole drawn row r
     → length r.row ≡ length row
 row-length n part whole drawn row r is =
-    sym (ap (λ zs. length zs) is.pieces) ∙ length-map is.zipped (λ (e : ℕ × ℕ). e.0)
+    sym (ap (λ zs. length zs) is.segments) ∙ length-map is.zipped (λ (e : ℕ × ℕ). e.0)
     ∙ sym (length-map is.zipped (λ (e : ℕ × ℕ). e.1)) ∙ ap (λ zs. length zs) is.darts
 
 pub row-empty : (n : ℕ) (part whole : ℕ → ℕ) (drawn : List ℕ) (r : Sketch) → IsSketched n part whole drawn [] r → r.row ≡ []
@@ -107,7 +107,7 @@ not-met n part whole drawn row r c is new = elim (cases_Bool (is_met r.met (4 * 
       absurd (new (subst (λ (k : ℕ). IsIn k drawn) e (is.known (4 * c) holds).1))
 ]
 
--- no class of pieces is a loop
+-- no class of segments is a loop
 pub none-counted : (p : ℕ → Bool) (xs : List ℕ) → ((x : ℕ) → IsIn x xs → p x ≡ false) → count_by p xs ≡ 0
 none-counted p [] fails = refl
 none-counted p (x ∷ xs) fails =
@@ -124,21 +124,21 @@ in-range a (suc n) x is_in = elim is_in [
   | inr later ↦ let rest = in-range (a + 1) n x later in (omega (arith, rest.0), omega (arith, rest.1))
 ]
 
-pub met-no_loop : (limit : ℕ) (r : Sketch) (piece dart : ℕ) → dart < 4 * limit → is_met r.met dart ≡ true
-    → slice_index (segment_classes r) piece ≡ slice_index (segment_classes r) (segment_met r.met dart) → is_loop limit r piece ≡ false
-met-no_loop limit r piece dart below met same = elim (cases_Bool (is_least (segment_classes r) piece)) [
+pub met-no_loop : (limit : ℕ) (r : Sketch) (segment dart : ℕ) → dart < 4 * limit → is_met r.met dart ≡ true
+    → slice_index (segment_classes r) segment ≡ slice_index (segment_classes r) (segment_met r.met dart) → is_loop limit r segment ≡ false
+met-no_loop limit r segment dart below met same = elim (cases_Bool (is_least (segment_classes r) segment)) [
   | inr fails ↦
-      ap (λ t. t && (not (list_any (meets_class r piece) (range_with_len 0 (4 * limit)))
-      && not (list_any (λ end. nat_eq (slice_index (segment_classes r) end) piece) r.row))) fails
+      ap (λ t. t && (not (list_any (meets_class r segment) (range_with_len 0 (4 * limit)))
+      && not (list_any (λ end. nat_eq (slice_index (segment_classes r) end) segment) r.row))) fails
   | inl least ↦
-      let class_is = eqb-true (slice_index (segment_classes r) piece) piece least in
-      let meets : meets_class r piece dart ≡ true =
-      ap (λ t. t && nat_eq (slice_index (segment_classes r) (segment_met r.met dart)) piece) met
-      ∙ eq-eqb (slice_index (segment_classes r) (segment_met r.met dart)) piece (sym same ∙ class_is) in
-      let found = list_any-at (meets_class r piece) 0 (4 * limit) dart (omega arith) (omega (arith, below)) meets in
-      ap (λ t. is_least (segment_classes r) piece && (not t
-      && not (list_any (λ end. nat_eq (slice_index (segment_classes r) end) piece) r.row))) found
-      ∙ and_false (is_least (segment_classes r) piece)
+      let class_is = eqb-true (slice_index (segment_classes r) segment) segment least in
+      let meets : meets_class r segment dart ≡ true =
+      ap (λ t. t && nat_eq (slice_index (segment_classes r) (segment_met r.met dart)) segment) met
+      ∙ eq-eqb (slice_index (segment_classes r) (segment_met r.met dart)) segment (sym same ∙ class_is) in
+      let found = list_any-at (meets_class r segment) 0 (4 * limit) dart (omega arith) (omega (arith, below)) meets in
+      ap (λ t. is_least (segment_classes r) segment && (not t
+      && not (list_any (λ end. nat_eq (slice_index (segment_classes r) end) segment) r.row))) found
+      ∙ and_false (is_least (segment_classes r) segment)
 ]
   where
     and_false : (b : Bool) → (b && false) ≡ false
@@ -149,10 +149,10 @@ pub no-loops : (limit n : ℕ) (part whole : ℕ → ℕ) (drawn row : List ℕ)
     → loop_count limit r ≡ 0
 no-loops limit n part whole drawn row r small is =
     none-counted (is_loop limit r) (range_with_len 0 r.next)
-    (λ piece is_in.
-    let below : piece < r.next = omega (arith, (in-range 0 r.next piece is_in).1) in
-    let reached = is.reached piece below in
-    met-no_loop limit r piece reached.dart (omega (arith, small, reached.below))
+    (λ segment is_in.
+    let below : segment < r.next = omega (arith, (in-range 0 r.next segment is_in).1) in
+    let reached = is.reached segment below in
+    met-no_loop limit r segment reached.dart (omega (arith, small, reached.below))
     (is.all_met reached.dart reached.below reached.is_drawn)
     (reached.same (λ z. slice_index (segment_classes r) z) (classes-together r.next r.joins is.joins_below)))
 

@@ -1,11 +1,11 @@
--- The row of open ends in code: what it keeps at a cross.
+-- The row of open ends by numbers: what it keeps at a cross.
 use Rattle.std.proofs.Common.{◌≡◌, ◌≢◌, ℕ, inl, inr, ◌+◌, ◌-◌, ◌*◌, ◌/◌, ◌%◌, ◌<◌, ◌≤◌, ◌∙◌, List, [], ◌∷◌, ◌++◌, length, map, get_or, set, take, drop, sym, ap, ap₂, subst, refl, arith, Bool, true, false, cond}
 use Rattle.std.specs.Prelude.{◌||◌, nat_eq}
 use Rattle.std.specs.List.{AllByRecursion}
 use Rattle.std.proofs.lemmas.Bool.{cases_eq, eq-eqb, ne_eqb}
 use Rattle.std.proofs.lemmas.List.{get_or-set_other, get_or-set_same, length-map, length-set, map-append, set-append_right}
 use Rattle.kh_types.proofs.Lists.{AllByRecursion-append}
-use Rattle.morse_drawing.specs.OpenEnds.{OpenEnds, after_slice, relabelled, tied}
+use Rattle.morse_drawing.proofs.NumberedEnds.{NumberedEnds, after_slice, relabelled, tied}
 use Rattle.morse_drawing.specs.Sketches.{Sketch, dart_after, is_met, segment_met, sketched}
 use Rattle.morse_drawing.specs.declared.slice.Slice.TheVariants.{Cross}
 use Rattle.morse_drawing.proofs.EndMoves.{Ends-moved, Ends-started, fresh, fresh-new, fresh-old, map-fresh, met-rest}
@@ -77,7 +77,7 @@ none-after limit u d e row none stands apart =
     by_other false same = not_u same
 
 -- a cross is read, whose upper left dart is o
-cross-held : (limit : ℕ) (r : Sketch) (s : OpenEnds) (at o : ℕ) → 1 ≤ at → at ≤ length r.row - 1 → o < 4 * limit
+cross-held : (limit : ℕ) (r : Sketch) (s : NumberedEnds) (at o : ℕ) → 1 ≤ at → at ≤ length r.row - 1 → o < 4 * limit
     → get_or s.drawn (o / 4) false ≡ false → IsHeld limit r s
     → IsHeld limit (sketched r (Cross at (o / 4 + 1) (o % 4))) (after_slice limit s (Cross at (o / 4 + 1) (o % 4)))
 cross-held limit r s at o first last o_below fresh_crossing is = record {
@@ -233,17 +233,17 @@ cross-held limit r s at o first last o_below fresh_crossing is = record {
     same_times n =
         omega (arith, map-append_times name5 n front (next ∷ (next + 1) ∷ back), map-append_times name5 n front back)
 
-    -- the state in code
+    -- the row by numbers
     row1 : List ℕ
     row1 = map (relabelled (given_way limit (is.name a) d0) (kept_label limit (is.name a) d0)) s.row
 
     row2 : List ℕ
     row2 = map (relabelled (given_way limit (name1 b) d3) (kept_label limit (name1 b) d3)) row1
 
-    left : OpenEnds
+    left : NumberedEnds
     left = tied limit s (get_or s.row place 0) d0
 
-    both : OpenEnds
+    both : NumberedEnds
     both = tied limit left (get_or left.row (place + 1) 0) d3
 
     none_of : (z : ℕ) → z / 4 ≡ o / 4 → times z s.row ≡ 0
@@ -275,7 +275,7 @@ cross-held limit r s at o first last o_below fresh_crossing is = record {
 
     both_is : both ≡ with_row s row2 others2
     both_is =
-        ap (λ (t : OpenEnds). tied limit t (get_or t.row (place + 1) 0) d3) left_is
+        ap (λ (t : NumberedEnds). tied limit t (get_or t.row (place + 1) 0) d3) left_is
         ∙ ap (λ v. tied limit (with_row s row1 others1) v d3)
         (ap (λ row. get_or row (place + 1) 0) shape1 ∙ row-after front1 (map name1 back) _ (name1 b) place size1)
         ∙ tied-is limit (with_row s row1 others1) (name1 b) d3
@@ -291,7 +291,7 @@ cross-held limit r s at o first last o_below fresh_crossing is = record {
 
     ends5 : Ends limit name5 (next + 2) r.joins (cross_met o a b next r.met) (front ++ next ∷ (next + 1) ∷ back) both.others both.loops
     ends5 =
-        subst (λ (t : OpenEnds). Ends limit name5 (next + 2) r.joins (cross_met o a b next r.met) (front ++ next ∷ (next + 1) ∷ back) t.others t.loops)
+        subst (λ (t : NumberedEnds). Ends limit name5 (next + 2) r.joins (cross_met o a b next r.met) (front ++ next ∷ (next + 1) ∷ back) t.others t.loops)
         (sym both_is)
         (subst (λ (m : ℕ). Ends limit name5 m r.joins (cross_met o a b next r.met) (front ++ next ∷ (next + 1) ∷ back) others2 s.loops) two_more
         (Ends-moved limit name5 (next + 1 + 1) r.joins ((d2, next + 1) ∷ (d1, next) ∷ met2) (cross_met o a b next r.met)
@@ -301,7 +301,7 @@ cross-held limit r s at o first last o_below fresh_crossing is = record {
         moved_below same_times))
 
     both_drawn : both.drawn ≡ s.drawn
-    both_drawn = ap (λ (t : OpenEnds). t.drawn) both_is
+    both_drawn = ap (λ (t : NumberedEnds). t.drawn) both_is
 
     front2 : List ℕ
     front2 = map name2 front
@@ -316,7 +316,7 @@ cross-held limit r s at o first last o_below fresh_crossing is = record {
         (relabelled (given_way limit (is.name a) d0) (kept_label limit (is.name a) d0) (is.name a))
         ∷ relabelled (given_way limit (name1 b) d3) (kept_label limit (name1 b) d3) (name1 b) ∷ back2
     both_row =
-        ap (λ (t : OpenEnds). t.row) both_is
+        ap (λ (t : NumberedEnds). t.row) both_is
         ∙ ap (map (relabelled (given_way limit (name1 b) d3) (kept_label limit (name1 b) d3))) shape1
         ∙ map-append (relabelled (given_way limit (name1 b) d3) (kept_label limit (name1 b) d3)) front1 (_ ∷ name1 b ∷ map name1 back)
         ∙ ap₂ (λ xs ys. xs ++ relabelled (given_way limit (name1 b) d3) (kept_label limit (name1 b) d3)
@@ -336,7 +336,7 @@ cross-held limit r s at o first last o_below fresh_crossing is = record {
         (fresh-old (next + 1) d2 name3 next (omega arith) ∙ fresh-new next d1 name2 next (omega arith))
         (fresh-new (next + 1) d2 name3 (next + 1) (omega arith))
 
-pub Held-cross : (limit : ℕ) (r : Sketch) (s : OpenEnds) (at crossing slot : ℕ) → 1 ≤ at → at ≤ length r.row - 1 → 1 ≤ crossing
+pub Held-cross : (limit : ℕ) (r : Sketch) (s : NumberedEnds) (at crossing slot : ℕ) → 1 ≤ at → at ≤ length r.row - 1 → 1 ≤ crossing
     → crossing ≤ limit → slot < 4 → get_or s.drawn (crossing - 1) false ≡ false → IsHeld limit r s
     → IsHeld limit (sketched r (Cross at crossing slot)) (after_slice limit s (Cross at crossing slot))
 Held-cross limit r s at crossing slot first last one most small unseen is =

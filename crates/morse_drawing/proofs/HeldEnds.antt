@@ -1,4 +1,4 @@
--- The row of open ends in code: what it keeps at a cap and at a cup.
+-- The row of open ends by numbers: what it keeps at a cap and at a cup.
 use Rattle.std.proofs.Common.{◌≡◌, ℕ, inl, inr, ◌+◌, ◌-◌, ◌*◌, ◌/◌, ◌<◌, ◌≤◌, ◌∙◌, List, [], ◌∷◌, ◌++◌, length, map, get_or, take, drop, sym, ap, ap₂, subst, refl, arith, false, cond}
 use Rattle.std.specs.Prelude.{not, unwrap_or, Option}
 use Rattle.std.specs.List.{AllByRecursion, insert, remove}
@@ -6,7 +6,7 @@ use Rattle.std.proofs.Math.Seq.{get_or-append_seam}
 use Rattle.std.proofs.lemmas.Bool.{cases_eq, eq-eqb, ne_eqb}
 use Rattle.std.proofs.lemmas.List.{get_or-append-add, length-map, length-take-le, map-append, take-append-drop}
 use Rattle.kh_types.proofs.Lists.{AllByRecursion-append, AllByRecursion-first, AllByRecursion-second}
-use Rattle.morse_drawing.specs.OpenEnds.{OpenEnds, after_slice, cup_tied, one_loop_more, relabelled, tied, unused}
+use Rattle.morse_drawing.proofs.NumberedEnds.{NumberedEnds, after_slice, cup_tied, one_loop_more, relabelled, tied, unused}
 use Rattle.morse_drawing.specs.Pages.{is_in}
 use Rattle.morse_drawing.specs.Sketches.{Sketch, is_met, sketched}
 use Rattle.morse_drawing.specs.declared.slice.Slice.TheVariants.{Cap, Cup}
@@ -21,8 +21,8 @@ use Rattle.morse_drawing.proofs.Parts.{parts-two}
 use Rattle.morse_drawing.proofs.RowEdits.{insert-here, remove-here}
 use Rattle.morse_drawing.proofs.TiedEnds.{TwoEnds, dart-left, loop-left, tied-loop, two-ends}
 
--- the state in code is one of what is read of the slices so far
-pub record IsHeld (limit : ℕ) (r : Sketch) (s : OpenEnds) : Type 0 where
+-- the row by numbers is one of what is read of the slices so far
+pub record IsHeld (limit : ℕ) (r : Sketch) (s : NumberedEnds) : Type 0 where
   pub name : ℕ → ℕ
   pub ends : EndsOf limit name r s.others s.loops
   pub labels : s.row ≡ map name r.row
@@ -67,19 +67,25 @@ record IsUnused (limit l : ℕ) (row : List ℕ) : Type 0 where
   none : times l row ≡ 0
 
 IsUnused-unused : (limit : ℕ) (row : List ℕ) → length row ≤ 62 → IsUnused limit (unused limit row) row
-IsUnused-unused limit row few = elim (Search-is (λ label. not (is_in row label)) (4 * limit) 64) [
+IsUnused-unused limit row few = elim (Search-is (λ line. not (is_in row (4 * limit + line))) 0 64) [
   | some x from below passes is ↦
-      let same : unused limit row ≡ x = ap (λ (o : Option ℕ). unwrap_or o 0) is in
+      let same : unused limit row ≡ 4 * limit + x = ap (λ (o : Option ℕ). 4 * limit + unwrap_or o 0) is in
       record {
-        from = omega (arith, from, same);
+        from = omega (arith, same);
         below = omega (arith, below, same);
-        none = ap (λ l. times l row) same ∙ times-out x row (not-in x row passes);
+        none = ap (λ l. times l row) same ∙ times-out (4 * limit + x) row (not-in (4 * limit + x) row passes);
       }
   | missing all is ↦
-      absurd (omega (arith, few, few-labels (4 * limit) 64 row (λ x from below. times-in x row (is-in x row (all x from below)))))
+      absurd (omega (
+        arith,
+        few,
+        few-labels (4 * limit) 64 row (λ x from below.
+            let e : 4 * limit + (x - 4 * limit) ≡ x = omega (arith, from) in
+            times-in x row (is-in x row (ap (λ l. not (is_in row l)) (sym e) ∙ all (x - 4 * limit) (omega arith) (omega (arith, from, below))))),
+      ))
 ]
 
-pub Held-cap : (limit : ℕ) (r : Sketch) (s : OpenEnds) (at : ℕ) → 1 ≤ at → at ≤ length r.row + 1 → length r.row ≤ 62 → IsHeld limit r s
+pub Held-cap : (limit : ℕ) (r : Sketch) (s : NumberedEnds) (at : ℕ) → 1 ≤ at → at ≤ length r.row + 1 → length r.row ≤ 62 → IsHeld limit r s
     → IsHeld limit (sketched r (Cap at)) (after_slice limit s (Cap at))
 Held-cap limit r s at first last few is =
     let place = at - 1 in
@@ -133,14 +139,14 @@ row-without front back u v place size =
     ap (λ xs. remove xs place) (remove-here front u (v ∷ back) place size) ∙ remove-here front v back place size
 
 -- two neighbours of the row, with the rest
-pub record Middle (limit : ℕ) (r : Sketch) (s : OpenEnds) (name : ℕ → ℕ) (place a b : ℕ) : Type 0 where
+pub record Middle (limit : ℕ) (r : Sketch) (s : NumberedEnds) (name : ℕ → ℕ) (place a b : ℕ) : Type 0 where
   pub ends : Ends limit name r.next r.joins r.met (a ∷ b ∷ (take place r.row ++ drop (place + 2) r.row)) s.others s.loops
   pub front_below : AllByRecursion (λ p. p < r.next) (take place r.row)
   pub back_below : AllByRecursion (λ p. p < r.next) (drop (place + 2) r.row)
   pub size : length (map name (take place r.row)) ≡ place
   pub shape : s.row ≡ map name (take place r.row) ++ name a ∷ name b ∷ map name (drop (place + 2) r.row)
 
-pub middle : (limit : ℕ) (r : Sketch) (s : OpenEnds) (place : ℕ) → place + 1 < length r.row → (is : IsHeld limit r s)
+pub middle : (limit : ℕ) (r : Sketch) (s : NumberedEnds) (place : ℕ) → place + 1 < length r.row → (is : IsHeld limit r s)
     → Middle limit r s is.name place (get_or r.row place 0) (get_or r.row (place + 1) 0)
 middle limit r s place within is =
     let front = take place r.row in
@@ -161,13 +167,13 @@ middle limit r s place within is =
       shape = is.labels ∙ ap (map is.name) row_is ∙ map-append is.name front (a ∷ b ∷ back);
     }
 
-pub Held-cup : (limit : ℕ) (r : Sketch) (s : OpenEnds) (at : ℕ) → 1 ≤ at → at ≤ length r.row - 1 → IsHeld limit r s
+pub Held-cup : (limit : ℕ) (r : Sketch) (s : NumberedEnds) (at : ℕ) → 1 ≤ at → at ≤ length r.row - 1 → IsHeld limit r s
     → IsHeld limit (sketched r (Cup at)) (after_slice limit s (Cup at))
 Held-cup limit r s at first last is =
-    subst (λ (t : OpenEnds). IsHeld limit (sketched r (Cup at)) t) (sym after)
+    subst (λ (t : NumberedEnds). IsHeld limit (sketched r (Cup at)) t) (sym after)
     (elim (cases_eq u v) [
       | inl same ↦
-          subst (λ (t : OpenEnds). IsHeld limit (sketched r (Cup at)) t)
+          subst (λ (t : NumberedEnds). IsHeld limit (sketched r (Cup at)) t)
           (sym (ap (λ c. cond c (one_loop_more short) (tied limit short u v)) (eq-eqb u v same)))
           (record {
             name = name_after u (4 * limit + 64 + s.loops) is.name;
@@ -183,7 +189,7 @@ Held-cup limit r s at first last is =
             whole = is.whole;
           })
       | inr apart ↦
-          subst (λ (t : OpenEnds). IsHeld limit (sketched r (Cup at)) t)
+          subst (λ (t : NumberedEnds). IsHeld limit (sketched r (Cup at)) t)
           (sym (ap (λ c. cond c (one_loop_more short) (tied limit short u v)) (ne_eqb u v apart)
           ∙ tied-is limit short u v (λ u_below v_below.
           ap (times v) (sym (map-append is.name front back))
@@ -229,7 +235,7 @@ Held-cup limit r s at first last is =
     two : TwoEnds limit is.name r.next r.joins r.met a b (front ++ back) s.others s.loops
     two = two-ends limit is.name r.next r.joins r.met a b (front ++ back) s.others s.loops it.ends
 
-    short : OpenEnds
+    short : NumberedEnds
     short = with_row s (map is.name front ++ map is.name back) s.others
 
     after : after_slice limit s (Cup at) ≡ cup_tied limit short u v

@@ -1,12 +1,12 @@
 -- The row of open ends answers what the classes of segments join, or the same fault.
-use Rattle.std.proofs.Common.{◌≡◌, ℕ, inl, inr, ◌+◌, ◌-◌, ◌*◌, ◌∙◌, List, [], ◌∷◌, length, map, sym, ap, ap₂, refl, arith, false}
-use Rattle.std.specs.Prelude.{◌||◌, nat_lt, Option, Some, None, Result}
-use Rattle.std.specs.List.{filter, fold, range_with_len}
+use Rattle.std.proofs.Common.{◌≡◌, ℕ, zero, suc, inl, inr, ◌+◌, ◌-◌, ◌*◌, ◌<◌, ◌≤◌, ◌∙◌, List, [], ◌∷◌, length, map, get_or, subst, sym, ap, ap₂, refl, arith, false}
+use Rattle.std.specs.Prelude.{◌||◌, nat_lt, replicate, Option, Some, None, Result}
+use Rattle.std.specs.List.{AllByRecursion, filter, fold, range_with_len}
 use Rattle.std.specs.Option.{option_or}
 use Rattle.std.proofs.lemmas.Bool.{both_ways, cases_Bool}
-use Rattle.std.proofs.lemmas.List.{get_or-replicate, length-map, length-replicate}
+use Rattle.std.proofs.lemmas.List.{get_or-map, get_or-replicate, length-map, length-replicate}
 use Rattle.morse_drawing.specs.Joins.{JoinedDarts, answer_by, ends_fault, ends_of, fault_where, first_slice_fault, is_outside, joined_in, joined_within, loop_count, slice_fault}
-use Rattle.morse_drawing.specs.OpenEnds.{OpenEnds, after_slice, found_joins, found_pair, has_later, is_drawn, joined_by_ends, joins_from, joins_go, no_strands, strands_ends, strands_fault}
+use Rattle.morse_drawing.specs.OpenEnds.{OpenEnds, after_slice, found_joins, is_drawn, joined_by_ends, joins_from, joins_go, no_strands, strands_ends, strands_fault}
 use Rattle.morse_drawing.specs.Sketches.{Sketch, is_met, no_sketch, sketched}
 use Rattle.morse_drawing.specs.declared.fault.SliceFault.{SliceFault}
 use Rattle.morse_drawing.specs.declared.fault.SliceFault.TheVariants.{Ends as EndsLeft, Label, Loops, Place}
@@ -14,13 +14,30 @@ use Rattle.morse_drawing.specs.declared.limits.TheConstants.{CAP_STRANDS, JOINED
 use Rattle.morse_drawing.specs.declared.slice.Slice.{Slice}
 use Rattle.morse_drawing.specs.declared.slice.Slice.TheVariants.{Cap, Cup, Cross}
 use Rattle.morse_drawing.proofs.EndAnswers.{loops-counted_ends, pairs-found}
+use Rattle.morse_drawing.proofs.EndNumbers.{AreEnds, IsNumbered, IsNumbered-cap, IsNumbered-cross, IsNumbered-cup, IsOther, label, numbered, other_number, pairs-same}
 use Rattle.morse_drawing.proofs.Ends.DartEnd.{bare}
+use Rattle.morse_drawing.proofs.NumberedEnds.{NumberedEnds, after_slice as after_number, found_pair as pair_number, has_later as later_number}
 use Rattle.morse_drawing.proofs.HeldCross.{Held-cross}
 use Rattle.morse_drawing.proofs.HeldEnds.{Held-cap, Held-cup, IsHeld}
 use Rattle.morse_drawing.proofs.TextLemmas.{lt_no, no_fault, or_no, or_none, placed, within}
 
-pub Held-none : (limit : ℕ) → IsHeld limit no_sketch (no_strands limit)
-Held-none limit = record {
+-- the row of open ends is one of what is read of the slices so far
+pub record IsHeldBy (limit : ℕ) (r : Sketch) (s : OpenEnds) : Type 0 where
+  pub held : IsHeld limit r (numbered limit s)
+  pub are : AreEnds limit s
+
+all_replicate : {X : Type 0} (P : X → Type 0) (n : ℕ) (x : X) → P x → AllByRecursion P (replicate n x)
+all_replicate P zero x one = tt
+all_replicate P (suc n) x one = (one, all_replicate P n x one)
+
+none-known : (limit x : ℕ) → x < 4 * limit → get_or (numbered limit (no_strands limit)).others x 0 ≡ 4 * limit
+none-known limit x below =
+    let none : Option ℕ = None in
+    get_or-map (other_number limit) (replicate (4 * limit) none) x None 0 (omega (arith, below, length-replicate (4 * limit) none))
+    ∙ ap (other_number limit) (get_or-replicate (4 * limit) x None None below)
+
+Numbered-none : (limit : ℕ) → IsHeld limit no_sketch (numbered limit (no_strands limit))
+Numbered-none limit = record {
   name = λ z. z;
   ends = record {
     joins_below = tt;
@@ -28,8 +45,8 @@ Held-none limit = record {
     met_below = λ x met_x. absurd (both_ways false refl met_x);
     respects = tt;
     apart = λ f holds p q p_below q_below same. absurd (omega (arith, p_below));
-    size = length-replicate (4 * limit) (4 * limit);
-    darts = λ x below. bare refl refl (get_or-replicate (4 * limit) x (4 * limit) 0 below);
+    size = length-map (replicate (4 * limit) None) (other_number limit) ∙ length-replicate (4 * limit) None;
+    darts = λ x below. bare refl refl (none-known limit x below);
     named = λ p below. absurd (omega (arith, below));
     twice = λ l from below. inl refl;
     no_loops = λ l from. refl;
@@ -41,19 +58,31 @@ Held-none limit = record {
   whole = λ x. refl;
 }
 
-same-length : (limit : ℕ) (r : Sketch) (s : OpenEnds) → IsHeld limit r s → length s.row ≡ length r.row
-same-length limit r s is = ap (λ xs. length xs) is.labels ∙ length-map r.row is.name
+pub Held-none : (limit : ℕ) → IsHeldBy limit no_sketch (no_strands limit)
+Held-none limit = record {
+  held = Numbered-none limit;
+  are = record { row = tt; others = all_replicate (IsOther limit) (4 * limit) None tt };
+}
+
+same-length : (limit : ℕ) (r : Sketch) (s : OpenEnds) → IsHeldBy limit r s → length s.row ≡ length r.row
+same-length limit r s is =
+    sym (length-map s.row (label limit)) ∙ ap (λ xs. length xs) is.held.labels ∙ length-map r.row is.held.name
+
+after_cup : (limit : ℕ) (r : Sketch) (s : OpenEnds) (at : ℕ) → 1 ≤ at → at ≤ length r.row - 1 → IsHeldBy limit r s
+    → IsNumbered limit s (after_slice s (Cup at)) (after_number limit (numbered limit s) (Cup at))
+after_cup limit r s at from last is = IsNumbered-cup limit s at (omega (arith, from, last, same-length limit r s is)) is.are
 
 -- the faults are the same
-cup-loops : (limit : ℕ) (r : Sketch) (s : OpenEnds) (at : ℕ) → is_outside (length r.row - 1) at ≡ false → IsHeld limit r s
-    → (after_slice limit s (Cup at)).loops ≡ loop_count limit (sketched r (Cup at))
+cup-loops : (limit : ℕ) (r : Sketch) (s : OpenEnds) (at : ℕ) → is_outside (length r.row - 1) at ≡ false → IsHeldBy limit r s
+    → (after_slice s (Cup at)).loops ≡ loop_count limit (sketched r (Cup at))
 cup-loops limit r s at inside is =
     let it = within (length r.row - 1) at inside in
-    let held = Held-cup limit r s at it.0 it.1 is in
-    sym (loops-counted_ends limit held.name (sketched r (Cup at)) (after_slice limit s (Cup at)).others (after_slice limit s (Cup at)).loops
-    held.ends)
+    let held = Held-cup limit r (numbered limit s) at it.0 it.1 is.held in
+    let next = after_number limit (numbered limit s) (Cup at) in
+    sym (ap (λ (u : NumberedEnds). u.loops) (after_cup limit r s at it.0 it.1 is).same)
+    ∙ sym (loops-counted_ends limit held.name (sketched r (Cup at)) next.others next.loops held.ends)
 
-outside-same : (limit : ℕ) (r : Sketch) (s : OpenEnds) (crossing slot : ℕ) → IsHeld limit r s
+outside-same : (limit : ℕ) (r : Sketch) (s : OpenEnds) (crossing slot : ℕ) → IsHeldBy limit r s
     → (is_outside limit crossing || (is_drawn s crossing || nat_lt 3 slot))
     ≡ (is_outside limit crossing || (is_met r.met (4 * (crossing - 1)) || nat_lt 3 slot))
 outside-same limit r s crossing slot is = elim (cases_Bool (is_outside limit crossing)) [
@@ -61,19 +90,19 @@ outside-same limit r s crossing slot is = elim (cases_Bool (is_outside limit cro
       ∙ sym (ap (λ b. b || (is_met r.met (4 * (crossing - 1)) || nat_lt 3 slot)) out)
   | inr inside ↦
       let it = within limit crossing inside in
-      ap (λ b. is_outside limit crossing || (b || nat_lt 3 slot)) (is.drawn (crossing - 1) (omega (arith, it.0, it.1)))
+      ap (λ b. is_outside limit crossing || (b || nat_lt 3 slot)) (is.held.drawn (crossing - 1) (omega (arith, it.0, it.1)))
 ]
 
-pub fault-same : (limit : ℕ) (r : Sketch) (s : OpenEnds) (number : ℕ) (slice : Slice) → IsHeld limit r s
+pub fault-same : (limit : ℕ) (r : Sketch) (s : OpenEnds) (number : ℕ) (slice : Slice) → IsHeldBy limit r s
     → strands_fault limit s number slice ≡ slice_fault limit r number slice
 fault-same limit r s number (Cap at) is =
     ap (λ m. fault_where (is_outside (m + 1) at || nat_lt CAP_STRANDS m) (Place number)) (same-length limit r s is)
 fault-same limit r s number (Cup at) is =
     ap (λ m. option_or (fault_where (is_outside (m - 1) at) (Place number))
-    (fault_where (nat_lt JOINED_LOOPS (after_slice limit s (Cup at)).loops) (Loops number))) (same-length limit r s is)
+    (fault_where (nat_lt JOINED_LOOPS (after_slice s (Cup at)).loops) (Loops number))) (same-length limit r s is)
     ∙ elim (cases_Bool (is_outside (length r.row - 1) at)) [
       | inl out ↦
-          ap (λ b. option_or (fault_where b (Place number)) (fault_where (nat_lt JOINED_LOOPS (after_slice limit s (Cup at)).loops) (Loops number)))
+          ap (λ b. option_or (fault_where b (Place number)) (fault_where (nat_lt JOINED_LOOPS (after_slice s (Cup at)).loops) (Loops number)))
           out
           ∙ sym (ap (λ b. option_or (fault_where b (Place number))
           (fault_where (nat_lt JOINED_LOOPS (loop_count limit (sketched r (Cup at)))) (Loops number))) out)
@@ -85,22 +114,34 @@ fault-same limit r s number (Cross at crossing slot) is =
     ap₂ (λ m b. option_or (fault_where (is_outside (m - 1) at) (Place number)) (fault_where b (Label number))) (same-length limit r s is)
     (outside-same limit r s crossing slot is)
 
+held_by : (limit : ℕ) (r : Sketch) (s : OpenEnds) (slice : Slice)
+    → IsNumbered limit s (after_slice s slice) (after_number limit (numbered limit s) slice)
+    → IsHeld limit (sketched r slice) (after_number limit (numbered limit s) slice) → IsHeldBy limit (sketched r slice) (after_slice s slice)
+held_by limit r s slice next held =
+    record { held = subst (λ (u : NumberedEnds). IsHeld limit (sketched r slice) u) next.same held; are = next.are }
+
 -- after a slice without a fault
-pub held-next : (limit : ℕ) (r : Sketch) (s : OpenEnds) (number : ℕ) (slice : Slice) → IsHeld limit r s
-    → slice_fault limit r number slice ≡ None → IsHeld limit (sketched r slice) (after_slice limit s slice)
+pub held-next : (limit : ℕ) (r : Sketch) (s : OpenEnds) (number : ℕ) (slice : Slice) → IsHeldBy limit r s
+    → slice_fault limit r number slice ≡ None → IsHeldBy limit (sketched r slice) (after_slice s slice)
 held-next limit r s number (Cap at) is none =
     let it = placed limit number r (Cap at) none in
-    Held-cap limit r s at (omega (arith, it)) (omega (arith, it)) (omega (arith, it)) is
+    held_by limit r s (Cap at) (IsNumbered-cap limit s at is.are)
+    (Held-cap limit r (numbered limit s) at (omega (arith, it)) (omega (arith, it)) (omega (arith, it)) is.held)
 held-next limit r s number (Cup at) is none =
     let it = placed limit number r (Cup at) none in
-    Held-cup limit r s at (omega (arith, it)) (omega (arith, it)) is
+    let last : at ≤ length r.row - 1 = omega (arith, it) in
+    held_by limit r s (Cup at) (after_cup limit r s at (omega (arith, it)) last is)
+    (Held-cup limit r (numbered limit s) at (omega (arith, it)) last is.held)
 held-next limit r s number (Cross at crossing slot) is none =
     let it = placed limit number r (Cross at crossing slot) none in
     let parts = or_no (is_outside limit crossing) (is_met r.met (4 * (crossing - 1)) || nat_lt 3 slot) (no_fault _ _ (or_none _ _ none).1) in
     let inside = within limit crossing parts.0 in
     let rest = or_no (is_met r.met (4 * (crossing - 1))) (nat_lt 3 slot) parts.1 in
-    Held-cross limit r s at crossing slot (omega (arith, it)) (omega (arith, it)) inside.0 inside.1 (omega (arith, lt_no 3 slot rest.1))
-    (is.drawn (crossing - 1) (omega (arith, inside.0, inside.1)) ∙ rest.0) is
+    let small : slot < 4 = omega (arith, lt_no 3 slot rest.1) in
+    held_by limit r s (Cross at crossing slot)
+    (IsNumbered-cross limit s at crossing slot (omega (arith, it, same-length limit r s is)) inside.0 inside.1 small is.are)
+    (Held-cross limit r (numbered limit s) at crossing slot (omega (arith, it)) (omega (arith, it)) inside.0 inside.1 small
+    (is.held.drawn (crossing - 1) (omega (arith, inside.0, inside.1)) ∙ rest.0) is.held)
 
 map-two : {X Y : Type 0} (f : X → Y) (g : ℕ → X) (xs : List ℕ) → map (λ x. f (g x)) xs ≡ map f (map g xs)
 map-two {X} {Y} f g [] = refl
@@ -109,31 +150,34 @@ map-two {X} {Y} f g (x ∷ xs) = ap (λ (ys : List Y). f (g x) ∷ ys) (map-two 
 abbrev with_joins : List (ℕ × ℕ) → ℕ → JoinedDarts
 with_joins pairs loops = record { pairs = map ends_of pairs; loops = loops }
 
-answer-same : (limit : ℕ) (r : Sketch) (s : OpenEnds) → IsHeld limit r s
+answer-same : (limit : ℕ) (r : Sketch) (s : OpenEnds) → IsHeldBy limit r s
     → strands_ends limit s ≡ answer_by (ends_fault r) (joined_in limit r)
 answer-same limit r s is =
-    let darts = filter (has_later limit s.others) (range_with_len 0 (4 * limit)) in
+    let others = (numbered limit s).others in
+    let darts = filter (later_number limit others) (range_with_len 0 (4 * limit)) in
+    let size : length s.others ≡ 4 * limit = sym (length-map s.others (other_number limit)) ∙ is.held.ends.size in
     let joins : found_joins limit s ≡ joined_in limit r =
-    ap (λ (pairs : List (List _)). record { pairs = pairs; loops = s.loops }) (map-two ends_of (found_pair s.others) darts)
-    ∙ ap₂ with_joins (sym (pairs-found limit is.name r s.others s.loops is.ends))
-    (sym (loops-counted_ends limit is.name r s.others s.loops is.ends)) in
+    ap (λ (pairs : List (List _)). record { pairs = pairs; loops = s.loops })
+    (pairs-same limit s.others is.are.others size ∙ map-two ends_of (pair_number others) darts)
+    ∙ ap₂ with_joins (sym (pairs-found limit is.held.name r others s.loops is.held.ends))
+    (sym (loops-counted_ends limit is.held.name r others s.loops is.held.ends)) in
     ap₂ (λ m j. answer_by (fault_where (nat_lt 0 m) (EndsLeft m)) j) (same-length limit r s is) joins
 
-joined-from : (limit : ℕ) (r : Sketch) (s : OpenEnds) (number : ℕ) (slices : List Slice) → IsHeld limit r s
+joined-from : (limit : ℕ) (r : Sketch) (s : OpenEnds) (number : ℕ) (slices : List Slice) → IsHeldBy limit r s
     → joins_from limit s number slices
     ≡ answer_by (option_or (first_slice_fault limit r number slices) (ends_fault (fold sketched r slices)))
     (joined_in limit (fold sketched r slices))
 joined-from limit r s number [] is = answer-same limit r s is
 joined-from limit r s number (slice ∷ slices) is =
-    ap (λ o. joins_go o (joins_from limit (after_slice limit s slice) (number + 1) slices)) (fault-same limit r s number slice is)
+    ap (λ o. joins_go o (joins_from limit (after_slice s slice) (number + 1) slices)) (fault-same limit r s number slice is)
     ∙ by_fault (slice_fault limit r number slice) refl
-    (λ none. joined-from limit (sketched r slice) (after_slice limit s slice) (number + 1) slices (held-next limit r s number slice is none))
+    (λ none. joined-from limit (sketched r slice) (after_slice s slice) (number + 1) slices (held-next limit r s number slice is none))
   where
     end : Sketch
     end = fold sketched (sketched r slice) slices
 
     later : Result JoinedDarts SliceFault
-    later = joins_from limit (after_slice limit s slice) (number + 1) slices
+    later = joins_from limit (after_slice s slice) (number + 1) slices
 
     rest : Option SliceFault
     rest = first_slice_fault limit (sketched r slice) (number + 1) slices

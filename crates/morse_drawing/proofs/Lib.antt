@@ -17,9 +17,11 @@ mod Loops
 mod Pairs
 mod ReadBack
 mod StepLemmas
+mod StrandCounts
 mod Drawn
 mod TextLemmas
 mod RowEdits
+mod NumberedEnds
 mod EndTimes
 mod Ends
 mod TiedEnds
@@ -28,6 +30,7 @@ mod EndAnswers
 mod MetEnds
 mod HeldEnds
 mod HeldCross
+mod EndNumbers
 mod JoinedEnds
 mod EndLemmas
 mod FoundPairs

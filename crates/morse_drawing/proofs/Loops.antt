@@ -19,7 +19,7 @@ use Rattle.morse_drawing.specs.declared.slice.Slice.TheVariants.{Cap, Cup}
 use Rattle.morse_drawing.proofs.Faults.{cap-right, cup-right, in-range, met-no_loop, none-counted, row-empty}
 use Rattle.morse_drawing.proofs.SketchParts.{respects-old}
 
--- the pieces before k are of one side, and those from k on are of sides of two pieces each
+-- the segments before k are of one side, and those from k on are of sides of two segments each
 abbrev pub side : ℕ → ℕ → ℕ
 side k z = cond (nat_lt z k) 0 (suc ((z - k) / 2))
 
@@ -44,7 +44,7 @@ side-from k z j same = elim (before_or z k) [
     before_or : (x y : ℕ) → (x < y) ⊎ (y ≤ x)
     before_or x y = grind arith
 
--- after a drawing with k pieces and some loops
+-- after a drawing with k segments and some loops
 pub record IsEnded (n : ℕ) (whole : ℕ → ℕ) (k loops : ℕ) (r : Sketch) : Type 0 where
   pub row : r.row ≡ []
   pub next_is : r.next ≡ k + 2 * loops
@@ -53,8 +53,8 @@ pub record IsEnded (n : ℕ) (whole : ℕ → ℕ) (k loops : ℕ) (r : Sketch) 
   pub known : (x : ℕ) → is_met r.met x ≡ true → x < 4 * n
   pub all_met : (x : ℕ) → x < 4 * n → is_met r.met x ≡ true
   pub dart_of : ℕ → ℕ
-  pub dart_below : (piece : ℕ) → piece < k → dart_of piece < 4 * n
-  pub reached : (f : ℕ → ℕ) → Respects f r.joins → (piece : ℕ) → piece < k → f piece ≡ f (segment_met r.met (dart_of piece))
+  pub dart_below : (segment : ℕ) → segment < k → dart_of segment < 4 * n
+  pub reached : (f : ℕ → ℕ) → Respects f r.joins → (segment : ℕ) → segment < k → f segment ≡ f (segment_met r.met (dart_of segment))
   pub closed : (f : ℕ → ℕ) → Respects f r.joins → (x : ℕ) → x < 4 * n → f (segment_met r.met x) ≡ f (segment_met r.met (whole x))
   pub colour : ℕ → ℕ
   pub respects : Respects colour r.joins
@@ -76,8 +76,8 @@ IsEnded-sketched n whole drawn r is all =
       known = λ x met. (is.known x met).0;
       all_met = λ x below. is.all_met x below (there x below);
       dart_of = dart_from;
-      dart_below = λ piece below. (from piece below).0;
-      reached = λ f holds piece below. (from piece below).1 f holds;
+      dart_below = λ segment below. (from segment below).0;
+      reached = λ f holds segment below. (from segment below).1 f holds;
       closed = λ f holds x below. is.closed f holds x below (there x below);
       colour = is.colour;
       respects = is.respects;
@@ -93,21 +93,21 @@ IsEnded-sketched n whole drawn r is all =
     before_or : (x y : ℕ) → (x < y) ⊎ (y ≤ x)
     before_or x y = grind arith
 
-    by_case : (piece : ℕ) → (piece < r.next) ⊎ (r.next ≤ piece) → ℕ
-    by_case piece (inl below) = (is.reached piece below).dart
-    by_case piece (inr late) = 0
+    by_case : (segment : ℕ) → (segment < r.next) ⊎ (r.next ≤ segment) → ℕ
+    by_case segment (inl below) = (is.reached segment below).dart
+    by_case segment (inr late) = 0
 
     dart_from : ℕ → ℕ
-    dart_from piece = by_case piece (before_or piece r.next)
+    dart_from segment = by_case segment (before_or segment r.next)
 
-    from_case : (piece : ℕ) (which : (piece < r.next) ⊎ (r.next ≤ piece)) → piece < r.next → (by_case piece which < 4 * n)
-        × ((f : ℕ → ℕ) → Respects f r.joins → f piece ≡ f (segment_met r.met (by_case piece which)))
-    from_case piece (inl below) also = ((is.reached piece below).below, (is.reached piece below).same)
-    from_case piece (inr late) also = absurd (omega (arith, late, also))
+    from_case : (segment : ℕ) (which : (segment < r.next) ⊎ (r.next ≤ segment)) → segment < r.next → (by_case segment which < 4 * n)
+        × ((f : ℕ → ℕ) → Respects f r.joins → f segment ≡ f (segment_met r.met (by_case segment which)))
+    from_case segment (inl below) also = ((is.reached segment below).below, (is.reached segment below).same)
+    from_case segment (inr late) also = absurd (omega (arith, late, also))
 
-    from : (piece : ℕ) → piece < r.next → (dart_from piece < 4 * n)
-        × ((f : ℕ → ℕ) → Respects f r.joins → f piece ≡ f (segment_met r.met (dart_from piece)))
-    from piece below = from_case piece (before_or piece r.next) below
+    from : (segment : ℕ) → segment < r.next → (dart_from segment < 4 * n)
+        × ((f : ℕ → ℕ) → Respects f r.joins → f segment ≡ f (segment_met r.met (dart_from segment)))
+    from segment below = from_case segment (before_or segment r.next) below
 
 -- colours before a number, and 0 from there on
 abbrev cut : (ℕ → ℕ) → ℕ → ℕ → ℕ
@@ -238,9 +238,9 @@ loops-counted limit n whole k loops r small is =
     λ dart dart_below. elim (cases_Bool (is_met r.met dart)) [
       | inr fails ↦ ap (λ t. t && nat_eq (class_met r dart) c) fails
       | inl met ↦
-          let piece_below = is.met_below dart (is.known dart met) in
-          let class_low = names.least (segment_met r.met dart) (omega (arith, piece_below, is.next_is)) in
-          ap (λ t. t && nat_eq (class_met r dart) c) met ∙ ne_eqb (class_met r dart) c (λ same. omega (arith, same, class_low, piece_below))
+          let segment_below = is.met_below dart (is.known dart met) in
+          let class_low = names.least (segment_met r.met dart) (omega (arith, segment_below, is.next_is)) in
+          ap (λ t. t && nat_eq (class_met r dart) c) met ∙ ne_eqb (class_met r dart) c (λ same. omega (arith, same, class_low, segment_below))
     ] in
     ap (λ t. t && (not (list_any (meets_class r c) (range_with_len 0 (4 * limit)))
     && not (list_any (λ end. nat_eq (slice_index (segment_classes r) end) c) r.row))) (eq-eqb (class c) c (least j below))

@@ -1,10 +1,10 @@
--- Two ends of different labels are tied, as the code ties them, and an end meets a dart.
+-- Two ends of different labels are tied, and an end meets a dart.
 use Rattle.std.proofs.Common.{◌≡◌, ◌≢◌, ℕ, inl, inr, ◌+◌, ◌*◌, ◌<◌, ◌≤◌, ◌∙◌, List, [], ◌∷◌, ◌++◌, map, set, sym, ap, subst, refl, arith, Bool, true, false, cond}
 use Rattle.std.specs.Prelude.{nat_le}
 use Rattle.std.specs.List.{AllByRecursion}
 use Rattle.std.proofs.lemmas.Bool.{both_ways, cases_Bool}
 use Rattle.std.proofs.lemmas.Bool.Decides.{nat_tests}
-use Rattle.morse_drawing.specs.OpenEnds.{OpenEnds, relabelled, tied}
+use Rattle.morse_drawing.proofs.NumberedEnds.{NumberedEnds, relabelled, tied}
 use Rattle.morse_drawing.specs.Sketches.{is_met}
 use Rattle.morse_drawing.proofs.EndMoves.{Ends-dropped, Ends-moved, Ends-started, fresh, fresh-new, fresh-old, map-fresh}
 use Rattle.morse_drawing.proofs.EndTimes.{hit-same, map-relabelled_none, times}
@@ -22,11 +22,11 @@ kept_label limit u v = cond (nat_le (4 * limit) u) v u
 abbrev pub others_found : ℕ → ℕ → ℕ → List ℕ → List ℕ
 others_found limit u v others = cond (nat_le (4 * limit) u) others (found limit u v others)
 
-abbrev pub with_row : OpenEnds → List ℕ → List ℕ → OpenEnds
+abbrev pub with_row : NumberedEnds → List ℕ → List ℕ → NumberedEnds
 with_row s row others = record { row = row; others = others; drawn = s.drawn; loops = s.loops }
 
--- tying as the code does it
-pub tied-is : (limit : ℕ) (s : OpenEnds) (u v : ℕ) → (u < 4 * limit → v < 4 * limit → times v s.row ≡ 0)
+-- the row in which they are tied
+pub tied-is : (limit : ℕ) (s : NumberedEnds) (u v : ℕ) → (u < 4 * limit → v < 4 * limit → times v s.row ≡ 0)
     → tied limit s u v ≡ with_row s (map (relabelled (given_way limit u v) (kept_label limit u v)) s.row) (others_found limit u v s.others)
 tied-is limit s u v none = elim (cases_Bool (nat_le (4 * limit) u)) [
   | inl first ↦ ap (λ b. cond b one two) first ∙ sym (ap answer first)
@@ -44,19 +44,19 @@ tied-is limit s u v none = elim (cases_Bool (nat_le (4 * limit) u)) [
   ]
 ]
   where
-    one : OpenEnds
+    one : NumberedEnds
     one = with_row s (map (relabelled u v) s.row) s.others
 
-    half : OpenEnds
+    half : NumberedEnds
     half = with_row s (map (relabelled v u) s.row) s.others
 
-    last : OpenEnds
+    last : NumberedEnds
     last = with_row s s.row (set (set s.others u v) v u)
 
-    two : OpenEnds
+    two : NumberedEnds
     two = cond (nat_le (4 * limit) v) half last
 
-    answer : Bool → OpenEnds
+    answer : Bool → NumberedEnds
     answer b = with_row s (map (relabelled (cond b u v) (cond b v u)) s.row) (cond b s.others (found limit u v s.others))
 
     le-false : (x y : ℕ) → nat_le x y ≡ false → y < x

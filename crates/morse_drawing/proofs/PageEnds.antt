@@ -45,7 +45,7 @@ finished-next_page : (n : ℕ) (whole : ℕ → ℕ) (page : Page) → IsLastPag
 finished-next_page n whole page is =
     ap (next_page_by n whole page) is.row ∙ ap (by_crossing page) (none-undrawn n page.drawn is.all)
 
-finished-pages_on : (n : ℕ) (whole : ℕ → ℕ) (count : ℕ) (page : Page) → IsLastPage n page → pages_on n whole count page ≡ page
+pub finished-pages_on : (n : ℕ) (whole : ℕ → ℕ) (count : ℕ) (page : Page) → IsLastPage n page → pages_on n whole count page ≡ page
 finished-pages_on n whole zero page is = refl
 finished-pages_on n whole (suc count) page is =
     ap (pages_on n whole count) (finished-next_page n whole page is) ∙ finished-pages_on n whole count page is
@@ -84,10 +84,10 @@ IsPage-blank_page n whole = record {
   drawing = IsDrawing-none n whole;
   reading = record {
     zipped = [];
-    pieces = refl;
+    segments = refl;
     darts = refl;
     joins_below = tt;
-    pieces_below = tt;
+    segments_below = tt;
     met_below = λ x below stands. absurd stands;
     along = λ f holds. tt;
     closed = λ f holds x below stands. absurd stands;
@@ -122,10 +122,10 @@ IsDrawn-page_of n whole is_whole =
       same = same;
       reading = record {
         zipped = reading.zipped;
-        pieces = reading.pieces;
+        segments = reading.segments;
         darts = reading.darts;
         joins_below = reading.joins_below;
-        pieces_below = reading.pieces_below;
+        segments_below = reading.segments_below;
         met_below = reading.met_below;
         along = reading.along;
         closed = λ f holds x below stands. reading.closed f holds x below stands ∙ ap (λ w. f (segment_met r.met w)) (same x below);
@@ -166,39 +166,6 @@ IsWholeSphere-accepted code is =
       full = λ x below. (IsOtherPlace-partner_at code.crossings x twice below).differs;
     }
 
--- two darts meet pieces of one class exactly where they are one dart, or partners
+-- two darts meet segments of one class exactly where they are one dart, or partners
 pub least_same : (x wx y wy : ℕ) → min x wx ≡ min y wy → ((y ≡ x) ⊎ (x ≡ wy)) ⊎ ((y ≡ wx) ⊎ (wx ≡ wy))
 least_same x wx y wy same = grind arith
-
-pub joined-partners : (n : ℕ) (whole : ℕ → ℕ) (x y : ℕ) → IsWholeSphere n whole → x < 4 * n → y < 4 * n
-    → MeetJoined (sketch_of (page_of n whole).slices) x y ↔ ((y ≡ x) ⊎ (y ≡ whole x))
-joined-partners n whole x y is_whole x_below y_below =
-    let drawn = IsDrawn-page_of n whole is_whole in
-    let r = sketch_of (page_of n whole).slices in
-    let is = drawn.reading in
-    let there : (z : ℕ) → z < 4 * n → IsIn (z / 4) (page_of n whole).drawn = λ z below. drawn.finished.all (z / 4) (omega (arith, below)) in
-    let back = is_whole.pairing.back in (
-      λ joined.
-          let same : min x (whole x) ≡ min y (whole y) =
-          sym (is.named x x_below (there x x_below))
-          ∙ classes-finest is.colour r.next r.joins is.respects is.joins_below (segment_met r.met x) (segment_met r.met y)
-          (is.met_below x x_below (there x x_below)) (is.met_below y y_below (there y y_below)) joined
-          ∙ is.named y y_below (there y y_below) in
-          elim (least_same x (whole x) y (whole y) same) [
-            | inl first ↦ elim first [
-              | inl one ↦ inl one
-              | inr other ↦ inr (sym (back y y_below) ∙ ap whole (sym other))
-            ]
-            | inr second ↦ elim second [
-              | inl partner ↦ inr partner
-              | inr both ↦ inl (sym (back y y_below) ∙ ap whole (sym both) ∙ back x x_below)
-            ]
-          ],
-      λ either. elim either [
-        | inl one ↦ ap (λ z. slice_index (classes_of r.next r.joins) (segment_met r.met z)) (sym one)
-        | inr partner ↦
-            is.closed (λ z. slice_index (classes_of r.next r.joins) z) (classes-together r.next r.joins is.joins_below) x x_below
-            (there x x_below)
-            ∙ ap (λ z. slice_index (classes_of r.next r.joins) (segment_met r.met z)) (sym partner)
-      ],
-    )

@@ -18,7 +18,7 @@ use Rattle.kh_types.specs.declared.limits.TheConstants.{COMPONENTS}
 use Rattle.kh_types.proofs.AcceptedCodes.{accepted_loops}
 use Rattle.kh_types.proofs.AcceptedLemmas.{HasArcsTwice-accepted}
 use Rattle.kh_types.proofs.ClassLemmas.{classes-finest, classes-together}
-use Rattle.kh_types.proofs.FilteredRanges.{filter-one}
+use Rattle.kh_types.proofs.FilteredRanges.{filter-one, filter-none}
 use Rattle.kh_types.proofs.Ranges.{range-append}
 use Rattle.face_walk.specs.AddedArcs.{open_piece_count}
 use Rattle.morse_drawing.specs.Sketches.{Sketch, is_met, no_sketch, segment_met, sketched, sketch_of}
@@ -62,16 +62,6 @@ lt-true x y holds = grind (arith, nat_tests)
 pub true-lt : (x y : ℕ) → x < y → nat_lt x y ≡ true
 true-lt x y below = grind (arith, nat_tests)
 
-pub lt-false : (x y : ℕ) → nat_lt x y ≡ false → y ≤ x
-lt-false x y fails = grind (arith, nat_tests)
-
--- a range in which one number passes, or none
-pub filter-none : (p : ℕ → Bool) (a n : ℕ) → ((k : ℕ) → a ≤ k → k < a + n → p k ≡ false) → filter p (range_with_len a n) ≡ []
-filter-none p a zero fails = refl
-filter-none p a (suc n) fails =
-    ap (λ b. cond b (a ∷ filter p (range_with_len (a + 1) n)) (filter p (range_with_len (a + 1) n))) (fails a (omega arith) (omega arith))
-    ∙ filter-none p (a + 1) n (λ k from below. fails k (omega (arith, from)) (omega (arith, below)))
-
 -- lists of at most one, one after another
 pub flat-range : {X : Type 0} (f : ℕ → List X) (p : ℕ → Bool) (h : ℕ → X) (a n : ℕ)
     → ((k : ℕ) → a ≤ k → k < a + n → f k ≡ cond (p k) (h k ∷ []) []) → flat_map f (range_with_len a n) ≡ map h (filter p (range_with_len a n))
@@ -95,7 +85,7 @@ flat-none {X} f a (suc n) none =
     flat_map-cons f a rest ∙ ap (λ (zs : List X). zs ++ flat_map f rest) (none a (omega arith) (omega arith))
     ∙ flat-none f (a + 1) n (λ k from below. none k (omega (arith, from)) (omega (arith, below)))
 
--- two darts meet one class of pieces exactly where they are partners
+-- two darts meet one class of segments exactly where they are partners
 partners-joined : (n : ℕ) (whole : ℕ → ℕ) (k loops : ℕ) (r : Sketch) (x y : ℕ) → IsWholeSphere n whole → IsEnded n whole k loops r
     → x < 4 * n → y < 4 * n → class_met r x ≡ class_met r y → (y ≡ x) ⊎ (y ≡ whole x)
 partners-joined n whole k loops r x y is_whole is x_below y_below joined =

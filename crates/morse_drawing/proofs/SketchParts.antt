@@ -12,8 +12,8 @@ use Rattle.morse_drawing.specs.Sketches.{Sketch, dart_after, is_met, segment_met
 use Rattle.morse_drawing.specs.DartRows.{turned_back}
 use Rattle.morse_drawing.specs.declared.slice.Slice.TheVariants.{Cap, Cup, Cross}
 
-abbrev pub piece : ℕ × ℕ → ℕ
-piece e = e.0
+abbrev pub segment : ℕ × ℕ → ℕ
+segment e = e.0
 
 abbrev pub dart : ℕ × ℕ → ℕ
 dart e = e.1
@@ -161,7 +161,7 @@ arc-other part x y z not_x not_y =
 pub min_swap : (x y : ℕ) → min x y ≡ min y x
 min_swap x y = omega arith
 
--- the pieces that the darts of a new crossing meet, and those of all other darts
+-- the segments that the darts of a new crossing meet, and those of all other darts
 abbrev pub chain : ℕ → ℕ → ℕ → ℕ → ℕ → ℕ → ℕ → ℕ → ℕ → ℕ → ℕ
 chain d0 d1 d2 d3 a p q b w z =
     cond (nat_eq d0 z) a (cond (nat_eq d1 z) p (cond (nat_eq d2 z) q (cond (nat_eq d3 z) b w)))
@@ -260,7 +260,7 @@ which o z = elim (cases_eq z o) [
   ]
 ]
 
--- the new pieces by their darts
+-- the new segments by their darts
 pub record IsMet (o a b next : ℕ) (met : List (ℕ × ℕ)) : Type 0 where
   pub zero_is : segment_met (cross_met o a b next met) o ≡ a
   pub one_is : segment_met (cross_met o a b next met) (turn_one o) ≡ next
@@ -346,10 +346,10 @@ met-here o a b next z met at =
 pub dart-there : (n o z : ℕ) → o < 4 * n → z / 4 ≡ o / 4 → z < 4 * n
 dart-there n o z o_below at = omega (arith, o_below, at)
 
--- colours of new pieces
+-- colours of new segments
 abbrev pub painted : (ℕ → ℕ) → ℕ → ℕ → ℕ → ℕ → ℕ → ℕ → ℕ → ℕ
-painted colour next p q one two rest piece_is =
-    cond (nat_lt piece_is next) (colour piece_is) (cond (nat_eq piece_is p) one (cond (nat_eq piece_is q) two rest))
+painted colour next p q one two rest segment_is =
+    cond (nat_lt segment_is next) (colour segment_is) (cond (nat_eq segment_is p) one (cond (nat_eq segment_is q) two rest))
 
 pub painted-old : (colour : ℕ → ℕ) (next p q one two rest x : ℕ) → x < next → painted colour next p q one two rest x ≡ colour x
 painted-old colour next p q one two rest x below = under (colour x) (cond (nat_eq x p) one (cond (nat_eq x q) two rest))
@@ -373,7 +373,7 @@ respects-old f g next (pair ∷ joins) same below holds =
 pub before_or : (q next : ℕ) → (q < next) ⊎ (next ≤ q)
 before_or q next = grind (arith)
 
--- one of the next four pieces, or of the next six
+-- one of the next four segments, or of the next six
 pub data FourNext (q next : ℕ) : Type 0 where
   next_zero : q ≡ next → FourNext q next
   next_one : q ≡ next + 1 → FourNext q next

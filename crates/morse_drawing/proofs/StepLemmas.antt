@@ -11,7 +11,7 @@ use Rattle.kh_types.specs.Darts.{partner_at}
 use Rattle.kh_types.specs.declared.limits.TheConstants.{CROSSINGS}
 use Rattle.kh_types.proofs.Ranges.{range_around, range_more}
 use Rattle.morse_drawing.specs.DartRows.{IsIn}
-use Rattle.morse_drawing.specs.Pages.{Page, are_paired, blank_page, is_in, leading, leads_on, loop_slices, next_page, pages_on, paired, undrawn}
+use Rattle.morse_drawing.specs.Pages.{Page, are_paired, blank_page, is_in, leading, leads_on, loop_slices, next_page, page_of, pages_on, paired, undrawn}
 use Rattle.morse_drawing.specs.Progress.{IsPage, IsPageAfter, IsPageOf, IsWholeSphere}
 use Rattle.morse_drawing.specs.declared.limits.TheConstants.{DRAWN_STRANDS}
 use Rattle.morse_drawing.specs.declared.slice.Slice.{Slice}
@@ -20,7 +20,7 @@ use Rattle.morse_drawing.proofs.Neighbours.{all_in}
 use Rattle.morse_drawing.proofs.Parts.{parts-one}
 use Rattle.morse_drawing.proofs.PageLemmas.Search.{missing, some}
 use Rattle.morse_drawing.proofs.PageSteps.{IsNextPage-next_page, paired-found}
-use Rattle.morse_drawing.proofs.PageEnds.{IsPage-blank_page, IsPage-pages_on, IsWholeSphere-accepted}
+use Rattle.morse_drawing.proofs.PageEnds.{IsDrawn-page_of, IsPage-blank_page, IsPage-pages_on, IsWholeSphere-accepted, finished-pages_on}
 use Rattle.morse_drawing.proofs.PageLemmas.{Search-is, in_middle, undrawn-fewer}
 
 -- the first number below n that passes a test, where those before it do not
@@ -60,7 +60,7 @@ IsFound-find test n k found = elim (Search-is test 0 n) [
     none_some same = absurd (omega (arith, ap is_some same))
 
 -- a dart of the row is one of the whole
-row-below : (n : ℕ) (whole : ℕ → ℕ) (page : Page) (k : ℕ) → IsPage n whole page → k < length page.row → get_or page.row k 0 < 4 * n
+pub row-below : (n : ℕ) (whole : ℕ → ℕ) (page : Page) (k : ℕ) → IsPage n whole page → k < length page.row → get_or page.row k 0 < 4 * n
 row-below n whole page k is within =
     (all_in (λ z. (z < 4 * n) × (is.part z ≡ z)) page.row (get_or page.row k 0) is.drawing.is_row.are_open
     (subst (λ (zs : List ℕ). IsIn (get_or page.row k 0) zs) (sym (parts-one k page.row within)) (in_middle _ _ _))).0
@@ -159,3 +159,20 @@ pub pair-on_pages : (n : ℕ) (whole : ℕ → ℕ) (count : ℕ) → IsWholeSph
     → IsSome (paired whole (pages_on n whole count blank_page).row)
 pair-on_pages n whole count is_whole =
     paired-found n whole (pages_on n whole count blank_page) is_whole (IsPage-after n whole count is_whole)
+
+pages_on-add : (n : ℕ) (whole : ℕ → ℕ) (first more : ℕ) (page : Page)
+    → pages_on n whole (first + more) page ≡ pages_on n whole more (pages_on n whole first page)
+pages_on-add n whole zero more page =
+    let e : zero + more ≡ more = omega arith in
+    ap (λ k. pages_on n whole k page) e
+pages_on-add n whole (suc first) more page =
+    let e : suc first + more ≡ suc (first + more) = omega arith in
+    ap (λ k. pages_on n whole k page) e ∙ pages_on-add n whole first more (next_page n whole page)
+
+-- more steps than are needed
+pub page_of-later : (n : ℕ) (whole : ℕ → ℕ) (count : ℕ) → IsWholeSphere n whole → 5 * n ≤ count
+    → pages_on n whole count blank_page ≡ page_of n whole
+page_of-later n whole count is_whole enough =
+    let e : count ≡ 5 * n + (count - 5 * n) = omega (arith, enough) in
+    ap (λ k. pages_on n whole k blank_page) e ∙ pages_on-add n whole (5 * n) (count - 5 * n) blank_page
+    ∙ finished-pages_on n whole (count - 5 * n) (page_of n whole) (IsDrawn-page_of n whole is_whole).finished

@@ -3,7 +3,7 @@ use Rattle.std.proofs.Common.{◌≡◌, ◌≢◌, ℕ, inl, inr, ◌+◌, ◌*
 use Rattle.std.specs.Prelude.{nat_le}
 use Rattle.std.proofs.lemmas.Bool.Decides.{nat_tests}
 use Rattle.std.proofs.lemmas.List.{get_or-set_other, get_or-set_same, length-set}
-use Rattle.morse_drawing.specs.OpenEnds.{relabelled}
+use Rattle.morse_drawing.proofs.NumberedEnds.{relabelled}
 use Rattle.morse_drawing.specs.Sketches.{is_met, segment_met}
 use Rattle.morse_drawing.proofs.EndTimes.{hit-apart, hit-same, relabelled-old, relabelled-other, times, times-new, times-old}
 use Rattle.morse_drawing.proofs.Ends.{DartEnd, Ends, Ties, map-after, name_after}

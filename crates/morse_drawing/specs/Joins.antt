@@ -15,19 +15,19 @@ use Rattle.morse_drawing.specs.Sketches.{Sketch, is_met, no_sketch, segment_met,
 use Rattle.morse_drawing.specs.declared.slice.Slice.{Slice}
 use Rattle.morse_drawing.specs.declared.slice.Slice.TheVariants.{Cap, Cup, Cross}
 
--- the classes of the pieces that are joined
+-- the classes of the segments that are joined
 abbrev pub segment_classes : Sketch → List ℕ
 segment_classes r = classes_of r.next r.joins
 
--- the class of the piece that a dart meets
+-- the class of the segment that a dart meets
 abbrev pub class_met : Sketch → ℕ → ℕ
 class_met r dart = slice_index (segment_classes r) (segment_met r.met dart)
 
--- two darts, the lesser first, meet one class of pieces
+-- two darts, the lesser first, meet one class of segments
 abbrev pub are_ends : Sketch → ℕ → ℕ → Bool
 are_ends r dart other = nat_lt dart other && (is_met r.met dart && (is_met r.met other && nat_eq (class_met r dart) (class_met r other)))
 
--- the pairs of darts that meet one class of pieces, by their first darts
+-- a dart with another
 abbrev pub pair_with : ℕ → ℕ → ℕ × ℕ
 pair_with dart other = (dart, other)
 
@@ -35,19 +35,19 @@ pair_with dart other = (dart, other)
 abbrev pub pairs_from : ℕ → Sketch → ℕ → List (ℕ × ℕ)
 pairs_from limit r dart = map (pair_with dart) (filter (are_ends r dart) (range_with_len 0 (4 * limit)))
 
--- all pairs, by their first darts
+-- the pairs of darts that meet one class of segments, by their first darts
 abbrev pub pairs_of : ℕ → Sketch → List (ℕ × ℕ)
 pairs_of limit r = flat_map (pairs_from limit r) (range_with_len 0 (4 * limit))
 
--- a class of pieces is a loop where no dart meets it and it has no end in the row; it is named by its least piece
+-- a dart meets a class of segments
 abbrev pub meets_class : Sketch → ℕ → ℕ → Bool
 meets_class r class dart = is_met r.met dart && nat_eq (class_met r dart) class
 
--- a piece is the least of a class that is a loop
+-- a class of segments is a loop where no dart meets it and it has no end in the row; it is named by its least segment
 abbrev pub is_loop : ℕ → Sketch → ℕ → Bool
-is_loop limit r piece = is_least (segment_classes r) piece
-    && (not (list_any (meets_class r piece) (range_with_len 0 (4 * limit)))
-    && not (list_any (λ end. nat_eq (slice_index (segment_classes r) end) piece) r.row))
+is_loop limit r segment = is_least (segment_classes r) segment
+    && (not (list_any (meets_class r segment) (range_with_len 0 (4 * limit)))
+    && not (list_any (λ end. nat_eq (slice_index (segment_classes r) end) segment) r.row))
 
 -- how many classes are loops
 abbrev pub loop_count : ℕ → Sketch → ℕ
@@ -90,7 +90,7 @@ pub record JoinedDarts : Type 0 where
 abbrev pub ends_of : ℕ × ℕ → List Dart
 ends_of pair = dart_at pair.0 ∷ dart_at pair.1 ∷ []
 
--- what pieces join, where crossings are numbered to a limit
+-- what segments join, where crossings are numbered to a limit
 abbrev pub joined_in : ℕ → Sketch → JoinedDarts
 joined_in limit r = record { pairs = map ends_of (pairs_of limit r); loops = loop_count limit r }
 
@@ -112,7 +112,7 @@ joined_by slices = joined_within CROSSINGS slices
 abbrev pub IsFaultless : List Slice → Type 0
 IsFaultless slices = IsOk (joined_by slices)
 
--- the arcs of a partner function of the darts of n crossings, each as its two darts, the lesser first, by their first darts
+-- a dart comes before its partner
 abbrev pub is_first : (ℕ → ℕ) → ℕ → Bool
 is_first partner dart = nat_lt dart (partner dart)
 
@@ -120,6 +120,6 @@ is_first partner dart = nat_lt dart (partner dart)
 abbrev pub arc_from : (ℕ → ℕ) → ℕ → ℕ × ℕ
 arc_from partner dart = (dart, partner dart)
 
--- all of these pairs
+-- the arcs of a partner function of the darts of n crossings, each as its two darts, the lesser first, by their first darts
 abbrev pub arc_pairs : ℕ → (ℕ → ℕ) → List (ℕ × ℕ)
 arc_pairs n partner = map (arc_from partner) (filter (is_first partner) (range_with_len 0 (4 * n)))

@@ -1,47 +1,71 @@
--- The same by one row of open ends (this project's rule). Each strand of the row has a label. A strand that leads back to a dart has that
--- dart's place as its label; the two strands that are ends of one line have one label, at or after all places of darts, that no other
--- strand has.
-use Rattle.std.specs.Prelude.{◌≡◌, ℕ, ◌+◌, ◌-◌, ◌*◌, ◌<◌, List, [], ◌∷◌, length, map, get_or, set, replicate, nat_eq, nat_lt, nat_le, Bool, true, false, not, ◌&&◌, ◌||◌, Option, Some, None, Err, Result, if◌then◌else◌, unwrap_or}
-use Rattle.std.specs.List.{filter, find, insert, range_with_len, remove}
+-- The same by one row of open ends (this project's rule). A strand of the row that leads back to a dart is an end at that dart; the two
+-- strands that are ends of one line without darts have the number of that line, which no other strand has.
+use Rattle.std.specs.Prelude.{◌≡◌, ℕ, ◌+◌, ◌-◌, ◌*◌, ◌<◌, List, [], ◌∷◌, length, map, get_or, set, replicate, nat_eq, nat_lt, Bool, true, false, not, ◌||◌, Option, Some, None, Err, Result, if◌then◌else◌, unwrap_or}
+use Rattle.std.specs.List.{filter, find, insert, list_any, range_with_len, remove}
 use Rattle.std.specs.Option.{option_or}
 use Rattle.kh_types.specs.declared.dart.Dart.{Dart}
 use Rattle.morse_drawing.specs.Sketches.{dart_after}
+use Rattle.morse_drawing.specs.declared.end.End.{End}
+use Rattle.morse_drawing.specs.declared.end.End.TheVariants.{AtDart, OnLine}
 use Rattle.morse_drawing.specs.declared.fault.SliceFault.{SliceFault}
 use Rattle.morse_drawing.specs.Joins.{JoinedDarts, answer_by, ends_of, fault_where, is_outside}
 use Rattle.morse_drawing.specs.declared.fault.SliceFault.TheVariants.{Ends, Label, Loops, Place}
-use Rattle.morse_drawing.specs.declared.limits.TheConstants.{CAP_STRANDS, JOINED_LOOPS}
+use Rattle.morse_drawing.specs.declared.limits.TheConstants.{CAP_STRANDS, JOINED_LOOPS, ROW_STRANDS}
 use Rattle.morse_drawing.specs.declared.slice.Slice.{Slice}
-use Rattle.morse_drawing.specs.Pages.{is_in}
 use Rattle.morse_drawing.specs.declared.slice.Slice.TheVariants.{Cap, Cup, Cross}
 
--- the labels of the row, the other dart of each dart's line (or the number of all darts, where it is not known), whether a crossing is
--- drawn, and the number of loops
+-- the ends of the row, the other dart of each dart's line where it is known, whether a crossing is drawn, and the number of loops
 pub record OpenEnds : Type 0 where
-  pub row : List ℕ
-  pub others : List ℕ
+  pub row : List End
+  pub others : List (Option ℕ)
   pub drawn : List Bool
   pub loops : ℕ
 
 -- before the first slice
 abbrev pub no_strands : ℕ → OpenEnds
-no_strands limit = record { row = []; others = replicate (4 * limit) (4 * limit); drawn = replicate limit false; loops = 0 }
+no_strands limit = record { row = []; others = replicate (4 * limit) None; drawn = replicate limit false; loops = 0 }
 
--- a label that no strand has, after all places of darts
-abbrev pub unused : ℕ → List ℕ → ℕ
-unused limit row = unwrap_or (find (λ label. not (is_in row label)) (range_with_len (4 * limit) 64)) 0
+-- two ends are of one dart, or of one line
+abbrev pub is_same_end : End → End → Bool
+is_same_end (AtDart dart) (AtDart other) = nat_eq dart other
+is_same_end (AtDart dart) (OnLine line) = false
+is_same_end (OnLine line) (AtDart dart) = false
+is_same_end (OnLine line) (OnLine other) = nat_eq line other
 
--- a label, or the new one where it is the old
-abbrev pub relabelled : ℕ → ℕ → ℕ → ℕ
-relabelled old new label = if nat_eq label old then new else label
+-- an end is one of a line
+abbrev pub is_end_of : End → ℕ → Bool
+is_end_of end line = is_same_end (OnLine line) end
 
--- the ends of two lines are joined: a label that is no dart's gives way, and two darts have found each other
-abbrev pub tied : ℕ → OpenEnds → ℕ → ℕ → OpenEnds
-tied limit s first second =
-    if nat_le (4 * limit) first
-    then (record { row = map (relabelled first second) s.row; others = s.others; drawn = s.drawn; loops = s.loops })
-    else (if nat_le (4 * limit) second
-    then (record { row = map (relabelled second first) s.row; others = s.others; drawn = s.drawn; loops = s.loops })
-    else (record { row = s.row; others = set (set s.others first second) second first; drawn = s.drawn; loops = s.loops }))
+-- a strand of the row is an end of a line
+abbrev pub has_line : List End → ℕ → Bool
+has_line row line = list_any (λ end. is_end_of end line) row
+
+-- no strand is an end of a line
+abbrev pub is_free : List End → ℕ → Bool
+is_free row line = not (has_line row line)
+
+-- the least line of which no strand is an end
+abbrev pub unused : List End → ℕ
+unused row = unwrap_or (find (is_free row) (range_with_len 0 ROW_STRANDS)) 0
+
+-- an end, or the new one where it is the old
+abbrev pub renamed : End → End → End → End
+renamed old new end = if is_same_end end old then new else end
+
+-- in the row an end is renamed
+abbrev pub with_renamed : OpenEnds → End → End → OpenEnds
+with_renamed s old new = record { row = map (renamed old new) s.row; others = s.others; drawn = s.drawn; loops = s.loops }
+
+-- two darts have found each other
+abbrev pub with_pair : OpenEnds → ℕ → ℕ → OpenEnds
+with_pair s dart other =
+    record { row = s.row; others = set (set s.others dart (Some other)) other (Some dart); drawn = s.drawn; loops = s.loops }
+
+-- the ends of two lines are joined: the number of a line without darts gives way, and two darts have found each other
+abbrev pub tied : OpenEnds → End → End → OpenEnds
+tied s (OnLine line) second = with_renamed s (OnLine line) second
+tied s (AtDart dart) (OnLine line) = with_renamed s (OnLine line) (AtDart dart)
+tied s (AtDart dart) (AtDart other) = with_pair s dart other
 
 -- two neighbours leave the row
 abbrev pub without_two : OpenEnds → ℕ → OpenEnds
@@ -53,40 +77,44 @@ abbrev pub one_loop_more : OpenEnds → OpenEnds
 one_loop_more s = record { row = s.row; others = s.others; drawn = s.drawn; loops = s.loops + 1 }
 
 -- two strands that are ends of one line close it, and ends of two lines join these
-abbrev pub cup_tied : ℕ → OpenEnds → ℕ → ℕ → OpenEnds
-cup_tied limit s first second = if nat_eq first second then one_loop_more s else tied limit s first second
+abbrev pub cup_tied : OpenEnds → End → End → OpenEnds
+cup_tied s first second = if is_same_end first second then one_loop_more s else tied s first second
+
+-- the end at a place of the row
+abbrev pub end_at : List End → ℕ → End
+end_at row place = get_or row place (AtDart 0)
 
 -- the two strands from a place on are joined below
-abbrev pub after_cup : ℕ → OpenEnds → ℕ → OpenEnds
-after_cup limit s place = cup_tied limit (without_two s place) (get_or s.row place 0) (get_or s.row (place + 1) 0)
+abbrev pub after_cup : OpenEnds → ℕ → OpenEnds
+after_cup s place = cup_tied (without_two s place) (end_at s.row place) (end_at s.row (place + 1))
 
--- two strands of a new line come at a place
-abbrev pub after_cap : ℕ → OpenEnds → ℕ → OpenEnds
-after_cap limit s place =
-    let label = unused limit s.row in
-    record { row = insert (insert s.row place label) place label; others = s.others; drawn = s.drawn; loops = s.loops }
+-- the two ends of a new line come at a place
+abbrev pub after_cap : OpenEnds → ℕ → OpenEnds
+after_cap s place =
+    let line = OnLine (unused s.row) in
+    record { row = insert (insert s.row place line) place line; others = s.others; drawn = s.drawn; loops = s.loops }
 
 -- two neighbours give way to two darts of a crossing
 abbrev pub with_two : OpenEnds → ℕ → ℕ → ℕ → ℕ → OpenEnds
 with_two s place crossing first second = record {
-  row = set (set s.row place first) (place + 1) second;
+  row = set (set s.row place (AtDart first)) (place + 1) (AtDart second);
   others = s.others;
   drawn = set s.drawn (crossing - 1) true;
   loops = s.loops;
 }
 
 -- two strands lead into a crossing, and its other two darts lead out of it
-abbrev pub after_cross : ℕ → OpenEnds → ℕ → ℕ → ℕ → OpenEnds
-after_cross limit s place crossing slot =
-    let left = tied limit s (get_or s.row place 0) (dart_after crossing slot 0) in
-    let both = tied limit left (get_or left.row (place + 1) 0) (dart_after crossing slot 3) in
+abbrev pub after_cross : OpenEnds → ℕ → ℕ → ℕ → OpenEnds
+after_cross s place crossing slot =
+    let left = tied s (end_at s.row place) (AtDart (dart_after crossing slot 0)) in
+    let both = tied left (end_at left.row (place + 1)) (AtDart (dart_after crossing slot 3)) in
     with_two both place crossing (dart_after crossing slot 1) (dart_after crossing slot 2)
 
 -- behind one more slice
-abbrev pub after_slice : ℕ → OpenEnds → Slice → OpenEnds
-after_slice limit s (Cap at) = after_cap limit s (at - 1)
-after_slice limit s (Cup at) = after_cup limit s (at - 1)
-after_slice limit s (Cross at crossing slot) = after_cross limit s (at - 1) crossing slot
+abbrev pub after_slice : OpenEnds → Slice → OpenEnds
+after_slice s (Cap at) = after_cap s (at - 1)
+after_slice s (Cup at) = after_cup s (at - 1)
+after_slice s (Cross at crossing slot) = after_cross s (at - 1) crossing slot
 
 -- a crossing is drawn
 abbrev pub is_drawn : OpenEnds → ℕ → Bool
@@ -97,34 +125,44 @@ abbrev pub strands_fault : ℕ → OpenEnds → ℕ → Slice → Option SliceFa
 strands_fault limit s number (Cap at) = fault_where (is_outside (length s.row + 1) at || nat_lt CAP_STRANDS (length s.row)) (Place number)
 strands_fault limit s number (Cup at) =
     option_or (fault_where (is_outside (length s.row - 1) at) (Place number))
-    (fault_where (nat_lt JOINED_LOOPS (after_slice limit s (Cup at)).loops) (Loops number))
+    (fault_where (nat_lt JOINED_LOOPS (after_slice s (Cup at)).loops) (Loops number))
 strands_fault limit s number (Cross at crossing slot) =
     option_or (fault_where (is_outside (length s.row - 1) at) (Place number))
     (fault_where (is_outside limit crossing || (is_drawn s crossing || nat_lt 3 slot)) (Label number))
 
--- the pairs of darts that have found each other
-abbrev pub has_later : ℕ → List ℕ → ℕ → Bool
-has_later limit others dart = nat_lt dart (get_or others dart 0) && nat_lt (get_or others dart 0) (4 * limit)
+-- the other dart of a dart's line, where it is known
+abbrev pub other_of : List (Option ℕ) → ℕ → Option ℕ
+other_of others dart = get_or others dart None
 
--- a dart with the other end of its line
-abbrev pub found_pair : List ℕ → ℕ → ℕ × ℕ
-found_pair others dart = (dart, get_or others dart 0)
+-- it is known, and comes later
+abbrev pub is_later : ℕ → Option ℕ → Bool
+is_later dart None = false
+is_later dart (Some other) = nat_lt dart other
 
--- those of the darts before a place, by their first darts
-abbrev pub found_ends : List ℕ → ℕ → List Dart
+-- a dart has found another, which comes later
+abbrev pub has_later : List (Option ℕ) → ℕ → Bool
+has_later others dart = is_later dart (other_of others dart)
+
+-- the places of a dart and of the other dart of its line
+abbrev pub found_pair : List (Option ℕ) → ℕ → ℕ × ℕ
+found_pair others dart = (dart, unwrap_or (other_of others dart) 0)
+
+-- these two darts
+abbrev pub found_ends : List (Option ℕ) → ℕ → List Dart
 found_ends others dart = ends_of (found_pair others dart)
 
--- these pairs as darts
-abbrev pub pairs_before : ℕ → List ℕ → ℕ → List (List Dart)
-pairs_before limit others place = map (found_ends others) (filter (has_later limit others) (range_with_len 0 place))
+-- the pairs of darts that have found each other, by their first darts: those whose first dart is before a place
+abbrev pub pairs_before : List (Option ℕ) → ℕ → List (List Dart)
+pairs_before others place = map (found_ends others) (filter (has_later others) (range_with_len 0 place))
 
 -- all pairs that are found, and the loops
 abbrev pub found_joins : ℕ → OpenEnds → JoinedDarts
-found_joins limit s = record { pairs = pairs_before limit s.others (4 * limit); loops = s.loops }
+found_joins limit s = record { pairs = pairs_before s.others (4 * limit); loops = s.loops }
 
--- where a dart has found another, that one has found it
-abbrev pub ArePaired : ℕ → List ℕ → Type 0
-ArePaired limit others = (x : ℕ) → x < 4 * limit → get_or others x 0 < 4 * limit → get_or others (get_or others x 0) 0 ≡ x
+-- where a dart has found another, that one is a dart, and has found it
+abbrev pub ArePaired : ℕ → List (Option ℕ) → Type 0
+ArePaired limit others =
+    (x y : ℕ) → x < 4 * limit → other_of others x ≡ Some y → (y < 4 * limit) × (other_of others y ≡ Some x)
 
 -- what is joined behind the last slice, where no strand is left
 abbrev pub strands_ends : ℕ → OpenEnds → Result JoinedDarts SliceFault
@@ -138,7 +176,7 @@ joins_go (Some fault) later = Err fault
 -- what slices join, behind others, or the first fault
 abbrev pub joins_from : ℕ → OpenEnds → ℕ → List Slice → Result JoinedDarts SliceFault
 joins_from limit s number [] = strands_ends limit s
-joins_from limit s number (slice ∷ slices) = joins_go (strands_fault limit s number slice) (joins_from limit (after_slice limit s slice) (number + 1) slices)
+joins_from limit s number (slice ∷ slices) = joins_go (strands_fault limit s number slice) (joins_from limit (after_slice s slice) (number + 1) slices)
 
 -- what slices join, by the row of open ends
 abbrev pub joined_by_ends : ℕ → List Slice → Result JoinedDarts SliceFault

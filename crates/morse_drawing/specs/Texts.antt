@@ -1,6 +1,6 @@
 -- The text of a drawing: a line for each slice, with a cell for each strand that passes by (this project's rule).
 use Rattle.std.specs.Prelude.{ℕ, ◌<◌, ◌≤◌, ◌+◌, ◌-◌, ◌%◌, List, [], ◌∷◌, ◌++◌, codes, nat_eq, replicate, if◌then◌else◌}
-use Rattle.std.specs.List.{flat_map}
+use Rattle.std.specs.List.{flat_map, fold}
 use Rattle.std.specs.Fmt.{decimal}
 use Rattle.morse_drawing.specs.declared.slice.Slice.{Slice}
 use Rattle.morse_drawing.specs.declared.slice.Slice.TheVariants.{Cap, Cup, Cross}
@@ -17,6 +17,10 @@ abbrev pub strands_after : ℕ → Slice → ℕ
 strands_after strands (Cap at) = strands + 2
 strands_after strands (Cup at) = strands - 2
 strands_after strands (Cross at crossing slot) = strands
+
+-- how many strands there are behind slices, from the top of the page on
+abbrev pub strands_behind : List Slice → ℕ
+strands_behind slices = fold strands_after 0 slices
 
 -- how many strands pass by a slice: all, or all but the two that end or cross there
 abbrev pub passing : ℕ → Slice → ℕ

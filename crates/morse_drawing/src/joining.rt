@@ -52,7 +52,7 @@ fn joins_at_end(ends: &OpenEnds) -> Result<Joins, SliceFault>
 /// Reads the slice with a number.
 fn read(ends: &mut OpenEnds, slice: Slice, number: u32) -> Result<(), SliceFault>
     ensures fault { result_err result ≡ strands_fault CROSSINGS ends.old number slice }
-    ensures next { OnOk result (ends.new ≡ after_slice CROSSINGS ends.old slice) }
+    ensures next { OnOk result (ends.new ≡ after_slice ends.old slice) }
 {
     match slice {
         Slice::Cap { at } => read_cap(ends, at, number),
@@ -64,7 +64,7 @@ fn read(ends: &mut OpenEnds, slice: Slice, number: u32) -> Result<(), SliceFault
 /// Reads a cap.
 fn read_cap(ends: &mut OpenEnds, at: u8, number: u32) -> Result<(), SliceFault>
     ensures fault { result_err result ≡ strands_fault CROSSINGS ends.old number (Cap at) }
-    ensures next { OnOk result (ends.new ≡ after_slice CROSSINGS ends.old (Cap at)) }
+    ensures next { OnOk result (ends.new ≡ after_slice ends.old (Cap at)) }
 {
     let strands = ends.strands();
     if is_outside(strands + 1, at) || CAP_STRANDS < strands {
@@ -77,7 +77,7 @@ fn read_cap(ends: &mut OpenEnds, at: u8, number: u32) -> Result<(), SliceFault>
 /// Reads a cup.
 fn read_cup(ends: &mut OpenEnds, at: u8, number: u32) -> Result<(), SliceFault>
     ensures fault { result_err result ≡ strands_fault CROSSINGS ends.old number (Cup at) }
-    ensures next { OnOk result (ends.new ≡ after_slice CROSSINGS ends.old (Cup at)) }
+    ensures next { OnOk result (ends.new ≡ after_slice ends.old (Cup at)) }
 {
     if is_outside(ends.strands().saturating_sub(1), at) {
         return Err(SliceFault::Place { slice: number });
@@ -99,7 +99,7 @@ fn read_cross(
     ensures fault { result_err result
         ≡ strands_fault CROSSINGS ends.old number (Cross at crossing slot) }
     ensures next { OnOk result (ends.new
-        ≡ after_slice CROSSINGS ends.old (Cross at crossing slot)) }
+        ≡ after_slice ends.old (Cross at crossing slot)) }
 {
     let last = ends.strands().saturating_sub(1);
     if is_outside(last, at) {

@@ -1,6 +1,6 @@
 //! What drawings are, on known diagrams and in general.
 
-ghost use Rattle.std.specs.Prelude.{◌≡◌, ◌≢◌, ◌≤◌, ◌+◌, ◌*◌, ℕ, [], ◌∷◌, IsTrue, Ok, Err, None, codes, length, map, max};
+ghost use Rattle.std.specs.Prelude.{◌≡◌, ◌≢◌, ◌≤◌, ◌<◌, ◌+◌, ◌*◌, ℕ, [], ◌∷◌, IsTrue, Ok, Err, None, codes, length, map, max, take};
 ghost use Rattle.std.specs.Option.{IsSome};
 ghost use Rattle.kh_types.specs.Acceptance.{accepted};
 ghost use Rattle.kh_types.specs.Code.{Code};
@@ -9,16 +9,16 @@ ghost use Rattle.kh_types.specs.Faces.{piece_count};
 ghost use Rattle.kh_types.specs.WorkedCodes.{curl, slots_with, trefoil, without_loops};
 ghost use Rattle.kh_types.specs.declared.limits.TheConstants.{CROSSINGS};
 ghost use Rattle.morse_drawing.specs.Joins.{JoinedDarts, arc_pairs, ends_of, joined_by};
-ghost use Rattle.morse_drawing.specs.Pages.{blank_page, leading, loop_slices, pages_on, paired, slices_of};
+ghost use Rattle.morse_drawing.specs.Pages.{blank_page, is_in, leading, loop_slices, page_of, pages_on, paired, slices_of};
 ghost use Rattle.morse_drawing.specs.ReadBack.{IsAlike, code_read};
-ghost use Rattle.morse_drawing.specs.Texts.{IsPlaced, cells, drawing_text, strands_after};
-ghost use Rattle.morse_drawing.specs.declared.limits.TheConstants.{CAP_STRANDS, JOINED_LOOPS};
+ghost use Rattle.morse_drawing.specs.Texts.{IsPlaced, cells, drawing_text, strands_after, strands_behind};
+ghost use Rattle.morse_drawing.specs.declared.limits.TheConstants.{CAP_STRANDS, DRAWN_STRANDS, JOINED_LOOPS};
 ghost use Rattle.morse_drawing.specs.declared.slice.Slice.{Slice};
 ghost use Rattle.morse_drawing.specs.declared.fault.SliceFault.TheVariants.{Ends, Label, Loops, Place};
 ghost use Rattle.morse_drawing.specs.declared.slice.Slice.TheVariants.{Cap, Cross, Cup};
 
-/// The slices of an accepted code join exactly its arcs, each as its two darts, the lesser first, by their first darts, and
-/// have its loops; none has a fault.
+/// The slices of an accepted code join exactly its arcs, each as its two darts, the lesser first,
+/// by their first darts, and have its loops; none has a fault.
 pub fn drawings_join_arcs()
     ensures { (code : Code) → IsTrue (accepted code) → length code.crossings ≤ CROSSINGS
         → joined_by (slices_of code) ≡ Ok (record {
@@ -33,8 +33,30 @@ pub fn drawings_have_few_slices()
         ≡ 3 * length code.crossings + 2 * (piece_count code.crossings + code.loops) }
 {}
 
-/// On each page of a drawing of an accepted code whose row is not empty and has no strand that leads on, two neighbours are
-/// partners; and the row has two strands at most for each crossing, and two more.
+/// After five steps for each crossing the page of an accepted code is finished: its row is empty,
+/// all crossings are drawn, and more steps leave it as it is.
+pub fn drawings_finish()
+    ensures row { (code : Code) → IsTrue (accepted code)
+        → (page_of (length code.crossings) (partner_at code.crossings)).row ≡ [] }
+    ensures drawn { (code : Code) (crossing : ℕ) → IsTrue (accepted code) → crossing < length code.crossings
+        → IsTrue (is_in (page_of (length code.crossings) (partner_at code.crossings)).drawn crossing) }
+    ensures later { (code : Code) (count : ℕ) → IsTrue (accepted code) → 5 * length code.crossings ≤ count
+        → pages_on (length code.crossings) (partner_at code.crossings) count blank_page
+        ≡ page_of (length code.crossings) (partner_at code.crossings) }
+{}
+
+/// Between any two slices of an accepted code there are at most two strands for each crossing, and
+/// two more; so a cap never stands beside too many.
+pub fn drawings_have_few_strands()
+    ensures each { (code : Code) (place : ℕ) → IsTrue (accepted code)
+        → strands_behind (take place (slices_of code)) ≤ 2 * length code.crossings + 2 }
+    ensures most { (code : Code) (place : ℕ) → IsTrue (accepted code) → length code.crossings ≤ CROSSINGS
+        → strands_behind (take place (slices_of code)) ≤ DRAWN_STRANDS }
+{}
+
+/// On each page of a drawing of an accepted code whose row is not empty and has no strand that
+/// leads on, two neighbours are partners; and the row has two strands at most for each crossing,
+/// and two more.
 pub fn neighbours_are_partners()
     ensures pair { (code : Code) (count : ℕ) → IsTrue (accepted code)
         → (pages_on (length code.crossings) (partner_at code.crossings) count blank_page).row ≢ []
@@ -48,7 +70,8 @@ pub fn neighbours_are_partners()
         ≤ 2 * length code.crossings + 2 }
 {}
 
-/// A drawing tells its code: what is read back of the slices and their joins is the code up to the numbers of its arcs.
+/// A drawing tells its code: what is read back of the slices and their joins is the code up to the
+/// numbers of its arcs.
 pub fn drawings_tell_codes()
     ensures { (code : Code) (joins : JoinedDarts) → IsTrue (accepted code) → length code.crossings ≤ CROSSINGS
         → joined_by (slices_of code) ≡ Ok joins → IsAlike code (code_read (slices_of code) joins) }
@@ -61,7 +84,8 @@ pub fn loops_are_joined()
     ensures many { (loops : ℕ) → 256 ≤ loops → joined_by (loop_slices loops) ≡ Err (Loops 512) }
 {}
 
-/// A line has a cell for each strand that passes by, and one for the two that begin, end or cross there.
+/// A line has a cell for each strand that passes by, and one for the two that begin, end or cross
+/// there.
 pub fn lines_have_a_cell_for_each_strand()
     ensures { (strands : ℕ) (slice : Slice) → IsPlaced strands slice
         → 1 + length (cells strands slice) ≡ max strands (strands_after strands slice) }
@@ -70,11 +94,12 @@ pub fn lines_have_a_cell_for_each_strand()
 /// The limits of drawings.
 pub fn limits_of_drawings()
     ensures caps { CAP_STRANDS ≡ 62 }
+    ensures drawn { DRAWN_STRANDS ≡ 42 }
     ensures loops { JOINED_LOOPS ≡ 255 }
 {}
 
-/// The slices of the curl and of the trefoil; and those of a diagram in which the leftmost strand that
-/// leads on leads to another crossing than the least that is not drawn.
+/// The slices of the curl and of the trefoil; and those of a diagram in which the leftmost strand
+/// that leads on leads to another crossing than the least that is not drawn.
 pub fn worked_drawings()
     ensures curl { slices_of curl ≡ Cap 1 ∷ Cap 3 ∷ Cross 2 1 0 ∷ Cup 1 ∷ Cup 1 ∷ [] }
     ensures trefoil { slices_of trefoil ≡ Cap 1 ∷ Cap 3 ∷ Cross 2 1 0 ∷ Cap 2 ∷ Cross 1 2 3
@@ -85,8 +110,9 @@ pub fn worked_drawings()
         ∷ Cup 1 ∷ Cup 3 ∷ Cup 2 ∷ Cup 1 ∷ [] }
 {}
 
-/// Lists with a fault: a cup where there is no strand; a cap at position 0; a crossing above the most; one
-/// that is drawn twice; a slot above 3; a place before a label; and strands that are left.
+/// Lists with a fault: a cup where there is no strand; a cap at position 0; a crossing above the
+/// most; one that is drawn twice; a slot above 3; a place before a label; and strands that are
+/// left.
 pub fn worked_faults()
     ensures place { joined_by (Cup 1 ∷ []) ≡ Err (Place 1) }
     ensures cap { joined_by (Cap 0 ∷ []) ≡ Err (Place 1) }

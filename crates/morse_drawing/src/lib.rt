@@ -1,7 +1,9 @@
-//! Diagrams drawn as slices of strands from the top of the page to the bottom, the text of a drawing, and what its slices join.
+//! Diagrams drawn as slices of strands from the top of the page to the bottom, the text of a
+//! drawing, and what its slices join.
 #![tactic(auto)]
 
 mod drawing;
+mod end;
 mod fault;
 mod joining;
 mod joins;

@@ -6,8 +6,7 @@ ghost use Rattle.std.specs.Prelude.{
   ◌<◌,
   ◌+◌,
   ◌*◌,
-  ◌&&◌,
-  get_or,
+  Some,
   length,
   map,
   nat_lt,
@@ -22,36 +21,42 @@ ghost use Rattle.morse_drawing.specs.OpenEnds.{
   after_cap,
   after_cross,
   after_cup,
+  end_at,
+  has_line,
   is_drawn,
+  is_free,
+  is_end_of,
+  is_later,
   no_strands,
   pairs_before,
-  relabelled,
+  renamed,
   tied,
   unused,
   with_two,
 };
-ghost use Rattle.morse_drawing.specs.Pages.{is_in};
 ghost use Rattle.morse_drawing.specs.Sketches.{dart_after};
+ghost use Rattle.morse_drawing.specs.declared.end.End.TheVariants.{AtDart, OnLine};
 ghost use Rattle.morse_drawing.specs.declared.limits.TheConstants.{
   CAP_STRANDS,
   DARTS,
   JOINED_LOOPS,
-  LABELS,
+  ROW_STRANDS,
 };
 
+use crate::end::End;
 use crate::joins::Pair;
-use crate::limits::{DARTS, JOINED_LOOPS, LABELS};
+use crate::limits::{DARTS, JOINED_LOOPS, ROW_STRANDS};
 use arrayvec::ArrayVec;
-use kh_types::{ARCS, CROSSINGS, dart_at};
+use kh_types::{ARCS, CROSSINGS, Dart, dart_at, dart_place};
 use std::marker::Model;
 
-/// The labels of the strands: one that leads back to a dart has the dart's place, and the two ends
-/// of a line without darts have one label behind all places. For each dart the place of the other
+/// The ends of the strands of the row, from left to right; for each dart the place of the other
 /// dart of its line, where it is known; which crossings are drawn; and how many loops are closed.
+/// Source: this project's rule.
 #[derive(Debug, Drop)]
 pub struct OpenEnds {
-    pub(crate) row: ArrayVec<u8, LABELS>,
-    pub(crate) others: [u8; DARTS],
+    pub(crate) row: ArrayVec<End, ROW_STRANDS>,
+    pub(crate) others: [Option<u8>; DARTS],
     pub(crate) drawn: [bool; CROSSINGS],
     pub(crate) loops: u8,
 }
@@ -73,7 +78,7 @@ impl OpenEnds {
     {
         OpenEnds {
             row: ArrayVec::new(),
-            others: [DARTS as u8; DARTS],
+            others: [None; DARTS],
             drawn: [false; CROSSINGS],
             loops: 0,
         }
@@ -82,7 +87,7 @@ impl OpenEnds {
     /// How many strands there are.
     pub(crate) fn strands(&self) -> usize
         ensures strands { result ≡ length self.now.row }
-        ensures few { result ≤ LABELS }
+        ensures few { result ≤ ROW_STRANDS }
     {
         self.row.len()
     }
@@ -91,7 +96,7 @@ impl OpenEnds {
     pub(crate) fn cap(&mut self, place: usize)
         requires within { place ≤ length self.old.row }
         requires room { length self.old.row ≤ CAP_STRANDS }
-        ensures { self.new ≡ after_cap CROSSINGS self.old place }
+        ensures { self.new ≡ after_cap self.old place }
     {
         open_two(&mut self.row, place);
     }
@@ -100,12 +105,12 @@ impl OpenEnds {
     pub(crate) fn cup(&mut self, place: usize) -> bool
         requires within { place + 1 < length self.old.row }
         ensures few { result
-            ≡ not (nat_lt JOINED_LOOPS (after_cup CROSSINGS self.old place).loops) }
-        ensures next { result ≡ true → self.new ≡ after_cup CROSSINGS self.old place }
+            ≡ not (nat_lt JOINED_LOOPS (after_cup self.old place).loops) }
+        ensures next { result ≡ true → self.new ≡ after_cup self.old place }
     {
         let loops = self.loops;
         let (first, second) = close_two(&mut self.row, place);
-        if first == second {
+        if first.is_same(second) {
             if loops == JOINED_LOOPS {
                 return false;
             }
@@ -118,17 +123,17 @@ impl OpenEnds {
 
     /// The strands at a place and the next cross.
     pub(crate) fn cross(&mut self, place: usize, crossing: u8, slot: u8)
-        requires bound { place < LABELS }
+        requires bound { place < ROW_STRANDS }
         requires within { place + 1 < length self.old.row }
         requires first { 1 ≤ crossing }
         requires last { crossing ≤ CROSSINGS }
         requires slot { slot < 4 }
-        ensures { self.new ≡ after_cross CROSSINGS self.old place crossing slot }
+        ensures { self.new ≡ after_cross self.old place crossing slot }
     {
-        let left = self.label_at(place);
-        self.tie(left, dart_after(crossing, slot, 0));
-        let right = self.label_at(place + 1);
-        self.tie(right, dart_after(crossing, slot, 3));
+        let left = self.end_at(place);
+        self.tie(left, End::AtDart(dart_after(crossing, slot, 0)));
+        let right = self.end_at(place + 1);
+        self.tie(right, End::AtDart(dart_after(crossing, slot, 3)));
         self.replace(
             place,
             crossing,
@@ -149,16 +154,16 @@ impl OpenEnds {
     /// The pairs of darts that have found each other, by their first darts.
     pub(crate) fn pairs(&self) -> ArrayVec<Pair, ARCS>
         requires { ArePaired CROSSINGS self.now.others }
-        ensures { result.items ≡ pairs_before CROSSINGS self.now.others (4 * CROSSINGS) }
+        ensures { result.items ≡ pairs_before self.now.others (4 * CROSSINGS) }
     {
         found_pairs(&self.others)
     }
 
-    /// The label at a place of the row.
-    fn label_at(&self, place: usize) -> u8
-        ensures { result ≡ get_or self.now.row place 0 }
+    /// The end at a place of the row.
+    fn end_at(&self, place: usize) -> End
+        ensures { result ≡ end_at self.now.row place }
     {
-        self.row.get(place).copied().unwrap_or(0)
+        self.row.get(place).copied().unwrap_or(End::AtDart(0))
     }
 
     /// Two neighbours give way to two darts of a crossing.
@@ -173,94 +178,115 @@ impl OpenEnds {
     }
 
     /// The ends of two lines are joined.
-    fn tie(&mut self, first: u8, second: u8)
-        ensures next { self.new ≡ tied CROSSINGS self.old first second }
+    fn tie(&mut self, first: End, second: End)
+        ensures next { self.new ≡ tied self.old first second }
         ensures size { length self.new.row ≡ length self.old.row }
     {
-        if DARTS as u8 <= first {
-            rename(&mut self.row, first, second);
-        } else if DARTS as u8 <= second {
-            rename(&mut self.row, second, first);
-        } else {
-            pair_up(&mut self.others, first, second);
+        match first {
+            End::OnLine(_) => rename(&mut self.row, first, second),
+            End::AtDart(dart) => match second {
+                End::OnLine(_) => rename(&mut self.row, second, first),
+                End::AtDart(other) => pair_up(&mut self.others, dart, other),
+            },
         }
     }
 }
 
-/// One label, where another has been renamed.
-fn relabelled(old: u8, new: u8, label: u8) -> u8
-    ensures { result ≡ relabelled old new label }
+/// One end, where another has been renamed.
+fn renamed(old: End, new: End, end: End) -> End
+    ensures { result ≡ renamed old new end }
 {
-    if label == old { new } else { label }
+    if end.is_same(old) { new } else { end }
 }
 
-/// Renames a label in the row.
+/// Renames an end in the row.
 #[tactic(auto, using(crate::proofs::EndLemmas::place_renamed))]
-fn rename(row: &mut [u8], old: u8, new: u8)
-    ensures { row.new ≡ map (relabelled old new) row.old }
+fn rename(row: &mut [End], old: End, new: End)
+    ensures { row.new ≡ map (renamed old new) row.old }
 {
-    for label in row.iter_mut() {
-        *label = relabelled(old, new, *label);
+    for end in row.iter_mut() {
+        *end = renamed(old, new, *end);
     }
 }
 
-/// Whether no strand has a label.
-fn is_free(row: &[u8], label: u8) -> bool
-    ensures { result ≡ not (is_in row.now label) }
+/// Whether no strand is an end of a line.
+fn is_free(row: &[End], line: u8) -> bool
+    ensures { result ≡ is_free row.now line }
 {
-    !row.contains(&label)
+    !has_line(row, line)
 }
 
-/// A label that no strand has.
-fn unused(row: &[u8]) -> u8
-    ensures { result ≡ unused CROSSINGS row.now }
+/// Whether a strand is an end of a line.
+fn has_line(row: &[End], line: u8) -> bool
+    ensures { result ≡ has_line row.now line }
 {
-    (DARTS as u8..(DARTS + LABELS) as u8)
-        .find(|label| is_free(row, *label))
+    row.iter().any(|end| is_end_of(*end, line))
+}
+
+/// Whether an end is one of a line.
+fn is_end_of(end: End, line: u8) -> bool
+    ensures { result ≡ is_end_of end line }
+{
+    End::OnLine(line).is_same(end)
+}
+
+/// The least line of which no strand is an end.
+fn unused(row: &[End]) -> u8
+    ensures { result ≡ unused row.now }
+{
+    (0..ROW_STRANDS as u8)
+        .find(|line| is_free(row, *line))
         .unwrap_or(0)
 }
 
 /// Two strands begin.
-fn open_two(row: &mut ArrayVec<u8, LABELS>, place: usize)
+fn open_two(row: &mut ArrayVec<End, ROW_STRANDS>, place: usize)
     requires within { place ≤ length row.old.items }
     requires room { length row.old.items ≤ CAP_STRANDS }
     ensures { row.new.items
-        ≡ insert (insert row.old.items place (unused CROSSINGS row.old.items)) place
-        (unused CROSSINGS row.old.items) }
+        ≡ insert (insert row.old.items place (OnLine (unused row.old.items))) place
+        (OnLine (unused row.old.items)) }
 {
-    let label = unused(row);
-    row.insert(place, label);
-    row.insert(place, label);
+    let line = End::OnLine(unused(row));
+    row.insert(place, line);
+    row.insert(place, line);
 }
 
 /// Two strands end.
-fn close_two(row: &mut ArrayVec<u8, LABELS>, place: usize) -> (u8, u8)
+fn close_two(row: &mut ArrayVec<End, ROW_STRANDS>, place: usize) -> (End, End)
     requires within { place + 1 < length row.old.items }
     ensures row { row.new.items ≡ remove (remove row.old.items place) place }
-    ensures first { result.0 ≡ get_or row.old.items place 0 }
-    ensures second { result.1 ≡ get_or row.old.items (place + 1) 0 }
+    ensures first { result.0 ≡ end_at row.old.items place }
+    ensures second { result.1 ≡ end_at row.old.items (place + 1) }
 {
-    let first = row.get(place).copied().unwrap_or(0);
-    let second = row.get(place + 1).copied().unwrap_or(0);
+    let first = row.get(place).copied().unwrap_or(End::AtDart(0));
+    let second = row.get(place + 1).copied().unwrap_or(End::AtDart(0));
     row.remove(place);
     row.remove(place);
     (first, second)
 }
 
 /// Two darts have found each other.
-fn pair_up(others: &mut [u8; DARTS], first: u8, second: u8)
-    requires first { first < DARTS }
-    requires second { second < DARTS }
-    ensures { others.new ≡ set (set others.old first second) second first }
+fn pair_up(others: &mut [Option<u8>], first: u8, second: u8)
+    ensures { others.new ≡ set (set others.old first (Some second)) second (Some first) }
 {
-    others[first as usize] = second;
-    others[second as usize] = first;
+    find_other(others, first, second);
+    find_other(others, second, first);
+}
+
+/// A dart has found another; what is no dart finds none.
+fn find_other(others: &mut [Option<u8>], dart: u8, other: u8)
+    ensures { others.new ≡ set others.old dart (Some other) }
+{
+    if (dart as usize) < others.len() {
+        others[dart as usize] = Some(other);
+    }
 }
 
 /// The pairs of darts that have found each other, by their first darts.
-fn found_pairs(others: &[u8; DARTS]) -> ArrayVec<Pair, ARCS>
+fn found_pairs(others: &[Option<u8>; DARTS]) -> ArrayVec<Pair, ARCS>
     requires { ArePaired CROSSINGS others.now }
-    ensures { result.items ≡ pairs_before CROSSINGS others.now (4 * CROSSINGS) }
+    ensures { result.items ≡ pairs_before others.now (4 * CROSSINGS) }
 {
     let mut pairs = ArrayVec::new();
     'darts: for dart in 0..DARTS as u8 {
@@ -270,32 +296,35 @@ fn found_pairs(others: &[u8; DARTS]) -> ArrayVec<Pair, ARCS>
 }
 
 /// Adds the pair of a dart and the other dart of its line, where that one is known and later.
-fn push_found(pairs: &mut ArrayVec<Pair, ARCS>, others: &[u8; DARTS], dart: u8)
+fn push_found(pairs: &mut ArrayVec<Pair, ARCS>, others: &[Option<u8>; DARTS], dart: u8)
     requires dart { dart < DARTS }
     requires paired { ArePaired CROSSINGS others.now }
-    requires before { pairs.old.items ≡ pairs_before CROSSINGS others.now dart }
-    ensures { pairs.new.items ≡ pairs_before CROSSINGS others.now (dart + 1) }
+    requires before { pairs.old.items ≡ pairs_before others.now dart }
+    ensures { pairs.new.items ≡ pairs_before others.now (dart + 1) }
 {
     let other = others[dart as usize];
     if is_later(dart, other) {
-        pairs.push(Pair([dart_at(dart), dart_at(other)]));
+        pairs.push(Pair([dart_at(dart), dart_at(other.unwrap_or(0))]));
     }
 }
 
-/// Whether a dart has found another, which comes later.
-fn is_later(dart: u8, other: u8) -> bool
-    ensures { result ≡ (nat_lt dart other && nat_lt other DARTS) }
+/// Whether another dart is known, and comes later.
+fn is_later(dart: u8, other: Option<u8>) -> bool
+    ensures { result ≡ is_later dart other }
 {
-    dart < other && other < DARTS as u8
+    match other {
+        Some(second) => dart < second,
+        None => false,
+    }
 }
 
 /// Two neighbours give way to two darts.
-fn cross_two(row: &mut [u8], place: usize, first: u8, second: u8)
+fn cross_two(row: &mut [End], place: usize, first: u8, second: u8)
     requires within { place + 1 < length row.old }
-    ensures { row.new ≡ set (set row.old place first) (place + 1) second }
+    ensures { row.new ≡ set (set row.old place (AtDart first)) (place + 1) (AtDart second) }
 {
-    row[place] = first;
-    row[place + 1] = second;
+    row[place] = End::AtDart(first);
+    row[place + 1] = End::AtDart(second);
 }
 
 /// The place of the dart some slots after one, at a crossing.
@@ -307,5 +336,8 @@ fn dart_after(crossing: u8, slot: u8, more: u8) -> u8
     ensures place { result ≡ dart_after crossing slot more }
     ensures below { result < DARTS }
 {
-    4 * (crossing - 1) + (slot + more) % 4
+    dart_place(Dart {
+        crossing,
+        slot: (slot + more) % 4,
+    })
 }

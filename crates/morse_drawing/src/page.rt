@@ -9,12 +9,13 @@ ghost use Rattle.morse_drawing.specs.declared.limits.TheConstants.{DRAWN_STRANDS
 use crate::limits::DRAWN_STRANDS;
 use crate::slice::Slice;
 use arrayvec::ArrayVec;
-use kh_types::{CROSSINGS, NoMemory};
+use kh_types::{CROSSINGS, Dart, NoMemory, dart_at, dart_place};
 use std::alloc::Global;
 use std::marker::Model;
 
-/// A drawing under way: the places of the crossings that are drawn, the last one first, the places of the darts in the row, whose
-/// arcs are open, and the slices. Contracts see it as the page of these lists.
+/// A drawing under way: the places of the crossings that are drawn, the last one first, the places
+/// of the darts in the row, whose arcs are open, and the slices. Contracts see it as the page of
+/// these lists.
 #[derive(Debug, Drop)]
 pub struct Page {
     pub(crate) drawn: ArrayVec<u8, CROSSINGS>,
@@ -64,7 +65,11 @@ impl Page {
         requires room { length self.old.drawn < CROSSINGS }
         ensures { OnOk result (self.new ≡ begun self.old crossing) }
     {
-        let first = 4 * crossing;
+        let dart = Dart {
+            crossing: crossing + 1,
+            slot: 0,
+        };
+        let first = dart_place(dart);
         let second = turned_back(first);
         let third = turned_back(second);
         self.drawn.insert(0, crossing);
@@ -77,8 +82,8 @@ impl Page {
         self.slices.push(Slice::Cap { at: 3 })?;
         self.slices.push(Slice::Cross {
             at: 2,
-            crossing: crossing + 1,
-            slot: 0,
+            crossing: dart.crossing,
+            slot: dart.slot,
         })?;
         Ok(())
     }
@@ -91,17 +96,14 @@ impl Page {
         requires room { length self.old.drawn < CROSSINGS }
         ensures { OnOk result (self.new ≡ crossed_by self.old place dart) }
     {
+        let Dart { crossing, slot } = dart_at(dart);
         let first = turned_back(dart);
         let second = turned_back(first);
-        self.drawn.insert(0, dart / 4);
+        self.drawn.insert(0, crossing - 1);
         put_three(&mut self.row, place, first, second, turned_back(second));
         let at = place as u8 + 1;
         self.slices.push(Slice::Cap { at: at + 1 })?;
-        self.slices.push(Slice::Cross {
-            at,
-            crossing: dart / 4 + 1,
-            slot: dart % 4,
-        })?;
+        self.slices.push(Slice::Cross { at, crossing, slot })?;
         Ok(())
     }
 
@@ -148,5 +150,9 @@ fn turned_back(dart: u8) -> u8
     ensures turned { result ≡ turned_back dart }
     ensures below { result < 4 * CROSSINGS }
 {
-    4 * (dart / 4) + (dart % 4 + 1) % 4
+    let Dart { crossing, slot } = dart_at(dart);
+    dart_place(Dart {
+        crossing,
+        slot: (slot + 1) % 4,
+    })
 }

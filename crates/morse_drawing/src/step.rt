@@ -16,9 +16,10 @@ ghost use Rattle.morse_drawing.specs.Pages.{
 ghost use Rattle.morse_drawing.specs.Progress.{IsPageOf};
 
 use crate::page::Page;
-use kh_types::{Diagram, NoMemory};
+use kh_types::{Diagram, NoMemory, dart_at};
 
-/// One step of the drawing of a diagram, by the first rule that applies; a finished page stays as it is.
+/// One step of the drawing of a diagram, by the first rule that applies; a finished page stays as
+/// it is.
 pub fn next_page(diagram: &Diagram, page: &mut Page) -> Result<(), NoMemory>
     requires { IsPageOf diagram.now page.old }
     ensures { OnOk result (page.new
@@ -43,7 +44,8 @@ fn begin_next(diagram: &Diagram, page: &mut Page) -> Result<(), NoMemory>
     }
 }
 
-/// Else the leftmost strand that leads on meets its crossing; where none does, two neighbours that are partners end.
+/// Else the leftmost strand that leads on meets its crossing; where none does, two neighbours that
+/// are partners end.
 fn change_row(diagram: &Diagram, page: &mut Page) -> Result<(), NoMemory>
     requires { IsPageOf diagram.now page.old }
     ensures { OnOk result (page.new ≡ by_row (partner_at diagram.now.crossings) page.old
@@ -118,8 +120,8 @@ fn leads_on(diagram: &Diagram, page: &Page, place: usize) -> bool
     ensures { result
         ≡ leads_on (partner_at diagram.now.crossings) page.now.drawn page.now.row place }
 {
-    let crossing = partner_of(diagram, page, place) / 4;
-    !page.has_drawn(crossing)
+    let partner = dart_at(partner_of(diagram, page, place));
+    !page.has_drawn(partner.crossing - 1)
 }
 
 /// Whether the strands at a place and the next are partners.

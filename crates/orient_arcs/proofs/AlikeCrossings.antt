@@ -29,7 +29,10 @@ use Rattle.orient_arcs.specs.Renumbered.{order_of, number_in, renumber}
 use Rattle.orient_arcs.proofs.Bridge.{length-renumbered, slot-renumbered, slot-head, number-once}
 use Rattle.orient_arcs.proofs.Members.{neq-eqb}
 use Rattle.gluing.proofs.Glued.{class_count-glued_parts}
-use Rattle.orient_arcs.proofs.DartSmoothings.{arc_of_dart, dart_smoothings, smoothings_of-darts, dart_smoothings-below, dart_passes, passes_of-darts, dart_passes-below}
+use Rattle.orient_arcs.proofs.DartSmoothings.{arc_of_dart, smoothings_of-darts, dart_passes, passes_of-darts, dart_passes-below}
+use Rattle.kh_types.proofs.IntSums.{int_sum-alike}
+use Rattle.gluing.specs.Codes.{dart_smoothings}
+use Rattle.gluing.proofs.CodeCircles.{dart_smoothings-below}
 
 pub AreAlike-back : (crossings others : List (List ℕ)) → AreAlike crossings others → AreAlike others crossings
 AreAlike-back crossings others alike = record {
@@ -264,10 +267,6 @@ circle_count-alike old new alike loops old_below new_below state =
     let first = class_count-circles old state (smoothings_of-below (name_count old) state old.crossings old_below) in
     let second = class_count-circles new state (smoothings_of-below (name_count new) state new.crossings new_below) in
     omega (arith, law, first, second, loops, alike.size)
-
-int_sum-alike : (f g : ℕ → ℤ) → ((x : ℕ) → f x ≡ g x) → (xs : List ℕ) → int_sum (map f xs) ≡ int_sum (map g xs)
-int_sum-alike f g same [] = refl
-int_sum-alike f g same (x ∷ xs) = ap₂ (λ a b. a +ℤ b) (same x) (int_sum-alike f g same xs)
 
 pub state_sum-alike : (old new : Code) → AreAlike old.crossings new.crossings → new.loops ≡ old.loops
     → ArcsBelow (name_count old) old.crossings → ArcsBelow (name_count new) new.crossings

@@ -26,7 +26,7 @@ use Rattle.orient_arcs.proofs.OwnNumbers.{in-range, range-in}
 
 -- numbers in lists that are put together
 
-number-left : (xs ys : List ℕ) (x : ℕ) → IsIn x xs → number_in (xs ++ ys) x ≡ number_in xs x
+pub number-left : (xs ys : List ℕ) (x : ℕ) → IsIn x xs → number_in (xs ++ ys) x ≡ number_in xs x
 number-left xs ys x is = ap (λ p. p + 1) (by xs is)
   where
     by : (xs : List ℕ) → IsIn x xs → position_or_len (nat_eq x) (xs ++ ys) ≡ position_or_len (nat_eq x) xs
@@ -40,7 +40,7 @@ number-left xs ys x is = ap (λ p. p + 1) (by xs is)
           ap (λ k. cond (not (nat_eq x z)) (1 + k) 0) (by zs later)
     ]
 
-number-right : (xs ys : List ℕ) (x : ℕ) → (IsIn x xs → ⊥) → number_in (xs ++ ys) x ≡ length xs + number_in ys x
+pub number-right : (xs ys : List ℕ) (x : ℕ) → (IsIn x xs → ⊥) → number_in (xs ++ ys) x ≡ length xs + number_in ys x
 number-right xs ys x out = let p = by xs out in omega (arith, p)
   where
     by : (xs : List ℕ) → (IsIn x xs → ⊥) → position_or_len (nat_eq x) (xs ++ ys) ≡ length xs + position_or_len (nat_eq x) ys
@@ -63,14 +63,14 @@ number-range a (suc n) x from below = elim (cases_eq x a) [
       omega (arith, here, later)
 ]
 
-number-first : (a b : ℕ) → number_in (b ∷ a ∷ []) b ≡ 1
+pub number-first : (a b : ℕ) → number_in (b ∷ a ∷ []) b ≡ 1
 number-first a b = ap (λ t. cond (not t) (1 + position_or_len (nat_eq b) (a ∷ [])) 0 + 1) (eq-eqb b b refl)
 
-number-second : (a b : ℕ) → a ≢ b → number_in (b ∷ a ∷ []) a ≡ 2
+pub number-second : (a b : ℕ) → a ≢ b → number_in (b ∷ a ∷ []) a ≡ 2
 number-second a b apart =
     ap₂ (λ s t. cond (not s) (1 + cond (not t) 1 0) 0 + 1) (neq-eqb a b apart) (eq-eqb a a refl)
 
-turned-over : (label : ℕ → ℤ) (a b : ℕ) → a ≢ b → turned_names label (a ∷ b ∷ []) ≡ b ∷ a ∷ []
+pub turned-over : (label : ℕ → ℤ) (a b : ℕ) → a ≢ b → turned_names label (a ∷ b ∷ []) ≡ b ∷ a ∷ []
     → (is_over (label a) ≡ true) × (is_over (label b) ≡ true)
 turned-over label a b apart is =
     by ((is_over (label a) && is_over (label b)) && int_lt (label b) (label a)) refl is

@@ -1,4 +1,5 @@
-//! Laws of the definitions: each is the contract of a function that does nothing, proved with the crate.
+//! Laws of the definitions: each is the contract of a function that does nothing, proved with the
+//! crate.
 
 pub mod alike;
 pub mod renumbered;
@@ -11,9 +12,10 @@ ghost use Rattle.kh_types.specs.Acceptance.{accepted};
 ghost use Rattle.kh_types.specs.WorkedCodes.{one_loop, two_curls, over_circle, hopf_link, trefoil, figure_eight};
 ghost use Rattle.orient_arcs.specs.Numbers.{component_number, first_arc, end_of, GoesRound};
 
-/// Components are numbered from 0 by their least arcs: the number of an arc's component is below their count, and two arcs have
-/// one number exactly where they are in one component; the first arc of a component is its least; it has the component's number,
-/// and the later of two components has the greater one.
+/// Components are numbered from 0 by their least arcs: the number of an arc's component is below
+/// their count, and two arcs have one number exactly where they are in one component; the first arc
+/// of a component is its least; it has the component's number, and the later of two components has
+/// the greater one.
 pub fn components_are_numbered_by_their_least_arcs()
     ensures within { (code : Code) (arc : ℕ) → IsTrue (accepted code) → IsArc code.crossings arc
         → component_number code.crossings arc < component_count code.crossings }
@@ -32,8 +34,9 @@ pub fn components_are_numbered_by_their_least_arcs()
         → first_arc crossings component < first_arc crossings later }
 {}
 
-/// The next of an arc is in its component, and no other arc has it as its next. The arcs of a component are the numbers from its
-/// first arc on, as many as it has; the next of the last of them is the first, and of any other the number that follows.
+/// The next of an arc is in its component, and no other arc has it as its next. The arcs of a
+/// component are the numbers from its first arc on, as many as it has; the next of the last of them
+/// is the first, and of any other the number that follows.
 pub fn arcs_follow_one_another_round_components()
     ensures stays { (code : Code) (arc : ℕ) → IsTrue (accepted code) → IsArc code.crossings arc
         → component_number code.crossings (next code.crossings arc)
@@ -49,8 +52,8 @@ pub fn arcs_follow_one_another_round_components()
         → GoesRound code.crossings arc }
 {}
 
-/// The trefoil is one component of six arcs, the figure eight knot one of eight; the Hopf link, two curls and a circle over
-/// another are two of two arcs each. A loop is no component here.
+/// The trefoil is one component of six arcs, the figure eight knot one of eight; the Hopf link, two
+/// curls and a circle over another are two of two arcs each. A loop is no component here.
 pub fn known_diagrams_have_these_components()
     ensures three { first_arcs trefoil.crossings ≡ 1 ∷ [] }
     ensures three_length { arcs_in (components_of trefoil.crossings) 1 ≡ 6 }

@@ -1,5 +1,5 @@
-//! The components of a diagram, numbered by their least arcs, the arc that follows an arc along the orientation, and renumbering:
-//! crossings over any names of arcs, with directions, as a code.
+//! The components of a diagram, numbered by their least arcs, the arc that follows an arc along the
+//! orientation, and renumbering: crossings over any names of arcs, with directions, as a code.
 #![tactic(auto)]
 
 pub mod laws;

@@ -19,8 +19,8 @@ use std::marker::Model;
 /// The numbers that have a component: the most arcs, and the number 0, which is no arc.
 const NUMBERS: usize = ARCS + 1;
 
-/// The components of a diagram, numbered from 0 by their least arcs; loops are not counted. Contracts see them as the code
-/// of the diagram. Source: this project's rule.
+/// The components of a diagram, numbered from 0 by their least arcs; loops are not counted.
+/// Contracts see them as the code of the diagram. Source: this project's rule.
 #[derive(Clone, Copy, Debug, PartialEq, Eq)]
 pub struct Components {
     diagram: Diagram,

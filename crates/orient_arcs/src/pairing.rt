@@ -8,8 +8,8 @@ use crate::parts::Parts;
 use crate::passes::{Pass, passes_through};
 
 impl Parts {
-    /// Whether each name that stands at all stands twice, once as the head of an arc and once as a tail. Source: this
-    /// project's rule.
+    /// Whether each name that stands at all stands twice, once as the head of an arc and once as a
+    /// tail. Source: this project's rule.
     pub fn is_paired(&self) -> bool
         ensures { IsTrue result ↔ ArePaired self.now }
     {
@@ -17,7 +17,7 @@ impl Parts {
     }
 }
 
-// Whether each name on which a pass enters or leaves is paired.
+/// Whether each name on which a pass enters or leaves is paired.
 fn all_are_paired(passes: &[Pass]) -> bool
     ensures { result ≡ all_are_paired passes.now }
 {
@@ -28,21 +28,21 @@ fn all_are_paired(passes: &[Pass]) -> bool
     are_paired
 }
 
-// Whether the names on which a pass enters and leaves are.
+/// Whether the names on which a pass enters and leaves are.
 fn is_paired_at(passes: &[Pass], pass: Pass) -> bool
     ensures { result ≡ is_paired_at passes.now pass }
 {
     is_paired_in(passes, pass.enters) & is_paired_in(passes, pass.leaves)
 }
 
-// Whether one pass enters on a name at most, and as many leave on it.
+/// Whether one pass enters on a name at most, and as many leave on it.
 fn is_paired_in(passes: &[Pass], name: u8) -> bool
     ensures { result ≡ is_paired_in passes.now name }
 {
     entering_count(passes, name) < 2 && leaving_count(passes, name) == entering_count(passes, name)
 }
 
-// How many passes enter on a name.
+/// How many passes enter on a name.
 fn entering_count(passes: &[Pass], name: u8) -> usize
     ensures { result ≡ entering_count passes.now name }
 {
@@ -53,7 +53,7 @@ fn entering_count(passes: &[Pass], name: u8) -> usize
         .count()
 }
 
-// How many leave on it.
+/// How many leave on it.
 fn leaving_count(passes: &[Pass], name: u8) -> usize
     ensures { result ≡ leaving_count passes.now name }
 {

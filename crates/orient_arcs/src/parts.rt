@@ -4,8 +4,9 @@ use arrayvec::ArrayVec;
 use kh_types::{CROSSINGS, Crossing};
 use std::marker::Model;
 
-/// Crossings over arc names, each counterclockwise from the incoming under arc, with the direction of each, and a number of loops: a
-/// positive crossing's over strand comes in at slot 3, a negative one's at slot 1. Source: this project's rule.
+/// Crossings over arc names, each counterclockwise from the incoming under arc, with the direction
+/// of each, and a number of loops: a positive crossing's over strand comes in at slot 3, a negative
+/// one's at slot 1. Source: this project's rule.
 #[derive(Debug, Drop)]
 pub struct Parts {
     pub crossings: ArrayVec<Crossing, CROSSINGS>,

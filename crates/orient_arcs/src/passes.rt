@@ -40,7 +40,7 @@ impl Default for Pass {
     }
 }
 
-// All passes.
+/// All passes.
 #[tactic(auto, using(crate::proofs::StepLemmas::passes_more, crate::proofs::StepLemmas::length_passes))]
 pub(crate) fn passes_through(parts: &Parts) -> ArrayVec<Pass, ARCS>
     ensures passes { result.items ≡ passes_through parts.now }
@@ -65,7 +65,7 @@ fn push_passes(passes: &mut ArrayVec<Pass, ARCS>, parts: &Parts, place: usize)
     passes.push(over_pass(slots, is_positive_at(parts, place), place));
 }
 
-// The slots of the crossing at a place.
+/// The slots of the crossing at a place.
 fn slots_in(parts: &Parts, place: usize) -> Crossing
     requires { place < length parts.now.crossings }
     ensures { result ≡ slots_in parts.now.crossings place }
@@ -73,14 +73,14 @@ fn slots_in(parts: &Parts, place: usize) -> Crossing
     parts.crossings[place]
 }
 
-// Whether the crossing at a place is positive.
+/// Whether the crossing at a place is positive.
 fn is_positive_at(parts: &Parts, place: usize) -> bool
     ensures { result ≡ is_positive_at parts.now.positive place }
 {
     parts.positive.get(place).copied().unwrap_or(false)
 }
 
-// The under pass of a crossing.
+/// The under pass of a crossing.
 fn under_pass(slots: Crossing, place: usize) -> Pass
     requires { place < CROSSINGS }
     ensures { result ≡ under_pass slots place }
@@ -92,7 +92,7 @@ fn under_pass(slots: Crossing, place: usize) -> Pass
     }
 }
 
-// The over pass of a crossing.
+/// The over pass of a crossing.
 fn over_pass(slots: Crossing, positive: bool, place: usize) -> Pass
     requires { place < CROSSINGS }
     ensures { result ≡ over_pass slots positive place }

@@ -13,8 +13,9 @@ use crate::passes::{Pass, passes_through};
 use arrayvec::ArrayVec;
 use kh_types::{ARCS, CROSSINGS, Crossing, RawCode};
 
-/// The code of some parts: components in the order of their least names, each numbered along its direction from its least name on; one
-/// of two arcs that is over at both its crossings begins with the arc that enters the first listed of them. Source: this project's rule.
+/// The code of some parts: components in the order of their least names, each numbered along its
+/// direction from its least name on; one of two arcs that is over at both its crossings begins with
+/// the arc that enters the first listed of them. Source: this project's rule.
 pub fn renumber(parts: &Parts) -> RawCode
     requires { ArePaired parts.now }
     ensures { result ≡ renumber parts.now }
@@ -27,7 +28,7 @@ pub fn renumber(parts: &Parts) -> RawCode
     }
 }
 
-// The crossings under their new numbers.
+/// The crossings under their new numbers.
 #[tactic(auto, using(crate::proofs::StepLemmas::map_take_more))]
 fn crossings_in(parts: &Parts, order: &[u8]) -> ArrayVec<Crossing, CROSSINGS>
     requires { length order.now ≤ ARCS }
@@ -40,7 +41,7 @@ fn crossings_in(parts: &Parts, order: &[u8]) -> ArrayVec<Crossing, CROSSINGS>
     crossings
 }
 
-// A crossing under its new numbers.
+/// A crossing under its new numbers.
 fn renamed(order: &[u8], slots: Crossing) -> Crossing
     requires { length order.now ≤ ARCS }
     ensures { result ≡ renamed_crossing (number_in order.now) slots }
@@ -53,7 +54,7 @@ fn renamed(order: &[u8], slots: Crossing) -> Crossing
     ])
 }
 
-// The new number of a name.
+/// The new number of a name.
 fn number_in(order: &[u8], name: u8) -> u8
     requires { length order.now ≤ ARCS }
     ensures { result ≡ number_in order.now name }
@@ -68,7 +69,7 @@ fn place_of(order: &[u8], name: u8) -> usize
     order.iter().take_while(|other| name != **other).count()
 }
 
-// The pass that enters on a name.
+/// The pass that enters on a name.
 fn entering(passes: &[Pass], name: u8) -> Pass
     ensures { result ≡ entering passes.now name }
 {
@@ -81,21 +82,21 @@ fn pass_on(passes: &[Pass], name: u8) -> Option<Pass>
     passes.iter().copied().find(|pass| pass.enters == name)
 }
 
-// The name that follows a name.
+/// The name that follows a name.
 fn follows(passes: &[Pass], name: u8) -> u8
     ensures { result ≡ follows passes.now name }
 {
     entering(passes, name).leaves
 }
 
-// The label of the pass that a name enters.
+/// The label of the pass that a name enters.
 fn label_entered(passes: &[Pass], name: u8) -> i32
     ensures { result ≡ label_entered passes.now name }
 {
     entering(passes, name).label
 }
 
-// A number above all names.
+/// A number above all names.
 #[tactic(auto, using(crate::proofs::StepLemmas::bound_of_push))]
 fn bound_of(passes: &[Pass]) -> usize
     ensures bound { result ≡ bound_of passes.now }
@@ -108,7 +109,7 @@ fn bound_of(passes: &[Pass]) -> usize
     bound
 }
 
-// A bound that is also above the name on which a pass enters.
+/// A bound that is also above the name on which a pass enters.
 fn raised(bound: usize, pass: Pass) -> usize
     requires { bound ≤ 256 }
     ensures raised { result ≡ max bound (pass.enters + 1) }
@@ -117,7 +118,7 @@ fn raised(bound: usize, pass: Pass) -> usize
     bound.max(usize::from(pass.enters) + 1)
 }
 
-// All names in the order of their new numbers.
+/// All names in the order of their new numbers.
 fn order_of(parts: &Parts, passes: &[Pass]) -> ArrayVec<u8, ARCS>
     requires paired { ArePaired parts.now }
     requires passes { passes.now ≡ passes_through parts.now }
@@ -133,7 +134,7 @@ fn order_of(parts: &Parts, passes: &[Pass]) -> ArrayVec<u8, ARCS>
     order
 }
 
-// Adds the component of a name, where it stands and is in none so far.
+/// Adds the component of a name, where it stands and is in none so far.
 fn push_component(order: &mut ArrayVec<u8, ARCS>, parts: &Parts, passes: &[Pass], name: u8)
     requires paired { ArePaired parts.now }
     requires passes { passes.now ≡ passes_through parts.now }
@@ -146,14 +147,14 @@ fn push_component(order: &mut ArrayVec<u8, ARCS>, parts: &Parts, passes: &[Pass]
     }
 }
 
-// Whether a name stands, and is in no component so far.
+/// Whether a name stands, and is in no component so far.
 fn is_new(order: &[u8], passes: &[Pass], name: u8) -> bool
     ensures { result ≡ is_new passes.now order.now name }
 {
     stands(passes, name) && !is_in(order, name)
 }
 
-// Whether a pass enters on a name.
+/// Whether a pass enters on a name.
 #[tactic(auto, using(crate::proofs::StepLemmas::is_in_map))]
 fn stands(passes: &[Pass], name: u8) -> bool
     ensures { result ≡ is_in (map (λ (pass : Pass). pass.enters) passes.now) name }
@@ -167,14 +168,14 @@ fn enters_some(passes: &[Pass], name: u8) -> bool
     passes.iter().copied().any(|pass| name == pass.enters)
 }
 
-// Whether a name is in a list.
+/// Whether a name is in a list.
 fn is_in(names: &[u8], name: u8) -> bool
     ensures { result ≡ is_in names.now name }
 {
     names.iter().any(|other| name == *other)
 }
 
-// The name with which the component of its least name begins.
+/// The name with which the component of its least name begins.
 fn start_of(passes: &[Pass], name: u8) -> u8
     ensures { result ≡ start_of passes.now name }
 {
@@ -185,7 +186,8 @@ fn start_of(passes: &[Pass], name: u8) -> u8
     }
 }
 
-// Whether a name and its next are over at both their crossings, and the next enters the first listed.
+/// Whether a name and its next are over at both their crossings, and the next enters the first
+/// listed.
 fn is_turned(passes: &[Pass], name: u8) -> bool
     ensures { result ≡ is_turned passes.now name }
 {
@@ -199,7 +201,7 @@ fn is_turned(passes: &[Pass], name: u8) -> bool
         && next_label < label
 }
 
-// Adds the names from a name on, until it comes back to it.
+/// Adds the names from a name on, until it comes back to it.
 fn push_walk(order: &mut ArrayVec<u8, ARCS>, passes: &[Pass], first: u8)
     requires { length order.old.items
         + length (walk (follows passes.now) first (length passes.now) first) ≤ ARCS }

@@ -1,18 +1,19 @@
 -- The items that a text lists, and the code that they stand for.
-use Rattle.std.specs.Prelude.{ℕ, nat_le, if◌then◌else◌, Bool, true, false, List, [], ◌∷◌, Option, None, Some, count_by, ℤ, pos, negsuc}
+use Rattle.std.specs.Prelude.{ℕ, Bool, true, false, List, [], ◌∷◌, Option, None, Some, count_by, ℤ, pos, negsuc}
 use Rattle.std.specs.List.{filter_map}
 use Rattle.kh_types.specs.Code.{Code}
+use Rattle.kh_types.specs.RawCodes.{arc_named}
 use Rattle.pd_code.specs.declared.item.Item.{Item}
 use Rattle.pd_code.specs.declared.item.Item.TheVariants.{Crossing, Loop}
 
--- the arc that a number names; 0, which is no arc, for a number below 0 or above 255 (this project's rule)
-abbrev pub arc_named : ℤ → ℕ
-arc_named (pos n) = if nat_le n 255 then n else 0
-arc_named (negsuc n) = 0
+-- the arc that a number with its sign names; 0, which is no arc, for one below 0 (this project's rule)
+abbrev pub signed_arc_named : ℤ → ℕ
+signed_arc_named (pos n) = arc_named n
+signed_arc_named (negsuc n) = 0
 
 -- the slots of an item that is a crossing, each by its arc
 abbrev pub slots_of_item : Item → Option (List ℕ)
-slots_of_item (Crossing i j k l) = Some (arc_named i ∷ arc_named j ∷ arc_named k ∷ arc_named l ∷ [])
+slots_of_item (Crossing i j k l) = Some (signed_arc_named i ∷ signed_arc_named j ∷ signed_arc_named k ∷ signed_arc_named l ∷ [])
 slots_of_item (Loop n) = None
 
 -- an item is a loop

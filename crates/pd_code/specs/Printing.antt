@@ -2,6 +2,7 @@
 use Rattle.std.specs.Prelude.{◌≡◌, ℕ, ◌+◌, ◌≤◌, length, List, [], ◌∷◌, ◌++◌, map, codes, pos}
 use Rattle.std.specs.Fmt.{signed_decimal}
 use Rattle.std.specs.List.{flat_map, range_with_len}
+use Rattle.kh_types.specs.declared.limits.TheConstants.{GREATEST_ARC}
 use Rattle.kh_types.specs.Code.{Code, arc_count, arc_in}
 use Rattle.pd_code.specs.declared.item.Item.{Item}
 use Rattle.pd_code.specs.declared.item.Item.TheVariants.{Crossing, Loop}
@@ -9,7 +10,7 @@ use Rattle.pd_code.specs.declared.item.Item.TheVariants.{Crossing, Loop}
 -- slots as a crossing holds them: there are four, and each has an arc that is a byte
 pub record HasFourSlots (slots : List ℕ) : Type 0 where
   pub four : length slots ≡ 4
-  pub bytes : (slot : ℕ) → arc_in slots slot ≤ 255
+  pub bytes : (slot : ℕ) → arc_in slots slot ≤ GREATEST_ARC
 
 -- the item of a crossing, by the arcs at its slots 0 to 3
 abbrev pub crossing_item : List ℕ → Item

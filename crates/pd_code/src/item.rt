@@ -1,7 +1,7 @@
 //! What a planar diagram text lists.
 
 ghost use Rattle.std.specs.Prelude.{◌≡◌};
-ghost use Rattle.pd_code.specs.Items.{arc_named, is_loop_item, slots_of_item};
+ghost use Rattle.pd_code.specs.Items.{is_loop_item, signed_arc_named, slots_of_item};
 
 use kh_types::Crossing;
 
@@ -31,21 +31,18 @@ pub fn slots_of_item(item: &Item) -> Option<Crossing>
 {
     match *item {
         Item::Crossing(i, j, k, l) => Some(Crossing([
-            arc_named(i),
-            arc_named(j),
-            arc_named(k),
-            arc_named(l),
+            signed_arc_named(i),
+            signed_arc_named(j),
+            signed_arc_named(k),
+            signed_arc_named(l),
         ])),
         Item::Loop(_) => None,
     }
 }
 
-// The arc that a number names.
-fn arc_named(number: i32) -> u8
-    ensures { result ≡ arc_named number }
+/// The arc that a number names; 0, which is no arc, for a number below 0 or above 255.
+fn signed_arc_named(number: i32) -> u8
+    ensures { result ≡ signed_arc_named number }
 {
-    match number {
-        0..=255 => number as u8,
-        _ => 0,
-    }
+    u8::try_from(number).unwrap_or(0)
 }

@@ -80,7 +80,7 @@ pub fn items_of(alloc: Global, text: &[u8], tokens: &[Token]) -> Result<Vec<Item
     }
 }
 
-// Where a symbol leads from a state, if the grammar has it there.
+/// Where a symbol leads from a state, if the grammar has it there.
 fn next_state(state: State, symbol: Symbol) -> Option<State>
     ensures { result ≡ pd_step state symbol }
 {
@@ -106,7 +106,7 @@ fn next_state(state: State, symbol: Symbol) -> Option<State>
     }
 }
 
-// Adds the item that ends as a state is left, if one does.
+/// Adds the item that ends as a state is left, if one does.
 fn push_ended(items: &mut Vec<Item>, state: State) -> Result<(), AllocFailed<Item>>
     ensures ok { OnOk result (items.new.items ≡ added state items.old.items) }
     ensures more { OnOk result (vec_len items.new ≤ vec_len items.old + 1) }

@@ -21,7 +21,7 @@ pub fn print_pd(alloc: Global, diagram: &Diagram) -> Result<Vec<u8>, NoMemory>
     Ok(text.into_bytes())
 }
 
-// The items of a diagram.
+/// The items of a diagram.
 fn items_of_code(alloc: Global, diagram: &Diagram) -> Result<Vec<Item>, NoMemory>
     ensures items { IfOk result (λ items. items.items ≡ items_of_code diagram.now) }
     ensures four { OnOk result (All HasFourSlots diagram.now.crossings) }
@@ -38,7 +38,7 @@ fn items_of_code(alloc: Global, diagram: &Diagram) -> Result<Vec<Item>, NoMemory
     Ok(items)
 }
 
-// The item of a crossing.
+/// The item of a crossing.
 fn crossing_item(crossing: &Crossing) -> Item
     ensures item { result ≡ crossing_item crossing.now }
     ensures four { HasFourSlots crossing.now }
@@ -47,14 +47,14 @@ fn crossing_item(crossing: &Crossing) -> Item
     Item::Crossing(i.into(), j.into(), k.into(), l.into())
 }
 
-// The item of a loop.
+/// The item of a loop.
 fn loop_item(name: u8) -> Item
     ensures { result ≡ loop_item name }
 {
     Item::Loop(name.into())
 }
 
-// The text that lists items.
+/// The text that lists items.
 fn text_of_items(alloc: Global, items: &[Item]) -> Result<String, NoMemory>
     ensures { IfOk result (λ text. string_bytes text ≡ text_of_items items.now) }
 {
@@ -64,7 +64,7 @@ fn text_of_items(alloc: Global, items: &[Item]) -> Result<String, NoMemory>
     Ok(text)
 }
 
-// Adds items in print, with a comma and a space between any two.
+/// Adds items in print, with a comma and a space between any two.
 fn push_items(alloc: Global, text: &mut String, items: &[Item]) -> Result<(), NoMemory>
     ensures { OnOk result (
         string_bytes text.new ≡ string_bytes text.old ++ listed_text items.now) }
@@ -80,7 +80,7 @@ fn push_items(alloc: Global, text: &mut String, items: &[Item]) -> Result<(), No
     Ok(())
 }
 
-// Adds an item in print.
+/// Adds an item in print.
 fn push_item(alloc: Global, text: &mut String, item: &Item) -> Result<(), NoMemory>
     ensures { OnOk result (string_bytes text.new ≡ string_bytes text.old ++ item_text item.now) }
 {
@@ -89,7 +89,7 @@ fn push_item(alloc: Global, text: &mut String, item: &Item) -> Result<(), NoMemo
     Ok(())
 }
 
-// An item in print.
+/// An item in print.
 fn item_text(alloc: Global, item: &Item) -> Result<String, NoMemory>
     ensures { IfOk result (λ text. string_bytes text ≡ item_text item.now) }
 {

@@ -27,7 +27,7 @@ pub fn read_pd(alloc: Global, text: &[u8]) -> Result<RawCode, PdStop>
     code_within(&items)
 }
 
-// The code of items within the limits, or the first limit that they pass.
+/// The code of items within the limits, or the first limit that they pass.
 fn code_within(items: &[Item]) -> Result<RawCode, PdStop>
     requires { length items.now ≤ INPUT_BYTES }
     ensures code { result ≡ code_within items.now }
@@ -52,7 +52,7 @@ fn code_within(items: &[Item]) -> Result<RawCode, PdStop>
     })
 }
 
-// The number of crossings among items.
+/// The number of crossings among items.
 fn crossing_count(items: &[Item]) -> usize
     ensures count { result ≡ length (crossings_among items.now) }
     ensures within { result ≤ length items.now }
@@ -60,7 +60,7 @@ fn crossing_count(items: &[Item]) -> usize
     items.iter().filter_map(slots_of_item).count()
 }
 
-// The number of loops among items.
+/// The number of loops among items.
 fn loop_item_count(items: &[Item]) -> usize
     ensures count { result ≡ loop_item_count items.now }
     ensures within { result ≤ length items.now }
@@ -68,7 +68,7 @@ fn loop_item_count(items: &[Item]) -> usize
     items.iter().filter(|item| is_loop_item(item)).count()
 }
 
-// The crossings among items, of which there are few enough.
+/// The crossings among items, of which there are few enough.
 fn crossings_of(items: &[Item]) -> ArrayVec<Crossing, CROSSINGS>
     requires { length (crossings_among items.now) ≤ CROSSINGS }
     ensures { result.items ≡ crossings_among items.now }
@@ -80,7 +80,7 @@ fn crossings_of(items: &[Item]) -> ArrayVec<Crossing, CROSSINGS>
     crossings
 }
 
-// Adds the crossing that an item is, if it is one.
+/// Adds the crossing that an item is, if it is one.
 fn push_crossing(crossings: &mut ArrayVec<Crossing, CROSSINGS>, item: &Item)
     requires { length (crossings.old.items ++ option_to_list (slots_of_item item.now)) ≤ CROSSINGS }
     ensures { crossings.new.items ≡ crossings.old.items ++ option_to_list (slots_of_item item.now) }

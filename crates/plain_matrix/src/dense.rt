@@ -12,8 +12,8 @@ use prime_field::laws::element_laws;
 use std::alloc::Global;
 use std::marker::Model;
 
-/// A matrix over a field, by its rows. Rows and columns are numbered from 0. Contracts see it as its
-/// rows, lists of the values of the entries, and its number of columns.
+/// A matrix over a field, by its rows. Rows and columns are numbered from 0. Contracts see it as
+/// its rows, lists of the values of the entries, and its number of columns.
 #[derive(Drop)]
 pub struct Dense<F: PrimeField> {
     rows: Vec<Vec<F>>,
@@ -96,8 +96,8 @@ impl<F: PrimeField> Dense<F> {
     }
 }
 
-/// The laws of a matrix: its rows have one length, and its entries are below `P`. It does nothing: a
-/// function calls it, and its proof then has them at hand.
+/// The laws of a matrix: its rows have one length, and its entries are below `P`. It does nothing:
+/// a function calls it, and its proof then has them at hand.
 pub fn matrix_laws<F: PrimeField>(matrix: &Dense<F>)
     ensures matrix { IsMatrix F.P matrix.now.columns matrix.now.rows }
     ensures rows { length matrix.now.rows < 2 ^ 32 }

@@ -11,8 +11,8 @@ use kh_types::NoMemory;
 use prime_field::PrimeField;
 use std::alloc::Global;
 
-/// The plain rank: how many pivots Gauss's elimination takes, where each turn takes the first row with
-/// an entry other than 0, and its first such entry.
+/// The plain rank: how many pivots Gauss's elimination takes, where each turn takes the first row
+/// with an entry other than 0, and its first such entry.
 pub fn rank<F: PrimeField>(alloc: Global, matrix: &Dense<F>) -> Result<u32, NoMemory>
     ensures { IfOk result (λ found. found ≡ rank F.P matrix.now.rows) }
 {

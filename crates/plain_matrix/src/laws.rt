@@ -1,6 +1,6 @@
-//! Laws of ranks: the plain rank does not depend on the pivots that are taken, and what keeps it. They
-//! hold modulo every p with inverses, which each field has; `prime_field` has the law that 2, 3, 5 and 7
-//! are fields.
+//! Laws of ranks: the plain rank does not depend on the pivots that are taken, and what keeps it.
+//! They hold modulo every p with inverses, which each field has; `prime_field` has the law that 2,
+//! 3, 5 and 7 are fields.
 
 ghost use Rattle.std.specs.Prelude.{◌≡◌, ◌≢◌, ℕ, suc, List};
 ghost use Rattle.kh_types.specs.Complex.{Pivot, cancelled_matrix, entry_in};
@@ -65,8 +65,8 @@ pub fn dependent_rows_do_not_count()
         → rank p (without_column dead rows) ≡ rank p rows }
 {}
 
-/// Two matrices have one rank where the entries of each are, up to a factor for the row and one for the
-/// column, entries of the other's transpose.
+/// Two matrices have one rank where the entries of each are, up to a factor for the row and one for
+/// the column, entries of the other's transpose.
 pub fn scaled_transposes_have_one_rank()
     ensures { (p columns width : ℕ) (rows others : List (List ℕ)) → HasInverses p
         → IsMatrix p columns rows → IsMatrix p width others

@@ -1,5 +1,5 @@
-//! What no clause says: that the calls succeed where there is memory, and what known matrices come to.
-//! The ranks were found by hand, from minors.
+//! What no clause says: that the calls succeed where there is memory, and what known matrices come
+//! to. The ranks were found by hand, from minors.
 
 use crate::{Dense, rank, transposed};
 use kh_types::NoMemory;

@@ -18,7 +18,8 @@ pub const NAMES: usize = ARCS + COMPONENTS;
 /// Names of arcs and loops, or of circles by the least arc or loop on them.
 pub type Names = ArrayVec<u8, NAMES>;
 
-/// The circle of each number up to the last name, by its least name; the number 0 is no name and stands alone.
+/// The circle of each number up to the last name, by its least name; the number 0 is no name and
+/// stands alone.
 pub type Circles = ArrayVec<u8, CLASS_MEMBERS>;
 
 /// The circle of each arc and each loop in a state.

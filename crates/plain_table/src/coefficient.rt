@@ -1,4 +1,5 @@
-//! The coefficients of the differential, one pair of generators at a time. Crossings are numbered from 1.
+//! The coefficients of the differential, one pair of generators at a time. Crossings are numbered
+//! from 1.
 
 ghost use Rattle.std.specs.Prelude.{◌≡◌, ◌≤◌, ◌||◌, ◌&&◌, length, nat_eq};
 ghost use Rattle.kh_types.specs.Differential.{label_of, is_touched, is_edge, keeps_labels, changes_labels, edge_sign, coefficient_at, coefficient};
@@ -11,8 +12,8 @@ use kh_types::{Diagram, bit, ones};
 use prime_field::PrimeField;
 use prime_field::laws::element_laws;
 
-/// The coefficient from one generator to another: along the one edge that leads from state to state, if any does.
-/// Source: Bar-Natan 2002, section 3.
+/// The coefficient from one generator to another: along the one edge that leads from state to
+/// state, if any does. Source: Bar-Natan 2002, section 3.
 #[tactic(auto, using(crate::proofs::CoefficientLemmas::coefficient_more))]
 pub fn coefficient<F: PrimeField>(diagram: &Diagram, tail: Generator, head: Generator) -> F
     ensures { F.value_of result ≡ coefficient F.P diagram.now tail head }

@@ -64,7 +64,8 @@ impl Cube {
         Ok(rank(alloc, &differential)? as usize)
     }
 
-    /// The differential from degree i at j: a row for each generator of degree i + 1, with an entry for each of degree i.
+    /// The differential from degree i at j: a row for each generator of degree i + 1, with an entry
+    /// for each of degree i.
     #[tactic(auto, using(crate::proofs::TableLemmas::matrices))]
     pub fn differential<F: PrimeField>(
         &self,
@@ -82,7 +83,8 @@ impl Cube {
         self.matrix(alloc, &tails, &heads)
     }
 
-    /// The matrix with a row for each generator of one list, `heads`, and in it the coefficient from each generator of another.
+    /// The matrix with a row for each generator of one list, `heads`, and in it the coefficient
+    /// from each generator of another.
     #[tactic(auto, using(crate::proofs::MatrixLemmas::rows))]
     fn matrix<F: PrimeField>(
         &self,
@@ -140,8 +142,8 @@ impl Cube {
     }
 }
 
-/// How many rows or columns a matrix has for a list of generators. Matrices have fewer than 2^32, so a longer list, which
-/// takes 96 GiB by itself, is answered as out of memory.
+/// How many rows or columns a matrix has for a list of generators. Matrices have fewer than 2^32,
+/// so a longer list, which takes 96 GiB by itself, is answered as out of memory.
 fn matrix_size(generators: &[Placed]) -> Result<u32, NoMemory>
     ensures { IfOk result (λ size. size ≡ length generators.now) }
 {

@@ -11,8 +11,9 @@ use kh_types::{Diagram, NoMemory, ones};
 use std::alloc::{AllocError, Global};
 use std::marker::Model;
 
-/// A state with a label on each circle; the label's bit at a circle's place among the circles is 0 for v+ and 1 for v-.
-/// Contracts see the definition's generator. Source: Bar-Natan 2002, section 3.
+/// A state with a label on each circle; the label's bit at a circle's place among the circles is 0
+/// for v+ and 1 for v-. Contracts see the definition's generator. Source: Bar-Natan 2002, section
+/// 3.
 #[derive(Clone, Copy)]
 pub struct Generator {
     pub state: u32,
@@ -37,7 +38,8 @@ pub struct Placed {
     pub j: i16,
 }
 
-/// What the generators of a state share: the number of circles, the degree i, and what j has above the label degree.
+/// What the generators of a state share: the number of circles, the degree i, and what j has above
+/// the label degree.
 #[derive(Clone, Copy)]
 struct Shared {
     circles: usize,

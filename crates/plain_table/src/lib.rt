@@ -1,5 +1,6 @@
-//! The homology table by the definitions themselves: each generator is listed, each differential is written out whole, and its
-//! plain rank is taken. It is slow, and the reference that faster ways are compared with.
+//! The homology table by the definitions themselves: each generator is listed, each differential is
+//! written out whole, and its plain rank is taken. It is slow, and the reference that faster ways
+//! are compared with.
 #![tactic(auto)]
 
 mod circles;

@@ -14,7 +14,8 @@ use crate::labels::Labels;
 use arrayvec::ArrayVec;
 use kh_types::{Crossing, Diagram, bit, class_of};
 
-/// A generator of a diagram's cube, the circle of each arc and loop in its state, and the names of the circles.
+/// A generator of a diagram's cube, the circle of each arc and loop in its state, and the names of
+/// the circles.
 #[derive(Drop)]
 pub struct Resolved {
     diagram: Diagram,

@@ -1,4 +1,5 @@
--- The numbers modulo 2, 3, 5 and 7 are fields. These lemmas stand here, since the laws of the four implementations cite them.
+-- The numbers modulo 2, 3, 5 and 7 are fields (any textbook of algebra). The lemmas stand here, since the laws of the four
+-- implementations cite them.
 use Rattle.std.proofs.Common.{◌≡◌, ℕ, zero, suc, ◌+◌, ◌-◌, ◌*◌, ◌%◌, ◌<◌, ◌≢◌, ◌∙◌, inl, inr, refl, ap, sym, subst, arith}
 use Rattle.std.proofs.Math.Nat.{mod_self, mod-eq_of_lt, add-mod-mod, mod-add-mod}
 use Rattle.std.proofs.lemmas.Nat.{pow-mod, mod_below, mul-mod_first, mul-mod_second}

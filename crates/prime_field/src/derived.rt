@@ -6,7 +6,8 @@ ghost use Rattle.prime_field.specs.Residues.{inverse_mod, negative_mod, product_
 use crate::PrimeField;
 use crate::laws::element_laws;
 
-/// The difference of two elements: added to the second it gives the first.
+/// The difference of two elements: added to the second it gives the first. Source: any textbook of
+/// algebra.
 pub fn difference<F: PrimeField>(left: F, right: F) -> F
     ensures value { F.value_of result
         ≡ sum_mod F.P (F.value_of left) (negative_mod F.P (F.value_of right)) }
@@ -17,6 +18,7 @@ pub fn difference<F: PrimeField>(left: F, right: F) -> F
 }
 
 /// The quotient of two elements: times the second it gives the first. The second is not zero.
+/// Source: any textbook of algebra.
 pub fn quotient<F: PrimeField>(dividend: F, divisor: F) -> F
     requires { F.value_of divisor ≢ 0 }
     ensures value { F.value_of result

@@ -5,6 +5,7 @@ ghost use Rattle.prime_field.specs.Residues.{IsField, IsSmallPrime};
 ghost use Rattle.prime_field.specs.Residues.{negative_mod, product_mod, sum_mod};
 
 /// A field of `P` elements, each known by its value, a number below `P`. `P` is 2, 3, 5 or 7.
+/// Source: any textbook of algebra. That `P` is one of these is this project's rule.
 pub trait PrimeField: Copy + Eq {
     /// The number of elements.
     ghost P: { ℕ };

@@ -6,7 +6,7 @@ ghost use Rattle.prime_field.specs.SmallFields.{field-five, residue-same};
 
 use crate::PrimeField;
 
-/// An element of the field of five elements.
+/// An element of the field of five elements. Source: any textbook of algebra.
 #[derive(Clone, Copy, Debug, PartialEq, Eq)]
 pub struct F5 {
     value: u8,

@@ -5,13 +5,13 @@ ghost use Rattle.prime_field.specs.Residues.{IsField, IsSmallPrime};
 
 use crate::PrimeField;
 
-/// The numbers modulo each of the four primes are a field.
+/// The numbers modulo each of the four primes are a field. Source: any textbook of algebra.
 pub fn small_primes_give_fields()
     ensures { (p : ℕ) → IsSmallPrime p → IsField p }
 {}
 
-/// The laws that every field has. It does nothing: a generic function calls it, and its proof then has
-/// them at hand.
+/// The laws that every field has. It does nothing: a generic function calls it, and its proof then
+/// has them at hand. Source: any textbook of algebra.
 pub fn element_laws<F: PrimeField>()
     ensures prime { IsSmallPrime F.P }
     ensures field { IsField F.P }

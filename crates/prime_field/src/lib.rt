@@ -6,6 +6,7 @@ mod field;
 mod five;
 pub mod laws;
 mod seven;
+mod size;
 #[cfg(test)]
 mod tests;
 mod three;
@@ -15,5 +16,6 @@ pub use derived::{difference, quotient};
 pub use field::PrimeField;
 pub use five::F5;
 pub use seven::F7;
+pub use size::{Elements, FieldSize};
 pub use three::F3;
 pub use two::F2;

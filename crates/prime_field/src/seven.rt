@@ -6,7 +6,7 @@ ghost use Rattle.prime_field.specs.SmallFields.{field-seven, residue-same};
 
 use crate::PrimeField;
 
-/// An element of the field of seven elements.
+/// An element of the field of seven elements. Source: any textbook of algebra.
 #[derive(Clone, Copy, Debug, PartialEq, Eq)]
 pub struct F7 {
     value: u8,

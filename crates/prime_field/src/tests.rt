@@ -1,5 +1,5 @@
-//! What no clause says: that each call is reached, at each field and through the bound. The values are
-//! those of printed tables.
+//! What no clause says: that each call is reached, at each field and through the bound. The values
+//! are those of printed tables.
 
 ghost use Rattle.std.specs.Prelude.{◌≢◌, ◌<◌};
 

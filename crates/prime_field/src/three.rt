@@ -6,7 +6,7 @@ ghost use Rattle.prime_field.specs.SmallFields.{field-three, residue-same};
 
 use crate::PrimeField;
 
-/// An element of the field of three elements.
+/// An element of the field of three elements. Source: any textbook of algebra.
 #[derive(Clone, Copy, Debug, PartialEq, Eq)]
 pub struct F3 {
     value: u8,

@@ -6,7 +6,7 @@ ghost use Rattle.prime_field.specs.SmallFields.{field-two, residue-same};
 
 use crate::PrimeField;
 
-/// An element of the field of two elements.
+/// An element of the field of two elements. Source: any textbook of algebra.
 #[derive(Clone, Copy, Debug, PartialEq, Eq)]
 pub struct F2 {
     value: u8,

@@ -30,11 +30,12 @@ use Rattle.cube_signs.specs.KindShapes.{all_kind_shapes}
 use Rattle.cube_signs.specs.Shapes.{gives_degree, is_given, shape_of}
 use Rattle.cube_signs.specs.declared.shape.Shape.{Shape}
 use Rattle.cube_signs.proofs.KindDegrees.{any-kinds}
-use Rattle.cube_signs.proofs.ShapeLemmas.{list_any-flat_map, list_any-map, ones-lowest, quantum_degree-label, same-passes}
-use Rattle.reduced_cube.specs.Degrees.{has_reduced_degree, have_reduced_degree, is_from_one, reduced_degrees_of, reduced_degrees_to}
+use Rattle.cube_signs.proofs.ShapeLemmas.{list_any-flat_map, ones-lowest, quantum_degree-label, same-passes}
+use Rattle.reduced_cube.specs.Degrees.{shape_has_reduced, some_shape_has_reduced, is_from_one, reduced_degrees_of, reduced_degrees_to}
 use Rattle.reduced_cube.specs.Reduced.{has_reduced, is_reduced, reduced_degrees}
 use Rattle.reduced_cube.proofs.MarkedCounts.{ones-positive}
 use Rattle.reduced_cube.proofs.ReducedSums.{number-below}
+use Rattle.kh_types.proofs.MappedLists.{list_any-map}
 
 -- a label with so many v-, one of them on a circle
 record HasLabel (count mark n : ℕ) : Type 0 where
@@ -75,7 +76,7 @@ and_both false b first second = absurd (false≢true first)
 
 -- a state has a generator of a reduced degree where a number of labels v- gives it, each number from 1 to that of the circles
 reduced_degree-shape : (code : Code) (mark : ℕ) (j : ℤ) (state : ℕ) → IsTrue (accepted code) → IsName code mark
-    → has_reduced_degree j (shape_of code state)
+    → shape_has_reduced j (shape_of code state)
     ≡ list_any (λ generator. int_eq (quantum_degree code generator) (j -ℤ pos 1) && is_reduced code mark generator)
     (generators_of code state)
 reduced_degree-shape code mark j state is name =
@@ -110,22 +111,31 @@ reduced_degree-shape code mark j state is name =
     (generator_of state) (range_with_len 0 (2 ^ count)))
 
 -- so the shapes of all states tell which reduced degrees have a generator
-have_reduced-states : (code : Code) (mark : ℕ) (j : ℤ) → IsTrue (accepted code) → IsName code mark
-    → have_reduced_degree (map (shape_of code) (states code)) j ≡ has_reduced code mark j
-have_reduced-states code mark j is name =
-    list_any-map (has_reduced_degree j) (shape_of code) (states code)
+some_shape_has_reduced-states : (code : Code) (mark : ℕ) (j : ℤ) → IsTrue (accepted code) → IsName code mark
+    → some_shape_has_reduced (map (shape_of code) (states code)) j ≡ has_reduced code mark j
+some_shape_has_reduced-states code mark j is name =
+    list_any-map (shape_has_reduced j) (shape_of code) (states code)
     ∙ ap (λ (p : ℕ → Bool). list_any p (states code)) (fun_ext (λ state. reduced_degree-shape code mark j state is name))
     ∙ sym (list_any-flat_map (λ generator. int_eq (quantum_degree code generator) (j -ℤ pos 1) && is_reduced code mark generator)
     (generators_of code) (states code))
+
+-- so they are the same for each mark
+pub reduced_degrees-marks : (code : Code) (first second : ℕ) → IsTrue (accepted code) → IsName code first → IsName code second
+    → reduced_degrees code first ≡ reduced_degrees code second
+unfolding reduced_degrees
+reduced_degrees-marks code first second is first_name second_name =
+    ap (λ (p : ℤ → Bool). filter p (from_minus EXPONENT))
+    (fun_ext (λ j.
+    sym (some_shape_has_reduced-states code first j is first_name) ∙ some_shape_has_reduced-states code second j is second_name))
 
 pub degrees-reduced : (code : Code) (mark : ℕ) (shapes : List Shape) (made : List ℤ) → IsTrue (accepted code)
     → length code.crossings ≤ CROSSINGS → IsName code mark → shapes ≡ all_kind_shapes code → made ≡ reduced_degrees_of shapes
     → made ≡ reduced_degrees code mark
 unfolding reduced_degrees_of reduced_degrees
 degrees-reduced code mark shapes made is few name are is_made =
-    is_made ∙ ap (λ (s : List Shape). filter (have_reduced_degree s) (from_minus EXPONENT)) are
+    is_made ∙ ap (λ (s : List Shape). filter (some_shape_has_reduced s) (from_minus EXPONENT)) are
     ∙ ap (λ (p : ℤ → Bool). filter p (from_minus EXPONENT))
-    (fun_ext (λ j. any-kinds (has_reduced_degree j) code ((IsAccepted-is code).0 is) few ∙ have_reduced-states code mark j is name))
+    (fun_ext (λ j. any-kinds (shape_has_reduced j) code ((IsAccepted-is code).0 is) few ∙ some_shape_has_reduced-states code mark j is name))
 
 -- a reduced quantum degree that has a generator is one of the exponents
 pub degree-within : (code : Code) (mark : ℕ) (j : ℤ) → Contains (reduced_degrees code mark) j → IsWithin EXPONENT j
@@ -150,7 +160,7 @@ one-fails m last past = grind (arith, nat_tests)
 
 reduced-found : (shape : Shape) (j : ℤ) (given : Option ℕ) (within : Bool)
     → ((count : ℕ) → gives_degree shape (j -ℤ pos 1) count ≡ is_given given count) → within ≡ is_from_one given shape.circles
-    → within ≡ has_reduced_degree j shape
+    → within ≡ shape_has_reduced j shape
 reduced-found shape j None within gives is =
     is ∙ sym (list_any-below_none (λ more. gives_degree shape (j -ℤ pos 1) (more + 1)) shape.circles (λ k below. gives (k + 1)))
 reduced-found shape j (Some zero) within gives is =
@@ -172,24 +182,24 @@ reduced-found shape j (Some (suc weight)) within gives is =
 
 pub reduced-given : (shape : Shape) (j : ℤ) {below : ℤ} (given : Option ℕ) (within : Bool)
     → ((count : ℕ) → gives_degree shape below count ≡ is_given given count) → below ≡ j -ℤ pos 1
-    → within ≡ is_from_one given shape.circles → within ≡ has_reduced_degree j shape
+    → within ≡ is_from_one given shape.circles → within ≡ shape_has_reduced j shape
 reduced-given shape j given within gives is_below is =
     reduced-found shape j given within (λ count. sym (ap (λ (d : ℤ). gives_degree shape d count) is_below) ∙ gives count) is
 
 -- one degree more
 pub reduced_degrees-more : (most : ℕ) (shapes : List Shape) (made next : List ℤ) (j : ℤ) (place : ℕ)
     → made ≡ reduced_degrees_to most shapes place → j ≡ pos place -ℤ pos most
-    → next ≡ made ++ cond (have_reduced_degree shapes j) (j ∷ []) [] → next ≡ reduced_degrees_to most shapes (place + 1)
+    → next ≡ made ++ cond (some_shape_has_reduced shapes j) (j ∷ []) [] → next ≡ reduced_degrees_to most shapes (place + 1)
 reduced_degrees-more most shapes made next j place is_made is_j is_next =
     let degree : ℕ → ℤ = λ k. pos k -ℤ pos most in
-    is_next ∙ ap (λ (xs : List ℤ). xs ++ cond (have_reduced_degree shapes j) (j ∷ []) []) is_made
-    ∙ ap (λ (i : ℤ). reduced_degrees_to most shapes place ++ cond (have_reduced_degree shapes i) (i ∷ []) []) is_j
-    ∙ sym (filter_of_map_range_with_len_more (have_reduced_degree shapes) degree 0 place place (omega arith))
+    is_next ∙ ap (λ (xs : List ℤ). xs ++ cond (some_shape_has_reduced shapes j) (j ∷ []) []) is_made
+    ∙ ap (λ (i : ℤ). reduced_degrees_to most shapes place ++ cond (some_shape_has_reduced shapes i) (i ∷ []) []) is_j
+    ∙ sym (filter_of_map_range_with_len_more (some_shape_has_reduced shapes) degree 0 place place (omega arith))
 
 pub reduced_degrees-all : (most : ℕ) (shapes : List Shape) (made : List ℤ) (place : ℕ) → most ≡ EXPONENT → place ≡ 2 * most + 1
     → made ≡ reduced_degrees_to most shapes place → made ≡ reduced_degrees_of shapes
 unfolding reduced_degrees_of
 reduced_degrees-all most shapes made place is_most is_place is_made =
-    is_made ∙ ap (reduced_degrees_to most shapes) is_place ∙ ap (λ (n : ℕ). filter (have_reduced_degree shapes) (from_minus n)) is_most
+    is_made ∙ ap (reduced_degrees_to most shapes) is_place ∙ ap (λ (n : ℕ). filter (some_shape_has_reduced shapes) (from_minus n)) is_most
 
 pub ruleset degree_steps = (reduced_degrees-more, reduced_degrees-all)

@@ -1,11 +1,6 @@
-pub mod IntSums
-pub mod Alternating
-pub mod LabelCounts
-pub mod RowLists
 pub mod MarkedMinus
 pub mod ReducedBlocks
 pub mod MarkedCounts
-pub mod RowSums
 pub mod ReducedSums
 pub mod ReducedRows
 pub mod LoopNumbers

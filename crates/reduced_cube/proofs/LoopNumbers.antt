@@ -16,9 +16,7 @@ use Rattle.kh_types.proofs.CircleNumbers.{IsCircle-of, number_of-counted}
 use Rattle.kh_types.proofs.ClassLemmas.{slice_index-joined}
 use Rattle.kh_types.proofs.JoinedClasses.{IsNamed-joined, IsNamed-range, slice_index-range}
 use Rattle.kh_types.proofs.Ranges.{filter-range_more}
-
-merged-other : (x y class : ℕ) → x < class → y < class → merged x y class ≡ class
-merged-other x y class x_below y_below = grind (arith, nat_tests)
+use Rattle.kh_types.proofs.ClassCounts.{merged-other}
 
 -- a number that is alone stays alone after pairs of smaller numbers
 alone-fold : (m n : ℕ) (classes : List ℕ) (pairs : List (ℕ × ℕ)) (z : ℕ) → IsNamed n classes → AreBelow m pairs → m ≤ n → m ≤ z

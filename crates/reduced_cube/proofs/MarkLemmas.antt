@@ -8,14 +8,14 @@ use Rattle.std.proofs.lemmas.List.Elements.{All-head, All-tail}
 use Rattle.std.proofs.lemmas.List.FromFn.{get_or-map-range_with_len}
 use Rattle.kh_types.specs.Acceptance.{accepted}
 use Rattle.kh_types.specs.Bits.{bit}
-use Rattle.kh_types.specs.CircleNumbers.{IsName}
+use Rattle.kh_types.specs.CircleNumbers.{circle_number, IsName}
 use Rattle.kh_types.specs.Code.{Code, arc_count}
 use Rattle.kh_types.specs.Generators.{Generator, generators_at}
 use Rattle.kh_types.specs.Table.{from_minus}
 use Rattle.sparse_block.specs.Complexes.{NamedComplex}
 use Rattle.cube_signs.specs.Chosen.{chosen_at, chosen_block, has_minus, list_complex, IsClosed}
 use Rattle.cube_signs.proofs.BlockLemmas.{are-tails}
-use Rattle.reduced_cube.specs.Marks.{marked_circle, marked_circles}
+use Rattle.reduced_cube.specs.Marks.{marked_circles}
 use Rattle.reduced_cube.specs.Reduced.{is_mark, is_reduced}
 use Rattle.reduced_cube.proofs.ReducedBlocks.{IsClosed-reduced}
 
@@ -35,10 +35,10 @@ mark-IsName code mark name = tests-both mark (arc_count code.crossings + code.lo
 
 -- one state more, and all of them
 pub circles-all : (code : Code) (mark : ℕ) (made : List ℕ) (count : ℕ)
-    → made ≡ map (marked_circle code mark) (range_with_len 0 count) → count ≡ 2 ^ length code.crossings
+    → made ≡ map (λ s. circle_number code s mark) (range_with_len 0 count) → count ≡ 2 ^ length code.crossings
     → made ≡ marked_circles code mark
 unfolding marked_circles
-circles-all code mark made count is all = is ∙ ap (λ n. map (marked_circle code mark) (range_with_len 0 n)) all
+circles-all code mark made count is all = is ∙ ap (λ n. map (λ s. circle_number code s mark) (range_with_len 0 n)) all
 
 -- the label on the marked circle is the one on the circle that is given for the state
 pub has_minus-marked : (code : Code) (mark : ℕ) (circles : List ℕ) (generator : Generator) → circles ≡ marked_circles code mark
@@ -47,7 +47,7 @@ unfolding marked_circles
 has_minus-marked code mark circles generator are below =
     ap (λ (c : ℕ). nat_eq (bit generator.label c) 1)
     (ap (λ (cs : List ℕ). slice_index cs generator.state) are
-    ∙ get_or-map-range_with_len (marked_circle code mark) 0 (2 ^ length code.crossings) generator.state generator.state 0 below (omega arith))
+    ∙ get_or-map-range_with_len (λ s. circle_number code s mark) 0 (2 ^ length code.crossings) generator.state generator.state 0 below (omega arith))
 
 pub IsClosed-marked : (p : ℕ) (code : Code) (mark : ℕ) (circles : List ℕ) → IsTrue (accepted code) → IsName code mark
     → circles ≡ marked_circles code mark → IsClosed (has_minus circles) p code

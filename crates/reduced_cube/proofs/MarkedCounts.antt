@@ -12,7 +12,7 @@ use Rattle.kh_types.proofs.BitLemmas.{bit-past, ones-more}
 use Rattle.kh_types.proofs.EdgeBits.{bit-set_there, bit-set_other}
 use Rattle.cube_squares.proofs.Marks.{one_if}
 use Rattle.kh_types.proofs.ListSums.{sum_by-none, sum_by-range_alike}
-use Rattle.reduced_cube.proofs.LabelCounts.{degree_of_label, labels_with, labels_with-is, lower-test, sum_by-halves, upper-test}
+use Rattle.kh_types.proofs.LabelDegrees.{degree_of_label, labels_with, labels_with-is, lower-test, sum_by-halves, upper-test}
 
 -- what a label adds to the count of those with a degree and v- on the circle of a number
 abbrev marked : ℕ → ℤ → ℕ → ℕ → ℕ

@@ -9,7 +9,7 @@ use Rattle.kh_types.specs.Code.{Code}
 use Rattle.kh_types.specs.Generators.{generators, has_degrees, homological_degree, quantum_degree}
 use Rattle.kh_types.specs.Table.{from_minus, is_shown}
 use Rattle.kh_types.specs.declared.limits.TheConstants.{EXPONENT}
-use Rattle.reduced_cube.proofs.RowLists.{filter-none, filter-unless_any, flat_map-filter}
+use Rattle.kh_types.proofs.FilteredLists.{filter-none, filter-unless_any, flat_map-filter}
 use Rattle.reduced_cube.specs.Reduced.{has_reduced, is_reduced, reduced_degrees, reduced_dimension, reduced_generators, reduced_row, reduced_rows, reduced_table}
 
 filter-filter : {X : Type 0} (p q : X → Bool) (xs : List X) → filter q (filter p xs) ≡ filter (λ x. p x && q x) xs

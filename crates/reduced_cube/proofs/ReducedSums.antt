@@ -29,24 +29,17 @@ use Rattle.kh_types.specs.CircleNumbers.{IsName, circle_number}
 use Rattle.kh_types.proofs.CircleNumbers.{IsCircle-of, number_of-below}
 use Rattle.cube_squares.proofs.Marks.{one_if}
 use Rattle.kh_types.proofs.ListSums.{sum_by-alike, sum_by-filter, sum_by-flat_map, sum_by-map, sum_by-zeros}
-use Rattle.reduced_cube.proofs.Alternating.{alternating, alternating-add, alternating-alike, alternating-neighbours, alternating-sum, signed_by-add, signed_by-zero}
+use Rattle.kh_types.proofs.AlternatingSums.{alternating, alternating-add, alternating-alike, alternating-neighbours, alternating-sum, signed_by-add, signed_by-zero}
 use Rattle.kh_types.proofs.Integers.{int_eq-other}
-use Rattle.reduced_cube.proofs.IntSums.{int_sum-add, int_sum-alike, int_sum-within, int_sum-zeros}
-use Rattle.reduced_cube.proofs.LabelCounts.{degree_of_label, int_eq-iff}
+use Rattle.kh_types.proofs.IntSums.{int_sum-add, int_sum-alike, int_sum-within, int_sum-zeros}
+use Rattle.kh_types.proofs.LabelDegrees.{degree_of_label, int_eq-iff, degree_of_state, label_part, shifted-test}
 use Rattle.reduced_cube.specs.Reduced.{is_reduced, reduced_differential, reduced_dimension, reduced_generators, reduced_table}
 use Rattle.cube_signs.proofs.ListComplexes.{rank-no_heads, rank-no_tails}
 use Rattle.reduced_cube.proofs.MarkedCounts.{marked_with-is, ones-positive}
 use Rattle.reduced_cube.proofs.ReducedBlocks.{AreLists-reduced, ranks-lists, reduced-beyond}
-use Rattle.reduced_cube.proofs.RowSums.{euler-rows}
+use Rattle.kh_types.proofs.RowSums.{euler-rows}
 
 -- generators, counted state by state
-
-abbrev degree_of_state : Code → ℕ → ℤ
-degree_of_state code state = pos (one_count code state) -ℤ pos (minus_count code.crossings)
-
--- what the labels of a state have to add up to for the quantum degree j
-abbrev label_part : Code → ℤ → ℕ → ℤ
-label_part code j state = (j -ℤ pos (one_count code state + plus_count code.crossings)) +ℤ pos (2 * minus_count code.crossings)
 
 -- how many labels of a state have v- on the marked circle and give the reduced degree j: those of the other circles
 abbrev reduced_count : Code → ℤ → ℕ → ℕ
@@ -64,10 +57,6 @@ count-both true q r xs =
     nested true d = refl
     nested false d = refl
 count-both false q r xs = sum_by-zeros (λ x. 0) xs (λ x. refl)
-
-shifted-test : (d j : ℤ) (s t : ℕ) → int_eq (d +ℤ (pos s -ℤ pos t)) j ≡ int_eq d ((j -ℤ pos s) +ℤ pos t)
-shifted-test d j s t =
-    int_eq-iff (d +ℤ (pos s -ℤ pos t)) j d ((j -ℤ pos s) +ℤ pos t) (λ is. omega (arith, ints)) (λ is. omega (arith, ints))
 
 -- the marked circle is one of the state's
 pub number-below : (code : Code) (mark state : ℕ) → IsTrue (accepted code) → IsName code mark

@@ -26,27 +26,8 @@ use Rattle.jones_sum.proofs.CoefficientLemmas.{get_or-map-from_minus}
 use Rattle.cube_signs.proofs.GeneratorPlaces.{length-generators_at}
 use Rattle.reduced_cube.specs.Reduced.{is_reduced, reduced_degrees, reduced_dimension, reduced_row, reduced_rows, reduced_table}
 use Rattle.reduced_cube.proofs.ReducedRows.{rows-blocks}
-use Rattle.reduced_cube.proofs.RowSums.{row_by, rows_by}
-
--- a list behind another, where each element of the one is related to each of the other
-AllPairs-append : {X : Type 0} (R : X → X → Type 0) (xs ys : List X) → AllPairs R xs → AllPairs R ys
-    → ((k l : ℕ) (d : X) → k < length xs → l < length ys → R (get_or xs k d) (get_or ys l d)) → AllPairs R (xs ++ ys)
-AllPairs-append R xs ys first second across i j d less below =
-    let n = length xs in
-    let size : length (xs ++ ys) ≡ n + length ys = length-append xs ys in
-    elim (cases_lt j n) [
-      | inl j_first ↦
-          let i_first : i < n = omega (arith, less, j_first) in
-          rw (get_or_append_left xs ys d i i_first, get_or_append_left xs ys d j j_first) (first i j d less j_first)
-      | inr j_second ↦
-          let j_below : j - n < length ys = omega (arith, below, size, j_second) in
-          let at_j : get_or (xs ++ ys) j d ≡ get_or ys (j - n) d = get_or-append_right xs ys n j d refl j_second in
-          elim (cases_lt i n) [
-            | inl i_first ↦ rw (get_or_append_left xs ys d i i_first, at_j) (across i (j - n) d i_first j_below)
-            | inr i_second ↦
-                rw (get_or-append_right xs ys n i d refl i_second, at_j) (second (i - n) (j - n) d (omega arith) j_below)
-          ]
-    ]
+use Rattle.kh_types.proofs.RowSums.{row_by, rows_by}
+use Rattle.jones_sum.proofs.TableLemmas.{AllPairs-append, IsWithin-le}
 
 AllPairs-row_by : (dims : ℤ → ℤ → ℕ) (j : ℤ) (n : ℕ) → AllPairs IsBefore (map (row_by dims j) (from_minus n))
 AllPairs-row_by dims j n a b d less below =
@@ -86,11 +67,6 @@ ascending-from most n dims a (suc count) =
     )
 
 -- the rows are within the limits
-
-IsWithin-le : (n m : ℕ) (i : ℤ) → n ≤ m → IsWithin n i → IsWithin m i
-IsWithin-le n m i few within =
-    let place = place-IsWithin n i within in
-    IsWithin-place m (place.0 + m - n) i (omega (arith, place.1, few)) (omega (arith, ints, place.2, few))
 
 some-dimension : (dim : ℕ) → nat_lt 0 dim ≡ true → 1 ≤ dim
 some-dimension dim shown = grind (arith, nat_tests)
@@ -165,14 +141,12 @@ IsTable-whole p field code mark rows prime is_field few size is_rows =
     (IsTable-reduced p code mark few size prime)
 
 -- the rows of one block more; a degree that is read from memory and kept there is the same
-pub rows-more : (p : ℕ) (code made_of : Code) (mark : ℕ) (degrees : List ℤ) (k : ℕ) (read kept : ℤ) (made next : List Row)
+pub rows-more : (p : ℕ) (code : Code) (mark : ℕ) (degrees : List ℤ) (k : ℕ) (read kept : ℤ) (made next : List Row)
     → made ≡ flat_map (reduced_rows p code mark) (take k degrees) → k < length degrees → read ≡ get_or degrees k read → kept ≡ read
-    → made_of ≡ code → next ≡ made ++ reduced_rows p made_of mark kept
-    → next ≡ flat_map (reduced_rows p code mark) (take (k + 1) degrees)
-rows-more p code made_of mark degrees k read kept made next is_made below is_read is_kept is_code is_next =
+    → next ≡ made ++ reduced_rows p code mark kept → next ≡ flat_map (reduced_rows p code mark) (take (k + 1) degrees)
+rows-more p code mark degrees k read kept made next is_made below is_read is_kept is_next =
     let rows : ℤ → List Row = reduced_rows p code mark in
-    let kept_rows : reduced_rows p made_of mark kept ≡ rows (get_or degrees k read) =
-    ap₂ (λ (c : Code) (j : ℤ). reduced_rows p c mark j) is_code (is_kept ∙ is_read) in
+    let kept_rows : rows kept ≡ rows (get_or degrees k read) = ap rows (is_kept ∙ is_read) in
     is_next ∙ ap₂ (λ (xs ys : List Row). xs ++ ys) is_made (kept_rows ∙ sym (append-nil (rows (get_or degrees k read))))
     ∙ sym (flat_map-append rows (take k degrees) (get_or degrees k read ∷ []))
     ∙ ap (flat_map rows) (sym (take_more degrees k read below))

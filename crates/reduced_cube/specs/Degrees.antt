@@ -1,4 +1,4 @@
--- The reduced quantum degrees, by the shapes of states.
+-- The reduced quantum degrees, by the shapes of states (this project's rule).
 use Rattle.std.specs.Prelude.{ℕ, ◌+◌, ℤ, pos, ◌-ℤ◌, List, map, Bool, false, ◌&&◌, nat_le, Option, None, Some}
 use Rattle.std.specs.List.{filter, list_any, range_with_len}
 use Rattle.kh_types.specs.Table.{from_minus}
@@ -8,8 +8,8 @@ use Rattle.cube_signs.specs.declared.shape.Shape.{Shape}
 
 -- whether a state has a generator of the reduced quantum degree j: one of its labels has as many v- as there are circles, or fewer,
 -- but at least that of the marked circle
-abbrev pub has_reduced_degree : ℤ → Shape → Bool
-has_reduced_degree j shape = list_any (λ more. gives_degree shape (j -ℤ pos 1) (more + 1)) (range_with_len 0 shape.circles)
+abbrev pub shape_has_reduced : ℤ → Shape → Bool
+shape_has_reduced j shape = list_any (λ more. gives_degree shape (j -ℤ pos 1) (more + 1)) (range_with_len 0 shape.circles)
 
 -- whether a number is given, from 1 to a last one
 abbrev pub is_from_one : Option ℕ → ℕ → Bool
@@ -17,13 +17,13 @@ is_from_one None last = false
 is_from_one (Some given) last = nat_le 1 given && nat_le given last
 
 -- whether some state has one
-abbrev pub have_reduced_degree : List Shape → ℤ → Bool
-have_reduced_degree shapes j = list_any (has_reduced_degree j) shapes
+abbrev pub some_shape_has_reduced : List Shape → ℤ → Bool
+some_shape_has_reduced shapes j = list_any (shape_has_reduced j) shapes
 
 -- of the first numbers from -most on, the reduced quantum degrees that have a generator
 abbrev pub reduced_degrees_to : ℕ → List Shape → ℕ → List ℤ
-reduced_degrees_to most shapes count = filter (have_reduced_degree shapes) (map (λ k. pos k -ℤ pos most) (range_with_len 0 count))
+reduced_degrees_to most shapes count = filter (some_shape_has_reduced shapes) (map (λ k. pos k -ℤ pos most) (range_with_len 0 count))
 
 -- the reduced quantum degrees that have a generator, given the shapes of all states
 unfoldable pub reduced_degrees_of : List Shape → List ℤ
-reduced_degrees_of shapes = filter (have_reduced_degree shapes) (from_minus EXPONENT)
+reduced_degrees_of shapes = filter (some_shape_has_reduced shapes) (from_minus EXPONENT)

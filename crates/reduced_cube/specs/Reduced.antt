@@ -1,4 +1,4 @@
--- The reduced cube at a marked arc or loop: its generators, blocks, dimensions and table.
+-- The reduced cube at a marked arc or loop: its generators, blocks, dimensions and table (Khovanov 2003, section 3).
 use Rattle.std.specs.Prelude.{ℕ, ◌+◌, ◌-◌, ℤ, pos, ◌+ℤ◌, ◌-ℤ◌, List, length, map, nat_eq, nat_le, Bool, ◌&&◌}
 use Rattle.std.specs.List.{filter, flat_map, list_any}
 use Rattle.std.specs.Ordering.{int_eq}

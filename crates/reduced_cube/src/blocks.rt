@@ -17,7 +17,8 @@ use sparse_block::Complex;
 use std::alloc::Global;
 
 /// The block of the reduced cube at a mark and a reduced quantum degree, with the homological
-/// degrees from -n to n where there are n crossings.
+/// degrees from -n to n where there are n crossings. Source: Khovanov 2003, section 3; the shift by
+/// 1 and the empty degrees are this project's rule.
 pub fn reduced_columns<F: PrimeField>(
     alloc: Global,
     diagram: &Diagram,
@@ -50,6 +51,7 @@ pub(crate) fn block_of<F: PrimeField>(
     element_laws::<F>();
     // (what the type of a diagram keeps)
     let _ = cube.diagram().crossings();
+    // (the contract alone speaks of it)
     let _ = mark;
     cube.chosen_block(alloc, circles, j - 1)
 }

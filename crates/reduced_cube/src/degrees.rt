@@ -3,7 +3,7 @@
 ghost use Rattle.std.specs.Prelude.{◌≡◌, ◌++◌, ◌∷◌, [], if◌then◌else◌, IfOk, OnOk};
 ghost use Rattle.std.specs.Prelude.{pos, neg_ℤ, ◌≤ℤ◌};
 ghost use Rattle.kh_types.specs.CircleNumbers.{IsName};
-ghost use Rattle.reduced_cube.specs.Degrees.{has_reduced_degree, have_reduced_degree};
+ghost use Rattle.reduced_cube.specs.Degrees.{shape_has_reduced, some_shape_has_reduced};
 ghost use Rattle.reduced_cube.specs.Degrees.{is_from_one, reduced_degrees_of};
 ghost use Rattle.reduced_cube.specs.Reduced.{reduced_degrees};
 ghost use Rattle.kh_types.specs.declared.limits.TheConstants.{EXPONENT};
@@ -13,11 +13,14 @@ use cube_signs::{Shape, kind_shapes};
 use kh_types::{Diagram, EXPONENT, NoMemory};
 use std::alloc::Global;
 
-/// The reduced quantum degrees that have a generator, ascending. They are the same for each mark.
+/// The reduced quantum degrees that have a generator, ascending. They are the same for each mark
+/// (`laws::marks_have_the_same_degrees`). Source: Khovanov 2003, section 3; the shift by 1 is this
+/// project's rule.
 pub fn reduced_degrees(alloc: Global, diagram: &Diagram, mark: u8) -> Result<Vec<i16>, NoMemory>
     requires { IsName diagram.now mark }
     ensures { IfOk result (λ degrees. degrees.items ≡ reduced_degrees diagram.now mark) }
 {
+    // (the contract alone speaks of it)
     let _ = mark;
     let shapes = kind_shapes(alloc, &StateKinds::of_diagram(diagram))?;
     degrees(alloc, &shapes)
@@ -39,26 +42,26 @@ fn degrees(alloc: Global, shapes: &[Shape]) -> Result<Vec<i16>, NoMemory>
 fn push_degree(made: &mut Vec<i16>, shapes: &[Shape], j: i16) -> Result<(), NoMemory>
     requires { neg_ℤ (pos EXPONENT) ≤ℤ j }
     ensures { OnOk result (made.new.items
-        ≡ made.old.items ++ (if have_reduced_degree shapes.now j then j ∷ [] else [])) }
+        ≡ made.old.items ++ (if some_shape_has_reduced shapes.now j then j ∷ [] else [])) }
 {
-    if have_reduced(shapes, j) {
+    if some_shape_has_reduced(shapes, j) {
         made.push(j)?;
     }
     Ok(())
 }
 
 /// Whether some state has a generator of the reduced quantum degree j.
-fn have_reduced(shapes: &[Shape], j: i16) -> bool
+fn some_shape_has_reduced(shapes: &[Shape], j: i16) -> bool
     requires { neg_ℤ (pos EXPONENT) ≤ℤ j }
-    ensures { result ≡ have_reduced_degree shapes.now j }
+    ensures { result ≡ some_shape_has_reduced shapes.now j }
 {
-    shapes.iter().any(|shape| has_reduced(*shape, j))
+    shapes.iter().any(|shape| shape_has_reduced(*shape, j))
 }
 
 /// Whether a state has a generator of the reduced quantum degree j: it has from 1 to all labels v-.
-fn has_reduced(shape: Shape, j: i16) -> bool
+fn shape_has_reduced(shape: Shape, j: i16) -> bool
     requires { neg_ℤ (pos EXPONENT) ≤ℤ j }
-    ensures { result ≡ has_reduced_degree j shape }
+    ensures { result ≡ shape_has_reduced j shape }
 {
     is_from_one(shape.weight(j - 1), shape.circles)
 }

@@ -1,5 +1,5 @@
-//! What the reduced cube has: its blocks are complexes, its tables are made of them, and their Euler
-//! characteristic is a factor of the state sum. The tables of known diagrams are computed.
+//! What the reduced cube has: its blocks are complexes, its tables are made of them, and their
+//! Euler characteristic is a factor of the state sum. The tables of known diagrams are computed.
 
 ghost use Rattle.std.specs.Prelude.{◌≡◌, ◌≢◌, ℕ, ◌<◌, ◌≤◌, ℤ, pos, neg_ℤ, ◌+ℤ◌, ◌-ℤ◌, List};
 ghost use Rattle.std.specs.Prelude.{[], ◌∷◌};
@@ -37,8 +37,8 @@ pub fn known_reduced_tables()
         ≡ codes "table 2\nfield 2\nj -5 i -2 dim 1\nj -1 i 0 dim 1\n" }
 {}
 
-/// Which mark is meant matters: beside a loop the trefoil has a dimension over three elements where an
-/// arc of it is marked, and none there where the loop is.
+/// Which mark is meant matters: beside a loop the trefoil has a dimension over three elements where
+/// an arc of it is marked, and none there where the loop is.
 pub fn marks_matter()
     ensures arc { reduced_dimension 3 (record trefoil { loops = 1 }) 1 (neg_ℤ (pos 3)) (neg_ℤ (pos 7))
         ≡ 1 }
@@ -51,6 +51,12 @@ pub fn reduced_degrees_are_within()
     ensures { (code : Code) (mark : ℕ) (i j : ℤ) → IsTrue (accepted code)
         → length code.crossings ≤ CROSSINGS → IsName code mark → ¬ IsWithin EXPONENT j
         → reduced_generators code mark i j ≡ [] }
+{}
+
+/// The reduced quantum degrees that have a generator are the same for each mark.
+pub fn marks_have_the_same_degrees()
+    ensures { (code : Code) (first second : ℕ) → IsTrue (accepted code) → IsName code first
+        → IsName code second → reduced_degrees code first ≡ reduced_degrees code second }
 {}
 
 /// A mark is an arc or a loop: the trefoil has the marks 1 to 6, one loop the mark 1, and the empty

@@ -1,5 +1,5 @@
-//! Reduced homology at a marked arc or loop: the blocks of the generators whose marked circle has v-,
-//! and their table.
+//! Reduced homology at a marked arc or loop: the blocks of the generators whose marked circle has
+//! v-, and their table.
 #![tactic(auto)]
 
 mod blocks;

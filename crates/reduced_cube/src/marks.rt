@@ -3,7 +3,7 @@
 ghost use Rattle.std.specs.Prelude.{◌≡◌, ◌+◌, ◌*◌, ◌^◌, ◌<◌, ◌≤◌, ◌↔◌, length, map, IfOk, IsTrue};
 ghost use Rattle.kh_types.specs.CircleNumbers.{circle_number, IsName};
 ghost use Rattle.kh_types.specs.Generators.{states};
-ghost use Rattle.reduced_cube.specs.Marks.{marked_circle, marked_circles};
+ghost use Rattle.reduced_cube.specs.Marks.{marked_circles};
 ghost use Rattle.reduced_cube.specs.Reduced.{is_mark};
 
 use circle_smoothing::{Circles, Smoothings};
@@ -11,7 +11,7 @@ use kh_types::{Diagram, NoMemory};
 use std::alloc::Global;
 
 /// Whether a number is that of an arc or of a loop.
-pub fn is_mark(diagram: &Diagram, mark: u8) -> bool
+pub(crate) fn is_mark(diagram: &Diagram, mark: u8) -> bool
     ensures { result ≡ is_mark diagram.now mark }
 {
     let last = 2 * diagram.count() + diagram.loops();
@@ -19,7 +19,11 @@ pub fn is_mark(diagram: &Diagram, mark: u8) -> bool
 }
 
 /// For each state the number of the circle that a mark is on.
-pub fn marked_circles(alloc: Global, diagram: &Diagram, mark: u8) -> Result<Vec<u8>, NoMemory>
+pub(crate) fn marked_circles(
+    alloc: Global,
+    diagram: &Diagram,
+    mark: u8,
+) -> Result<Vec<u8>, NoMemory>
     requires { IsName diagram.now mark }
     ensures { IfOk result (λ circles. circles.items ≡ marked_circles diagram.now mark) }
 {

@@ -1,12 +1,10 @@
 //! The rows of one block of the reduced cube, once it is cancelled to zero.
 
-ghost use Rattle.std.specs.Prelude.{◌≡◌, ◌+◌, ◌*◌, ◌<◌, ◌∷◌, [], ◌++◌, pos, ◌-ℤ◌, length, OnOk};
-ghost use Rattle.std.specs.List.{filter};
-ghost use Rattle.kh_types.specs.Table.{is_shown};
+ghost use Rattle.std.specs.Prelude.{◌≡◌, ◌+◌, ◌*◌, ◌<◌, ◌++◌, pos, ◌-ℤ◌, length, OnOk};
 ghost use Rattle.reduced_cube.specs.Reduced.{reduced_row, reduced_rows};
-ghost use Rattle.reduced_cube.specs.Blocks.{IsFinishedBlock};
+ghost use Rattle.reduced_cube.specs.Blocks.{HasReducedDimensions};
 
-use jones_sum::Row;
+use jones_sum::{Row, push_row};
 use kh_types::{Diagram, NoMemory};
 use prime_field::PrimeField;
 use sparse_block::Complex;
@@ -20,7 +18,7 @@ pub(crate) fn push_rows<F: PrimeField>(
     mark: u8,
     j: i16,
 ) -> Result<(), NoMemory>
-    requires { IsFinishedBlock F.P diagram.now mark j block.now }
+    requires { HasReducedDimensions F.P diagram.now mark j block.now }
     ensures { OnOk result
         (rows.new.items ≡ rows.old.items ++ reduced_rows F.P diagram.now mark j) }
 {
@@ -33,11 +31,12 @@ pub(crate) fn push_rows<F: PrimeField>(
 /// The row of a homological degree, counted from the least that a diagram of so many crossings has.
 #[tactic(auto, using(crate::proofs::ReducedTables::rows))]
 fn row_of<F: PrimeField>(diagram: &Diagram, block: &Complex<F>, mark: u8, j: i16, k: usize) -> Row
-    requires zero { IsFinishedBlock F.P diagram.now mark j block.now }
+    requires zero { HasReducedDimensions F.P diagram.now mark j block.now }
     requires degree { k < 2 * length diagram.now.crossings + 1 }
     ensures { result ≡ reduced_row F.P diagram.now mark j
         (pos k -ℤ pos (length diagram.now.crossings)) }
 {
+    // (the contract alone speaks of it)
     let _ = mark;
     let count = diagram.crossings().len();
     let i = k as i16 - count as i16;
@@ -46,14 +45,4 @@ fn row_of<F: PrimeField>(diagram: &Diagram, block: &Complex<F>, mark: u8, j: i16
         i,
         dim: block.alive(i),
     }
-}
-
-/// Adds a row where its dimension is above 0.
-fn push_row(rows: &mut Vec<Row>, row: Row) -> Result<(), NoMemory>
-    ensures { OnOk result (rows.new.items ≡ rows.old.items ++ filter is_shown (row ∷ [])) }
-{
-    if row.dim > 0 {
-        rows.push(row)?;
-    }
-    Ok(())
 }

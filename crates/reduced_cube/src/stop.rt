@@ -1,12 +1,12 @@
 //! What ends the making of a reduced table.
 
-/// Why there is no reduced table.
+/// Why there is no reduced table. This project's rule.
 #[derive(Clone, Copy, Debug, PartialEq, Eq)]
 pub enum ReducedStop {
-    /// The mark is neither an arc nor a loop.
+    /// The mark is neither an arc nor a loop of the diagram.
     Mark {
-        /// The mark.
-        arc: u8,
+        /// The mark: neither an arc nor a loop of the diagram.
+        mark: u8,
     },
     /// There are more generators than the limit, `GENERATORS`.
     SizeLimit {

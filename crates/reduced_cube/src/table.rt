@@ -1,11 +1,12 @@
 //! The reduced homology table of a diagram.
 
-ghost use Rattle.std.specs.Prelude.{◌≡◌, ℤ, pos, ◌+ℤ◌, ◌-ℤ◌, ◌≤◌, ◌++◌, true, IfErr, IfOk, IsOk, OnOk};
+ghost use Rattle.std.specs.Prelude.{◌≡◌, ℤ, pos, ◌+ℤ◌, ◌-ℤ◌, ◌≤◌, true, IfErr, IfOk, IsOk};
 ghost use Rattle.std.specs.List.{Contains, flat_map};
 ghost use Rattle.kh_types.specs.CircleNumbers.{IsName};
 ghost use Rattle.kh_types.specs.StateSum.{euler, state_sum};
 ghost use Rattle.circle_smoothing.specs.GeneratorCounts.{generator_count};
 ghost use Rattle.circle_smoothing.specs.declared.limits.TheConstants.{GENERATORS};
+ghost use Rattle.reduced_cube.specs.Blocks.{HasReducedDimensions};
 ghost use Rattle.reduced_cube.specs.Marks.{marked_circles};
 ghost use Rattle.reduced_cube.specs.Reduced.{is_mark, reduced_degrees, reduced_rows, reduced_table};
 ghost use Rattle.reduced_cube.specs.Stops.{IsReducedStop};
@@ -21,6 +22,7 @@ use jones_sum::{Row, Table};
 use kh_types::{Diagram, NoMemory};
 use prime_field::PrimeField;
 use prime_field::laws::element_laws;
+use sparse_block::Complex;
 use std::alloc::Global;
 
 /// The reduced homology table of a diagram at a marked arc or loop. One block is in memory at a
@@ -41,7 +43,7 @@ pub fn reduced_table<F: PrimeField>(
     // (what the type of a diagram keeps)
     let _ = diagram.crossings();
     if !is_mark(diagram, mark) {
-        return Err(ReducedStop::Mark { arc: mark });
+        return Err(ReducedStop::Mark { mark });
     }
     if let Err(limit) = check_size(diagram) {
         return Err(ReducedStop::SizeLimit {
@@ -65,32 +67,32 @@ fn table_of<F: PrimeField>(alloc: Global, diagram: &Diagram, mark: u8) -> Result
     let circles = marked_circles(alloc, diagram, mark)?;
     let mut rows = Vec::new(alloc);
     'degrees: for k in 0..degrees.len() {
-        push_block::<F>(alloc, &mut rows, &cube, &circles, mark, degrees[k])?;
+        let j = degrees[k];
+        let block = finished_block::<F>(alloc, &cube, &circles, mark, j)?;
+        push_rows(&mut rows, diagram, &block, mark, j)?;
     }
     Ok(whole_table::<F>(diagram, mark, rows))
 }
 
-/// Adds the rows of the block at a reduced quantum degree, which is made, cancelled to zero and
-/// dropped.
-fn push_block<F: PrimeField>(
+/// The block at a reduced quantum degree, cancelled to zero.
+fn finished_block<F: PrimeField>(
     alloc: Global,
-    rows: &mut Vec<Row>,
     cube: &Cube,
     circles: &[u8],
     mark: u8,
     j: i16,
-) -> Result<(), NoMemory>
+) -> Result<Complex<F>, NoMemory>
     requires mark { IsName cube.now mark }
     requires circles { circles.now ≡ marked_circles cube.now mark }
     requires degree { Contains (reduced_degrees cube.now mark) j }
-    ensures { OnOk result (rows.new.items ≡ rows.old.items ++ reduced_rows F.P cube.now mark j) }
+    ensures { IfOk result (HasReducedDimensions F.P cube.now mark j) }
 {
     element_laws::<F>();
     // (what the type of a diagram keeps)
     let _ = cube.diagram().crossings();
     let mut block = block_of::<F>(alloc, cube, circles, mark, j)?;
     finish(alloc, &mut block)?;
-    push_rows(rows, cube.diagram(), &block, mark, j)
+    Ok(block)
 }
 
 /// The table of a diagram, from the rows of all its reduced blocks.
@@ -104,6 +106,7 @@ fn whole_table<F: PrimeField>(diagram: &Diagram, mark: u8, rows: Vec<Row>) -> Ta
     element_laws::<F>();
     // (what the type of a diagram keeps)
     let _ = diagram.crossings();
+    // (the contract alone speaks of it)
     let _ = mark;
     Table::of_rows(F::P, rows)
 }

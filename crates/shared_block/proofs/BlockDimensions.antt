@@ -16,12 +16,10 @@ use Rattle.prime_field.specs.Residues.{IsField}
 use Rattle.cube_squares.proofs.BlockComplexes.{IsComplex-block, alive-block}
 use Rattle.cube_squares.proofs.BlockDegrees.{degree-block}
 use Rattle.cancel_step.proofs.HistoryEnds.{alive_count-end, dimension_of-add}
+use Rattle.kh_types.proofs.MappedLists.{count-all}
+use Rattle.cube_signs.proofs.ListComplexes.{rank-empty_rows}
 
 -- the rank of a matrix without columns or without rows
-
-rank-empty_rows : {X : Type 0} (p : ℕ) (xs : List X) → rank p (map (λ x. []) xs) ≡ 0
-rank-empty_rows p [] = refl
-rank-empty_rows p (x ∷ xs) = rank-zeros p [] (map (λ x. []) xs) (All-nil (λ n. n ≡ 0)) ∙ rank-empty_rows p xs
 
 pub rank-no_columns : (p : ℕ) (code : Code) (i j : ℤ) → generators_at code i j ≡ [] → rank p (differential p code i j) ≡ 0
 rank-no_columns p code i j none =
@@ -41,10 +39,6 @@ rank-block p code j i = elim (degree-block p code j i) [
   | inl is ↦ ap (λ degree. rank p degree.matrix) is
   | inr (is, none) ↦ ap (λ degree. rank p degree.matrix) is ∙ sym (rank-no_columns p code i j none)
 ]
-
-count-all : {X : Type 0} (xs : List X) → count_by (λ is_alive. is_alive) (map (λ x. true) xs) ≡ length xs
-count-all [] = refl
-count-all (x ∷ xs) = omega (arith, sum_by-cons (λ b. cond b 1 0) true (map (λ y. true) xs), count-all xs)
 
 alive_count-block : (p : ℕ) (code : Code) (j i : ℤ) → alive_count (block p code j) i ≡ length (generators_at code i j)
 alive_count-block p code j i =

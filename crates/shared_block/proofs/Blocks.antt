@@ -19,7 +19,7 @@ use Rattle.jones_sum.proofs.TableLemmas.{IsTable-table}
 use Rattle.cube_signs.specs.Blocks.{block_degrees, has_block}
 use Rattle.shared_block.specs.BlockHistories.{BlockHistory}
 use Rattle.shared_block.specs.AllBlocks.{degrees_of_blocks}
-use Rattle.shared_block.proofs.RowLists.{filter-none, filter-unless_any, flat_map-filter}
+use Rattle.kh_types.proofs.FilteredLists.{filter-none, filter-unless_any, flat_map-filter}
 
 generators_at-no_block : (code : Code) (i j : ℤ) → has_block code j ≡ false → generators_at code i j ≡ []
 generators_at-no_block code i j none =

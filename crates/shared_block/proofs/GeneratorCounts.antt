@@ -13,18 +13,10 @@ use Rattle.kh_types.specs.Generators.{generator_of, generators, generators_at, g
 use Rattle.kh_types.specs.StateSum.{circle_coefficient, signed_by, state_sum, state_term}
 use Rattle.kh_types.proofs.QuantumDegrees.{homological_degree-within}
 use Rattle.kh_types.proofs.ListSums.{sum_by-alike, sum_by-flat_map, sum_by-map, sum_by-zeros}
-use Rattle.shared_block.proofs.Alternating.{alternating, alternating-alike, alternating-sum, signed_by-zero}
-use Rattle.shared_block.proofs.IntSums.{int_sum-alike, int_sum-within}
-use Rattle.shared_block.proofs.LabelCounts.{degree_of_label, int_eq-iff, labels_with-is}
+use Rattle.kh_types.proofs.AlternatingSums.{alternating, alternating-alike, alternating-sum, signed_by-zero}
+use Rattle.kh_types.proofs.IntSums.{int_sum-alike, int_sum-within}
+use Rattle.kh_types.proofs.LabelDegrees.{degree_of_label, int_eq-iff, labels_with-is, degree_of_state, label_part, shifted-test}
 use Rattle.kh_types.proofs.Integers.{int_eq-other}
-
--- the degree i of all generators of a state
-abbrev degree_of_state : Code → ℕ → ℤ
-degree_of_state code state = pos (one_count code state) -ℤ pos (minus_count code.crossings)
-
--- what the labels of a state have to add up to for the degree j
-abbrev label_part : Code → ℤ → ℕ → ℤ
-label_part code j state = (j -ℤ pos (one_count code state + plus_count code.crossings)) +ℤ pos (2 * minus_count code.crossings)
 
 -- how many labels of a state give the degree j
 abbrev label_count : Code → ℤ → ℕ → ℕ
@@ -37,10 +29,6 @@ state_count code j state i = cond (int_eq (degree_of_state code state) i) (label
 count_by-and : {X : Type 0} (b : Bool) (p : X → Bool) (xs : List X) → count_by (λ x. b && p x) xs ≡ cond b (count_by p xs) 0
 count_by-and true p xs = refl
 count_by-and false p xs = sum_by-zeros (λ x. 0) xs (λ x. refl)
-
-shifted-test : (d j : ℤ) (s t : ℕ) → int_eq (d +ℤ (pos s -ℤ pos t)) j ≡ int_eq d ((j -ℤ pos s) +ℤ pos t)
-shifted-test d j s t =
-    int_eq-iff (d +ℤ (pos s -ℤ pos t)) j d ((j -ℤ pos s) +ℤ pos t) (λ is. omega (arith, ints)) (λ is. omega (arith, ints))
 
 count-state : (code : Code) (i j : ℤ) (state : ℕ)
     → count_by (has_degrees code i j) (generators_of code state) ≡ state_count code j state i

@@ -2,12 +2,8 @@ pub mod BlockDimensions
 pub mod PlaceSums
 pub mod CommitLemmas
 pub mod PivotTests
-pub mod IntSums
-pub mod Alternating
-pub mod LabelCounts
 pub mod GeneratorCounts
 pub mod TableSums
-pub mod RowLists
 pub mod BlockRows
 pub mod Blocks
 pub mod AllBlocks

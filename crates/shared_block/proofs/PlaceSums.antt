@@ -4,7 +4,7 @@ use Rattle.std.specs.List.{count_by, sum_by}
 use Rattle.std.proofs.lemmas.List.{take_more}
 use Rattle.std.proofs.lemmas.List.Sums.{sum_by-append, sum_by-cons}
 use Rattle.kh_types.specs.Complex.{Complex, Degree, alive_count, empty_degree}
-use Rattle.sparse_block.proofs.CancelledComplexes.{degree_of-number}
+use Rattle.kh_types.proofs.ComplexLemmas.{degree_of-number}
 use Rattle.cancel_step.specs.RankSums.{live_places}
 use Rattle.shared_block.specs.Places.{live_places_to}
 

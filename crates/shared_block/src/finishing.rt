@@ -45,9 +45,9 @@ impl<F: PrimeField> SharedBlock<F> {
         find(&self.complex, hint)
     }
 
-    /// Cancels a pivot that others name, where it is an entry other than zero, and answers whether it
-    /// is; else the block is unchanged, and where memory runs out. Many calls can share the memory in
-    /// which lines are made.
+    /// Cancels a pivot that others name, where it is an entry other than zero, and answers whether
+    /// it is; else the block is unchanged, and where memory runs out. Many calls can share the
+    /// memory in which lines are made.
     #[tactic(auto, using(crate::proofs::PivotTests::passing))]
     pub fn cancel_at(&mut self, scratch: &mut Vec<Entry>, pivot: Pivot) -> Result<bool, NoMemory>
         ensures taken { IfOk result (λ taken. taken ≡ is_pivot (complex_of F.P self.old) pivot) }

@@ -1,5 +1,5 @@
-//! A block of the cube with the history of its cancellations, which changes by commits of patches; all
-//! blocks of a diagram, and its homology table from them once they are cancelled to zero.
+//! A block of the cube with the history of its cancellations, which changes by commits of patches;
+//! all blocks of a diagram, and its homology table from them once they are cancelled to zero.
 #![tactic(auto)]
 
 mod all_blocks;

@@ -1,13 +1,12 @@
 //! The rows of one block, once it is cancelled to zero.
 
-ghost use Rattle.std.specs.Prelude.{◌≡◌, ◌+◌, ◌*◌, ◌<◌, ◌∷◌, [], ◌++◌, pos, ◌-ℤ◌, length, OnOk};
-ghost use Rattle.std.specs.List.{filter};
-ghost use Rattle.kh_types.specs.Table.{is_shown, row_at, rows_at};
+ghost use Rattle.std.specs.Prelude.{◌≡◌, ◌+◌, ◌*◌, ◌<◌, ◌++◌, pos, ◌-ℤ◌, length, OnOk};
+ghost use Rattle.kh_types.specs.Table.{row_at, rows_at};
 ghost use Rattle.shared_block.specs.AllBlocks.{IsFinished};
 
 use crate::SharedBlock;
 use crate::laws::block_laws;
-use jones_sum::Row;
+use jones_sum::{Row, push_row};
 use kh_types::NoMemory;
 use prime_field::PrimeField;
 
@@ -40,14 +39,4 @@ fn row_of<F: PrimeField>(block: &SharedBlock<F>, k: usize) -> Row
         i,
         dim: block.dim(i),
     }
-}
-
-/// Adds a row where its dimension is above 0.
-fn push_row(rows: &mut Vec<Row>, row: Row) -> Result<(), NoMemory>
-    ensures { OnOk result (rows.new.items ≡ rows.old.items ++ filter is_shown (row ∷ [])) }
-{
-    if row.dim > 0 {
-        rows.push(row)?;
-    }
-    Ok(())
 }

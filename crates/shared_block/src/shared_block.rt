@@ -72,8 +72,9 @@ impl<F: PrimeField> SharedBlock<F> {
         &self.history
     }
 
-    /// Copies what the cancellation of some pivot reads and changes of the pivot's own matrix; `None`
-    /// exactly where the complex is zero. The hint may say where to search; no clause reads it.
+    /// Copies what the cancellation of some pivot reads and changes of the pivot's own matrix;
+    /// `None` exactly where the complex is zero. The hint may say where to search; no clause reads
+    /// it.
     pub fn look(&self, alloc: Global, hint: u32) -> Result<Option<BlockLook<F>>, NoMemory>
         ensures none { IfOk result (λ found.
             (found ≡ None) ↔ (is_zero (complex_of F.P self.now) ≡ true)) }
@@ -89,8 +90,8 @@ impl<F: PrimeField> SharedBlock<F> {
         }
     }
 
-    /// Cancels the pivot of a patch, where the patch is of a look at this version and the columns and
-    /// rows that it copied are those of the block. It takes no memory.
+    /// Cancels the pivot of a patch, where the patch is of a look at this version and the columns
+    /// and rows that it copied are those of the block. It takes no memory.
     pub fn commit(&mut self, patch: BlockPatch<F>) -> CommitAnswer
         ensures stale { IsStale result ↔ IsOld self.old patch }
         ensures foreign { IsForeignAnswer result ↔ ((patch.version ≡ length self.old.history)

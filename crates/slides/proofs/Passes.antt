@@ -19,7 +19,7 @@ use Rattle.slides.proofs.Sides.{HasSides}
 use Rattle.slides.proofs.SlidArcs.{length-slid, arc_there-slid, HasArcsTwice-slid}
 use Rattle.slides.proofs.SlidHeads.{kind-source, IsKind-heads}
 
-round : (place a b : ℕ) → a ≡ b + 4 → on place a ≡ on place b
+pub round : (place a b : ℕ) → a ≡ b + 4 → on place a ≡ on place b
 round place a b is = ap (λ k. on place k) is ∙ on-round place b
 
 source-behind_x : (x y z : ℕ) → (j : ℕ) → j < 4 → source x y z (on (on x j) 2) ≡ on (source x y z (on x j)) 2

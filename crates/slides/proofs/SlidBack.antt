@@ -20,9 +20,7 @@ use Rattle.slides.proofs.Sides.{HasSides, HasSides-slid, IsPairing-slid, slid_pa
 use Rattle.slides.proofs.SlidArcs.{length-slid, partner_at-slid}
 use Rattle.slides.proofs.Onto.{class_count-onto}
 use Rattle.slides.proofs.SlidFaces.{open_faces-le}
-
-round : (place a b : ℕ) → a ≡ b + 4 → on place a ≡ on place b
-round place a b is = ap (λ k. on place k) is ∙ on-round place b
+use Rattle.slides.proofs.Passes.{round}
 
 source-across_x : (x y z : ℕ) → (j : ℕ) → j < 4 → source (on x 2) (on y 2) (on z 2) (on x j) ≡ source x y z (on x j)
 source-across_x x y z =

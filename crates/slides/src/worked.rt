@@ -32,8 +32,8 @@ pub fn worked_slides()
     ensures four { slid (slots_with 6 8 1 7 ∷ slots_with 1 2 2 3 ∷ slots_with 5 5 6 4
         ∷ slots_with 3 8 4 7 ∷ []) 2 7 15
         ≡ slots_with 1 7 2 8 ∷ slots_with 6 3 1 4 ∷ slots_with 5 5 6 4 ∷ slots_with 2 7 3 8 ∷ [] }
-    // A Hopf link with a kink; and a triangle under a circle that lies over, before the circle's two
-    // arcs, 5 and 6, exchange their numbers.
+    // A Hopf link with a kink; and a triangle under a circle that lies over, before the circle's
+    // two arcs, 5 and 6, exchange their numbers.
     ensures hopf_accepted { accepted (without_loops (slots_with 5 2 6 1 ∷ slots_with 3 3 4 2
         ∷ slots_with 4 5 1 6 ∷ [])) ≡ true }
     ensures hopf_slot { slide_slot (slots_with 5 2 6 1 ∷ slots_with 3 3 4 2 ∷ slots_with 4 5 1 6

@@ -19,7 +19,7 @@ Begin a (e ∷ es) = a ≤ e.place
 abbrev places : List Entry → List ℕ
 places es = map (λ e. e.place) es
 
-increasing-tail : (x : ℕ) (xs : List ℕ) → IsStrictlyIncreasing (x ∷ xs) → IsStrictlyIncreasing xs
+pub increasing-tail : (x : ℕ) (xs : List ℕ) → IsStrictlyIncreasing (x ∷ xs) → IsStrictlyIncreasing xs
 increasing-tail x xs ascending k within =
     let next : suc k + 1 ≡ suc (k + 1) = omega arith in
     subst (λ (n : ℕ). slice_index xs k < slice_index (x ∷ xs) n) next (ascending (suc k) (omega arith))

@@ -17,6 +17,7 @@ use Rattle.sparse_block.proofs.ComplexMatrices.{product_of-below, product-of_com
 use Rattle.sparse_block.proofs.CancelledDegrees.{Where, where_is, degree-at_pivot, degree-after_pivot, degree-before_pivot, degree-elsewhere}
 use Rattle.sparse_block.proofs.CancelledProducts.{product-below_pivot, product-above_pivot, product-column_cleared, product-row_cleared}
 use Rattle.sparse_block.proofs.CancelledMatrices.{leaves-cancel, matrix-cancel, dead_column-cancel, dead_row-cancel}
+use Rattle.kh_types.proofs.ComplexLemmas.{degree_of-number}
 
 -- the product after a cancellation, by what the entries of the two matrices are then
 product-from_entries : (p : ℕ) (complex : Complex) (pivot : Pivot) (i : ℤ) (row column : ℕ) (U L : ℕ → ℕ → ℕ)
@@ -89,12 +90,6 @@ product-cancel p complex pivot i row column field is is_pivot =
                 (λ m. ap (λ degree. entry_in degree.matrix m column) stays) (before row column)
           ]
     ]
-
--- degrees by their numbers
-pub degree_of-number : (complex : Complex) (k : ℕ) → degree_of complex (complex.low +ℤ pos k) ≡ degree_number complex k
-degree_of-number complex k =
-    let distance : complex.low +ℤ pos k -ℤ complex.low ≡ pos k = omega (arith, ints) in
-    ap (degree_from complex) distance
 
 -- sizes by the numbers of degrees
 pub places_number-cancel : (p : ℕ) (complex : Complex) (pivot : Pivot) (k : ℕ)

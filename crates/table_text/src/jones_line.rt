@@ -13,7 +13,8 @@ use kh_types::NoMemory;
 use std::alloc::Global;
 
 /// The Jones line: `jones`, then for each exponent with a coefficient that is not 0, ascending, a
-/// space and `C*q^E`, then a line feed; the zero polynomial is `jones 0`. Source: this project's rule.
+/// space and `C*q^E`, then a line feed; the zero polynomial is `jones 0`. Source: this project's
+/// rule.
 pub fn print_jones(alloc: Global, polynomial: &Laurent) -> Result<Vec<u8>, NoMemory>
     ensures text { IfOk result (λ text.
         text.items ≡ polynomial_text (coefficient_in polynomial.now)) }

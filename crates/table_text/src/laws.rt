@@ -23,8 +23,8 @@ pub fn each_text_has_one_reading()
         → IsTableReading text a → IsTableReading text b → a ≡ b }
 {}
 
-/// A table is read from its text, and what is read from a text prints as that text where it begins with
-/// the line of version 2, and else as the text behind that line.
+/// A table is read from its text, and what is read from a text prints as that text where it begins
+/// with the line of version 2, and else as the text behind that line.
 pub fn texts_print_in_version_2()
     ensures read { (table : Plain) → IsTable table → IsTableReading (table_text table) (Ok table) }
     ensures second { (text : List ℕ) (table : Plain) → IsTableReading text (Ok table)

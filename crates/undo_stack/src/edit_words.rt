@@ -86,7 +86,7 @@ pub(crate) fn edit_of_six(
     }
 }
 
-// The line of a kink that is added.
+/// The line of a kink that is added.
 fn kink_line(arc: &[u8], pass: &[u8], sign: &[u8]) -> Option<EditLine>
     ensures { result ≡ kink_line arc.now pass.now sign.now }
 {
@@ -100,7 +100,7 @@ fn kink_line(arc: &[u8], pass: &[u8], sign: &[u8]) -> Option<EditLine>
     }))
 }
 
-// The line of a crossing with a kink that is dropped.
+/// The line of a crossing with a kink that is dropped.
 fn kink_drop_line(crossing: &[u8]) -> Option<EditLine>
     ensures { result ≡ kink_drop_line crossing.now }
 {
@@ -108,7 +108,7 @@ fn kink_drop_line(crossing: &[u8]) -> Option<EditLine>
     Some(EditLine::Change(Move::KinkDrop { crossing }))
 }
 
-// The line of a finger that is added.
+/// The line of a finger that is added.
 fn finger_line(over: &[u8], over_side: &[u8], under: &[u8], under_side: &[u8]) -> Option<EditLine>
     ensures { result ≡ finger_line over.now over_side.now under.now under_side.now }
 {
@@ -124,7 +124,7 @@ fn finger_line(over: &[u8], over_side: &[u8], under: &[u8], under_side: &[u8]) -
     }))
 }
 
-// The line of two crossings of a bigon that are dropped.
+/// The line of two crossings of a bigon that are dropped.
 fn finger_drop_line(first: &[u8], second: &[u8]) -> Option<EditLine>
     ensures { result ≡ finger_drop_line first.now second.now }
 {
@@ -133,7 +133,7 @@ fn finger_drop_line(first: &[u8], second: &[u8]) -> Option<EditLine>
     Some(EditLine::Change(Move::FingerDrop { first, second }))
 }
 
-// The line of a slide.
+/// The line of a slide.
 fn slide_line(first: &[u8], second: &[u8], third: &[u8]) -> Option<EditLine>
     ensures { result ≡ slide_line first.now second.now third.now }
 {
@@ -147,14 +147,14 @@ fn slide_line(first: &[u8], second: &[u8], third: &[u8]) -> Option<EditLine>
     }))
 }
 
-// Whether a line begins with two words.
+/// Whether a line begins with two words.
 fn is_head(name: &[u8], verb: &[u8], first: &[u8], second: &[u8]) -> bool
     ensures { result ≡ bytes_eq name.now first.now && bytes_eq verb.now second.now }
 {
     name == first && verb == second
 }
 
-// The arc or the crossing that a word names.
+/// The arc or the crossing that a word names.
 fn place_named(word: &[u8]) -> Option<u8>
     ensures { result ≡ place_named word.now }
 {
@@ -166,7 +166,7 @@ fn place_named(word: &[u8]) -> Option<u8>
     }
 }
 
-// The side that a word names.
+/// The side that a word names.
 fn side_named(word: &[u8]) -> Option<Side>
     ensures { result ≡ side_named word.now }
 {
@@ -179,7 +179,7 @@ fn side_named(word: &[u8]) -> Option<Side>
     }
 }
 
-// Whether a word says that the first pass is under.
+/// Whether a word says that the first pass is under.
 fn pass_named(word: &[u8]) -> Option<bool>
     ensures { result ≡ pass_named word.now }
 {
@@ -192,7 +192,7 @@ fn pass_named(word: &[u8]) -> Option<bool>
     }
 }
 
-// Whether a word says that the crossing is positive.
+/// Whether a word says that the crossing is positive.
 fn sign_named(word: &[u8]) -> Option<bool>
     ensures { result ≡ sign_named word.now }
 {

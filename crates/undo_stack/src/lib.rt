@@ -1,4 +1,5 @@
-//! Scripts, which are lines of words, read whole before any is carried out; and the editor, which makes moves and takes them back.
+//! Scripts, which are lines of words, read whole before any is carried out; and the editor, which
+//! makes moves and takes them back.
 #![tactic(auto)]
 
 mod command;

@@ -26,7 +26,7 @@ pub fn read_script<T: Command>(alloc: Global, text: &[u8]) -> Result<Script<T>, 
     Ok(Script { lines })
 }
 
-// The commands of a text, each with its number.
+/// The commands of a text, each with its number.
 fn commands_of<T: Command>(alloc: Global, text: &[u8]) -> Result<Vec<(u32, T)>, ScriptStop>
     requires { length text.now ≤ INPUT_BYTES }
     ensures ok { IfOk result (λ commands.
@@ -47,7 +47,7 @@ fn commands_of<T: Command>(alloc: Global, text: &[u8]) -> Result<Vec<(u32, T)>, 
     Ok(commands)
 }
 
-// Adds a command with its number, if there is one.
+/// Adds a command with its number, if there is one.
 fn push_command<T: Copy>(
     commands: &mut Vec<(u32, T)>,
     number: u32,
@@ -61,7 +61,7 @@ fn push_command<T: Copy>(
     }
 }
 
-// The command that a line is, if it has words.
+/// The command that a line is, if it has words.
 fn command_of<T: Command>(alloc: Global, line: &[u8], number: u32) -> Result<Option<T>, ScriptStop>
     requires { length line.now ≤ INPUT_BYTES }
     ensures ok { IfOk result (λ command.

@@ -48,7 +48,7 @@ pub fn read_schedule(alloc: Global, text: &[u8]) -> Result<Script<ScheduleLine>,
     read_script(alloc, text)
 }
 
-// The line that a name and two words spell.
+/// The line that a name and two words spell.
 fn line_of_three(name: &[u8], first: &[u8], second: &[u8]) -> Option<ScheduleLine>
     ensures { result ≡ line_of_three name.now first.now second.now }
 {
@@ -60,7 +60,7 @@ fn line_of_three(name: &[u8], first: &[u8], second: &[u8]) -> Option<ScheduleLin
     Some(ScheduleLine::Look { worker, block })
 }
 
-// The line that a name and one word spell.
+/// The line that a name and one word spell.
 fn line_of_two(name: &[u8], first: &[u8]) -> Option<ScheduleLine>
     ensures { result ≡ line_of_two name.now first.now }
 {
@@ -75,7 +75,7 @@ fn line_of_two(name: &[u8], first: &[u8]) -> Option<ScheduleLine>
     }
 }
 
-// The worker that a word names.
+/// The worker that a word names.
 fn worker_of(word: &[u8]) -> Option<u32>
     ensures { result ≡ worker_named word.now }
 {
@@ -87,7 +87,7 @@ fn worker_of(word: &[u8]) -> Option<u32>
     }
 }
 
-// The block that a word names.
+/// The block that a word names.
 fn block_of(word: &[u8]) -> Option<i16>
     ensures { result ≡ block_named word.now }
 {

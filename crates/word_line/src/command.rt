@@ -1,5 +1,6 @@
 //! Commands, and why words give none.
 
+use prime_field::FieldSize;
 use std::alloc::AllocError;
 
 /// What a command is to do. Source: this project's rule.
@@ -13,7 +14,8 @@ pub enum Task {
     Check,
     /// Write the diagram in another form.
     Convert,
-    /// Make moves of the diagram as a script says, and take them back; write the diagram after each line.
+    /// Make moves of the diagram as a script says, and take them back; write the diagram after each
+    /// line.
     Edit,
     /// Write a drawing of the diagram, slice by slice.
     Draw,
@@ -23,7 +25,8 @@ pub enum Task {
     Bench,
     /// Write a log of cancellations, which proves the homology table to whoever replays it.
     Certify,
-    /// Replay a log of cancellations; write the homology table that it proves, or the first line that fails.
+    /// Replay a log of cancellations; write the homology table that it proves, or the first line
+    /// that fails.
     Verify,
     /// Write the table of reduced homology at a marked arc or loop, and the Jones polynomial.
     Reduced,
@@ -49,8 +52,8 @@ pub enum Form {
 pub struct Command {
     /// What to do.
     pub task: Task,
-    /// The number of elements of the field over which homology is taken: 2, 3, 5 or 7.
-    pub field: u8,
+    /// The number of elements of the field over which homology is taken.
+    pub field: FieldSize,
     /// How many workers make the homology table, from 1 to `WORKERS`.
     pub workers: u32,
     /// The form in which `convert` writes.
@@ -61,7 +64,7 @@ pub struct Command {
     pub mark: Option<u8>,
 }
 
-/// Why words give no command.
+/// Why words give no command. Source: this project's rule.
 #[derive(Clone, Copy, Debug, PartialEq, Eq)]
 pub enum WordStop {
     /// The words mean none.

@@ -17,7 +17,7 @@ use clap::error::ErrorKind;
 use kh_types::Words;
 use std::alloc::{AllocError, Global};
 
-/// The command that the words after the program's name give.
+/// The command that the words after the program's name give. Source: this project's rule.
 pub fn read_words(alloc: Global, words: &Words) -> Result<Command, WordStop>
     ensures command { IfOk result (IsCommand words.now) }
     ensures sizes { IfOk result (λ command. IsFieldSize command.field × AreWorkers command.workers) }
@@ -34,7 +34,7 @@ pub fn read_words(alloc: Global, words: &Words) -> Result<Command, WordStop>
     }
 }
 
-// Why words of which `clap` finds this fault give no command.
+/// Why words of which `clap` finds this fault give no command.
 fn stop_of(kind: ErrorKind) -> WordStop
     ensures { result ≡ stop_of kind }
 {
@@ -44,7 +44,7 @@ fn stop_of(kind: ErrorKind) -> WordStop
     }
 }
 
-// The words as a list of texts.
+/// The words as a list of texts.
 fn texts_of(alloc: Global, words: &Words) -> Result<Vec<&str>, AllocError>
     ensures { IfOk result (λ texts. map (λ s. s.now) texts.items ≡ words.now) }
 {
@@ -55,7 +55,7 @@ fn texts_of(alloc: Global, words: &Words) -> Result<Vec<&str>, AllocError>
     Ok(texts)
 }
 
-// The command of the matches.
+/// The command of the matches.
 fn command_in(matches: &ArgMatches<'_>) -> Option<Command>
     ensures { result ≡ command_found (found_of matches.now) }
 {

@@ -7,8 +7,10 @@ use crate::command::{Command, Form, Task};
 use crate::limits::{MARK_DIGITS, MARK_LIMIT, NUMBER_DIGITS, WORKERS_DIGITS};
 use kh_lex::number_of;
 use kh_types::WORKERS;
+use prime_field::FieldSize;
 
-/// The texts that a line gives: its one positional, and the values of its options.
+/// The texts that a line gives: its one positional, and the values of its options. Source: this
+/// project's rule.
 #[derive(Clone, Copy)]
 pub struct Given<'a> {
     /// The positional.
@@ -25,7 +27,7 @@ pub struct Given<'a> {
     pub mark: Option<&'a str>,
 }
 
-/// The command of the texts that a line gives.
+/// The command of the texts that a line gives. Source: this project's rule.
 pub fn command_given(given: &Given<'_>) -> Option<Command>
     ensures { result ≡ command_given (word_behind given.now.task) (word_behind given.now.field)
         (word_behind given.now.workers) (word_behind given.now.to) (word_behind given.now.number)
@@ -35,8 +37,8 @@ pub fn command_given(given: &Given<'_>) -> Option<Command>
     let field = field_in(given.field)?;
     let workers = workers_in(given.workers)?;
     let to = form_in(given.to)?;
-    let number = number_in(given.number)?;
-    let mark = mark_in(given.mark)?;
+    let number = number_given(given.number)?;
+    let mark = mark_given(given.mark)?;
     finished(Command {
         task,
         field,
@@ -47,7 +49,7 @@ pub fn command_given(given: &Given<'_>) -> Option<Command>
     })
 }
 
-// A command, unless it lacks the number or the mark that its task needs.
+/// A command, unless it lacks the number or the mark that its task needs.
 fn finished(command: Command) -> Option<Command>
     ensures { result ≡ finished command }
 {
@@ -57,7 +59,7 @@ fn finished(command: Command) -> Option<Command>
     }
 }
 
-// The task of a name.
+/// The task of a name.
 fn task_of(name: &str) -> Option<Task>
     ensures { result ≡ task_of name.now }
 {
@@ -80,30 +82,30 @@ fn task_of(name: &str) -> Option<Task>
     }
 }
 
-// The field of a value; of two elements where there is none.
-fn field_in(value: Option<&str>) -> Option<u8>
+/// The field of a value; of two elements where there is none.
+fn field_in(value: Option<&str>) -> Option<FieldSize>
     ensures { result ≡ field_in (word_behind value.entry) }
 {
     match value {
         Some(value) => field_of(value),
-        None => Some(2),
+        None => Some(FieldSize::TWO),
     }
 }
 
-// The number of elements that a value writes.
-fn field_of(value: &str) -> Option<u8>
+/// The number of elements that a value writes.
+fn field_of(value: &str) -> Option<FieldSize>
     ensures { result ≡ field_of value.now }
 {
     match value {
-        "2" => Some(2),
-        "3" => Some(3),
-        "5" => Some(5),
-        "7" => Some(7),
+        "2" => Some(FieldSize::TWO),
+        "3" => Some(FieldSize::THREE),
+        "5" => Some(FieldSize::FIVE),
+        "7" => Some(FieldSize::SEVEN),
         _ => None,
     }
 }
 
-// The number of workers of a value; one where there is none.
+/// The number of workers of a value; one where there is none.
 fn workers_in(value: Option<&str>) -> Option<u32>
     ensures { result ≡ workers_in (word_behind value.entry) }
 {
@@ -113,7 +115,7 @@ fn workers_in(value: Option<&str>) -> Option<u32>
     }
 }
 
-// The number of workers that a value writes.
+/// The number of workers that a value writes.
 fn workers_of(value: &str) -> Option<u32>
     ensures { result ≡ workers_of value.now }
 {
@@ -125,7 +127,7 @@ fn workers_of(value: &str) -> Option<u32>
     }
 }
 
-// The form of a value; that of planar diagram texts where there is none.
+/// The form of a value; that of planar diagram texts where there is none.
 fn form_in(value: Option<&str>) -> Option<Form>
     ensures { result ≡ form_in (word_behind value.entry) }
 {
@@ -135,7 +137,7 @@ fn form_in(value: Option<&str>) -> Option<Form>
     }
 }
 
-// The form that a value names.
+/// The form that a value names.
 fn form_of(value: &str) -> Option<Form>
     ensures { result ≡ form_of value.now }
 {
@@ -146,36 +148,36 @@ fn form_of(value: &str) -> Option<Form>
     }
 }
 
-// The number of a value; none where there is no value.
-fn number_in(value: Option<&str>) -> Option<Option<u32>>
+/// The number of a value; none where there is no value.
+fn number_given(value: Option<&str>) -> Option<Option<u32>>
     ensures { result ≡ number_given (word_behind value.entry) }
 {
     match value {
-        Some(value) => numbers_of(value),
+        Some(value) => value_number(value),
         None => Some(None),
     }
 }
 
-// The number that a value writes.
-fn numbers_of(value: &str) -> Option<Option<u32>>
+/// The number that a value writes.
+fn value_number(value: &str) -> Option<Option<u32>>
     ensures { result ≡ value_number value.now }
 {
     let number = number_of(value.as_bytes(), NUMBER_DIGITS)?;
     Some(Some(number))
 }
 
-// The mark of a value; none where there is no value.
-fn mark_in(value: Option<&str>) -> Option<Option<u8>>
+/// The mark of a value; none where there is no value.
+fn mark_given(value: Option<&str>) -> Option<Option<u8>>
     ensures { result ≡ mark_given (word_behind value.entry) }
 {
     match value {
-        Some(value) => marks_of(value),
+        Some(value) => value_mark(value),
         None => Some(None),
     }
 }
 
-// The mark that a value writes.
-fn marks_of(value: &str) -> Option<Option<u8>>
+/// The mark that a value writes.
+fn value_mark(value: &str) -> Option<Option<u8>>
     ensures { result ≡ value_mark value.now }
 {
     let mark = number_of(value.as_bytes(), MARK_DIGITS)?;

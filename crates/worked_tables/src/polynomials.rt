@@ -1,13 +1,13 @@
-//! The state sums of known diagrams, as the definitions compute them, and that each is the graded Euler characteristic of the
-//! diagram's table.
+//! The state sums of known diagrams, as the definitions compute them, and that each is the graded
+//! Euler characteristic of the diagram's table.
 
 ghost use Rattle.std.specs.Prelude.{◌≡◌, codes};
 ghost use Rattle.kh_types.specs.WorkedCodes.{empty_link, one_loop, curl, hopf_link, trefoil, figure_eight};
 ghost use Rattle.kh_types.specs.Table.{table};
 ghost use Rattle.kh_types.specs.StateSum.{state_sum, euler, terms, polynomial_text};
 
-/// The state sums, as Jones lines; and that each is the graded Euler characteristic of the table over two elements, and the
-/// trefoil's also of the one over three.
+/// The state sums, as Jones lines; and that each is the graded Euler characteristic of the table
+/// over two elements, and the trefoil's also of the one over three.
 pub fn known_state_sums()
     ensures empty { polynomial_text (state_sum empty_link) ≡ codes "jones 1*q^0\n" }
     ensures loop_alone { polynomial_text (state_sum one_loop) ≡ codes "jones 1*q^-1 1*q^1\n" }

@@ -12,7 +12,8 @@ pub fn known_tables()
     ensures loop_alone { table_text (table 2 one_loop)
         ≡ codes "table 2\nfield 2\nj -1 i 0 dim 1\nj 1 i 0 dim 1\n" }
     ensures curled { table_text (table 2 curl) ≡ codes "table 2\nfield 2\nj -1 i 0 dim 1\nj 1 i 0 dim 1\n" }
-    // Unlinks: two curls apart, a circle over another, and a curl with two loops, whose labels no edge changes.
+    // Unlinks: two curls apart, a circle over another, and a curl with two loops, whose labels no
+    // edge changes.
     ensures apart { table_text (table 2 two_curls)
         ≡ codes "table 2\nfield 2\nj -2 i 0 dim 1\nj 0 i 0 dim 2\nj 2 i 0 dim 1\n" }
     ensures over { table_text (table 2 over_circle)

@@ -1,16 +1,16 @@
 -- Blocks that are cancelled to zero, one after another.
-use Rattle.std.proofs.Common.{◌≡◌, ℕ, ◌+◌, ◌<◌, ◌∙◌, ℤ, pos, List, [], ◌∷◌, ◌++◌, length, map, take, get_or, reverse, refl, sym, ap, ap₂, subst, arith}
-use Rattle.std.proofs.lemmas.List.{map_push, take_more}
+use Rattle.std.proofs.Common.{◌≡◌, ℕ, ◌+◌, ◌<◌, ◌∙◌, ℤ, pos, List, [], ◌∷◌, ◌++◌, length, map, take, get_or, reverse, refl, sym, ap, ap₂, subst, arith, length-append, All}
+use Rattle.std.proofs.lemmas.List.{length-map, map_push, take_more}
 use Rattle.std.proofs.lemmas.List.Elements.{All-contains_itself, All-push}
 use Rattle.std.proofs.lemmas.Simd.{map-map}
 use mathlib.Core.List.{IsPrefix, reverse_aux}
 use Rattle.kh_types.specs.Code.{Code}
 use Rattle.cube_signs.specs.Blocks.{block_degrees}
-use Rattle.shared_block.specs.BlockHistories.{BlockHistory, block_with}
+use Rattle.shared_block.specs.BlockHistories.{BlockHistory, HasLegalHistory, block_with}
 use Rattle.shared_block.specs.AllBlocks.{AreBlocksOf, IsFinished, opening_blocks}
 use Rattle.shared_block.proofs.AllBlocks.{AreBlocksOf-opening}
 use Rattle.kh_types.proofs.Prefixes.{prefix_length}
-use Rattle.worker_pool.specs.Outcomes.{AreBlocksAt, AreDegreesOf, AreDone, HasCommitted, IsDone, origin_of}
+use Rattle.worker_pool.specs.Outcomes.{AreBlocksAt, AreCancelled, AreDegreesOf, AreDone, HasCommitted, IsDone, origin_of}
 use Rattle.worker_pool.specs.Slots.{AreFrom}
 use Rattle.worker_pool.proofs.BlockLemmas.{blocks_stay}
 use Rattle.worker_pool.proofs.Zips.{zip_push}
@@ -33,6 +33,17 @@ done_more p blocks all committed counts held count done one are_all are_counts =
     } in
     rw (are_all, are_counts) both
 
+-- one count more that is 0
+pub none_more : (code : Code) (j : ℤ) (held : BlockHistory) (counts all : List ℕ) (count : ℕ) → All (λ n. n ≡ 0) counts → held ≡ block_with code j []
+    → count ≡ length held.history → all ≡ counts ++ count ∷ [] → All (λ n. n ≡ 0) all
+none_more code j held counts all count none opening is more =
+    let one : count ≡ 0 = is ∙ ap (λ (block : BlockHistory). length block.history) opening in
+    rw more (All-push (λ n. n ≡ 0) counts count none one)
+
+-- counts that stay 0
+pub none_stay : (counts all : List ℕ) → All (λ n. n ≡ 0) counts → all ≡ counts → All (λ n. n ≡ 0) all
+none_stay counts all none same = rw same none
+
 -- all degrees of a diagram
 pub degrees_all : (code : Code) (degrees : List ℤ) → degrees ≡ block_degrees code → AreDegreesOf code degrees
 degrees_all code degrees are = subst (AreDegreesOf code) (sym are) (All-contains_itself (block_degrees code))
@@ -42,6 +53,11 @@ pub blocks_all : (code : Code) (blocks : List BlockHistory) → AreBlocksAt code
 blocks_all code blocks are =
     blocks_stay code (opening_blocks code) blocks (are ∙ sym (map-map origin_of (λ j. block_with code j []) (block_degrees code)))
     (AreBlocksOf-opening code)
+
+-- what the blocks at all degrees come to once they are cancelled to zero
+pub all_cancelled : (p : ℕ) (code : Code) (blocks : List BlockHistory) (committed : List ℕ) → AreBlocksAt code (block_degrees code) blocks
+    → AreDone p blocks committed → All (HasLegalHistory p) blocks → AreCancelled p code blocks committed
+all_cancelled p code blocks committed are done legal = record { of_diagram = blocks_all code blocks are; zero = done.zero; legal = legal; counts = done.counts }
 
 -- one degree more
 pub blocks_more : (code : Code) (degrees : List ℤ) (k : ℕ) (blocks all : List BlockHistory) (held : BlockHistory) → AreBlocksAt code (take k degrees) blocks
@@ -66,6 +82,11 @@ from_degrees code (j ∷ degrees) = (refl, from_degrees code degrees)
 from_front : (code : Code) (origins : List (Code × ℤ)) (last : Code × ℤ) → AreFrom code (origins ++ last ∷ []) → AreFrom code origins × (last.0 ≡ code)
 from_front code [] last h = (tt, h.0)
 from_front code (origin ∷ origins) last h = let rest = from_front code origins last h.1 in ((h.0, rest.0), rest.1)
+
+-- fewer are left where the last is taken
+pub fewer : {A B : Type 0} (f : A → B) (before after : List A) (last : B) → map f before ≡ map f after ++ last ∷ [] → length after < length before
+fewer f before after last e =
+    omega (arith, ap length e, length-map before f, length-map after f, length-append (map f after) (last ∷ []))
 
 -- what is left where the last is taken
 pub taken_from : (code : Code) (before after : List (Code × ℤ)) (last : Code × ℤ) → AreFrom code before → before ≡ after ++ last ∷ []

@@ -6,6 +6,7 @@ use Rattle.std.proofs.lemmas.List.Elements.{All-push, All-set}
 use Rattle.kh_types.specs.Code.{Code}
 use Rattle.cube_signs.specs.Blocks.{block_degrees}
 use Rattle.shared_block.specs.BlockHistories.{BlockHistory, block_with}
+use Rattle.worker_pool.specs.declared.finished.DoneBlock.{DoneBlock}
 use Rattle.worker_pool.specs.Outcomes.{AreDegreesOf, IsDone}
 use Rattle.worker_pool.specs.Slots.{AreDoneSlots, AreEmpty, AreSlotsOf, IsDoneBlock, IsDoneSlot, IsSlotOf}
 use Rattle.worker_pool.proofs.Zips.{zip_at, zip_set}
@@ -49,7 +50,7 @@ pub slots_empty : (code : Code) (degrees : List ℤ) (rows : List (Vec (Option B
     → n ≡ length degrees → All (λ row. AreSlotsOf code degrees row.items) rows
 slots_empty code degrees rows n h e k d lt = let one = h k d lt in empty_slots code degrees (get_or rows k d).items (one.size ∙ e) one.empty
 
-no_done_blocks : (p : ℕ) (code : Code) (degrees : List ℤ) (slots : List (Option (BlockHistory × ℕ))) → length slots ≡ length degrees
+no_done_blocks : {F : Type 0} (p : ℕ) (code : Code) (degrees : List ℤ) (slots : List (Option (DoneBlock F))) → length slots ≡ length degrees
     → All (λ slot. slot ≡ None) slots → AreDoneSlots p code degrees slots
 no_done_blocks p code [] [] size h = tt
 no_done_blocks p code [] (slot ∷ slots) size h = absurd (omega arith)
@@ -58,26 +59,26 @@ no_done_blocks p code (j ∷ degrees) (slot ∷ slots) size h =
     (subst (IsDoneSlot p code j) (sym (h 0 slot (omega arith))) tt, no_done_blocks p code degrees slots (omega arith) (λ k d lt. h (suc k) d (omega arith)))
 
 -- empty slots for done blocks
-pub done_slots_empty : (p : ℕ) (code : Code) (degrees : List ℤ) (slots : List (Option (BlockHistory × ℕ))) (n : ℕ) → AreEmpty n slots → n ≡ length degrees
+pub done_slots_empty : {F : Type 0} (p : ℕ) (code : Code) (degrees : List ℤ) (slots : List (Option (DoneBlock F))) (n : ℕ) → AreEmpty n slots → n ≡ length degrees
     → AreDoneSlots p code degrees slots
 done_slots_empty p code degrees slots n h e = no_done_blocks p code degrees slots (h.size ∙ e) h.empty
 
 -- the done block in a slot
-pub done_there : (p : ℕ) (code : Code) (degrees : List ℤ) (slots : List (Option (BlockHistory × ℕ))) (place : ℕ) (one : BlockHistory × ℕ)
+pub done_there : {F : Type 0} (p : ℕ) (code : Code) (degrees : List ℤ) (slots : List (Option (DoneBlock F))) (place : ℕ) (one : DoneBlock F)
     → AreDoneSlots p code degrees slots → place < length degrees → Some one ≡ get_or slots place (Some one)
     → IsDoneBlock p code (get_or degrees place (pos 0)) one
 done_there p code degrees slots place one h lt e =
     subst (IsDoneSlot p code (get_or degrees place (pos 0))) (sym e) (zip_at (IsDoneSlot p code) degrees slots place (pos 0) (Some one) h lt)
 
 -- a slot that has been emptied
-pub done_slot_emptied : (p : ℕ) (code : Code) (degrees : List ℤ) (slots after : List (Option (BlockHistory × ℕ))) (place : ℕ)
+pub done_slot_emptied : {F : Type 0} (p : ℕ) (code : Code) (degrees : List ℤ) (slots after : List (Option (DoneBlock F))) (place : ℕ)
     → AreDoneSlots p code degrees slots → after ≡ set slots place None → AreDoneSlots p code degrees after
 done_slot_emptied p code degrees slots after place h e =
     rw e (zip_set (IsDoneSlot p code) degrees slots place (pos 0) None h tt)
 
 -- a done block that has been put into the slot of its degree
-pub done_put : (p : ℕ) (code : Code) (degrees : List ℤ) (slots : List (Option (BlockHistory × ℕ))) (place : ℕ) (one : BlockHistory × ℕ)
-    → AreDoneSlots p code degrees slots → one.0.diagram ≡ code → get_or degrees place (pos 0) ≡ one.0.degree → IsDone p one.0 one.1
+pub done_put : {F : Type 0} (p : ℕ) (code : Code) (degrees : List ℤ) (slots : List (Option (DoneBlock F))) (place : ℕ) (one : DoneBlock F)
+    → AreDoneSlots p code degrees slots → one.block.diagram ≡ code → get_or degrees place (pos 0) ≡ one.block.degree → IsDone p one.block one.committed
     → AreDoneSlots p code degrees (set slots place (Some one))
 done_put p code degrees slots place one h is at done =
     let there : IsDoneBlock p code (get_or degrees place (pos 0)) one = record { origin = ap₂ (λ (c : Code) (j : ℤ). (c, j)) is (sym at); done = done } in

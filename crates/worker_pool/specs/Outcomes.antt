@@ -3,8 +3,8 @@ use Rattle.std.specs.Prelude.{◌≡◌, ℕ, ◌≤◌, ℤ, List, length, map,
 use Rattle.std.specs.List.{AllZip, Contains}
 use Rattle.kh_types.specs.Code.{Code}
 use Rattle.cube_signs.specs.Blocks.{block_degrees}
-use Rattle.shared_block.specs.BlockHistories.{BlockHistory}
-use Rattle.shared_block.specs.AllBlocks.{IsFinished}
+use Rattle.shared_block.specs.BlockHistories.{BlockHistory, HasLegalHistory}
+use Rattle.shared_block.specs.AllBlocks.{AreBlocksOf, IsFinished}
 use Rattle.worker_pool.specs.declared.outcome.PoolStop.{PoolStop}
 use Rattle.worker_pool.specs.declared.outcome.PoolStop.TheVariants.{SizeLimit, NoMemory}
 
@@ -48,6 +48,14 @@ HasCommitted held count = count ≤ length held.history
 pub record IsDone (p : ℕ) (held : BlockHistory) (count : ℕ) : Type 0 where
   pub zero : IsFinished p held
   pub counted : HasCommitted held count
+
+-- blocks are those of a diagram, each cancelled to zero by a legal history, and for each a count of pivots by workers is told, within
+-- its history
+pub record AreCancelled (p : ℕ) (code : Code) (blocks : List BlockHistory) (committed : List ℕ) : Type 0 where
+  pub of_diagram : AreBlocksOf code blocks
+  pub zero : All (IsFinished p) blocks
+  pub legal : All (HasLegalHistory p) blocks
+  pub counts : AllZip HasCommitted blocks committed
 
 -- each block is cancelled to zero, and for each a count of pivots by workers is told, within its history
 pub record AreDone (p : ℕ) (blocks : List BlockHistory) (committed : List ℕ) : Type 0 where

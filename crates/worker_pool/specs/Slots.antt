@@ -4,6 +4,7 @@ use Rattle.std.specs.List.{AllByRecursion, AllZip}
 use Rattle.kh_types.specs.Code.{Code}
 use Rattle.shared_block.specs.BlockHistories.{BlockHistory, block_with}
 use Rattle.worker_pool.specs.Outcomes.{IsDone, origin_of}
+use Rattle.worker_pool.specs.declared.finished.DoneBlock.{DoneBlock}
 
 -- the slot of a degree has its block, before any cancellation, or nothing yet
 abbrev pub IsSlotOf : Code → ℤ → Option BlockHistory → Type 0
@@ -23,14 +24,14 @@ abbrev pub AreFrom : Code → List (Code × ℤ) → Type 0
 AreFrom code origins = AllByRecursion (λ origin. origin.0 ≡ code) origins
 
 -- the block of a diagram at a degree, cancelled to zero, with a count of pivots by workers
-pub record IsDoneBlock (p : ℕ) (code : Code) (j : ℤ) (one : BlockHistory × ℕ) : Type 0 where
-  pub origin : origin_of one.0 ≡ (code, j)
-  pub done : IsDone p one.0 one.1
+pub record IsDoneBlock {F : Type 0} (p : ℕ) (code : Code) (j : ℤ) (one : DoneBlock F) : Type 0 where
+  pub origin : origin_of one.block ≡ (code, j)
+  pub done : IsDone p one.block one.committed
 
 -- the slot of a degree has its block, cancelled to zero, or nothing yet
-abbrev pub IsDoneSlot : ℕ → Code → ℤ → Option (BlockHistory × ℕ) → Type 0
+abbrev pub IsDoneSlot : {F : Type 0} → ℕ → Code → ℤ → Option (DoneBlock F) → Type 0
 IsDoneSlot p code j slot = IfSome slot (IsDoneBlock p code j)
 
 -- one slot for each degree, in their order
-abbrev pub AreDoneSlots : ℕ → Code → List ℤ → List (Option (BlockHistory × ℕ)) → Type 0
+abbrev pub AreDoneSlots : {F : Type 0} → ℕ → Code → List ℤ → List (Option (DoneBlock F)) → Type 0
 AreDoneSlots p code degrees slots = AllZip (IsDoneSlot p code) degrees slots

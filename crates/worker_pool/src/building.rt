@@ -1,13 +1,14 @@
 //! How workers build blocks of a diagram: each takes the next quantum degree that nobody has
 //! begun.
 
-ghost use Rattle.std.specs.Prelude.{◌≡◌, ◌<◌, ◌≤◌, [], All, IfOk, None, length, map, pos};
-ghost use Rattle.std.specs.Prelude.{slice_index_or, slice_set};
+ghost use Rattle.std.specs.Prelude.{◌≡◌, ◌<◌, ◌≤◌, [], All, IfOk, length, map, pos};
+ghost use Rattle.std.specs.Prelude.{slice_index_or};
 ghost use Rattle.shared_block.specs.BlockHistories.{block_with};
 ghost use Rattle.worker_pool.specs.Outcomes.{AreDegreesOf};
 ghost use Rattle.worker_pool.specs.Slots.{AreEmpty, AreSlotsOf};
 
 use crate::sharing::next_number;
+use crate::slots::{empty_slots, take_slot};
 use cube_signs::Cube;
 use kh_types::NoMemory;
 use prime_field::PrimeField;
@@ -49,20 +50,9 @@ fn empty_rows<F: PrimeField>(
 {
     let mut rows = Vec::with_capacity(alloc, count)?;
     'rows: for _ in 0..count {
-        rows.push(empty_row(alloc, slots)?)?;
+        rows.push(empty_slots(alloc, slots)?)?;
     }
     Ok(rows)
-}
-
-/// So many empty slots.
-fn empty_row<F: PrimeField>(alloc: Global, slots: usize) -> Result<Slots<F>, NoMemory>
-    ensures { IfOk result (λ row. AreEmpty slots row.items) }
-{
-    let mut row = Vec::with_capacity(alloc, slots)?;
-    'slots: for _ in 0..slots {
-        row.push(None)?;
-    }
-    Ok(row)
 }
 
 /// Has the blocks built, by a thread for each row.
@@ -186,13 +176,4 @@ fn block_at<F: PrimeField>(
         }
     }
     build_one(alloc, cube, degrees, place)
-}
-
-/// What is in a slot, which is left empty.
-fn take_slot<F: PrimeField>(slots: &mut Slots<F>, place: usize) -> Option<SharedBlock<F>>
-    requires { place < length slots.old.items }
-    ensures taken { result ≡ slice_index_or slots.old.items place result }
-    ensures empty { slots.new.items ≡ slice_set slots.old.items place None }
-{
-    slots[place].take()
 }

@@ -1,17 +1,16 @@
 //! All blocks of a diagram, cancelled to zero by the caller alone or by workers.
 
 ghost use Rattle.std.specs.Prelude.{◌≡◌, ◌↔◌, ◌<◌, ◌≤◌, All, IfOk};
-ghost use Rattle.std.specs.List.{AllZip};
 ghost use Rattle.circle_smoothing.specs.GeneratorCounts.{generator_count};
 ghost use Rattle.circle_smoothing.specs.declared.limits.TheConstants.{GENERATORS};
 ghost use Rattle.cube_signs.specs.Blocks.{block_degrees};
 ghost use Rattle.kh_types.specs.Table.{table};
-ghost use Rattle.shared_block.specs.AllBlocks.{AreBlocksOf, IsFinished};
-ghost use Rattle.shared_block.specs.BlockHistories.{HasLegalHistory};
 ghost use Rattle.kh_types.specs.declared.limits.TheConstants.{WORKERS};
-ghost use Rattle.worker_pool.specs.Outcomes.{AreBlocksAt, AreDone, HasCommitted};
+ghost use Rattle.shared_block.specs.BlockHistories.{HasLegalHistory};
+ghost use Rattle.worker_pool.specs.Outcomes.{AreBlocksAt, AreCancelled, AreDone};
 ghost use Rattle.worker_pool.specs.Outcomes.{IsSizeLimit, TellsCount};
 
+use crate::crew::Crew;
 use crate::finished::Finished;
 use crate::gate::Gate;
 use crate::outcome::{Cancelled, PoolStop};
@@ -26,7 +25,8 @@ use std::alloc::Global;
 use std::sync::Wait;
 use std::thread::Threads;
 
-/// Cancels all blocks of a diagram to zero, one after another on the caller's thread.
+/// Cancels all blocks of a diagram to zero, one after another on the caller's thread. This
+/// project's rule.
 pub fn cancel_alone<F: PrimeField>(
     alloc: Global,
     diagram: &Diagram,
@@ -34,16 +34,15 @@ pub fn cancel_alone<F: PrimeField>(
     ensures limit { IsSizeLimit result ↔ (GENERATORS < generator_count diagram.now) }
     ensures count { TellsCount (generator_count diagram.now) result }
     ensures table { IfOk result (λ made. made.table ≡ table F.P diagram.now) }
-    ensures blocks { IfOk result (λ made. AreBlocksOf diagram.now made.blocks.items) }
-    ensures zero { IfOk result (λ made. All (IsFinished F.P) made.blocks.items) }
-    ensures legal { IfOk result (λ made. All (HasLegalHistory F.P) made.blocks.items) }
-    ensures committed { IfOk result (λ made.
-        AllZip HasCommitted made.blocks.items made.committed.items) }
+    ensures blocks { IfOk result (λ made.
+        AreCancelled F.P diagram.now made.blocks.items made.committed.items) }
+    ensures alone { IfOk result (λ made. All (λ count. count ≡ 0) made.committed.items) }
 {
     cancel_kinds_alone(alloc, &StateKinds::of_diagram(diagram))
 }
 
-/// The same, given the kinds of the diagram's states.
+/// The same, given the kinds of the diagram's states. This project's rule.
+#[tactic(auto, using(crate::proofs::DoneLemmas::none_stay))]
 pub fn cancel_kinds_alone<F: PrimeField>(
     alloc: Global,
     kinds: &StateKinds,
@@ -51,11 +50,9 @@ pub fn cancel_kinds_alone<F: PrimeField>(
     ensures limit { IsSizeLimit result ↔ (GENERATORS < generator_count kinds.now) }
     ensures count { TellsCount (generator_count kinds.now) result }
     ensures table { IfOk result (λ made. made.table ≡ table F.P kinds.now) }
-    ensures blocks { IfOk result (λ made. AreBlocksOf kinds.now made.blocks.items) }
-    ensures zero { IfOk result (λ made. All (IsFinished F.P) made.blocks.items) }
-    ensures legal { IfOk result (λ made. All (HasLegalHistory F.P) made.blocks.items) }
-    ensures committed { IfOk result (λ made.
-        AllZip HasCommitted made.blocks.items made.committed.items) }
+    ensures blocks { IfOk result (λ made.
+        AreCancelled F.P kinds.now made.blocks.items made.committed.items) }
+    ensures alone { IfOk result (λ made. All (λ count. count ≡ 0) made.committed.items) }
 {
     check_kinds(kinds)?;
     let cube = Cube::new(alloc, kinds.diagram())?;
@@ -65,7 +62,7 @@ pub fn cancel_kinds_alone<F: PrimeField>(
 }
 
 /// Cancels all blocks of a diagram to zero, by so many workers that share them. With one worker the
-/// caller does all the work.
+/// caller does all the work. This project's rule.
 pub fn cancel_all<R: Threads + Wait + Sync, F: PrimeField + Send + Sync, G: Gate + Sync>(
     rt: &R,
     alloc: Global,
@@ -77,16 +74,13 @@ pub fn cancel_all<R: Threads + Wait + Sync, F: PrimeField + Send + Sync, G: Gate
     ensures limit { IsSizeLimit result ↔ (GENERATORS < generator_count diagram.now) }
     ensures count { TellsCount (generator_count diagram.now) result }
     ensures table { IfOk result (λ made. made.table ≡ table F.P diagram.now) }
-    ensures blocks { IfOk result (λ made. AreBlocksOf diagram.now made.blocks.items) }
-    ensures zero { IfOk result (λ made. All (IsFinished F.P) made.blocks.items) }
-    ensures legal { IfOk result (λ made. All (HasLegalHistory F.P) made.blocks.items) }
-    ensures committed { IfOk result (λ made.
-        AllZip HasCommitted made.blocks.items made.committed.items) }
+    ensures blocks { IfOk result (λ made.
+        AreCancelled F.P diagram.now made.blocks.items made.committed.items) }
 {
     cancel_kinds(rt, alloc, &StateKinds::of_diagram(diagram), workers, gate)
 }
 
-/// The same, given the kinds of the diagram's states.
+/// The same, given the kinds of the diagram's states. This project's rule.
 pub fn cancel_kinds<R: Threads + Wait + Sync, F: PrimeField + Send + Sync, G: Gate + Sync>(
     rt: &R,
     alloc: Global,
@@ -98,11 +92,8 @@ pub fn cancel_kinds<R: Threads + Wait + Sync, F: PrimeField + Send + Sync, G: Ga
     ensures limit { IsSizeLimit result ↔ (GENERATORS < generator_count kinds.now) }
     ensures count { TellsCount (generator_count kinds.now) result }
     ensures table { IfOk result (λ made. made.table ≡ table F.P kinds.now) }
-    ensures blocks { IfOk result (λ made. AreBlocksOf kinds.now made.blocks.items) }
-    ensures zero { IfOk result (λ made. All (IsFinished F.P) made.blocks.items) }
-    ensures legal { IfOk result (λ made. All (HasLegalHistory F.P) made.blocks.items) }
-    ensures committed { IfOk result (λ made.
-        AllZip HasCommitted made.blocks.items made.committed.items) }
+    ensures blocks { IfOk result (λ made.
+        AreCancelled F.P kinds.now made.blocks.items made.committed.items) }
 {
     if workers == 1 {
         return cancel_kinds_alone(alloc, kinds);
@@ -110,7 +101,13 @@ pub fn cancel_kinds<R: Threads + Wait + Sync, F: PrimeField + Send + Sync, G: Ga
     check_kinds(kinds)?;
     let cube = Cube::new(alloc, kinds.diagram())?;
     let degrees = kind_degrees(alloc, kinds)?;
-    let done = finished_in_waves(rt, alloc, &cube, &degrees, kinds, workers, gate)?;
+    let crew = Crew {
+        rt,
+        alloc,
+        workers,
+        gate,
+    };
+    let done = finished_in_waves(&crew, &cube, &degrees, kinds)?;
     Ok(with_table(alloc, cube.diagram(), done)?)
 }
 
@@ -124,11 +121,9 @@ fn with_table<F: PrimeField>(
     requires blocks { AreBlocksAt diagram.now (block_degrees diagram.now) done.blocks.items }
     requires done { AreDone F.P done.blocks.items done.committed.items }
     ensures table { IfOk result (λ made. made.table ≡ table F.P diagram.now) }
-    ensures blocks { IfOk result (λ made. AreBlocksOf diagram.now made.blocks.items) }
-    ensures zero { IfOk result (λ made. All (IsFinished F.P) made.blocks.items) }
-    ensures legal { IfOk result (λ made. All (HasLegalHistory F.P) made.blocks.items) }
-    ensures committed { IfOk result (λ made.
-        AllZip HasCommitted made.blocks.items made.committed.items) }
+    ensures blocks { IfOk result (λ made.
+        AreCancelled F.P diagram.now made.blocks.items made.committed.items) }
+    ensures counts { IfOk result (λ made. made.committed.items ≡ done.committed.items) }
 {
     let table = table_of(alloc, diagram, &done.blocks)?;
     legal_histories(&done.blocks);

@@ -1,14 +1,14 @@
 //! Slots for the blocks of a diagram that are cancelled to zero in any order, one slot at each
 //! quantum degree.
 
-ghost use Rattle.std.specs.Prelude.{◌≡◌, ◌<◌, IfOk, IfSome, None, length, pos};
-ghost use Rattle.std.specs.Prelude.{slice_index_or, slice_set};
+ghost use Rattle.std.specs.Prelude.{◌≡◌, ◌<◌, IfOk, IfSome, length, pos, slice_index_or};
 ghost use Rattle.worker_pool.specs.Outcomes.{AreBlocksAt, AreDegreesOf, AreDone, IsDone};
 ghost use Rattle.worker_pool.specs.Outcomes.{origin_of};
-ghost use Rattle.worker_pool.specs.Slots.{AreDoneSlots, AreEmpty};
+ghost use Rattle.worker_pool.specs.Slots.{AreDoneSlots};
 
 use crate::building::build_one;
 use crate::finished::{DoneBlock, Finished, finished_one};
+use crate::slots::take_slot;
 use cube_signs::Cube;
 use kh_types::NoMemory;
 use prime_field::PrimeField;
@@ -17,20 +17,6 @@ use std::alloc::Global;
 /// A slot for the block of each quantum degree, once it is cancelled to zero.
 pub(crate) type DoneSlots<F> = Vec<Option<DoneBlock<F>>>;
 
-/// So many empty slots.
-pub(crate) fn no_blocks<F: PrimeField>(
-    alloc: Global,
-    count: usize,
-) -> Result<DoneSlots<F>, NoMemory>
-    ensures { IfOk result (λ slots. AreEmpty count slots.items) }
-{
-    let mut slots = Vec::with_capacity(alloc, count)?;
-    'slots: for _ in 0..count {
-        slots.push(None)?;
-    }
-    Ok(slots)
-}
-
 /// Puts a block into the slot of its degree.
 pub(crate) fn put<F: PrimeField>(
     slots: &mut DoneSlots<F>,
@@ -38,12 +24,12 @@ pub(crate) fn put<F: PrimeField>(
     degrees: &[i16],
     one: DoneBlock<F>,
 )
-    requires diagram { one.0.diagram ≡ cube.now }
-    requires done { IsDone F.P one.0 one.1 }
+    requires diagram { one.block.diagram ≡ cube.now }
+    requires done { IsDone F.P one.block one.committed }
     requires slots { AreDoneSlots F.P cube.now degrees.now slots.old.items }
     ensures { AreDoneSlots F.P cube.now degrees.now slots.new.items }
 {
-    let Some(place) = place_of(degrees, one.0.degree()) else {
+    let Some(place) = place_of(degrees, one.block.degree()) else {
         return;
     };
     if place < slots.len() {
@@ -95,20 +81,11 @@ fn done_at<F: PrimeField>(
     requires slots { AreDoneSlots F.P cube.now degrees.now slots.old.items }
     ensures slots { AreDoneSlots F.P cube.now degrees.now slots.new.items }
     ensures origin { IfOk result (λ one.
-        origin_of one.0 ≡ (cube.now, slice_index_or degrees.now place (pos 0))) }
-    ensures done { IfOk result (λ one. IsDone F.P one.0 one.1) }
+        origin_of one.block ≡ (cube.now, slice_index_or degrees.now place (pos 0))) }
+    ensures done { IfOk result (λ one. IsDone F.P one.block one.committed) }
 {
-    match take_done(slots, place) {
+    match take_slot(slots, place) {
         Some(one) => Ok(one),
         None => finished_one(alloc, build_one(alloc, cube, degrees, place)?),
     }
-}
-
-/// What is in a slot, which is left empty.
-fn take_done<F: PrimeField>(slots: &mut DoneSlots<F>, place: usize) -> Option<DoneBlock<F>>
-    requires { place < length slots.old.items }
-    ensures taken { result ≡ slice_index_or slots.old.items place result }
-    ensures empty { slots.new.items ≡ slice_set slots.old.items place None }
-{
-    slots[place].take()
 }

@@ -1,6 +1,6 @@
 //! Blocks that are cancelled to zero.
 
-ghost use Rattle.std.specs.Prelude.{◌≡◌, ◌∷◌, ◌++◌, [], IfOk, OnOk, map};
+ghost use Rattle.std.specs.Prelude.{◌≡◌, ◌∷◌, ◌++◌, [], IfOk, OnOk, length, map};
 ghost use Rattle.worker_pool.specs.Outcomes.{AreDone, IsDone, origin_of};
 
 use kh_types::NoMemory;
@@ -8,22 +8,28 @@ use prime_field::PrimeField;
 use shared_block::SharedBlock;
 use std::alloc::Global;
 
-/// A block that is cancelled to zero, and how many of its pivots, the first ones, workers
-/// committed; the caller cancelled the others.
-pub(crate) type DoneBlock<F> = (SharedBlock<F>, u64);
+/// A block that is cancelled to zero.
+#[derive(Drop)]
+pub(crate) struct DoneBlock<F: PrimeField> {
+    /// The block, with the history of its pivots.
+    pub(crate) block: SharedBlock<F>,
+    /// How many of its pivots, the first ones, workers committed; the caller cancelled the others.
+    pub(crate) committed: u64,
+}
 
-/// Cancels what is left of a block.
+/// Cancels what is left of a block, to which workers committed what its history has.
 pub(crate) fn finished_one<F: PrimeField>(
     alloc: Global,
     block: SharedBlock<F>,
 ) -> Result<DoneBlock<F>, NoMemory>
-    ensures origin { IfOk result (λ one. origin_of one.0 ≡ origin_of block) }
-    ensures done { IfOk result (λ one. IsDone F.P one.0 one.1) }
+    ensures origin { IfOk result (λ one. origin_of one.block ≡ origin_of block) }
+    ensures done { IfOk result (λ one. IsDone F.P one.block one.committed) }
+    ensures count { IfOk result (λ one. one.committed ≡ length block.history) }
 {
     let mut block = block;
     let committed = block.version();
     block.finish(alloc)?;
-    Ok((block, committed))
+    Ok(DoneBlock { block, committed })
 }
 
 /// Blocks that are cancelled to zero, as they come one after another, and the count of each.
@@ -37,6 +43,7 @@ impl<F: PrimeField> Finished<F> {
     /// No blocks, and room for so many.
     pub(crate) fn new(alloc: Global, count: usize) -> Result<Finished<F>, NoMemory>
         ensures none { IfOk result (λ done. done.blocks.items ≡ []) }
+        ensures counts { IfOk result (λ done. done.committed.items ≡ []) }
         ensures done { IfOk result (λ done. AreDone F.P done.blocks.items done.committed.items) }
     {
         Ok(Finished {
@@ -48,12 +55,14 @@ impl<F: PrimeField> Finished<F> {
     /// Takes a block in.
     pub(crate) fn push(&mut self, one: DoneBlock<F>) -> Result<(), NoMemory>
         requires done { AreDone F.P self.old.blocks.items self.old.committed.items }
-        requires one { IsDone F.P one.0 one.1 }
+        requires one { IsDone F.P one.block one.committed }
         ensures done { OnOk result (AreDone F.P self.new.blocks.items self.new.committed.items) }
         ensures origins { OnOk result (map origin_of self.new.blocks.items
-            ≡ map origin_of self.old.blocks.items ++ origin_of one.0 ∷ []) }
+            ≡ map origin_of self.old.blocks.items ++ origin_of one.block ∷ []) }
+        ensures counts { OnOk result (self.new.committed.items
+            ≡ self.old.committed.items ++ one.committed ∷ []) }
     {
-        let (block, committed) = one;
+        let DoneBlock { block, committed } = one;
         self.committed.push(committed)?;
         self.blocks.push(block)?;
         Ok(())

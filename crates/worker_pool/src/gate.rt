@@ -1,13 +1,14 @@
 //! What is called in each turn of a worker.
 
-/// What a worker calls once in each turn, between the patch and its commit. Workers are numbered
-/// from 1, and so are the turns that one call of `work` takes. Where no thread can be made the
-/// workers work one after another, so a gate that waits for another worker may wait for ever.
+/// What a worker calls once in each turn. Where no thread can be made the workers work one after
+/// another, so a gate that waits for another worker may wait for ever. This project's rule.
 pub trait Gate {
+    /// Called by a worker between its patch and its commit, with its number, from 1, and the number
+    /// of its turn, from 1 in each call of `work`. This project's rule.
     fn before_commit(&self, worker: u32, turn: u64);
 }
 
-/// A gate that does nothing.
+/// A gate that does nothing. This project's rule.
 pub struct Free;
 
 impl Gate for Free {

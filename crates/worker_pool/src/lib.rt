@@ -3,6 +3,7 @@
 
 mod building;
 mod cancelling;
+mod crew;
 mod done_slots;
 mod finished;
 mod gate;
@@ -11,6 +12,7 @@ mod outcome;
 mod rows;
 mod sharing;
 mod sizes;
+mod slots;
 mod turns;
 mod waves;
 

@@ -9,17 +9,19 @@ use kh_types::NoMemory;
 use prime_field::PrimeField;
 use shared_block::SharedBlock;
 
-/// The homology table of a diagram, and the blocks that it was read from: one for each quantum
-/// degree that has a generator, ascending, each cancelled to zero by the history that it has; and
-/// for each block how many of its pivots, the first ones, workers committed.
+/// What the cancellation of all blocks of a diagram comes to. This project's rule.
 #[derive(Drop)]
 pub struct Cancelled<F: PrimeField> {
+    /// The homology table of the diagram, which is read from the blocks.
     pub table: Table,
+    /// The blocks, one for each quantum degree that has a generator, ascending, each cancelled to
+    /// zero by the history that it has.
     pub blocks: Vec<SharedBlock<F>>,
+    /// For each block how many of its pivots, the first ones, workers committed.
     pub committed: Vec<u64>,
 }
 
-/// Why blocks were not cancelled.
+/// Why blocks were not cancelled. This project's rule.
 #[derive(Clone, Copy, Debug, PartialEq, Eq)]
 pub enum PoolStop {
     /// There are `generators`, which are more than `GENERATORS`.

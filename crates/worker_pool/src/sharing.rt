@@ -4,6 +4,7 @@
 ghost use Rattle.std.specs.Prelude.{◌+◌, ◌<◌, ◌^◌, All, length};
 ghost use Rattle.worker_pool.specs.Rows.{IsRowOf};
 
+use crate::crew::Crew;
 use crate::gate::Gate;
 use crate::turns::work;
 use kh_types::NoMemory;
@@ -57,12 +58,10 @@ impl Course {
 
 /// Has each row worked at by a thread of its own.
 pub(crate) fn work_rows<R: Threads + Wait + Sync, F: PrimeField + Send + Sync, G: Gate + Sync>(
-    rt: &R,
-    alloc: Global,
+    crew: &Crew<R, G>,
     locks: &[Versioned<SharedBlock<F>>],
     course: &Course,
     rows: &mut [Vec<WorkSeat<SharedBlock<F>>>],
-    gate: &G,
 )
     requires few { length rows.old < 2 ^ 32 }
     requires rows { All (λ row. IsRowOf locks.now row.items) rows.old }
@@ -73,7 +72,7 @@ pub(crate) fn work_rows<R: Threads + Wait + Sync, F: PrimeField + Send + Sync, G
         return;
     }
     thread::for_each_mut(
-        rt,
+        crew.rt,
         rows,
         threads,
         &|place: usize, row: &mut Vec<WorkSeat<SharedBlock<F>>>|
@@ -81,20 +80,18 @@ pub(crate) fn work_rows<R: Threads + Wait + Sync, F: PrimeField + Send + Sync, G
             ensures { IsRowOf locks.entry.now row.exit.now.items }
         {
             let worker = place as u32 + 1;
-            work_row(rt, alloc, locks, course, row.as_mut_slice(), worker, gate)
+            work_row(crew, locks, course, row.as_mut_slice(), worker)
         },
     );
 }
 
 /// What one worker does. It stops where memory runs out.
 fn work_row<R: Wait, F: PrimeField + Send, G: Gate>(
-    rt: &R,
-    alloc: Global,
+    crew: &Crew<R, G>,
     locks: &[Versioned<SharedBlock<F>>],
     course: &Course,
     seats: &mut [WorkSeat<SharedBlock<F>>],
     worker: u32,
-    gate: &G,
 )
     requires { IsRowOf locks.now seats.old }
     ensures { IsRowOf locks.now seats.new }
@@ -103,7 +100,7 @@ fn work_row<R: Wait, F: PrimeField + Send, G: Gate>(
         let Some(place) = next_place(&course.order, &course.begun) else {
             break;
         };
-        if !work_at(rt, alloc, locks, seats, place, worker, gate) {
+        if !work_at(crew, locks, seats, place, worker) {
             return;
         }
         course.see_zero(place);
@@ -112,7 +109,7 @@ fn work_row<R: Wait, F: PrimeField + Send, G: Gate>(
         if course.is_zero(place) {
             continue;
         }
-        if !work_at(rt, alloc, locks, seats, place, worker, gate) {
+        if !work_at(crew, locks, seats, place, worker) {
             return;
         }
         course.see_zero(place);
@@ -131,13 +128,11 @@ pub(crate) fn next_number(begun: &AtomicU64) -> Option<usize> {
 
 /// Works at one block until it is zero: whether there was memory enough.
 fn work_at<R: Wait, F: PrimeField + Send, G: Gate>(
-    rt: &R,
-    alloc: Global,
+    crew: &Crew<R, G>,
     locks: &[Versioned<SharedBlock<F>>],
     seats: &mut [WorkSeat<SharedBlock<F>>],
     place: usize,
     worker: u32,
-    gate: &G,
 ) -> bool
     requires { IsRowOf locks.now seats.old }
     ensures { IsRowOf locks.now seats.new }
@@ -145,5 +140,13 @@ fn work_at<R: Wait, F: PrimeField + Send, G: Gate>(
     if place >= locks.len() || place >= seats.len() {
         return true;
     }
-    work(rt, alloc, &locks[place], &mut seats[place], worker, gate).is_ok()
+    work(
+        crew.rt,
+        crew.alloc,
+        &locks[place],
+        &mut seats[place],
+        worker,
+        crew.gate,
+    )
+    .is_ok()
 }

@@ -9,12 +9,14 @@ ghost use Rattle.worker_pool.specs.Rows.{AreSeated};
 ghost use Rattle.worker_pool.specs.Slots.{AreDoneSlots, AreFrom};
 
 use crate::building::{blocks_at, build_one};
-use crate::done_slots::{DoneSlots, in_order, no_blocks, put};
+use crate::crew::Crew;
+use crate::done_slots::{DoneSlots, in_order, put};
 use crate::finished::{Finished, finished_one};
 use crate::gate::Gate;
 use crate::rows::{Pool, opened, take_last};
 use crate::sharing::{Course, work_rows};
 use crate::sizes::block_sizes;
+use crate::slots::empty_slots;
 use circle_smoothing::StateKinds;
 use cube_signs::Cube;
 use kh_types::NoMemory;
@@ -29,7 +31,6 @@ use std::thread::Threads;
 const WAVE: u64 = 1 << 21;
 
 /// The blocks at some quantum degrees, cancelled to zero by the caller alone, one after another.
-#[tactic(auto, using(crate::proofs::DoneLemmas::blocks_more))]
 pub(crate) fn finished_alone<F: PrimeField>(
     alloc: Global,
     cube: &Cube,
@@ -38,6 +39,7 @@ pub(crate) fn finished_alone<F: PrimeField>(
     requires { AreDegreesOf cube.now degrees.now }
     ensures blocks { IfOk result (λ done. AreBlocksAt cube.now degrees.now done.blocks.items) }
     ensures done { IfOk result (λ done. AreDone F.P done.blocks.items done.committed.items) }
+    ensures alone { IfOk result (λ done. All (λ count. count ≡ 0) done.committed.items) }
 {
     let mut done = Finished::new(alloc, degrees.len())?;
     'places: for k in 0..degrees.len() {
@@ -54,24 +56,22 @@ pub(crate) fn finished_in_waves<
     F: PrimeField + Send + Sync,
     G: Gate + Sync,
 >(
-    rt: &R,
-    alloc: Global,
+    crew: &Crew<R, G>,
     cube: &Cube,
     degrees: &[i16],
     kinds: &StateKinds,
-    workers: u32,
-    gate: &G,
 ) -> Result<Finished<F>, NoMemory>
     requires degrees { AreDegreesOf cube.now degrees.now }
-    requires workers { workers ≤ WORKERS }
+    requires workers { crew.now.workers ≤ WORKERS }
     ensures blocks { IfOk result (λ done. AreBlocksAt cube.now degrees.now done.blocks.items) }
     ensures done { IfOk result (λ done. AreDone F.P done.blocks.items done.committed.items) }
 {
+    let alloc = crew.alloc;
     let waves = waves_of(alloc, &block_sizes(alloc, kinds, degrees)?)?;
-    let mut slots = no_blocks(alloc, degrees.len())?;
+    let mut slots = empty_slots(alloc, degrees.len())?;
     'waves: for wave in &waves {
         let chosen = degrees_at(alloc, cube, degrees, &wave.places)?;
-        add_wave(rt, alloc, &mut slots, cube, degrees, &chosen, workers, gate)?;
+        add_wave(crew, &mut slots, cube, degrees, &chosen)?;
     }
     in_order(alloc, cube, degrees, slots)
 }
@@ -165,29 +165,27 @@ fn push_degree(
 /// Builds the blocks at the chosen ones of some quantum degrees, has workers cancel them, and puts
 /// each into the slot of its degree.
 fn add_wave<R: Threads + Wait + Sync, F: PrimeField + Send + Sync, G: Gate + Sync>(
-    rt: &R,
-    alloc: Global,
+    crew: &Crew<R, G>,
     slots: &mut DoneSlots<F>,
     cube: &Cube,
     degrees: &[i16],
     chosen: &[i16],
-    workers: u32,
-    gate: &G,
 ) -> Result<(), NoMemory>
     requires chosen { AreDegreesOf cube.now chosen.now }
-    requires workers { workers ≤ WORKERS }
+    requires workers { crew.now.workers ≤ WORKERS }
     requires slots { AreDoneSlots F.P cube.now degrees.now slots.old.items }
     ensures { OnOk result (AreDoneSlots F.P cube.now degrees.now slots.new.items) }
 {
-    let blocks = blocks_at(rt, alloc, cube, chosen, workers as usize)?;
+    let (alloc, workers) = (crew.alloc, crew.workers as usize);
+    let blocks = blocks_at(crew.rt, alloc, cube, chosen, workers)?;
     let course = Course::new(alloc, largest_block_first(alloc, &blocks)?)?;
-    let count = (workers as usize).min(blocks.len());
+    let count = workers.min(blocks.len());
     let Pool {
         locks,
         kept,
         mut rows,
     } = opened(alloc, blocks, count)?;
-    work_rows(rt, alloc, &locks, &course, rows.as_mut_slice(), gate);
+    work_rows(crew, &locks, &course, rows.as_mut_slice());
     add_locked(alloc, slots, cube, degrees, Pool { locks, kept, rows })
 }
 

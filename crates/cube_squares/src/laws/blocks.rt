@@ -1,4 +1,5 @@
-//! The blocks of the cube: they have all generators and the differentials between them, and are complexes.
+//! The blocks of the cube: they have all generators and the differentials between them, and are
+//! complexes.
 
 ghost use Rattle.std.specs.Prelude.{◌≡◌, ℕ, ◌<◌, ℤ, map, true, IsTrue};
 ghost use Rattle.kh_types.specs.Acceptance.{accepted};

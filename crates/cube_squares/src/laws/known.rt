@@ -1,4 +1,5 @@
-//! Squares of known diagrams, and a code without a checkerboard whose differential does not square to zero.
+//! Squares of known diagrams, and a code without a checkerboard whose differential does not square
+//! to zero.
 
 ghost use Rattle.std.specs.Prelude.{◌≡◌, Some, map, pos, neg_ℤ, [], ◌∷◌};
 ghost use Rattle.kh_types.specs.Acceptance.{first_fault};
@@ -11,8 +12,9 @@ ghost use Rattle.kh_types.specs.declared.fault.CodeFault.TheVariants.{Checkerboa
 ghost use Rattle.cube_squares.specs.VirtualCodes.{changed_virtual_trefoil};
 
 /// All kinds of squares occur, by the numbers of circles without a 1-smoothing, with each of the
-/// two, and with both: two curls merge circles in either order; the crossings of the Hopf link merge
-/// first and split second; and those of a circle that lies over another split first and merge second.
+/// two, and with both: two curls merge circles in either order; the crossings of the Hopf link
+/// merge first and split second; and those of a circle that lies over another split first and merge
+/// second.
 pub fn known_squares()
     ensures same { map (circle_count two_curls) (states two_curls) ≡ 4 ∷ 3 ∷ 3 ∷ 2 ∷ [] }
     ensures merge_first { map (circle_count hopf_link) (states hopf_link) ≡ 2 ∷ 1 ∷ 1 ∷ 2 ∷ [] }

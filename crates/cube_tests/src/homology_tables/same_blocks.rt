@@ -98,7 +98,7 @@ fn blocks_are_those_of_the_plain_cube(rt: HostRuntime) -> Result<(), Fail> {
     Ok(())
 }
 
-// Each block is the plain cube's, and together they have all generators.
+/// Each block is the plain cube's, and together they have all generators.
 fn has_plain_blocks<F: PrimeField>(
     rt: &impl Abort,
     alloc: Global,
@@ -122,7 +122,7 @@ fn has_plain_blocks<F: PrimeField>(
     Ok(())
 }
 
-// A block has the degrees of the plain cube, and in each the same. The number of its places.
+/// A block has the degrees of the plain cube, and in each the same. The number of its places.
 fn same_places<F: PrimeField>(rt: &impl Abort, alloc: Global, pair: Pair<F>) -> Result<u64, Fail> {
     let (low, high) = (pair.block.low(), pair.block.high());
     assert!(rt; pair.block.places(low) > 0 && pair.block.places(high) > 0);
@@ -134,8 +134,8 @@ fn same_places<F: PrimeField>(rt: &impl Abort, alloc: Global, pair: Pair<F>) -> 
     Ok(found)
 }
 
-// A homological degree has the plain cube's generators, in order, and the differential out of it
-// the plain cube's entries.
+/// A homological degree has the plain cube's generators, in order, and the differential out of it
+/// the plain cube's entries.
 fn same_degree<F: PrimeField>(
     rt: &impl Abort,
     alloc: Global,
@@ -159,7 +159,7 @@ fn same_degree<F: PrimeField>(
     Ok(())
 }
 
-// The generator at a place, if the block has it.
+/// The generator at a place, if the block has it.
 fn name_at<F: PrimeField>(block: &Complex<F>, i: i16, place: u32) -> Option<Generator> {
     if block.low() <= i && i <= block.high() && place < block.places(i) {
         return Some(block.name(i, place));
@@ -167,7 +167,7 @@ fn name_at<F: PrimeField>(block: &Complex<F>, i: i16, place: u32) -> Option<Gene
     None
 }
 
-// The generator at a place of a list of the plain cube, if there is one.
+/// The generator at a place of a list of the plain cube, if there is one.
 fn plain_name(named: &[Placed], place: u32) -> Option<Generator> {
     named.get(place as usize).map(|placed| Generator {
         state: placed.generator.state,
@@ -175,7 +175,7 @@ fn plain_name(named: &[Placed], place: u32) -> Option<Generator> {
     })
 }
 
-// The value of the entry at a row and a column, if the block has it.
+/// The value of the entry at a row and a column, if the block has it.
 fn value_at<F: PrimeField>(block: &Complex<F>, i: i16, row: u32, column: u32) -> Option<u8>
     requires { i ≤ℤ pos 5 }
 {

@@ -8,8 +8,8 @@ use worker_pool::Gate;
 const TRIES: u64 = 1_000_000_000;
 
 /// Holds the workers whose first calls come first, so many of them, in these calls, until the
-/// others have called so often. It counts the calls of the held workers and those of the others, and how
-/// often a held worker gave up.
+/// others have called so often. It counts the calls of the held workers and those of the others,
+/// and how often a held worker gave up.
 #[derive(Drop)]
 pub struct HoldFirst {
     pub workers: u64,

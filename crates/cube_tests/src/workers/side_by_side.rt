@@ -14,8 +14,8 @@ use std::test::Fail;
 use std::thread::Threads;
 use worker_pool::cancel_all;
 
-/// The other worker does all the turns that there are, also at the blocks of held workers. Their own
-/// turns come too late, but for the last of all, which one of them may take.
+/// The other worker does all the turns that there are, also at the blocks of held workers. Their
+/// own turns come too late, but for the last of all, which one of them may take.
 #[test]
 fn a_worker_goes_on_while_others_are_held(rt: HostRuntime) -> Result<(), Fail> {
     for _ in 0..20u32 {

@@ -7,8 +7,8 @@ ghost use Rattle.kh_types.specs.WorkedCodes.{one_loop, trefoil, two_curls};
 ghost use Rattle.face_walk.specs.FaceNumbers.{face_length, left_face, right_face, piece_number};
 ghost use Rattle.face_walk.specs.Numbered.{face_numbers};
 
-/// The left-handed trefoil has five faces, two of which are triangles. One triangle lies at the left of the arcs 1, 3 and 5, the
-/// other at the right of 2, 4 and 6.
+/// The left-handed trefoil has five faces, two of which are triangles. One triangle lies at the
+/// left of the arcs 1, 3 and 5, the other at the right of 2, 4 and 6.
 pub fn faces_of_the_trefoil()
     ensures numbers { face_numbers trefoil.crossings
         ≡ 0 ∷ 1 ∷ 2 ∷ 3 ∷ 4 ∷ 1 ∷ 0 ∷ 3 ∷ 2 ∷ 1 ∷ 4 ∷ 3 ∷ [] }
@@ -21,7 +21,8 @@ pub fn faces_of_the_trefoil()
     ensures pieces { map (piece_number trefoil.crossings) (range_with_len 1 3) ≡ 0 ∷ 0 ∷ 0 ∷ [] }
 {}
 
-/// Two curls that lie apart are two pieces of three faces each: inside the curl, round both loops of the curve, and outside.
+/// Two curls that lie apart are two pieces of three faces each: inside the curl, round both loops
+/// of the curve, and outside.
 pub fn faces_of_two_curls()
     ensures faces { face_count two_curls.crossings ≡ 6 }
     ensures numbers { face_numbers two_curls.crossings

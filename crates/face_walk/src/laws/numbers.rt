@@ -10,8 +10,9 @@ ghost use Rattle.kh_types.specs.Acceptance.{accepted};
 ghost use Rattle.face_walk.specs.ClassNumbers.{least_numbers, class_number};
 ghost use Rattle.face_walk.specs.FaceNumbers.{face_number, face_length};
 
-/// Where classes are named by their least numbers, the least number of a class stands in the list of these at the number of the
-/// class. So two numbers are in one class exactly where their classes have one number.
+/// Where classes are named by their least numbers, the least number of a class stands in the list
+/// of these at the number of the class. So two numbers are in one class exactly where their classes
+/// have one number.
 pub fn class_numbers_are_places()
     ensures place { (classes : List ℕ) (x : ℕ) → IsNamed (length classes) classes
         → x < length classes
@@ -22,9 +23,9 @@ pub fn class_numbers_are_places()
         ↔ (slice_index classes x ≡ slice_index classes y) }
 {}
 
-/// In an accepted code the classes of darts that are its faces are named by their least darts, and those of crossings that are its
-/// pieces by their least crossings. So two darts have one number exactly where they are in one face, and two crossings where they are
-/// in one piece.
+/// In an accepted code the classes of darts that are its faces are named by their least darts, and
+/// those of crossings that are its pieces by their least crossings. So two darts have one number
+/// exactly where they are in one face, and two crossings where they are in one piece.
 pub fn faces_and_pieces_are_named_by_their_least()
     ensures faces { (code : Code) → IsTrue (accepted code)
         → IsNamed (dart_count code.crossings) (faces_of code.crossings) }

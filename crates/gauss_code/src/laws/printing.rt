@@ -8,8 +8,8 @@ ghost use Rattle.gauss_code.specs.Reading.{IsGaussReading};
 
 use kh_types::{CROSSINGS, LOOPS};
 
-/// The text of an accepted code within the limits reads as the code. That a diagram's crossings have
-/// four slots each is part of their type.
+/// The text of an accepted code within the limits reads as the code. That a diagram's crossings
+/// have four slots each is part of their type.
 pub fn printed_codes_are_read_back()
     ensures { (code : Code) → IsTrue (accepted code)
         → All (λ slots. length slots ≡ 4) code.crossings

@@ -7,7 +7,7 @@ use std::io::{ErrorKind, Read, Write};
 use std::process::Abort;
 use std::test::Fail;
 
-// What a call of a reader or a writer comes to: it moves at most so many bytes, or fails.
+/// What a call of a reader or a writer comes to: it moves at most so many bytes, or fails.
 #[derive(Clone, Copy)]
 enum Turn {
     Moves(usize),
@@ -16,7 +16,7 @@ enum Turn {
 
 const MOVES_ALL: Turn = Turn::Moves(usize::MAX);
 
-// Takes the next of the turns. Behind the last, all is moved.
+/// Takes the next of the turns. Behind the last, all is moved.
 fn next_of(turns: &mut &[Turn]) -> Turn {
     match turns.split_first() {
         Some((turn, rest)) => {
@@ -27,7 +27,7 @@ fn next_of(turns: &mut &[Turn]) -> Turn {
     }
 }
 
-// A reader of std whose reads come to its turns.
+/// A reader of std whose reads come to its turns.
 #[derive(Drop)]
 struct Reader<'a> {
     turns: &'a [Turn],
@@ -46,7 +46,7 @@ impl Read for Reader<'_> {
     }
 }
 
-// A writer of std whose writes and flushes come to its turns, in one row.
+/// A writer of std whose writes and flushes come to its turns, in one row.
 #[derive(Drop)]
 struct Writer<'a> {
     turns: &'a [Turn],
@@ -120,7 +120,7 @@ const KINDS: [ErrorKind; 42] = [
 
 const TEXT: &[u8] = b"field 2";
 
-// The reads of a source come to `wanted`, one by one, and together they give the text.
+/// The reads of a source come to `wanted`, one by one, and together they give the text.
 fn reads(rt: &impl Abort, turns: &[Turn], wanted: &[Result<usize, Failed>]) {
     let mut source = StdSource::new(Reader { turns, bytes: TEXT });
     let mut buffer = [0; 16];
@@ -139,7 +139,7 @@ fn reads(rt: &impl Abort, turns: &[Turn], wanted: &[Result<usize, Failed>]) {
     assert_eq!(rt; at, TEXT.len());
 }
 
-// The writes of the text to a sink come to `wanted`, one by one, and leave these bytes.
+/// The writes of the text to a sink come to `wanted`, one by one, and leave these bytes.
 fn writes(
     rt: &(impl Abort + AllocGlobal),
     turns: &[Turn],

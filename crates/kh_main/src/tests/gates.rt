@@ -11,7 +11,8 @@ use worker_pool::Gate;
 /// How often workers look, all together, whether the others have come.
 const TRIES: u64 = 100_000_000;
 
-/// Counts the calls of the workers 1, 2 and all others, and holds each until so many workers have called.
+/// Counts the calls of the workers 1, 2 and all others, and holds each until so many workers have
+/// called.
 #[derive(Drop)]
 struct Meeting {
     workers: u64,
@@ -32,7 +33,7 @@ impl Meeting {
         }
     }
 
-    // How many of the workers have called.
+    /// How many of the workers have called.
     fn come(&self) -> u64 {
         [&self.first, &self.second, &self.others]
             .iter()
@@ -58,7 +59,7 @@ impl Gate for Meeting {
     }
 }
 
-// As many workers turn as the words say, and one worker on its own asks no gate.
+/// As many workers turn as the words say, and one worker on its own asks no gate.
 #[test]
 fn run_has_as_many_workers_as_the_words_say(rt: HostRuntime) -> Result<(), Fail> {
     for (word, workers) in [("1", 0), ("2", 2), ("3", 3)] {

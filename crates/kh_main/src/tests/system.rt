@@ -11,7 +11,8 @@ use std::io::{BufRead, ErrorKind, Lines, Read};
 use std::process::Abort;
 use std::rt::Env;
 
-/// A command line with the program's name, the bytes of an input, and where they go that are written.
+/// A command line with the program's name, the bytes of an input, and where they go that are
+/// written.
 #[derive(Drop)]
 pub struct System<'a> {
     alloc: Global,
@@ -21,7 +22,8 @@ pub struct System<'a> {
     sink: RefCell<MemSink>,
 }
 
-/// The input: each read gives at most seven bytes, and where it is broken the read behind the last byte fails.
+/// The input: each read gives at most seven bytes, and where it is broken the read behind the last
+/// byte fails.
 #[derive(Drop)]
 pub struct Bytes<'a> {
     left: &'a [u8],
@@ -29,7 +31,8 @@ pub struct Bytes<'a> {
 }
 
 impl<'a> System<'a> {
-    /// A system that reads these bytes and has room for this many, of which a write takes at most five.
+    /// A system that reads these bytes and has room for this many, of which a write takes at most
+    /// five.
     pub(crate) fn new(
         alloc: Global,
         line: &'a [&'a [u8]],

@@ -15,7 +15,8 @@ use crate::fault::CodeFault;
 use crate::limits::CROSSINGS;
 use arrayvec::ArrayVec;
 
-/// The equation of an arc: the bits of the crossings at its two ends and the sum of its slots there are odd together.
+/// The equation of an arc: the bits of the crossings at its two ends and the sum of its slots there
+/// are odd together.
 #[derive(Clone, Copy, Default)]
 pub struct Equation {
     crossing: u8,
@@ -23,9 +24,10 @@ pub struct Equation {
     slots: u8,
 }
 
-/// The least arc up to which the equations have no solution. Each crossing has a colour, its bit, and the crossings that the
-/// equations so far tie to each other are in one class, in which each colour follows from any other. An equation within a class is
-/// solved by its colours or by none; one between two classes is solved once the colours of one of them are all changed.
+/// The least arc up to which the equations have no solution. Each crossing has a colour, its bit,
+/// and the crossings that the equations so far tie to each other are in one class, in which each
+/// colour follows from any other. An equation within a class is solved by its colours or by none;
+/// one between two classes is solved once the colours of one of them are all changed.
 pub fn checkerboard_fault(crossings: &[Crossing]) -> Option<CodeFault>
     requires { length crossings.now ≤ CROSSINGS }
     ensures { result ≡ checkerboard_fault crossings.now }
@@ -92,7 +94,8 @@ fn colour_at(colours: &[u8], place: u8) -> u16
     u16::from(colours.get(usize::from(place)).copied().unwrap_or(0))
 }
 
-/// Whether an equation contradicts those before it: its crossings are in one class, and the colours do not solve it.
+/// Whether an equation contradicts those before it: its crossings are in one class, and the colours
+/// do not solve it.
 fn contradicts(classes: &[u8], colours: &[u8], equation: Equation) -> bool
     ensures { result ≡ contradicts classes.now colours.now equation }
 {
@@ -102,7 +105,8 @@ fn contradicts(classes: &[u8], colours: &[u8], equation: Equation) -> bool
     !is_coloured && is_tied
 }
 
-/// The colours after an equation: where they do not solve it, the class of its other crossing changes its colours.
+/// The colours after an equation: where they do not solve it, the class of its other crossing
+/// changes its colours.
 #[tactic(auto, using(crate::proofs::Ranges::range_steps))]
 fn colours_after(classes: &[u8], colours: &[u8], equation: Equation) -> ArrayVec<u8, CROSSINGS>
     requires { length colours.now ≤ CROSSINGS }

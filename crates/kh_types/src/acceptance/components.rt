@@ -10,8 +10,8 @@ use crate::code::Crossing;
 use crate::limits::{ARCS, CROSSINGS};
 use arrayvec::ArrayVec;
 
-/// The component of each number up to 2n, by its least arc; the number 0 is no arc and stands alone.
-/// Source: Knot Atlas, "Planar Diagrams".
+/// The component of each number up to 2n, by its least arc; the number 0 is no arc and stands
+/// alone. Source: Knot Atlas, "Planar Diagrams".
 pub fn components_of(crossings: &[Crossing]) -> ArrayVec<u8, CLASS_MEMBERS>
     requires { length crossings.now ≤ CROSSINGS }
     ensures { result.items ≡ components_of crossings.now }

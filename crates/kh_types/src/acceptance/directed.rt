@@ -17,7 +17,8 @@ use crate::dart::{Dart, dart_at};
 use crate::fault::CodeFault;
 use crate::limits::{COMPONENTS, CROSSINGS};
 
-/// The first rule that a code breaks, of those that make it a directed code, given the component of each arc.
+/// The first rule that a code breaks, of those that make it a directed code, given the component of
+/// each arc.
 pub fn direction_fault(crossings: &[Crossing], components: &[u8]) -> Option<CodeFault>
     requires crossings { length crossings.now ≤ CROSSINGS }
     requires components { components.now ≡ components_of crossings.now }
@@ -150,7 +151,8 @@ fn over_at(crossings: &[Crossing], components: &[u8], crossing: u8) -> Option<Co
     )
 }
 
-/// The first crossing that is the second of two under passes in one direction on a component of two arcs.
+/// The first crossing that is the second of two under passes in one direction on a component of two
+/// arcs.
 fn two_arc_fault(crossings: &[Crossing], components: &[u8]) -> Option<CodeFault>
     requires { length crossings.now ≤ CROSSINGS }
     ensures { result
@@ -161,7 +163,8 @@ fn two_arc_fault(crossings: &[Crossing], components: &[u8]) -> Option<CodeFault>
     })
 }
 
-/// The fault of one under pass on a component of two arcs, where an earlier one comes in on the same arc.
+/// The fault of one under pass on a component of two arcs, where an earlier one comes in on the
+/// same arc.
 fn two_arc_at(crossings: &[Crossing], components: &[u8], crossing: u8) -> Option<CodeFault>
     ensures { result ≡ two_arc_at crossings.now components.now crossing }
 {

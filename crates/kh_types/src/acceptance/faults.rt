@@ -15,7 +15,8 @@ pub fn fault_if(holds: bool, fault: CodeFault) -> Option<CodeFault>
     if holds { Some(fault) } else { None }
 }
 
-/// The first fault that one of some numbers has, in order: what `find_map` answers, in the words of the definitions.
+/// The first fault that one of some numbers has, in order: what `find_map` answers, in the words of
+/// the definitions.
 pub fn first_of<F: Fn(u8) -> Option<CodeFault>>(
     numbers: Range<u8>,
     fault_at: F,

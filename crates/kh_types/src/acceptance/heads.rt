@@ -37,7 +37,8 @@ pub fn tail_of(crossings: &[Crossing], arc: u8) -> Dart
     })
 }
 
-/// Whether a dart is where its arc enters a crossing: at slot 0, and at the slot where the over pass begins.
+/// Whether a dart is where its arc enters a crossing: at slot 0, and at the slot where the over
+/// pass begins.
 fn is_head(crossings: &[Crossing], dart: Dart) -> bool
     requires { length crossings.now ≤ CROSSINGS }
     ensures { result ≡ is_head crossings.now dart }

@@ -88,7 +88,8 @@ fn is_positive_by_next(crossings: &[Crossing], components: &[u8], crossing: u8) 
     u16::from(arc_at(crossings, crossing, 1)) == next_in(components, arc_at(crossings, crossing, 3))
 }
 
-/// In a component of two arcs the over pass goes against an under pass, or else by the order of the arcs.
+/// In a component of two arcs the over pass goes against an under pass, or else by the order of the
+/// arcs.
 fn is_positive_of_two(crossings: &[Crossing], components: &[u8], crossing: u8) -> bool
     requires { length crossings.now ≤ CROSSINGS }
     ensures { result ≡ is_positive_of_two crossings.now components.now crossing }
@@ -103,7 +104,8 @@ fn is_positive_of_two(crossings: &[Crossing], components: &[u8], crossing: u8) -
     }
 }
 
-/// At the first of two over passes the component goes from the smaller to the greater arc, and back at the other.
+/// At the first of two over passes the component goes from the smaller to the greater arc, and back
+/// at the other.
 fn is_positive_by_order(crossings: &[Crossing], crossing: u8, is_first: bool) -> bool
     ensures { result ≡ is_positive_by_order (slots_of crossings.now crossing) is_first }
 {

@@ -22,9 +22,9 @@ pub fn known_codes_are_accepted()
     ensures many_loops { accepted (record empty_link { loops = 28 }) ≡ true }
 {}
 
-/// Counts, signs, heads and tails of known codes. A circle of two arcs that is over at both its crossings goes from the smaller
-/// to the greater at the first listed of them, and back at the other: in either order of the crossings. The over pass of a curl
-/// goes against its under pass.
+/// Counts, signs, heads and tails of known codes. A circle of two arcs that is over at both its
+/// crossings goes from the smaller to the greater at the first listed of them, and back at the
+/// other: in either order of the crossings. The over pass of a curl goes against its under pass.
 pub fn known_codes_have_these_parts()
     ensures trefoil_components { component_count trefoil.crossings ≡ 1 }
     ensures trefoil_faces { face_count trefoil.crossings ≡ 5 }
@@ -65,12 +65,14 @@ pub fn codes_break_these_rules_first()
         ≡ Some (TwoArc 2) }
     ensures components { first_fault (record empty_link { loops = 29 }) ≡ Some (Components 29) }
     ensures component_counts { first_fault (record curl { loops = 28 }) ≡ Some (Components 29) }
-    // Of the pairs of under passes at the crossings 1 and 4, and 2 and 3, the one whose second comes first.
+    // Of the pairs of under passes at the crossings 1 and 4, and 2 and 3, the one whose second
+    // comes first.
     ensures least_second { first_fault
         (without_loops (slots_with 1 5 2 6 ∷ slots_with 3 7 4 8 ∷ slots_with 3 8 4 7
         ∷ slots_with 1 5 2 6 ∷ []))
         ≡ Some (TwoArc 3) }
-    // A component of one arc has itself as its next, so an under pass from it to it breaks no rule of passes.
+    // A component of one arc has itself as its next, so an under pass from it to it breaks no rule
+    // of passes.
     ensures one_arc { first_fault (without_loops (slots_with 1 2 1 2 ∷ [])) ≡ Some (Checkerboard 1) }
     // Two components are no intervals: the least arc of both.
     ensures least_interval { first_fault (without_loops (slots_with 1 2 3 4 ∷ slots_with 3 4 1 2 ∷ []))
@@ -82,7 +84,8 @@ pub fn codes_break_these_rules_first()
     ensures torus { first_fault turned_trefoil ≡ Some (Genus 3 5) }
 {}
 
-/// Codes that break several rules, with the first of them and others that come later: the rules have an order.
+/// Codes that break several rules, with the first of them and others that come later: the rules
+/// have an order.
 pub fn earlier_rules_come_first()
     ensures under_before_over { first_fault (without_loops (slots_with 4 1 2 3 ∷ slots_with 3 1 2 4 ∷ []))
         ≡ Some (Under 1) }
@@ -92,7 +95,8 @@ pub fn earlier_rules_come_first()
         ≡ Some (Over 1) }
     ensures two_arc_later { two_arc_fault
         (slots_with 2 6 1 4 ∷ slots_with 4 5 5 3 ∷ slots_with 2 3 1 6 ∷ []) ≡ Some (TwoArc 3) }
-    // The under pass that is wrong is that of the last crossing, and the other two rules are broken before it.
+    // The under pass that is wrong is that of the last crossing, and the other two rules are broken
+    // before it.
     ensures under_before_both { first_fault
         (without_loops (slots_with 2 5 1 6 ∷ slots_with 2 4 1 6 ∷ slots_with 5 3 3 4 ∷ []))
         ≡ Some (Under 3) }

@@ -1,4 +1,5 @@
-//! What makes plain data a complex, worked blocks, and legal histories that leave the dimensions of the trefoil's table.
+//! What makes plain data a complex, worked blocks, and legal histories that leave the dimensions of
+//! the trefoil's table.
 
 ghost use Rattle.std.specs.Prelude.{◌≡◌, ℕ, ◌<◌, ◌↔◌, IsTrue, ℤ, pos, neg_ℤ, [], ◌∷◌, length, map, slice_index_or, Bool, true, false};
 ghost use Rattle.kh_types.specs.WorkedCodes.{hopf_link, trefoil, figure_eight};
@@ -9,8 +10,9 @@ ghost use Rattle.kh_types.specs.Complex.{Complex, IsComplex, Pivot, alive_count,
 ghost use Rattle.kh_types.specs.ComplexTests.{is_complex};
 ghost use Rattle.kh_types.specs.History.{block, IsLegal, replay};
 
-/// These blocks of the cube are complexes, and so is what a cancellation and a history leave of two of them. Data over three
-/// elements is no complex over five, where a product is not 0, nor over two, where an entry is too large.
+/// These blocks of the cube are complexes, and so is what a cancellation and a history leave of two
+/// of them. Data over three elements is no complex over five, where a product is not 0, nor over
+/// two, where an entry is too large.
 pub fn known_blocks_are_complexes()
     ensures hopf { IsComplex 3 hopf_block }
     ensures first_over_two { IsComplex 2 (block 2 trefoil (neg_ℤ (pos 5))) }
@@ -25,9 +27,10 @@ pub fn known_blocks_are_complexes()
     ensures entry { IsComplex 2 hopf_block → ⊥ }
 {}
 
-/// Legal histories of the trefoil's block at -7 leave a zero complex, with as many places alive as the table has dimensions,
-/// which the block has before anything is cancelled: over two elements two cancellations do, over five it takes three, and nothing
-/// is left alive. A history with a pivot at an entry 0 is not legal.
+/// Legal histories of the trefoil's block at -7 leave a zero complex, with as many places alive as
+/// the table has dimensions, which the block has before anything is cancelled: over two elements
+/// two cancellations do, over five it takes three, and nothing is left alive. A history with a
+/// pivot at an entry 0 is not legal.
 pub fn known_histories_leave_the_dimensions()
     ensures legal_over_two { IsLegal 2 (trefoil_block 2) history_over_two }
     ensures zero_over_two { is_zero (replay 2 (trefoil_block 2) history_over_two) ≡ true }
@@ -52,10 +55,11 @@ pub fn known_histories_leave_the_dimensions()
         → ⊥ }
 {}
 
-/// A cancellation reaches both neighbouring matrices: in the block of the Hopf link at -4, with 2, 2 and 1 places, a pivot of the
-/// first matrix clears a column of the second, and one of the second a row of the first. Over five elements the inverse of 2 is 3:
-/// the update uses the inverse of the pivot and not the pivot. In a differential over three elements both signs occur: from the
-/// states with one 1 to those with two.
+/// A cancellation reaches both neighbouring matrices: in the block of the Hopf link at -4, with 2,
+/// 2 and 1 places, a pivot of the first matrix clears a column of the second, and one of the second
+/// a row of the first. Over five elements the inverse of 2 is 3: the update uses the inverse of the
+/// pivot and not the pivot. In a differential over three elements both signs occur: from the states
+/// with one 1 to those with two.
 pub fn known_matrices()
     ensures before { (degree_of hopf_block (neg_ℤ (pos 1))).matrix ≡ (2 ∷ 1 ∷ []) ∷ [] }
     ensures second { (degree_of (cancel 3 hopf_block (pivot_at (neg_ℤ (pos 2)) 0 0))
@@ -68,13 +72,15 @@ pub fn known_matrices()
         ≡ (2 ∷ 1 ∷ 0 ∷ []) ∷ (2 ∷ 0 ∷ 1 ∷ []) ∷ (0 ∷ 2 ∷ 1 ∷ []) ∷ [] }
 {}
 
-/// Plain data is a complex exactly where its test over the degrees, rows and columns that there are holds.
+/// Plain data is a complex exactly where its test over the degrees, rows and columns that there are
+/// holds.
 pub fn complexes_are_tested()
     ensures { (p : ℕ) (complex : Complex) → 0 < p
         → IsTrue (is_complex p complex) ↔ IsComplex p complex }
 {}
 
-/// A cancellation keeps the number of degrees, and in each the size of the matrix, the places, and the dead ones dead.
+/// A cancellation keeps the number of degrees, and in each the size of the matrix, the places, and
+/// the dead ones dead.
 pub fn cancellations_keep_sizes_and_dead_places()
     ensures degrees { (p : ℕ) (complex : Complex) (pivot : Pivot)
         → length (cancel p complex pivot).degrees ≡ length complex.degrees }

@@ -6,9 +6,9 @@ ghost use Rattle.kh_types.specs.Darts.{dart_count, partner_at, HasArcsTwice, Has
 ghost use Rattle.kh_types.specs.Acceptance.{accepted};
 ghost use Rattle.kh_types.specs.Colours.{IsColoured};
 
-/// In an accepted code each slot holds an arc, and each arc stands twice. Where this is so, the darts
-/// are partners in pairs: an arc has two of them, and the partner of one is the other. The same by the
-/// places of darts, none of which is its own partner.
+/// In an accepted code each slot holds an arc, and each arc stands twice. Where this is so, the
+/// darts are partners in pairs: an arc has two of them, and the partner of one is the other. The
+/// same by the places of darts, none of which is its own partner.
 pub fn darts_of_accepted_codes()
     ensures twice { (code : Code) → IsTrue (accepted code) → HasArcsTwice code.crossings }
     ensures pairs { (crossings : List (List ℕ)) → HasArcsTwice crossings

@@ -6,9 +6,10 @@ ghost use Rattle.kh_types.specs.Directions.{is_positive, HasNoSingleArcs, HasEnd
 ghost use Rattle.kh_types.specs.Acceptance.{accepted};
 ghost use Rattle.kh_types.specs.Accepted.{IsDirected};
 
-/// An accepted code is directed, and none of its components has a single arc. Where this is so, each arc has one head and one
-/// tail, which are its two darts; the under pass of a crossing goes from slot 0 to slot 2, and its over pass from slot 3 to slot
-/// 1 where it is positive, from slot 1 to slot 3 where it is not, each from an arc to the next.
+/// An accepted code is directed, and none of its components has a single arc. Where this is so,
+/// each arc has one head and one tail, which are its two darts; the under pass of a crossing goes
+/// from slot 0 to slot 2, and its over pass from slot 3 to slot 1 where it is positive, from slot 1
+/// to slot 3 where it is not, each from an arc to the next.
 pub fn heads_and_tails_of_accepted_codes()
     ensures directed { (code : Code) → IsTrue (accepted code)
         → IsDirected code.crossings × HasNoSingleArcs code.crossings }

@@ -34,8 +34,9 @@ pub fn circles_are_bounded()
         → length code.crossings ≤ CROSSINGS → circle_count code state ≤ CIRCLES }
 {}
 
-/// A directed code in which no component has a single arc has at most as many components as crossings; so the rule on components
-/// and loops is never the first that a code breaks which has no more loops than a text.
+/// A directed code in which no component has a single arc has at most as many components as
+/// crossings; so the rule on components and loops is never the first that a code breaks which has
+/// no more loops than a text.
 pub fn components_are_few()
     ensures few { (crossings : List (List ℕ)) → IsDirected crossings → HasNoSingleArcs crossings
         → component_count crossings ≤ length crossings }

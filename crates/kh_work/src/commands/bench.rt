@@ -1,7 +1,8 @@
-//! The command `bench`: the counts, the dimension and the Jones polynomial of the diagram of a number.
+//! The command `bench`: the counts, the dimension and the Jones polynomial of the diagram of a
+//! number.
 
 ghost use Rattle.std.specs.Prelude.{◌≡◌, ◌++◌, IfOk, string_bytes};
-ghost use Rattle.word_line.specs.Values.{AreWorkers, IsFieldSize};
+ghost use Rattle.word_line.specs.Values.{AreWorkers};
 ghost use Rattle.jones_sum.specs.Tables.{total_of};
 ghost use Rattle.kh_work.specs.Bench.{bench_counts, bench_lines, bench_reply};
 ghost use Rattle.kh_work.specs.Drafts.{IsReady, reply_in};
@@ -16,9 +17,11 @@ use circle_smoothing::StateKinds;
 use jones_sum::Table;
 use kh_replies::{Reply, Status, jones_line, reply_made, too_large_number};
 use kh_types::NoMemory;
+use prime_field::FieldSize;
 use std::alloc::Global;
 
-/// A number, how many crossings, loops and generators its diagram has, and the dimension of its homology.
+/// A number, how many crossings, loops and generators its diagram has, and the dimension of its
+/// homology. Source: this project's rule.
 #[derive(Clone, Copy)]
 pub struct BenchCounts {
     /// The number.
@@ -34,14 +37,14 @@ pub struct BenchCounts {
 }
 
 /// The reply to a number, whose homology table is still to be made where a diagram has the number.
+/// Source: this project's rule.
 pub fn draft_of_bench(
     alloc: Global,
-    field: u8,
+    field: FieldSize,
     workers: u32,
     number: u32,
 ) -> Result<Draft, NoMemory>
     requires workers { AreWorkers workers }
-    requires field { IsFieldSize field }
     ensures reply { IfOk result (λ draft. reply_in draft ≡ bench_reply field number) }
     ensures ready { IfOk result IsReady }
 {
@@ -57,7 +60,8 @@ pub fn draft_of_bench(
     }
 }
 
-/// The lines of the counts and of the sum of all dimensions of the homology table, and the Jones line, which is read from the kinds of the diagram's states.
+/// The lines of the counts and of the sum of all dimensions of the homology table, and the Jones
+/// line, which is read from the kinds of the diagram's states. Source: this project's rule.
 pub fn reply_with_dimension(
     alloc: Global,
     number: u32,
@@ -73,7 +77,7 @@ pub fn reply_with_dimension(
     Ok(reply_made(Status::Done, text))
 }
 
-// The counts of a number and its diagram, and a dimension.
+/// The counts of a number and its diagram, and a dimension.
 fn bench_counts(number: u32, kinds: &StateKinds, dimension: u64) -> BenchCounts
     ensures { result ≡ bench_counts number kinds.now dimension }
 {
@@ -87,7 +91,7 @@ fn bench_counts(number: u32, kinds: &StateKinds, dimension: u64) -> BenchCounts
     }
 }
 
-// The lines of some counts.
+/// The lines of some counts.
 fn bench_lines(alloc: Global, counts: BenchCounts) -> Result<String, NoMemory>
     ensures { IfOk result (λ text. string_bytes text ≡ bench_lines counts) }
 {

@@ -8,18 +8,21 @@ ghost use Rattle.kh_lex.specs.Lines.{lines_of};
 ghost use Rattle.cancel_log.specs.Verdicts.{IsLogOf};
 ghost use Rattle.cancel_log.specs.declared.limits.TheConstants.{LOG_BYTES};
 ghost use Rattle.kh_work.specs.Certify.{IsCertifyReply};
-ghost use Rattle.word_line.specs.Values.{IsFieldSize};
 
 use cancel_log::write_log;
 use cube_signs::check_size;
 use kh_replies::{Reply, Status, reply_made, too_many_generators};
 use kh_types::{Diagram, NoMemory};
-use prime_field::{F2, F3, F5, F7};
+use prime_field::{Elements, F2, F3, F5, F7, FieldSize};
 use std::alloc::Global;
 
 /// The reply to a diagram: a log over the field of so many elements, made on the caller's thread.
-pub fn reply_to_certify(alloc: Global, field: u8, diagram: &Diagram) -> Result<Reply, NoMemory>
-    requires field { IsFieldSize field }
+/// Source: this project's rule.
+pub fn reply_to_certify(
+    alloc: Global,
+    field: FieldSize,
+    diagram: &Diagram,
+) -> Result<Reply, NoMemory>
     requires loops { diagram.now.loops ≤ LOOPS }
     ensures { IfOk result (IsCertifyReply field diagram.now) }
 {
@@ -29,19 +32,17 @@ pub fn reply_to_certify(alloc: Global, field: u8, diagram: &Diagram) -> Result<R
     }
 }
 
-// A log over the field of so many elements.
-fn log_over(alloc: Global, field: u8, diagram: &Diagram) -> Result<Vec<u8>, NoMemory>
-    requires field { IsFieldSize field }
+/// A log over the field of so many elements.
+fn log_over(alloc: Global, field: FieldSize, diagram: &Diagram) -> Result<Vec<u8>, NoMemory>
     requires size { generator_count diagram.now ≤ GENERATORS }
     requires loops { diagram.now.loops ≤ LOOPS }
     ensures log { IfOk result (λ text. IsLogOf field diagram.now (lines_of text.items)) }
     ensures few { IfOk result (λ text. length text.items ≤ LOG_BYTES) }
 {
-    match field {
-        2 => write_log::<F2>(alloc, diagram),
-        3 => write_log::<F3>(alloc, diagram),
-        5 => write_log::<F5>(alloc, diagram),
-        7 => write_log::<F7>(alloc, diagram),
-        _ => unreachable!(),
+    match field.elements() {
+        Elements::Two => write_log::<F2>(alloc, diagram),
+        Elements::Three => write_log::<F3>(alloc, diagram),
+        Elements::Five => write_log::<F5>(alloc, diagram),
+        Elements::Seven => write_log::<F7>(alloc, diagram),
     }
 }

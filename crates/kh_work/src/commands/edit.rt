@@ -13,8 +13,8 @@ use pd_code::print_pd;
 use std::alloc::Global;
 use undo_stack::{EditFault, EditLine, Editor, SCRIPT_LINES, ScriptStop, carry_out, read_edit};
 
-/// The reply to a diagram and the text of a script: the diagram after each line that has words, up to
-/// the first that is refused.
+/// The reply to a diagram and the text of a script: the diagram after each line that has words, up
+/// to the first that is refused. Source: this project's rule.
 pub fn reply_to_edit(alloc: Global, diagram: &Diagram, script: &[u8]) -> Result<Reply, NoMemory>
     requires short { length script.now ≤ INPUT_BYTES }
     ensures { IfOk result (λ reply. IsEditReply diagram.now script.now reply) }

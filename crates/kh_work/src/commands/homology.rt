@@ -2,7 +2,7 @@
 
 ghost use Rattle.std.specs.Prelude.{◌≡◌, ◌++◌, IfOk};
 ghost use Rattle.kh_types.specs.Table.{table_text};
-ghost use Rattle.word_line.specs.Values.{AreWorkers, IsFieldSize};
+ghost use Rattle.word_line.specs.Values.{AreWorkers};
 ghost use Rattle.kh_work.specs.Drafts.{IsReady, reply_in};
 ghost use Rattle.kh_work.specs.Homology.{homology_reply};
 ghost use Rattle.kh_replies.specs.Jones.{jones_line};
@@ -15,18 +15,19 @@ use cube_signs::check_kinds;
 use jones_sum::Table;
 use kh_replies::{Reply, Status, jones_line, reply_made, too_many_generators};
 use kh_types::{Diagram, NoMemory};
+use prime_field::FieldSize;
 use std::alloc::Global;
 use table_text::print_table;
 
-/// The reply to a diagram, whose homology table is still to be made where it has few enough generators.
+/// The reply to a diagram, whose homology table is still to be made where it has few enough
+/// generators. Source: Bar-Natan 2002, section 3; the text is this project's rule.
 pub fn draft_of_homology(
     alloc: Global,
-    field: u8,
+    field: FieldSize,
     workers: u32,
     diagram: &Diagram,
 ) -> Result<Draft, NoMemory>
     requires workers { AreWorkers workers }
-    requires field { IsFieldSize field }
     ensures reply { IfOk result (λ draft. reply_in draft ≡ homology_reply field diagram.now) }
     ensures ready { IfOk result IsReady }
 {
@@ -41,7 +42,8 @@ pub fn draft_of_homology(
     }
 }
 
-/// The reply with the text of a homology table of a diagram and the Jones line.
+/// The reply with the text of a homology table of a diagram and the Jones line. Source: this
+/// project's rule.
 pub fn reply_with_table(alloc: Global, kinds: &StateKinds, table: &Table) -> Result<Reply, NoMemory>
     ensures { IfOk result (λ reply. reply
         ≡ reply_of Status.Done (table_text table.now ++ jones_line kinds.now)) }
@@ -49,7 +51,8 @@ pub fn reply_with_table(alloc: Global, kinds: &StateKinds, table: &Table) -> Res
     Ok(reply_made(Status::Done, text_with_table(alloc, kinds, table)?))
 }
 
-/// The text of a table of a diagram, and the Jones line behind it, which is read from the kinds of the diagram's states.
+/// The text of a table of a diagram, and the Jones line behind it, which is read from the kinds of
+/// the diagram's states. Source: this project's rule.
 pub fn text_with_table(
     alloc: Global,
     kinds: &StateKinds,

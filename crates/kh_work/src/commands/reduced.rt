@@ -1,4 +1,5 @@
-//! The command `reduced`: the table of reduced homology at a marked arc or loop, and the Jones polynomial.
+//! The command `reduced`: the table of reduced homology at a marked arc or loop, and the Jones
+//! polynomial.
 
 ghost use Rattle.std.specs.Prelude.{◌≡◌, ◌≤◌, ◌++◌, true, IfErr, IfOk, IsOk, string_bytes};
 ghost use Rattle.circle_smoothing.specs.GeneratorCounts.{generator_count};
@@ -10,58 +11,55 @@ ghost use Rattle.kh_replies.specs.declared.status.Status.{Status};
 ghost use Rattle.kh_work.specs.Reduced.{mark_line, reduced_reply};
 ghost use Rattle.reduced_cube.specs.Reduced.{is_mark, reduced_table};
 ghost use Rattle.reduced_cube.specs.Stops.{IsReducedStop};
-ghost use Rattle.word_line.specs.Values.{IsFieldSize};
 
 use crate::commands::text_with_table;
 use circle_smoothing::StateKinds;
 use jones_sum::Table;
 use kh_replies::{Reply, Status, refused_mark, reply_made, too_many_generators};
 use kh_types::{Diagram, NoMemory};
-use prime_field::{F2, F3, F5, F7};
+use prime_field::{Elements, F2, F3, F5, F7, FieldSize};
 use reduced_cube::{ReducedStop, reduced_table};
 use std::alloc::Global;
 
-/// The reply to a diagram at a mark.
+/// The reply to a diagram at a mark. Source: Khovanov 2003, section 3; the text is this project's
+/// rule.
 pub fn reply_to_reduced(
     alloc: Global,
-    field: u8,
+    field: FieldSize,
     mark: u8,
     diagram: &Diagram,
 ) -> Result<Reply, NoMemory>
-    requires field { IsFieldSize field }
     ensures { IfOk result (λ reply. reply ≡ reduced_reply field mark diagram.now) }
 {
     match reduced_table_over(alloc, field, mark, diagram) {
         Ok(table) => reply_with_mark(alloc, mark, diagram, &table),
-        Err(ReducedStop::Mark { arc }) => refused_mark(alloc, arc),
+        Err(ReducedStop::Mark { mark }) => refused_mark(alloc, mark),
         Err(ReducedStop::SizeLimit { generators }) => too_many_generators(alloc, generators),
         Err(ReducedStop::NoMemory) => Err(NoMemory),
     }
 }
 
-// The reduced homology table over the field of so many elements.
+/// The reduced homology table over the field of so many elements.
 fn reduced_table_over(
     alloc: Global,
-    field: u8,
+    field: FieldSize,
     mark: u8,
     diagram: &Diagram,
 ) -> Result<Table, ReducedStop>
-    requires field { IsFieldSize field }
     ensures table { IfOk result (λ made. made ≡ reduced_table field diagram.now mark) }
     ensures mark { IsOk result → is_mark diagram.now mark ≡ true }
     ensures size { IsOk result → generator_count diagram.now ≤ GENERATORS }
     ensures stop { IfErr result (IsReducedStop diagram.now mark) }
 {
-    match field {
-        2 => reduced_table::<F2>(alloc, diagram, mark),
-        3 => reduced_table::<F3>(alloc, diagram, mark),
-        5 => reduced_table::<F5>(alloc, diagram, mark),
-        7 => reduced_table::<F7>(alloc, diagram, mark),
-        _ => unreachable!(),
+    match field.elements() {
+        Elements::Two => reduced_table::<F2>(alloc, diagram, mark),
+        Elements::Three => reduced_table::<F3>(alloc, diagram, mark),
+        Elements::Five => reduced_table::<F5>(alloc, diagram, mark),
+        Elements::Seven => reduced_table::<F7>(alloc, diagram, mark),
     }
 }
 
-// The line of a mark, the text of a table, and the Jones line of a diagram.
+/// The line of a mark, the text of a table, and the Jones line of a diagram.
 fn reply_with_mark(
     alloc: Global,
     mark: u8,
@@ -77,7 +75,7 @@ fn reply_with_mark(
     Ok(reply_made(Status::Done, text))
 }
 
-// The line of a mark.
+/// The line of a mark.
 fn mark_line(alloc: Global, mark: u8) -> Result<String, NoMemory>
     ensures { IfOk result (λ line. string_bytes line ≡ mark_line mark) }
 {

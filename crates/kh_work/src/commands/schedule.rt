@@ -1,4 +1,5 @@
-//! The command `schedule`: what the core answers to the lines of a script, and then the homology table.
+//! The command `schedule`: what the core answers to the lines of a script, and then the homology
+//! table.
 
 ghost use Rattle.std.specs.Prelude.{◌≡◌, ◌≤◌, ◌++◌, All, IfOk, OnOk, length, string_bytes};
 ghost use Rattle.circle_smoothing.specs.GeneratorCounts.{generator_count};
@@ -9,7 +10,6 @@ ghost use Rattle.kh_types.specs.declared.limits.TheConstants.{INPUT_BYTES};
 ghost use Rattle.kh_work.specs.Schedule.{IsScheduleReply, answer_line, answer_lines, answer_text, event_of, events_of, numbered_answers, schedule_reply, schedule_text};
 ghost use Rattle.kh_types.specs.declared.limits.TheConstants.{WORKERS};
 ghost use Rattle.undo_stack.specs.Schedule.{HasWorker};
-ghost use Rattle.word_line.specs.Values.{IsFieldSize};
 
 use circle_smoothing::StateKinds;
 use commit_core::{Answer, Event, run_events};
@@ -19,20 +19,20 @@ use kh_replies::{
     Reply, Status, jones_line, refused_line, reply_made, too_many_generators, too_many_lines,
 };
 use kh_types::{Diagram, NoMemory, WORKERS};
-use prime_field::{F2, F3, F5, F7, PrimeField};
+use prime_field::{Elements, F2, F3, F5, F7, FieldSize, PrimeField};
 use std::alloc::Global;
 use table_text::print_table;
 use undo_stack::{SCRIPT_LINES, ScheduleLine, ScriptStop, read_schedule};
 
-/// The reply to a diagram and the text of a script: the answer to each line that has words, and then the text of `homology`.
+/// The reply to a diagram and the text of a script: the answer to each line that has words, and
+/// then the text of `homology`. Source: this project's rule.
 pub fn reply_to_schedule(
     alloc: Global,
-    field: u8,
+    field: FieldSize,
     diagram: &Diagram,
     script: &[u8],
 ) -> Result<Reply, NoMemory>
     requires short { length script.now ≤ INPUT_BYTES }
-    requires field { IsFieldSize field }
     ensures { IfOk result (λ reply. IsScheduleReply field diagram.now script.now reply) }
 {
     match read_schedule(alloc, script) {
@@ -43,15 +43,14 @@ pub fn reply_to_schedule(
     }
 }
 
-// The reply to a script, where the diagram has few enough generators.
+/// The reply to a script, where the diagram has few enough generators.
 fn reply_to_script(
     alloc: Global,
-    field: u8,
+    field: FieldSize,
     diagram: &Diagram,
     script: &[(u32, ScheduleLine)],
 ) -> Result<Reply, NoMemory>
     requires workers { All HasWorker script.now }
-    requires field { IsFieldSize field }
     ensures { IfOk result (λ reply. reply ≡ schedule_reply field diagram.now script.now) }
 {
     let kinds = StateKinds::of_diagram(diagram);
@@ -64,16 +63,16 @@ fn reply_to_script(
     }
 }
 
-// The lines of the answers, the text of the homology table and the Jones line, which is read from the kinds of the diagram's states.
+/// The lines of the answers, the text of the homology table and the Jones line, which is read from
+/// the kinds of the diagram's states.
 fn schedule_text(
     alloc: Global,
-    field: u8,
+    field: FieldSize,
     kinds: &StateKinds,
     script: &[(u32, ScheduleLine)],
 ) -> Result<Vec<u8>, NoMemory>
     requires size { generator_count kinds.now ≤ GENERATORS }
     requires workers { All HasWorker script.now }
-    requires field { IsFieldSize field }
     ensures { IfOk result (λ text. text.items ≡ schedule_text field kinds.now script.now) }
 {
     let mut text = run_text(alloc, field, kinds.diagram(), script)?;
@@ -81,26 +80,24 @@ fn schedule_text(
     Ok(text)
 }
 
-// The lines of the answers, and the text of the homology table.
+/// The lines of the answers, and the text of the homology table.
 fn run_text(
     alloc: Global,
-    field: u8,
+    field: FieldSize,
     diagram: &Diagram,
     script: &[(u32, ScheduleLine)],
 ) -> Result<Vec<u8>, NoMemory>
     requires size { generator_count diagram.now ≤ GENERATORS }
     requires workers { All HasWorker script.now }
-    requires field { IsFieldSize field }
     ensures { IfOk result (λ text. text.items
         ≡ answer_lines script.now (answers field diagram.now WORKERS (events_of script.now))
         ++ table_text (table field diagram.now)) }
 {
-    match field {
-        2 => run_text_over::<F2>(alloc, diagram, script),
-        3 => run_text_over::<F3>(alloc, diagram, script),
-        5 => run_text_over::<F5>(alloc, diagram, script),
-        7 => run_text_over::<F7>(alloc, diagram, script),
-        _ => unreachable!(),
+    match field.elements() {
+        Elements::Two => run_text_over::<F2>(alloc, diagram, script),
+        Elements::Three => run_text_over::<F3>(alloc, diagram, script),
+        Elements::Five => run_text_over::<F5>(alloc, diagram, script),
+        Elements::Seven => run_text_over::<F7>(alloc, diagram, script),
     }
 }
 
@@ -121,7 +118,7 @@ fn run_text_over<F: PrimeField>(
     Ok(text)
 }
 
-// The lines of answers, and the text of a table.
+/// The lines of answers, and the text of a table.
 fn text_of_run(
     alloc: Global,
     script: &[(u32, ScheduleLine)],
@@ -136,14 +133,14 @@ fn text_of_run(
     Ok(text)
 }
 
-// What the lines let their workers do.
+/// What the lines let their workers do.
 fn events_of(alloc: Global, script: &[(u32, ScheduleLine)]) -> Result<Vec<Event>, NoMemory>
     ensures { IfOk result (λ events. events.items ≡ events_of script.now) }
 {
     Ok(script.iter().map(|line| event_of(line.1)).collect(alloc)?)
 }
 
-// What a line lets its worker do.
+/// What a line lets its worker do.
 fn event_of(line: ScheduleLine) -> Event
     ensures { result ≡ event_of line }
 {
@@ -158,7 +155,7 @@ fn event_of(line: ScheduleLine) -> Event
     }
 }
 
-// The lines of answers.
+/// The lines of answers.
 fn answer_lines(
     alloc: Global,
     script: &[(u32, ScheduleLine)],
@@ -175,7 +172,7 @@ fn answer_lines(
     Ok(text.into_bytes())
 }
 
-// Each answer with the number of its line.
+/// Each answer with the number of its line.
 fn numbered_answers(
     alloc: Global,
     script: &[(u32, ScheduleLine)],
@@ -188,7 +185,7 @@ fn numbered_answers(
     Ok(numbered.collect(alloc)?)
 }
 
-// Adds the line of an answer with its number.
+/// Adds the line of an answer with its number.
 fn push_answer(alloc: Global, text: &mut String, answer: (u32, Answer)) -> Result<(), NoMemory>
     ensures { OnOk result (string_bytes text.new ≡ string_bytes text.old ++ answer_line answer) }
 {
@@ -199,7 +196,7 @@ fn push_answer(alloc: Global, text: &mut String, answer: (u32, Answer)) -> Resul
     Ok(())
 }
 
-// The words of an answer.
+/// The words of an answer.
 fn answer_text(alloc: Global, answer: Answer) -> Result<String, NoMemory>
     ensures { IfOk result (λ text. string_bytes text ≡ answer_text answer) }
 {

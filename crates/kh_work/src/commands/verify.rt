@@ -13,7 +13,7 @@ use kh_types::NoMemory;
 use std::alloc::Global;
 use table_text::print_table;
 
-/// The reply to the text of a log.
+/// The reply to the text of a log. Source: this project's rule.
 pub fn reply_to_verify(alloc: Global, text: &[u8]) -> Result<Reply, NoMemory>
     requires { length text.now ≤ LOG_BYTES }
     ensures { IfOk result (IsVerifyReply text.now) }
@@ -26,7 +26,7 @@ pub fn reply_to_verify(alloc: Global, text: &[u8]) -> Result<Reply, NoMemory>
     }
 }
 
-// The reply to a log that proves a table.
+/// The reply to a log that proves a table.
 fn reply_to_proof(alloc: Global, homology: &Table) -> Result<Reply, NoMemory>
     ensures { IfOk result (λ reply. reply ≡ reply_of Status.Done (verified_text homology.now)) }
 {
@@ -35,7 +35,7 @@ fn reply_to_proof(alloc: Global, homology: &Table) -> Result<Reply, NoMemory>
     Ok(reply_made(Status::Done, text))
 }
 
-// The word of a cause.
+/// The word of a cause.
 fn cause_word(cause: LogCause) -> &'static str
     ensures { result.now ≡ cause_word cause }
 {

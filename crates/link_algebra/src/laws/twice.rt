@@ -11,9 +11,9 @@ ghost use Rattle.orient_arcs.specs.Alike.{AreAlike};
 ghost use Rattle.prime_field.specs.Residues.{IsSmallPrime};
 ghost use Rattle.link_algebra.specs.Mirrors.{EntersInOrder, mirror_of, mirror_parts, reversal_of};
 
-/// The mirror of the mirror is the code, up to the numbers of its arcs: two slots hold one arc in the
-/// one exactly where they do so in the other, and each crossing has its sign. So it has its state sum
-/// and its homology.
+/// The mirror of the mirror is the code, up to the numbers of its arcs: two slots hold one arc in
+/// the one exactly where they do so in the other, and each crossing has its sign. So it has its
+/// state sum and its homology.
 pub fn mirrors_come_back()
     ensures crossings { (code : Code) → IsTrue (accepted code)
         → AreAlike code.crossings (mirror_of (mirror_of code)).crossings }
@@ -28,8 +28,9 @@ pub fn mirrors_come_back()
 {}
 
 /// Where each circle of two arcs that lies under all that it meets enters the first listed of its
-/// crossings on its first arc, the mirror keeps the numbers of all arcs; then the mirror of the mirror is
-/// the code, where each crossing has four slots; and else it is not. Mirrors themselves are so.
+/// crossings on its first arc, the mirror keeps the numbers of all arcs; then the mirror of the
+/// mirror is the code, where each crossing has four slots; and else it is not. Mirrors themselves
+/// are so.
 pub fn mirrors_keep_numbers()
     ensures kept { (code : Code) → IsTrue (accepted code) → EntersInOrder code.crossings
         → (mirror_of code).crossings ≡ (mirror_parts code).crossings }
@@ -41,8 +42,8 @@ pub fn mirrors_keep_numbers()
         → EntersInOrder (mirror_of code).crossings }
 {}
 
-/// The reversal of the reversal is the code, up to the numbers of its arcs; and with them where each
-/// crossing has four slots.
+/// The reversal of the reversal is the code, up to the numbers of its arcs; and with them where
+/// each crossing has four slots.
 pub fn reversals_come_back()
     ensures crossings { (code : Code) → IsTrue (accepted code)
         → AreAlike code.crossings (reversal_of (reversal_of code)).crossings }

@@ -20,9 +20,10 @@ pub fn mirror_of_the_trefoil()
     ensures torsion { dimension 3 (mirror_of trefoil) (pos 2) (pos 7) ≡ 0 }
 {}
 
-/// The mirror of a circle that lies under another lies over it; where its second arc enters the first
-/// listed crossing, the two get each other's numbers. So the mirror of the mirror is another code; its
-/// mirror is the mirror again. Where its first arc does, the mirror of the mirror is the code.
+/// The mirror of a circle that lies under another lies over it; where its second arc enters the
+/// first listed crossing, the two get each other's numbers. So the mirror of the mirror is another
+/// code; its mirror is the mirror again. Where its first arc does, the mirror of the mirror is the
+/// code.
 pub fn mirror_of_a_circle_under_another()
     ensures exchanged { mirror_of (without_loops (slots_with 2 4 1 3 ∷ slots_with 1 4 2 3 ∷ []))
         ≡ without_loops (slots_with 3 1 4 2 ∷ slots_with 4 1 3 2 ∷ []) }
@@ -33,7 +34,8 @@ pub fn mirror_of_a_circle_under_another()
     ensures again { mirror_of (mirror_of over_circle) ≡ over_circle }
 {}
 
-/// The reversal of the left-handed trefoil: its arcs get the numbers the other way round, from arc 1.
+/// The reversal of the left-handed trefoil: its arcs get the numbers the other way round, from arc
+/// 1.
 pub fn reversal_of_the_trefoil()
     ensures code { reversal_of trefoil
         ≡ without_loops (slots_with 6 3 1 4 ∷ slots_with 4 1 5 2 ∷ slots_with 2 5 3 6 ∷ []) }

@@ -27,7 +27,8 @@ pub fn renamed_crossings_are_alike()
     ensures renumbered { (parts : Parts) → ArePaired parts → AreAlike parts.crossings (renumber parts).crossings }
 {}
 
-/// Crossings that are alike have the same faces and pieces, and a checkerboard choice for both or none.
+/// Crossings that are alike have the same faces and pieces, and a checkerboard choice for both or
+/// none.
 pub fn alike_crossings_have_the_same_faces()
     ensures partners { (crossings others : List (List ℕ)) → AreAlike crossings others → (place : ℕ) → place < 4 * length crossings
         → partner_at others place ≡ partner_at crossings place }
@@ -39,7 +40,8 @@ pub fn alike_crossings_have_the_same_faces()
         → HasArcsTwice others → IsCheckerboard crossings → IsCheckerboard others }
 {}
 
-/// They have as many circles in each state; so their state sums are one where they have as many positive crossings and loops.
+/// They have as many circles in each state; so their state sums are one where they have as many
+/// positive crossings and loops.
 pub fn alike_codes_have_one_state_sum()
     ensures classes { (m n : ℕ) (crossings others : List (List ℕ)) → AreAlike crossings others → HasNamesBelow m crossings
         → HasNamesBelow n others → (state : ℕ)

@@ -12,8 +12,9 @@ ghost use Rattle.orient_arcs.specs.Alike.{IsOf};
 ghost use Rattle.orient_arcs.specs.OtherNames.{IsNamedBy, KeepsComponents};
 ghost use Rattle.orient_arcs.specs.Renumbered.{AreInOrder, AreOrdered, named_components, order_of, number_in, renumber};
 
-/// A renumbered code is a directed code, in which the over strand of each crossing goes the way that the parts say; so each crossing
-/// keeps its sign, one whose over pass is a component of one arc excepted.
+/// A renumbered code is a directed code, in which the over strand of each crossing goes the way
+/// that the parts say; so each crossing keeps its sign, one whose over pass is a component of one
+/// arc excepted.
 pub fn renumbered_codes_are_directed()
     ensures directed { (parts : Parts) → ArePaired parts → IsDirected (renumber parts).crossings }
     ensures over { (parts : Parts) → ArePaired parts → (crossing : ℕ) → IsCrossing parts.crossings crossing
@@ -27,7 +28,8 @@ pub fn renumbered_codes_are_directed()
         → is_positive (renumber parts).crossings crossing ≡ is_positive_at parts.positive (crossing - 1) }
 {}
 
-/// Each crossing keeps its place and its slots under new numbers; no two names get one number, and the numbers are arcs.
+/// Each crossing keeps its place and its slots under new numbers; no two names get one number, and
+/// the numbers are arcs.
 pub fn numbers_tell_names_apart()
     ensures size { (parts : Parts) → length (renumber parts).crossings ≡ length parts.crossings }
     ensures slots { (parts : Parts) (crossing slot : ℕ) → IsCrossing parts.crossings crossing → slot < 4
@@ -44,8 +46,8 @@ pub fn components_stand_in_order()
     ensures { (parts : Parts) → ArePaired parts → AreOrdered parts (named_components (passes_through parts)) }
 {}
 
-/// The names have one order: those of the components in order, one after another, each as it begins; and renumbering gives each
-/// name its place in it, from 1.
+/// The names have one order: those of the components in order, one after another, each as it
+/// begins; and renumbering gives each name its place in it, from 1.
 pub fn names_have_one_order()
     ensures order { (parts : Parts) → ArePaired parts → AreInOrder parts (order_of (passes_through parts)) }
     ensures one { (parts : Parts) (order other : List ℕ) → ArePaired parts → AreInOrder parts order → AreInOrder parts other
@@ -56,7 +58,8 @@ pub fn names_have_one_order()
         ≡ number_in order (arc_in (slots_of parts.crossings crossing) slot) }
 {}
 
-/// A directed code without single arcs keeps its numbers, where each of its crossings has four slots.
+/// A directed code without single arcs keeps its numbers, where each of its crossings has four
+/// slots.
 pub fn own_numbers_stay()
     ensures directed { (code : Code) → IsDirected code.crossings → HasNoSingleArcs code.crossings
         → All (λ slots. length slots ≡ 4) code.crossings → renumber (parts_of code) ≡ code }
@@ -64,8 +67,8 @@ pub fn own_numbers_stay()
         → All (λ slots. length slots ≡ 4) code.crossings → renumber (parts_of code) ≡ code }
 {}
 
-/// The arcs of an accepted code are paired by its own directions; and parts that are those of an accepted code under other names are
-/// renumbered to an accepted code with the same state sum.
+/// The arcs of an accepted code are paired by its own directions; and parts that are those of an
+/// accepted code under other names are renumbered to an accepted code with the same state sum.
 pub fn accepted_codes_are_renumbered()
     ensures paired { (code : Code) → IsTrue (accepted code) → ArePaired (parts_of code) }
     ensures directed { (code : Code) → IsDirected code.crossings → HasNoSingleArcs code.crossings → ArePaired (parts_of code) }
@@ -76,8 +79,9 @@ pub fn accepted_codes_are_renumbered()
         → state_sum (renumber parts) exponent ≡ state_sum code exponent }
 {}
 
-/// A code's own numbers come back from any names, one for each arc, that keep the order of its components and give each component's
-/// least name to its least arc, circles over all that they meet excepted: so from all names that ascend with its arcs.
+/// A code's own numbers come back from any names, one for each arc, that keep the order of its
+/// components and give each component's least name to its least arc, circles over all that they
+/// meet excepted: so from all names that ascend with its arcs.
 pub fn own_numbers_come_back()
     ensures crossings { (f : ℕ → ℕ) (code : Code) (parts : Parts) → IsTrue (accepted code)
         → All (λ slots. length slots ≡ 4) code.crossings → ArePaired parts → IsNamedBy f code parts

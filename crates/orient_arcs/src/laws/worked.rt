@@ -6,7 +6,8 @@ ghost use Rattle.orient_arcs.specs.Parts.{passes_through};
 ghost use Rattle.orient_arcs.specs.Renumbered.{renumber, order_of};
 ghost use Rattle.orient_arcs.specs.WorkedParts.{trefoil_parts, named_trefoil, turned_circle, slid_triangle, curl_parts, single, hopf_parts, mirrored, reversed};
 
-/// The trefoil keeps its numbers, and has them under any names. A circle over another has the numbers of its two arcs exchanged.
+/// The trefoil keeps its numbers, and has them under any names. A circle over another has the
+/// numbers of its two arcs exchanged.
 pub fn worked_parts()
     ensures trefoil { renumber trefoil_parts ≡ trefoil }
     ensures circle_order { order_of (passes_through turned_circle) ≡ 1 ∷ 2 ∷ 4 ∷ 3 ∷ [] }

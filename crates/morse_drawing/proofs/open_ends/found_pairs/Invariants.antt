@@ -1,7 +1,6 @@
 use Rattle.std.proofs.Common.{◌≡◌}
-use Rattle.kh_types.specs.declared.limits.TheConstants.{CROSSINGS}
 use Rattle.morse_drawing.specs.OpenEnds.{pairs_before}
 use Rattle.morse_drawing.proofs.open_ends.found_pairs.Given as goal
 
 abbrev pub invariant-darts : goal.invariant-darts
-invariant-darts l = l.pairs.items ≡ pairs_before CROSSINGS l.others l.dart
+invariant-darts l = l.pairs.items ≡ pairs_before l.others l.dart

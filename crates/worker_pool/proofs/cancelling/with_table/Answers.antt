@@ -1,6 +1,7 @@
-use Rattle.std.proofs.Common.{sym, subst}
+use Rattle.std.proofs.Common.{sym, subst, All}
 use Rattle.shared_block.specs.AllBlocks.{AreBlocksOf}
-use Rattle.worker_pool.proofs.DoneLemmas.{blocks_all}
+use Rattle.shared_block.specs.BlockHistories.{HasLegalHistory}
+use Rattle.worker_pool.proofs.DoneLemmas.{all_cancelled, blocks_all}
 use Rattle.worker_pool.proofs.cancelling.with_table.Goals as goal
 
 pub table_of-requires-clause-blocks : goal.table_of-requires-clause-blocks
@@ -8,4 +9,6 @@ table_of-requires-clause-blocks g c =
     subst (AreBlocksOf c.args.diagram.now) (sym c.deref.ensures.value) (blocks_all c.args.diagram.now c.args.done.blocks.items c.requires.blocks)
 
 pub returns-clause-blocks : goal.returns-clause-blocks
-returns-clause-blocks g c = blocks_all c.args.diagram.now c.args.done.blocks.items c.requires.blocks
+returns-clause-blocks g c =
+    all_cancelled g.F.PrimeField.P c.args.diagram.now c.args.done.blocks.items c.args.done.committed.items c.requires.blocks c.requires.done
+    (subst (All (HasLegalHistory g.F.PrimeField.P)) c.deref-2.ensures.value c.legal_histories.ensures)

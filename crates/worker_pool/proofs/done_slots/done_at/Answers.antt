@@ -4,14 +4,14 @@ use Rattle.worker_pool.proofs.Zips.{zip_size}
 use Rattle.worker_pool.proofs.SlotLemmas.{done_slot_emptied, done_there}
 use Rattle.worker_pool.proofs.done_slots.done_at.Goals as goal
 
-pub take_done-requires : goal.take_done-requires
-take_done-requires g c =
+pub take_slot-requires : goal.take_slot-requires
+take_slot-requires g c =
     omega (arith, zip_size (IsDoneSlot g.F.PrimeField.P c.args.cube.now) c.args.degrees.now c.args.slots.now.items c.requires.slots, c.requires.place)
 
 pub returns-in-Some-clause-slots : goal.returns-in-Some-clause-slots
 returns-in-Some-clause-slots g c =
-    done_slot_emptied g.F.PrimeField.P c.args.cube.now c.args.degrees.now c.args.slots.now.items c.take_done.new.slots.items c.args.place c.requires.slots
-    c.take_done.ensures.empty
+    done_slot_emptied g.F.PrimeField.P c.args.cube.now c.args.degrees.now c.args.slots.now.items c.take_slot.new.slots.items c.args.place c.requires.slots
+    c.take_slot.ensures.empty
 
 pub returns-in-Some-clause-origin : goal.returns-in-Some-clause-origin
 returns-in-Some-clause-origin g c =

@@ -9,7 +9,7 @@ use Rattle.std.proofs.Math.Path.{fun_ext}
 use Rattle.kh_types.specs.StateSum.{int_sum, signed_by, signed_by_parity}
 use Rattle.kh_types.specs.Table.{from_minus}
 use Rattle.kh_types.proofs.Ranges.{map_from_zero}
-use Rattle.reduced_cube.proofs.IntSums.{int_sum-append, int_sum-alike, int_sum-add, int_sum-zeros, int_sum-map}
+use Rattle.kh_types.proofs.IntSums.{int_sum-append, int_sum-alike, int_sum-add, int_sum-zeros, int_sum-map}
 
 -- the sum of a number for each degree from -n to n, with the sign -1 to the degree
 abbrev pub alternating : ℕ → (ℤ → ℕ) → ℤ
@@ -58,6 +58,15 @@ signed_by-next (negsuc zero) j x next =
 signed_by-next (negsuc (suc k)) j x next =
     let is : j ≡ negsuc k = omega (arith, ints) in
     ap (λ (i : ℤ). signed_by_parity (suc (suc k)) x +ℤ signed_by i x) is ∙ omega (arith, ints, signed_by_parity-next (suc k) x)
+
+-- numbers of one parity have one sign, and a difference has that of the sum
+
+pub signed_by_parity-alike : (x y size : ℕ) → x % 2 ≡ y % 2 → signed_by_parity x size ≡ signed_by_parity y size
+signed_by_parity-alike x y size same = ap (λ bit. cond (nat_eq bit 0) (pos size) (neg_ℤ (pos size))) same
+
+pub signed_by-less : (degree : ℤ) (a b size : ℕ) → degree ≡ pos a -ℤ pos b → signed_by degree size ≡ signed_by_parity (a + b) size
+signed_by-less (pos above) a b size is = signed_by_parity-alike above (a + b) size (omega (arith, ints, is))
+signed_by-less (negsuc below) a b size is = signed_by_parity-alike (suc below) (a + b) size (omega (arith, ints, is))
 
 -- alternating sums
 

@@ -13,6 +13,9 @@ use Rattle.kh_types.proofs.BitLemmas.{bit-past, ones-more}
 use Rattle.kh_types.proofs.Ranges.{range-append}
 use Rattle.kh_types.proofs.EdgeBits.{bit-set_there, bit-set_other}
 use Rattle.kh_types.proofs.ListSums.{sum_by-range_alike}
+use Rattle.kh_types.specs.Code.{Code}
+use Rattle.kh_types.specs.Directions.{plus_count, minus_count}
+use Rattle.kh_types.specs.Generators.{one_count}
 
 -- the number of labels v+ less the number of labels v-
 abbrev pub degree_of_label : ℕ → ℕ → ℤ
@@ -108,3 +111,15 @@ labels_with-is (suc count) degree =
     let more : suc count ≡ count + 1 = omega arith in
     ap (λ (c : ℕ). labels_with c degree) more ∙ labels_with-more count degree
     ∙ ap₂ (λ (x y : ℕ). x + y) (labels_with-is count (degree -ℤ pos 1)) (labels_with-is count (degree +ℤ pos 1))
+
+-- the degree i of all generators of a state
+abbrev pub degree_of_state : Code → ℕ → ℤ
+degree_of_state code state = pos (one_count code state) -ℤ pos (minus_count code.crossings)
+
+-- what the labels of a state have to add up to for the degree j
+abbrev pub label_part : Code → ℤ → ℕ → ℤ
+label_part code j state = (j -ℤ pos (one_count code state + plus_count code.crossings)) +ℤ pos (2 * minus_count code.crossings)
+
+pub shifted-test : (d j : ℤ) (s t : ℕ) → int_eq (d +ℤ (pos s -ℤ pos t)) j ≡ int_eq d ((j -ℤ pos s) +ℤ pos t)
+shifted-test d j s t =
+    int_eq-iff (d +ℤ (pos s -ℤ pos t)) j d ((j -ℤ pos s) +ℤ pos t) (λ is. omega (arith, ints)) (λ is. omega (arith, ints))

@@ -1,16 +1,14 @@
 -- Sums of integers: over lists that are put together or filtered, and over the numbers from -n to n.
-use Rattle.std.proofs.Common.{◌≡◌, ◌≢◌, ℕ, zero, suc, ◌+◌, ◌-◌, ◌*◌, ◌<◌, ◌≤◌, ◌∙◌, ◌⊎◌, inl, inr, List, [], ◌∷◌, ◌++◌, ℤ, pos, negsuc, ◌+ℤ◌, ◌-ℤ◌, sym, refl, map, ap, ap₂, arith, Bool, true, false, cond}
+use Rattle.std.proofs.Common.{◌≡◌, ◌≢◌, ℕ, zero, suc, ◌+◌, ◌-◌, ◌*◌, ◌<◌, ◌≤◌, ◌∙◌, List, [], ◌∷◌, ◌++◌, ℤ, pos, ◌+ℤ◌, ◌-ℤ◌, sym, refl, map, ap, ap₂, arith, Bool, true, false, cond}
 use Rattle.std.specs.List.{filter, flat_map, range_with_len}
 use Rattle.std.proofs.Math.Path.{fun_ext}
-use Rattle.std.proofs.lemmas.Bool.{cases_lt}
 use Rattle.std.proofs.lemmas.Int.{ints}
 use Rattle.std.proofs.lemmas.List.{map-append}
 use Rattle.std.proofs.lemmas.Simd.{map-map}
 use Rattle.kh_types.specs.StateSum.{int_sum}
 use Rattle.kh_types.specs.Table.{IsWithin, from_minus}
-use Rattle.kh_types.proofs.QuantumDegrees.{IsWithin-place, place-IsWithin}
+use Rattle.kh_types.proofs.QuantumDegrees.{map-from_minus_agree, place-IsWithin}
 use Rattle.kh_types.proofs.Ranges.{range_around}
-use Rattle.jones_sum.proofs.CoefficientLemmas.{map-from_minus_agree}
 
 pub int_sum-append : (xs ys : List ℤ) → int_sum (xs ++ ys) ≡ int_sum xs +ℤ int_sum ys
 int_sum-append [] ys = omega (arith, ints)
@@ -49,6 +47,12 @@ int_sum-filter f p (x ∷ xs) =
     step true = refl
     step false = omega (arith, ints)
 
+-- of terms that all stand under one test
+pub int_sum-cond : {X : Type 0} (b : Bool) (f : X → ℤ) (xs : List X)
+    → int_sum (map (λ x. cond b (f x) (pos 0)) xs) ≡ cond b (int_sum (map f xs)) (pos 0)
+int_sum-cond true f xs = refl
+int_sum-cond false f xs = int_sum-zeros xs
+
 -- a sum of which all terms are 0, or all but one
 
 int_sum-none : (f : ℕ → ℤ) (a n : ℕ) → ((x : ℕ) → a ≤ x → x < a + n → f x ≡ pos 0) → int_sum (map f (range_with_len a n)) ≡ pos 0
@@ -79,14 +83,3 @@ int_sum-within f n i within none =
     ∙ int_sum-single (λ k. f (pos k -ℤ pos n)) (2 * n + 1) k place.1
     (λ x other. none (pos x -ℤ pos n) (λ same. other (omega (arith, ints, same, place.2))))
     ∙ ap f (sym place.2)
-
--- an integer is from -n to n, or it is not
-pub within_or_not : (n : ℕ) (i : ℤ) → IsWithin n i ⊎ (IsWithin n i → ⊥)
-within_or_not n (pos m) = elim (cases_lt n m) [
-  | inl past ↦ inr (λ within. let place = place-IsWithin n (pos m) within in omega (arith, ints, past, place.1, place.2))
-  | inr small ↦ inl (IsWithin-place n (m + n) (pos m) (omega arith) (omega (arith, ints)))
-]
-within_or_not n (negsuc m) = elim (cases_lt m n) [
-  | inl small ↦ inl (IsWithin-place n (n - suc m) (negsuc m) (omega arith) (omega (arith, ints)))
-  | inr past ↦ inr (λ within. let place = place-IsWithin n (negsuc m) within in omega (arith, ints, past, place.1, place.2))
-]

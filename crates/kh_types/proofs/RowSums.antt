@@ -6,10 +6,10 @@ use Rattle.std.proofs.lemmas.Bool.{cases_lt, lt-ltb}
 use Rattle.std.proofs.lemmas.Bool.Decides.{Decides-int_eq}
 use Rattle.kh_types.specs.StateSum.{euler, int_sum, signed_by}
 use Rattle.kh_types.specs.Table.{IsWithin, Row, from_minus, is_shown}
-use Rattle.cube_signs.proofs.ListComplexes.{within_or_not}
-use Rattle.reduced_cube.proofs.Alternating.{alternating, signed_by-zero}
+use Rattle.kh_types.proofs.AlternatingSums.{alternating, signed_by-zero}
 use Rattle.kh_types.proofs.Integers.{int_eq-other}
-use Rattle.reduced_cube.proofs.IntSums.{int_sum-alike, int_sum-filter, int_sum-flat_map, int_sum-map, int_sum-outside, int_sum-within, int_sum-zeros}
+use Rattle.kh_types.proofs.IntSums.{int_sum-alike, int_sum-filter, int_sum-flat_map, int_sum-map, int_sum-outside, int_sum-within, int_sum-zeros, int_sum-cond}
+use Rattle.kh_types.proofs.QuantumDegrees.{within_or_not}
 
 -- the row of a dimension
 abbrev pub row_by : (ℤ → ℤ → ℕ) → ℤ → ℤ → Row
@@ -37,11 +37,6 @@ row_value-shown e row = elim (cases_lt 0 row.dim) [
     same_either : (b : Bool) → cond b (pos 0) (pos 0) ≡ pos 0
     same_either true = refl
     same_either false = refl
-
-int_sum-cond : {X : Type 0} (b : Bool) (f : X → ℤ) (xs : List X)
-    → int_sum (map (λ x. cond b (f x) (pos 0)) xs) ≡ cond b (int_sum (map f xs)) (pos 0)
-int_sum-cond true f xs = refl
-int_sum-cond false f xs = int_sum-zeros xs
 
 -- the rows of one quantum degree
 abbrev degree_value : ℕ → (ℤ → ℤ → ℕ) → ℤ → ℤ → ℤ

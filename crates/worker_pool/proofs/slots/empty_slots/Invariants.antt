@@ -1,5 +1,5 @@
 use Rattle.worker_pool.specs.Slots.{AreEmpty}
-use Rattle.worker_pool.proofs.done_slots.no_blocks.Given as goal
+use Rattle.worker_pool.proofs.slots.empty_slots.Given as goal
 
 abbrev pub invariant-slots : goal.invariant-slots
 invariant-slots g l = AreEmpty l.counter l.slots.items

@@ -1,7 +1,7 @@
 use Rattle.std.proofs.Common.{arith}
 use Rattle.std.proofs.lemmas.Int.{ints}
 use Rattle.reduced_cube.proofs.DegreeLemmas.{reduced-given}
-use Rattle.reduced_cube.proofs.degrees.has_reduced.Goals as goal
+use Rattle.reduced_cube.proofs.degrees.shape_has_reduced.Goals as goal
 
 pub returns : goal.returns
 returns c =

@@ -4,7 +4,6 @@ use Rattle.std.specs.List.{filter, flat_map, list_any}
 use Rattle.std.proofs.lemmas.Bool.{cases_Bool, or_parts}
 
 -- no element passes
-
 pub filter-none : {X : Type 0} (p : X → Bool) (xs : List X) (d : X) → ((k : ℕ) → k < length xs → p (get_or xs k d) ≡ false)
     → filter p xs ≡ []
 filter-none p [] d fails = refl

@@ -1,0 +1,71 @@
+//! The numbers of elements of the four fields.
+
+ghost use Rattle.std.specs.Prelude.{◌≡◌};
+ghost use Rattle.prime_field.specs.Sizes.{field_size};
+
+use std::marker::Model;
+
+/// How many elements one of the four fields has. Source: this project's rule.
+#[derive(Clone, Copy, Debug, PartialEq, Eq)]
+pub enum Elements {
+    /// Those of `F2`.
+    Two,
+    /// Those of `F3`.
+    Three,
+    /// Those of `F5`.
+    Five,
+    /// Those of `F7`.
+    Seven,
+}
+
+/// The number of elements of one of the four fields: 2, 3, 5 or 7. Contracts see the number.
+/// Source: this project's rule.
+#[derive(Clone, Copy, Debug, PartialEq, Eq)]
+pub struct FieldSize {
+    elements: Elements,
+}
+
+impl Model for FieldSize {
+    ghost use Rattle.std.specs.Prelude.{ℕ};
+    ghost use Rattle.std.proofs.Common.{ap};
+
+    ghost Value = { ℕ };
+
+    ghost use Rattle.prime_field.specs.Sizes.{field_size, elements_for, elements_for-field_size};
+
+    ghost view = { λ size. field_size size.elements };
+
+    ghost inverse = { λ number. record { elements = elements_for number } };
+
+    ghost inverse_ok = { λ size _.
+        ap (λ word. record { elements = word }) (elements_for-field_size size.elements) };
+}
+
+impl FieldSize {
+    /// Two elements.
+    pub const TWO: FieldSize = FieldSize {
+        elements: Elements::Two,
+    };
+
+    /// Three elements.
+    pub const THREE: FieldSize = FieldSize {
+        elements: Elements::Three,
+    };
+
+    /// Five elements.
+    pub const FIVE: FieldSize = FieldSize {
+        elements: Elements::Five,
+    };
+
+    /// Seven elements.
+    pub const SEVEN: FieldSize = FieldSize {
+        elements: Elements::Seven,
+    };
+
+    /// Which of the four it is.
+    pub fn elements(self) -> Elements
+        ensures { field_size result ≡ self }
+    {
+        self.elements
+    }
+}

@@ -1,5 +1,0 @@
-use Rattle.worker_pool.specs.Slots.{AreEmpty}
-use Rattle.worker_pool.proofs.building.empty_row.Given as goal
-
-abbrev pub invariant-slots : goal.invariant-slots
-invariant-slots g l = AreEmpty l.counter l.row.items
