@@ -3,11 +3,18 @@
 
     bench/all.py [RUNS] [--program PATH] [--only WORD] [--no-results] [OTHER]
 
-OTHER, or `KH_BASELINE`, is a program that reads a planar diagram text and writes the same table but for its first line: it is given
-`--field` and a field, and with `--stats` tells `states SECONDSs build SECONDSs`. Runs of the two are alternated and the least of some
-runs is taken, so that what else the machine does falls on both; wall times and what several workers do tell something on idle cores
-alone, so the load is written along. Times are user and system time but where wall time is said. With a word only the figures whose names
-have it are taken, and no results are written. Build the program first, by `./build`. The gate does not run it.
+OTHER, or `KH_BASELINE`, is what `kh` is measured against: an unverified C++ program of the same method, which builds the cube block by
+block and cancels each block exactly, by columns and rows. It is no part of this repository. Whatever stands in for it reads a planar
+diagram text on standard input, with these words, and writes to standard output:
+
+    [--field P]           what `kh homology` writes, but for its first line: `field P`, the rows, the Jones line; or the line of the limit
+    --field P --stats     the same, and on standard error `states SECONDSs build SECONDSs`, which `bench/cube.py` explains
+    --enum                something, once it has gone through all states
+
+Runs of the two are alternated and the least of some runs is taken, so that what else the machine does falls on both; wall times and what
+several workers do tell something on idle cores alone, so the load is written along. Times are user and system time but where wall time
+is said. With a word only the figures whose names have it are taken, and no results are written. Build the program first, by `./build`.
+The gate does not run it.
 
 The diagrams are the closed braids of `braids.txt` and those of 17 and 20 crossings below. A generator's time is that of the run by the
 number of generators.
@@ -24,8 +31,15 @@ from braids import braids, planar_diagram
 from homology import PROGRAM, run
 
 TOP = os.path.dirname(os.path.dirname(os.path.abspath(__file__)))
+sys.path.append(os.path.join(TOP, "tools"))
+from version import version
+
 RESULTS = os.path.join(TOP, "bench", "RESULTS.md")
 OTHERS = "## By other scripts"
+THE_OTHER = """\
+*The other* is an unverified C++ program of the same method: it builds the cube block by block and cancels each block exactly, by columns
+and rows. It is no part of this repository; what it has to read and to write is said at the head of `bench/all.py`.
+"""
 LARGEST = 10
 LEAST_CROSSINGS = 11
 
@@ -172,13 +186,13 @@ def of_other_scripts():
 
 def results(bench, began):
     """The table as a page."""
-    commit = subprocess.run(["git", "-C", TOP, "log", "-1", "--format=%H %cs"], capture_output=True, text=True).stdout.strip()
     lines = [
         "# Results",
         "",
-        f"`bench/all.py {bench.runs}` at commit {commit}, {datetime.date.today()}; {os.cpu_count()} processors, load {began} before and",
-        f"{os.getloadavg()[0]:.1f} after. What is measured, and against what, is said at the head of `bench/all.py`.",
+        f"`bench/all.py {bench.runs}` of version {version()}, {datetime.date.today()}; {os.cpu_count()} processors, load {began} before",
+        f"and {os.getloadavg()[0]:.1f} after. What is measured is said at the head of `bench/all.py`.",
         "",
+        THE_OTHER,
         "| Work | Found | Wanted | Met |",
         "|---|---|---|---|",
         *(f"| {' | '.join(map(str, row))} |" for row in bench.rows),

@@ -11,11 +11,11 @@ processor time of its thread in between; allocation, page faults and all that th
 a block do not. Calls that the compiler has put inline can not be timed: where a block has no call of its own, the script ends with an
 error.
 
-OTHER is a program that reads a planar diagram text, is given `--field` and a field and `--stats`, and tells of itself `states SECONDSs
-build SECONDSs` on its error output: the time for the circles of all states, and the processor time for columns and rows of all blocks.
-Both build a block, cancel it and go on to the next. Runs of the two are alternated, and the least of each is taken. For each diagram
-it prints the two times, their ratio, and what part of the run of `kh` it is; at the end the greatest ratio. It wants gdb with Python,
-and nm. Build the program first, by `./build`. The gate does not run it.
+OTHER is a program (`bench/all.py` says which one there is) that reads a planar diagram text, is given `--field` and a field and
+`--stats`, and tells of itself `states SECONDSs build SECONDSs` on its error output: the time for the circles of all states, and the
+processor time for columns and rows of all blocks. Both build a block, cancel it and go on to the next. Runs of the two are alternated,
+and the least of each is taken. For each diagram it prints the two times, their ratio, and what part of the run of `kh` it is; at the end
+the greatest ratio. It wants gdb with Python, and nm. Build the program first, by `./build`. The gate does not run it.
 """
 import argparse
 import json

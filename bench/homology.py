@@ -3,10 +3,10 @@
 
     bench/homology.py [RUNS] [--workers N] OTHER
 
-OTHER is a program that reads a planar diagram text and writes the same lines; it is given `--field` and a field. Runs of the two are
-alternated, over 2 and over 3 elements. For each diagram it prints the least user times, their ratio, the least wall times, the most
-memory of `kh` and whether both write the same; at the end the trefoil against `true`. Build the program first, by `./build`. The gate does
-not run it.
+OTHER is a program that reads a planar diagram text and writes the same lines; it is given `--field` and a field (`bench/all.py` says
+which one there is). Runs of the two are alternated, over 2 and over 3 elements. For each diagram it prints the least user times, their
+ratio, the least wall times, the most memory of `kh` and whether both write the same but for the first line; at the end the trefoil against
+`true`. Build the program first, by `./build`. The gate does not run it.
 """
 import argparse
 import os
@@ -49,7 +49,8 @@ def main(arguments):
                 two = run([arguments.other, "--field", field], text)
                 mine = one if mine is None else (one[0], *map(min, mine[1:3], one[1:3]), max(mine[3], one[3]))
                 others = two if others is None else (two[0], *map(min, others[1:3], two[1:3]), max(others[3], two[3]))
-            same = "same" if mine[0] == others[0] else "DIFFERENT"
+            lines = [[line for line in it[0].splitlines() if line != "table 2"] for it in (mine, others)]
+            same = "same" if lines[0] == lines[1] else "DIFFERENT"
             print(
                 f"{name} over {field}: {mine[1]:.3f} s, other {others[1]:.3f} s, ratio {mine[1] / max(others[1], 0.001):.2f},"
                 f" wall {mine[2]:.3f} s, {mine[3]:.0f} MB, {same}",

@@ -24,6 +24,7 @@ TOP = os.path.dirname(os.path.dirname(os.path.abspath(__file__)))
 PROGRAM = os.path.join(TOP, "crates", "kh_main", "out", "kh_main")
 NUMBERS = [0, 349_525, 559_240, 1_047_524]
 CHECKED = "PD[X[1,4,2,5], X[3,6,4,1], X[5,2,6,3]]"
+EVERY_OPTION = ["--field=7", "--workers=64", "--to", "gauss", "--number", "1234567"]
 STEP = 16 * 1024
 
 
@@ -80,7 +81,7 @@ def main(arguments):
     ratios.append(("wrong words to true", mine / true))
     for name, words, text, status in (
         ("check", [program, "check"], CHECKED.encode(), 0),
-        ("check with all options", [program, "--field=7", "--workers=64", "--to", "gauss", "--number", "1234567", "check"], CHECKED.encode(), 0),
+        ("check with all options", [program, *EVERY_OPTION, "check"], CHECKED.encode(), 0),
         ("bench --number 559240", [program, "bench", "--number", "559240"], b"", 0),
         ("wrong words", wrong, b"", 2),
         ("5,000 words", [program] + ["homology"] * 5_000, b"", 2),

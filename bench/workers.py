@@ -1,14 +1,13 @@
 #!/usr/bin/env python3
 """Measures `kh homology` with several workers against one, on the ten largest closed braids.
 
-    bench/workers.py [RUNS] [--workers N] [--model OTHER]
+    bench/workers.py [RUNS] [--workers N]
 
 Some runs with one worker are followed by as many with N workers (4 at first). For each diagram it prints the least wall and user times of
 both (the system's part is in the user times), how many times faster N workers are, and the ratio of user times; and for comparison,
 since a machine's cores share its memory, what N separate runs with one worker come to at once: how many times faster they are than one
-after another, and their ratio of user times. Then a trefoil with 64 workers against one. OTHER is a program that takes the same turns
-(`--braid "STRANDS LETTERS.."`) and says how long one took in its word after `us/turn`; with it the turns of four workers are compared. On
-idle cores alone the wall times tell something; the load is printed. Build the program first, by `./build`. The gate does not run it.
+after another, and their ratio of user times. Then a trefoil with 64 workers against one. On idle cores alone the wall times tell
+something; the load is printed. Build the program first, by `./build`. The gate does not run it.
 """
 import argparse
 import os
@@ -44,22 +43,12 @@ def at_once(text, copies):
         return time.monotonic() - start, sum(u.ru_utime + u.ru_stime for u in used) / copies
 
 
-def model_turn(program, strands, letters):
-    """How long a turn of the other program takes, in microseconds, and how many there were."""
-    braid = " ".join(map(str, [strands, *letters]))
-    words = subprocess.run([program, "--braid", braid], capture_output=True, text=True, check=True).stdout.split()
-    return float(words[words.index("us/turn") + 1]), int(words[words.index("turns") + 1])
-
-
 def main(arguments):
     print("load", os.getloadavg())
-    chosen = [b for b in braids() if len(b[2]) >= 13]
-    timed = []
-    for name, strands, letters in chosen:
-        text = planar_diagram(strands, letters)
-        timed.append((run([PROGRAM, "homology"], text)[1], name, strands, letters, text))
+    texts = [(name, planar_diagram(strands, letters)) for name, strands, letters in braids() if len(letters) >= 13]
+    timed = [(run([PROGRAM, "homology"], text)[1], name, text) for name, text in texts]
     many = ["--workers", str(arguments.workers)]
-    for _, name, strands, letters, text in sorted(timed, reverse=True)[:LARGEST]:
+    for _, name, text in sorted(timed, reverse=True)[:LARGEST]:
         user_one, wall_one, memory_one, wrote = least([PROGRAM, "homology"], text, arguments.runs)
         user, wall, memory, wrote_too = least([PROGRAM, "homology", *many], text, arguments.runs)
         line = (
@@ -68,11 +57,8 @@ def main(arguments):
             f" {'same' if wrote == wrote_too else 'DIFFERENT'}"
         )
         wall_copies, user_copies = at_once(text, arguments.workers)
-        line += f", {arguments.workers} runs at once {arguments.workers * wall_one / wall_copies:.2f} times faster, user ratio {user_copies / user_one:.2f}"
-        if arguments.model:
-            micros, turns = model_turn(arguments.model, strands, letters)
-            line += f", other {micros:.2f} us a turn for {turns} turns"
-        print(line, flush=True)
+        faster, ratio = arguments.workers * wall_one / wall_copies, user_copies / user_one
+        print(f"{line}, {arguments.workers} runs at once {faster:.2f} times faster, user ratio {ratio:.2f}", flush=True)
     walls = [min(run([PROGRAM, "homology", "--workers", w], TREFOIL)[2] for _ in range(100)) for w in ("64", "1")]
     print(f"trefoil: 64 workers {walls[0] * 1000:.2f} ms, 1 worker {walls[1] * 1000:.2f} ms, ratio {walls[0] / walls[1]:.2f}")
 
@@ -81,5 +67,4 @@ if __name__ == "__main__":
     parser = argparse.ArgumentParser(description=__doc__, formatter_class=argparse.RawDescriptionHelpFormatter)
     parser.add_argument("runs", nargs="?", type=int, default=3)
     parser.add_argument("--workers", type=int, default=4)
-    parser.add_argument("--model")
     main(parser.parse_args())

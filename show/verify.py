@@ -71,41 +71,45 @@ def negatives(crossings, loops):
     return sum(map(is_negative, range(n)))
 
 
+def states_of(crossings, loops):
+    """For each state a name of the circle of each arc and loop, behind the name of no arc 0."""
+    def join(of, x, y):
+        return of.replace(of[x:x + 1], of[y:y + 1])
+    states = [bytes(range(2 * len(crossings) + loops + 1))]
+    for a, b, c, d in crossings:
+        states = [join(join(of, a, b), c, d) for of in states] + [join(join(of, a, d), b, c) for of in states]
+    return states
+
+
 class Cube:
-    """For each state the circle of each arc and loop, the place of each circle, and what it adds to the quantum degree."""
-    def __init__(self, crossings, loops, minus):
-        self.crossings, self.minus, self.states, self.labels = crossings, minus, [], {}
-        for state in range(2 ** len(crossings)):
-            joined = [pair for k, (a, b, c, d) in enumerate(crossings)
-                      for pair in (((a, d), (b, c)) if state >> k & 1 else ((a, b), (c, d)))]
-            of = classes(range(1, 2 * len(crossings) + loops + 1), joined)
-            places = {name: k for k, name in enumerate(sorted(set(of.values())))}
-            self.states.append((of, places, len(places) + state.bit_count() + len(crossings) - 3 * minus))
-        self.size = sum(2 ** len(places) for of, places, most in self.states)
-        self.degrees = sorted({most - 2 * k for of, places, most in self.states for k in range(len(places) + 1)})
+    """For each state the number of the circle of each arc and loop, how many circles it has, and its greatest quantum degree."""
+    def __init__(self, crossings, states, minus):
+        self.crossings, self.minus, self.states, rest = crossings, minus, [], len(crossings) - 3 * minus
+        for state, of in enumerate(states):
+            names = list(dict.fromkeys(of))[1:]  # by the least arcs
+            self.states.append((bytes([255, *map(names.index, of[1:])]), len(names), len(names) + state.bit_count() + rest))
+        self.labels = {(count, 2 * k): [label for label in range(2 ** count) if label.bit_count() == k]
+                       for count in {count for _, count, _ in self.states} for k in range(count + 1)}
+        self.degrees = sorted({most - less for _, count, most in self.states for less in range(0, 2 * count + 1, 2)})
 
     def generators(self, j):
         """The generators at a quantum degree, by homological degree: states with labels, each with its place."""
         found = {}
-        for state, (of, places, most) in enumerate(self.states):
-            kind, odd = (len(places), (most - j) // 2), (most - j) % 2
-            if not odd and 0 <= kind[1] <= kind[0]:
-                if kind not in self.labels:
-                    self.labels[kind] = [x for x in range(2 ** kind[0]) if x.bit_count() == kind[1]]
-                at = found.setdefault(state.bit_count() - self.minus, {})
-                at.update({(state, x): len(at) + k for k, x in enumerate(self.labels[kind])})
+        for state, (_, count, most) in enumerate(self.states):
+            at = found.setdefault(state.bit_count() - self.minus, {})
+            at.update({(state, label): len(at) + k for k, label in enumerate(self.labels.get((count, most - j), ()))})
         return found
 
     def heads(self, state, label):
         """The generators that a generator is sent to, each with its sign."""
-        of, places, _ = self.states[state]
+        of, count, _ = self.states[state]
         for k, slots in enumerate(self.crossings):
             if not state >> k & 1:
-                after, put, _ = self.states[state | 1 << k]
+                after = self.states[state | 1 << k][0]
                 before, behind = {of[arc] for arc in slots}, sorted({after[arc] for arc in slots})
-                kept = sum((label >> places[name] & 1) << put[name] for name in places if name not in before)
-                for bits in MADE[len(before), sum(label >> places[name] & 1 for name in before)]:
-                    made = kept + sum(bit << put[name] for bit, name in zip(bits, behind))
+                kept = sum((label >> x & 1) << after[of.index(x)] for x in range(count) if x not in before)
+                for bits in MADE[len(before), sum(label >> x & 1 for x in before)]:
+                    made = kept + sum(bit << x for bit, x in zip(bits, behind))
                     yield (state | 1 << k, made), (-1) ** (state & (1 << k) - 1).bit_count()
 
 
@@ -123,10 +127,9 @@ class Block:
     def put(self, i, a, b, value):
         column, row = self.columns.setdefault((i, a), {}), self.rows.setdefault((i, b), {})
         self.entries += (value % self.p != 0) - (b in column)
+        column.pop(b, None), row.pop(a, None)
         if value % self.p:
             column[b] = row[a] = value % self.p
-        elif b in column:
-            del column[b], row[a]
 
     def cancel(self, i, a, b):
         """Cancels the entry at a column and a row, and answers whether it is other than 0."""
@@ -173,20 +176,17 @@ def verify(data):
     if lines[:1] != [b"log 1"] or not lines[1:2] or len(lines[1]) > TEXT_BYTES:
         raise Fails(2 if lines[:1] == [b"log 1"] else 1, b"text")
     diagram = read_diagram(lines[1])
-    minus = diagram and negatives(*diagram)
-    if minus is None:
+    if (minus := diagram and negatives(*diagram)) is None:
         raise Fails(2, b"diagram")
-    field = re.fullmatch(rb"field ([2357])", b"".join(lines[2:3]))
-    if not field:
+    if not (field := re.fullmatch(rb"field ([2357])", b"".join(lines[2:3]))):
         raise Fails(3, b"text")
-    cube = Cube(*diagram, minus)
-    if cube.size > GENERATORS:
-        return 6, [b"limit generators %d of %d" % (cube.size, GENERATORS)]
-    wanted, before = replay(lines, cube, int(field[1]))
-    found = lines[before:]
-    for k in range(max(len(found), len(wanted))):
-        if found[k:k + 1] != wanted[k:k + 1]:
-            raise Fails(before + 1 + k, b"table")
+    states = states_of(*diagram)
+    if (size := sum(2 ** (len(set(of)) - 1) for of in states)) > GENERATORS:
+        return 6, [b"limit generators %d of %d" % (size, GENERATORS)]
+    wanted, before = replay(lines, Cube(diagram[0], states, minus), int(field[1]))
+    for number, (line, right) in enumerate(zip([*lines[before:], None], [*wanted, None]), before + 1):
+        if line != right:
+            raise Fails(number, b"table")
     return 0, [b"verified"] + wanted
 
 

@@ -2,7 +2,7 @@
 # A job array for Slurm: each task takes one part of a list. Cut the list and start as many tasks as there are parts:
 #
 #   mkdir parts && split -l 100 -d -a 4 list.tsv parts/part-
-#   sbatch --array=0-$(($(ls parts | wc -l) - 1)) tabulate/array.slurm
+#   sbatch --array=0-$(($(ls parts/part-???? | wc -l) - 1)) tabulate/array.slurm
 #   tabulate/kh-tabulate store results.db parts/*.jsonl        (when all have ended)
 #
 # A task that was stopped goes on with its part when it is started again. Fields are those of the variable FIELDS, else 2 alone. Begin at

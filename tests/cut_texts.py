@@ -12,38 +12,9 @@ import sys
 import fault_cases
 import plain_answers
 import plain_words
+from row_texts import EMPTY_TABLE, FIGURE_EIGHT, FIGURE_EIGHT_TABLE, TREFOIL, TREFOIL_IN_GAUSS, TREFOIL_TABLE
 from running import Child, fault_of, known_commands, tell_all
 
-TREFOIL = "PD[X[1,4,2,5], X[3,6,4,1], X[5,2,6,3]]"
-GAUSS = "GaussCode[-1, 3, -2, 1, -3, 2] Signs[-1, -1, -1]"
-FIGURE_EIGHT = "PD[X[4,2,5,1], X[8,6,1,5], X[6,3,7,4], X[2,7,3,8]]"
-TREFOIL_TABLE = """\
-table 2
-field 2
-j -9 i -3 dim 1
-j -7 i -3 dim 1
-j -7 i -2 dim 1
-j -5 i -2 dim 1
-j -3 i 0 dim 1
-j -1 i 0 dim 1
-jones -1*q^-9 1*q^-5 1*q^-3 1*q^-1
-"""
-FIGURE_EIGHT_TABLE = """\
-table 2
-field 2
-j -5 i -2 dim 1
-j -3 i -2 dim 1
-j -3 i -1 dim 1
-j -1 i -1 dim 1
-j -1 i 0 dim 1
-j 1 i 0 dim 1
-j 1 i 1 dim 1
-j 3 i 1 dim 1
-j 3 i 2 dim 1
-j 5 i 2 dim 1
-jones 1*q^-5 1*q^5
-"""
-EMPTY_TABLE = "table 2\nfield 2\nj 0 i 0 dim 1\njones 1*q^0\n"
 LONGEST = 260
 
 
@@ -64,7 +35,7 @@ def cut_gauss(size):
 
 
 def cuts(child):
-    for name, text, line in (("a trefoil", TREFOIL, cut_trefoil), ("a Gauss code", GAUSS, cut_gauss)):
+    for name, text, line in (("a trefoil", TREFOIL, cut_trefoil), ("a Gauss code", TREFOIL_IN_GAUSS, cut_gauss)):
         for size in range(len(text)):
             yield f"{name} cut to {size} bytes", fault_of(child, ["homology"], text[:size], 1, line(size) + "\n")
 

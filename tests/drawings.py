@@ -4,7 +4,8 @@
     tests/drawings.py PROGRAM
 
 A drawing is compared in two ways: it has the text that the rules give, and what it shows is the diagram: its crossings, which strand is
-over at each, how they are joined, and its loops. `tests/program` runs these cases behind its rows. The last line is 'N passed, M failed'.
+over at each, how they are joined, and its loops; and no row has more than 2n + 2 strands for n crossings. `tests/program` runs these
+cases behind its rows. The last line is 'N passed, M failed'.
 """
 import sys
 
@@ -27,6 +28,9 @@ ROWS = (
         "left 1: \\- | | | | | |\nclose 3: | | \\/ | | | |\nclose 3: | | \\/ | |\nclose 2: | \\/ |\nclose 1: \\/\n",
     ),
 )
+
+# A closed braid, and how many strands its widest row has: as many as twenty crossings may.
+STRANDS, LETTERS, WIDEST = 3, [1, -2] * 10, 42
 
 # A curl in a curl in a curl, and curls inside the loops of others.
 NESTED = (
@@ -60,6 +64,13 @@ def texts():
         yield f"drawn at random, {number}", known_diagrams.text_of(diagram)
 
 
+def width_fault(child):
+    """What is wrong with the widest row of the closed braid, if anything is."""
+    text = known_diagrams.text_of(known_diagrams.braid(STRANDS, LETTERS))
+    found = plain_drawing.shown(child.run(["draw"], text.encode()).wrote.decode()).widest
+    return None if found == WIDEST else f"{found} strands"
+
+
 def faults(program, word=""):
     """The name of each case whose name has the word, and what is wrong with it, if anything is."""
     if not told(program, "draw"):
@@ -68,6 +79,8 @@ def faults(program, word=""):
     for name, text, wanted in ROWS:
         if word in NAME + name:
             yield f"{NAME}{name}, by hand", fault_of(child, ["draw"], text, 0, wanted)
+    if word in f"{NAME}a widest row":
+        yield f"{NAME}a widest row", width_fault(child)
     for name, text in texts():
         if word in NAME + name:
             code = codes.read(text)

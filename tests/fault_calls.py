@@ -12,11 +12,14 @@ import tempfile
 
 import fault_cases as cases
 from fault_cases import NO_MEMORY, READ_FAULT, WRITE_FAULT
+from running import Child, parts_of
 
 HERE = os.path.dirname(os.path.abspath(__file__))
 KINDS = ("memory", "read", "write", "thread")
 NUMBERS = 400
 MORE = 40
+BYTES = 200
+FEW = 20
 
 
 class Shim:
@@ -27,12 +30,18 @@ class Shim:
         self.library, self.file = os.path.join(folder, "faults.so"), os.path.join(folder, "counts")
 
     def is_built(self):
-        """Whether the shim was compiled and is heard when the program runs."""
-        compiler = os.environ.get("CC") or shutil.which("cc")
-        if not compiler:
+        """Whether the shim was compiled and is heard when the program, which is no script, runs; where it is not, that is told."""
+        built = self.compiled() and self.run(cases.ALL[0]) and self.counts()["read"] > 0
+        if not built:
+            print("no call is made to fail, since nothing can be loaded before the program, or there is no C compiler")
+        return built
+
+    def compiled(self):
+        compiler = shutil.which(os.environ.get("CC") or "cc")
+        if not compiler or not parts_of(self.child.program)[1]:
             return False
         command = [compiler, "-O2", "-shared", "-fPIC", "-o", self.library, os.path.join(HERE, "faults.c")]
-        return not subprocess.run(command).returncode and self.run(cases.ALL[0]) and self.counts()["read"] > 0
+        return not subprocess.run(command).returncode
 
     def run(self, case, fault="none", piece=None):
         """A run in which calls fail as `faults.c` says."""
@@ -76,7 +85,7 @@ def memory_faults(shim, case, wanted, count, all_numbers):
     yield f"{case.name}, some allocation is needed", None if NO_MEMORY in ends or not count else f"ended with {ends} alone"
 
 
-def read_faults(shim, case, wanted, count):
+def read_faults(shim, case, wanted, count, most=BYTES):
     """Each read fails: the fault of reading, with nothing written. An interrupted one may be made again, and short ones are made whole."""
     yield f"{case.name}, reads of one byte", outcome(shim.run(case, piece=1), wanted)
     for number in range(1, count + 1):
@@ -85,13 +94,13 @@ def read_faults(shim, case, wanted, count):
             yield f"{case.name}, read {number} fails, {mode}", outcome(came, wanted, READ_FAULT, whole=False)
         came = shim.run(case, f"read once {number} {errno.EINTR}")
         yield f"{case.name}, read {number} is interrupted", outcome(came, wanted, READ_FAULT)
-    if cases.reads(case) and len(case.given) < 200:
-        for number in range(1, len(case.given) + 2):
+    if cases.reads(case) and len(case.given) < BYTES:
+        for number in range(1, min(len(case.given) + 1, most) + 1):
             came = shim.run(case, f"read once {number} {errno.EIO}", piece=1)
             yield f"{case.name}, read {number} of one byte fails", outcome(came, wanted, READ_FAULT, whole=False)
 
 
-def write_faults(shim, case, wanted, count):
+def write_faults(shim, case, wanted, count, most=BYTES):
     """Each write fails, whole or byte by byte: the fault of writing, with what was written before."""
     for number in range(1, count + 1):
         for code in (errno.EIO, errno.ENOSPC, errno.EPIPE, errno.EBADF):
@@ -101,7 +110,7 @@ def write_faults(shim, case, wanted, count):
         came = shim.run(case, f"write once {number} {errno.EINTR}")
         yield f"{case.name}, write {number} is interrupted", outcome(came, wanted, WRITE_FAULT, prefix=True)
     size = len(wanted[1])
-    for number in range(1, min(size, 200) + 1):
+    for number in range(1, min(size, most) + 1):
         came = shim.run(case, f"write once {number} {errno.EIO}", piece=1)
         right = (came.status, came.wrote, came.said) == (WRITE_FAULT, wanted[1][: number - 1], b"")
         yield f"{case.name}, write {number} of one byte fails", None if right else f"{came.status}, {came.wrote!r}, {came.said!r}"
@@ -116,19 +125,27 @@ def thread_faults(shim, case, wanted, count):
             yield f"{case.name}, thread {number} is not started, {mode}", outcome(came, wanted)
 
 
-def faults(child, chosen, all_numbers=False):
+def case_faults(shim, case, most=None, all_numbers=False):
+    """What comes of a case when its calls fail, each in turn; with a most, of each kind no more than so many of the first ones."""
+    wanted = shim.child.run(case.words, case.given)[:2]
+    yield f"{case.name}, with the shim", outcome(shim.run(case), wanted)
+    count = shim.counts()
+    print(f"{case.name}: " + ", ".join(f"{count[kind]} of {kind}" for kind in KINDS), flush=True)
+    count = {kind: min(number, most or number) for kind, number in count.items()}
+    yield from memory_faults(shim, case, wanted, count["memory"], all_numbers)
+    yield from read_faults(shim, case, wanted, count["read"], most or BYTES)
+    yield from write_faults(shim, case, wanted, count["write"], most or BYTES)
+    yield from thread_faults(shim, case, wanted, count["thread"])
+
+
+def faults(child, chosen, all_numbers=False, most=None):
     """The name of each case in which a call fails, and what is wrong with it, if anything is."""
     with tempfile.TemporaryDirectory() as folder:
         shim = Shim(child, folder)
-        if not shim.is_built():
-            print("no call is made to fail, since nothing can be loaded before the program, or there is no C compiler")
-            return
-        for case in chosen:
-            wanted = child.run(case.words, case.given)[:2]
-            yield f"{case.name}, with the shim", outcome(shim.run(case), wanted)
-            count = shim.counts()
-            print(f"{case.name}: " + ", ".join(f"{count[kind]} of {kind}" for kind in KINDS), flush=True)
-            yield from memory_faults(shim, case, wanted, count["memory"], all_numbers)
-            yield from read_faults(shim, case, wanted, count["read"])
-            yield from write_faults(shim, case, wanted, count["write"])
-            yield from thread_faults(shim, case, wanted, count["thread"])
+        for case in chosen if shim.is_built() else ():
+            yield from case_faults(shim, case, most, all_numbers)
+
+
+def few(program):
+    """A small part of these cases, for the gate: of each kind the first calls fail."""
+    yield from faults(Child(program), cases.named("homology by four workers", "certify", "verify"), most=FEW)

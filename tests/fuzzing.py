@@ -10,7 +10,7 @@ import plain_cube
 import plain_diagrams
 import plain_words
 from plain_codes import Ended
-from running import PATIENCE, Child, known_commands, slowness
+from running import PATIENCE, Child, known_commands, least_seconds, slowness
 
 REFUSED_SECONDS = 0.5
 REFUSED_KILOBYTES = 96 * 1024
@@ -65,15 +65,17 @@ class Fuzzer:
         wanted = self.wanted(words, given)
         self.unknown += wanted is None
         self.counts[next((it for it in words if it in self.commands), "other words"), came.status] += 1
-        fault = came.shape_fault() or (wanted and wanted.fault(came.status, came.wrote)) or self.cost_fault(number, came)
+        fault = came.shape_fault() or (wanted and wanted.fault(came.status, came.wrote)) or self.cost_fault(number, came, words, given)
         return f"{number}: {fault[:1000]}\n    words {words!r:.600}\n    input {given!r:.3000}" if fault else None
 
-    def cost_fault(self, number, came):
+    def cost_fault(self, number, came, words, given):
         """Whether a refused input, but for its count of generators, took much time or memory; what took most is kept."""
         if came.status not in (1, 2, 6) or came.wrote.startswith(b"limit generators "):
             return None
         self.slowest = max(self.slowest, (came.seconds, number))
         self.largest = max(self.largest, (came.kilobytes, number))
-        if came.seconds > REFUSED_SECONDS * self.slower * slowness() or self.child.takes_more(came, REFUSED_KILOBYTES):
-            return f"{came.seconds:.3f} seconds and {came.kilobytes} KB for a refusal"
+        bound = REFUSED_SECONDS * self.slower
+        seconds = least_seconds(came.seconds, bound, lambda: self.child.run(words, given))
+        if seconds > bound * slowness() or self.child.takes_more(came, REFUSED_KILOBYTES):
+            return f"{seconds:.3f} seconds and {came.kilobytes} KB for a refusal"
         return None

@@ -3,6 +3,7 @@
 """
 import cut_texts
 import drawings
+import fault_calls
 import fault_limits
 import fault_streams
 import link_algebra
@@ -31,6 +32,7 @@ def faults(program, word=""):
         yield from module.faults(program, word)
     for name, cases in (
         ("drawn inputs", lambda: drawn_inputs(program)),
+        ("calls", lambda: fault_calls.few(program)),
         ("streams", lambda: fault_streams.few(program, Child(program).run)),
         ("limits", lambda: fault_limits.few(program)),
     ):

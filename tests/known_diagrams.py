@@ -8,6 +8,7 @@ import plain_moves as moves
 import random_moves as draws
 from braids import closure, planar_diagram
 
+TOP = os.path.dirname(os.path.dirname(os.path.abspath(__file__)))
 ALTERNATING_BRAIDS = ((3, [1, -2] * 10), (5, [1, -2, 3, -4] * 5), (6, [1, -2, 3, -4, 5] * 4), (2, [1] * 20), (4, [1, -2, 3] * 6 + [1, -2]))
 
 
@@ -23,7 +24,7 @@ def begun():
 
 def named():
     """The name and the text of each prime knot of up to 8 crossings, and of each prime link of up to 7, of `reference/braids.txt`."""
-    with open(os.path.join(os.path.dirname(os.path.dirname(os.path.abspath(__file__))), "reference", "braids.txt"), encoding="utf-8") as file:
+    with open(os.path.join(TOP, "reference", "braids.txt"), encoding="utf-8") as file:
         lines = [line.split() for line in file if line.strip() and not line.startswith("#")]
     for name, strands, *letters in lines:
         if name[0].isdigit() and int(name[0]) <= 8:

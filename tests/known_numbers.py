@@ -34,6 +34,6 @@ def fault_of(program, words, wanted):
 def faults(program, word):
     """The words of each run that have this word, and what is wrong with the run, if anything is."""
     runs = [run for run in stored() if word in " ".join(run[0])]
-    with ThreadPoolExecutor(os.cpu_count()) as pool:
+    with ThreadPoolExecutor(len(os.sched_getaffinity(0))) as pool:
         found = pool.map(lambda run: fault_of(program, *run), runs)
         yield from ((" ".join(words), fault) for (words, _), fault in zip(runs, found))

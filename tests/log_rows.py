@@ -12,6 +12,7 @@ VERIFIED = "verified\ntable 2\n" + REST
 USAGE = "usage: kh COMMAND [OPTIONS]\n"
 NINE_CURLS = "PD[" + ",".join(f"X[{a},{a},{a + 1},{a + 1}]" for a in range(1, 19, 2)) + "]"
 TOO_LARGE = "limit generators 10077696 of 4194304\n"
+TWENTY_CURLS = "PD[" + ",".join(f"X[{a},{a},{a + 1},{a + 1}]" for a in range(1, 41, 2)) + "]"
 LONGEST = 67_108_864
 LOG_OF_NOTHING = "log 1\nPD[]\nfield %s\nblock 0\ntable 2\nfield %s\nj 0 i 0 dim 1\n"
 LOG_OF_A_LOOP = "log 1\nPD[Loop[1]]\nfield 2\nblock -1\nblock 1\ntable 2\n" + REST
@@ -79,6 +80,7 @@ VERIFIED_LOGS = [
     ("a log of nothing over three elements", LOG_OF_NOTHING % (3, 3), 0, "verified\ntable 2\nfield 3\nj 0 i 0 dim 1\n"),
     ("a log of a loop", LOG_OF_A_LOOP, 0, VERIFIED),
     ("a log of nine curls", f"log 1\n{NINE_CURLS}\nfield 2\n", 6, TOO_LARGE),
+    ("a log of twenty curls", f"log 1\n{TWENTY_CURLS}\nfield 2\n", 6, "limit generators 3656158440062976 of 4194304\n"),
     ("a log of nine curls with a wrong line", f"log 1\n{NINE_CURLS}\nfield 2\nend\n", 6, TOO_LARGE),
     ("a log of nine curls over four elements", f"log 1\n{NINE_CURLS}\nfield 4\n", 1, refused(3, "text")),
     ("a log of nine curls without a field", f"log 1\n{NINE_CURLS}\n", 1, refused(3, "text")),

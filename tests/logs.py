@@ -24,7 +24,7 @@ import plain_cube
 import plain_diagrams as codes
 import plain_logs
 from log_rows import CURL, LONGEST
-from running import Child, Long, fault_of, slowness, tell_all, told
+from running import Child, Long, fault_of, least_seconds, slowness, tell_all, told
 
 TOP = os.path.dirname(os.path.dirname(os.path.abspath(__file__)))
 VERIFIER = os.path.join(TOP, "show", "verify.py")
@@ -134,7 +134,10 @@ def edited(draw, log, others):
 
 
 def changed_digit(draw, log):
+    """Another digit, or the same, stands where one stood; a log without a digit stays as it is."""
     places = [at for at, letter in enumerate(log) if letter.isdigit()]
+    if not places:
+        return log
     at = draw.choice(places)
     return log[:at] + draw.choice("0123456789") + log[at + 1 :]
 
@@ -205,11 +208,13 @@ def hostile(child):
         for head in HEADS:
             first, again = head.encode(), filler.encode()
             wanted = plain_logs.verdict(first + again * SHORTER)
-            came = child.run(["verify"], Long(LONGEST, again, first))
+            given = Long(LONGEST, again, first)
+            came = child.run(["verify"], given)
             right = (came.status, came.wrote, came.said) == (wanted[0], wanted[1].encode(), b"")
             case = f"verify, {name} behind {len(head)} bytes"
             yield case, None if right else f"{came.status}, {came.wrote[:300]!r} and not {wanted}"
-            yield f"{case}, time", None if came.seconds <= HOSTILE_SECONDS * slowness() else f"{came.seconds:.2f} seconds"
+            seconds = least_seconds(came.seconds, HOSTILE_SECONDS, lambda given=given: child.run(["verify"], given))
+            yield f"{case}, time", None if seconds <= HOSTILE_SECONDS * slowness() else f"{seconds:.2f} seconds"
             yield f"{case}, memory", f"{came.kilobytes} KB" if child.takes_more(came, HOSTILE_KILOBYTES) else None
 
 

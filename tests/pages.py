@@ -46,7 +46,8 @@ def first_of_readme(text):
 def folder_of(path, program):
     """A folder with all of the repository, but for the program."""
     for name in os.listdir(TOP):
-        if name not in (".git", "kh"):
+        # (a reader's own `out` may have files of the same commands)
+        if name not in (".git", "kh", "out"):
             os.symlink(os.path.join(TOP, name), os.path.join(path, name))
     os.symlink(os.path.abspath(program), os.path.join(path, "kh"))
 
@@ -62,8 +63,9 @@ def page_faults(name, program):
     with tempfile.TemporaryDirectory() as folder:
         folder_of(folder, program)
         for command, shown, line in found:
-            settings = dict(os.environ, COLUMNS="100", LC_ALL="C.UTF-8")
-            came = subprocess.run(["sh", "-c", command], cwd=folder, env=settings, capture_output=True, text=True, timeout=PATIENCE)
+            settings = dict(os.environ, COLUMNS="100", LC_ALL="C", PYTHONUTF8="1")
+            words, nothing = ["sh", "-c", command], subprocess.DEVNULL
+            came = subprocess.run(words, cwd=folder, env=settings, stdin=nothing, capture_output=True, text=True, timeout=PATIENCE)
             fault = None if came.stdout + came.stderr == shown else f"{came.stdout}{came.stderr}\nand not\n{shown}"
             yield f"{name}, line {line}: {command}", fault
 

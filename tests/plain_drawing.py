@@ -71,7 +71,9 @@ def drawing(code):
 
 
 class Shown(NamedTuple):
-    """For each crossing from the top whether the strand from upper left to lower right is over; each corner's other end; the loops."""
+    """For each crossing from the top whether the strand from upper left to lower right is over; each corner's other end; the loops; and how
+    many strands the widest row has.
+    """
 
     falling_over: list
     far: dict
@@ -80,35 +82,35 @@ class Shown(NamedTuple):
 
 
 class Strands:
-    """The strands of a page at some height, each by its piece; the two ends that each piece has had so far."""
+    """The strands of a page at some height, each by the curve that it belongs to; the two ends that each curve has had so far."""
 
     def __init__(self):
         self.row, self.ends, self.far, self.loops, self.widest = [], [], {}, 0, 0
 
-    def piece(self, *ends):
+    def curve(self, *ends):
         self.ends.append(list(ends))
         return len(self.ends) - 1
 
     def open(self, at):
-        piece = self.piece()
-        self.row[at:at] = [piece, piece]
+        curve = self.curve()
+        self.row[at:at] = [curve, curve]
         self.widest = max(self.widest, len(self.row))
 
-    def end(self, piece, corner):
-        """The piece ends at a corner; where it has two of them, these are joined."""
-        self.ends[piece].append(corner)
-        if len(self.ends[piece]) == 2:
-            one, other = self.ends[piece]
+    def end(self, curve, corner):
+        """The curve ends at a corner; where it has two of them, these are joined."""
+        self.ends[curve].append(corner)
+        if len(self.ends[curve]) == 2:
+            one, other = self.ends[curve]
             self.far[one], self.far[other] = other, one
 
     def close(self, at):
-        """Two strands become one piece; where they are one already, it is a loop."""
+        """Two curves become one; where they are one already, it is a loop."""
         one, other = self.row[at : at + 2]
         del self.row[at : at + 2]
         if one == other:
             self.loops += 1
             return
-        self.row = [one if piece == other else piece for piece in self.row]
+        self.row = [one if curve == other else curve for curve in self.row]
         ends, self.ends[other] = self.ends[other], []
         for corner in ends:
             self.end(one, corner)
@@ -116,7 +118,7 @@ class Strands:
     def cross(self, at, number):
         self.end(self.row[at], (number, UPPER_LEFT))
         self.end(self.row[at + 1], (number, UPPER_RIGHT))
-        self.row[at : at + 2] = [self.piece((number, LOWER_LEFT)), self.piece((number, LOWER_RIGHT))]
+        self.row[at : at + 2] = [self.curve((number, LOWER_LEFT)), self.curve((number, LOWER_RIGHT))]
 
 
 def shown(text):
@@ -143,13 +145,18 @@ def shown(text):
 
 
 def difference(text, code):
-    """What a drawing shows that a code has not, if anything: pieces are drawn one after another, each from slot 0 of its least crossing."""
+    """What a drawing shows that a code has not, if anything.
+
+    Pieces are drawn one after another, each from slot 0 of its least crossing, and of n crossings no row has more than 2n + 2 strands.
+    """
     try:
         seen = shown(text)
     except ValueError as it:
         return f"no drawing: {it}"
     if (len(seen.falling_over), seen.loops) != (len(code.crossings), code.loops):
         return f"{len(seen.falling_over)} crossings and {seen.loops} loops"
+    if seen.widest > 2 * len(code.crossings) + 2:
+        return f"a row of {seen.widest} strands"
     partner, stands_for, left = partners(code), {}, set(range(1, len(code.crossings) + 1))
     for number in range(len(code.crossings)):
         if number not in stands_for:

@@ -5,10 +5,11 @@
     tests/rules.py --write   writes anew what follows from the sources: the list at the end of docs/DEFINITIONS.md, the lengths in
                              docs/THEOREM.md, and what crates stand on in docs/ARCHITECTURE.md
 
-No chain of crates that stand on one another is longer than seven. Each crate has its line in docs/ARCHITECTURE.md, with those that it
-stands on. Every name of a definition that a clause of a public function cites is found in docs/DEFINITIONS.md, by hand or in the list
-at its end, which has each name with the first sentence of the comment at its definition. The files that are trusted are as long as
-docs/THEOREM.md says.
+No chain of crates that stand on one another is longer than seven. crates.txt has each crate behind those that it stands on. Each crate has
+its line in docs/ARCHITECTURE.md, with those that it stands on, and is named in README.md's list by crate. Every name of a definition that
+a clause of a public function cites is found in docs/DEFINITIONS.md, by hand or in the list at its end, which has each name with the first
+sentence of the comment at its definition. The files that are trusted are as long as docs/THEOREM.md says. The old text of each planted
+bug of must-fail/ and more-edits/ stands once in its file.
 """
 import os
 import re
@@ -19,6 +20,8 @@ TOP = os.path.dirname(os.path.dirname(os.path.abspath(__file__)))
 LONGEST = 7
 COLUMNS = 135
 HEADING = "## All names in public contracts"
+BY_CRATE, BEHIND_CRATES = "\nBy crate:\n", "\n*Trusted.*"
+NAMED = re.compile(r"`(\w+)`")
 
 IMPORT = re.compile(r"ghost use Rattle\.(\w+)\.(specs(?:\.\w+)*)\.\{([^}]*)\}")
 CLAUSE = re.compile(r"\b(?:requires|ensures)\b[^{};]*\{")
@@ -54,6 +57,37 @@ def longest_chain(below):
         return known[name]
 
     return max(map(chain, below), key=len)
+
+
+def out_of_order(below):
+    """The crates of crates.txt that stand above one that they stand on."""
+    order = list(below)
+    for place, name in enumerate(order):
+        above = [it for it in below[name] if it not in order[:place]]
+        if above:
+            yield f"{name} stands above {', '.join(above)}"
+
+
+def readme_fault(crates):
+    """The crates that README.md does not name in its list by crate or behind it, and heads of that list that are no crates."""
+    page = read("README.md").partition(BY_CRATE)[2].partition(BEHIND_CRATES)[0]
+    heads = " ".join(re.findall(r"^- ([^:]*):", page, re.M))
+    missing, strangers = set(crates) - {*NAMED.findall(page)}, {*NAMED.findall(heads)} - set(crates)
+    return ", ".join(sorted(missing | strangers)) or None
+
+
+def edit_faults(crates):
+    """The planted bugs, also those that the gate leaves out, whose old text does not stand once in its file."""
+    for crate in crates:
+        for folder in ("must-fail", "more-edits"):
+            for path in files(crate, folder, ".edit"):
+                with open(path, encoding="utf-8") as file:
+                    lines = [line.partition(":") for line in file.read().splitlines()]
+                edit = {head: text.removeprefix(" ") for head, _, text in lines}
+                source = os.path.join(TOP, "crates", crate, edit["file"])
+                count = read(source).count(edit["old"]) if os.path.isfile(source) else 0
+                if count != 1 or edit["old"] == edit["new"]:
+                    yield f"{os.path.relpath(path, TOP)} ({count} times)"
 
 
 def files(crate, folder, ending):
@@ -188,6 +222,7 @@ def faults():
     crates = stands_on()
     chain = longest_chain(crates)
     yield "no long chain of crates", f"{len(chain)} crates: {', '.join(chain)}" if len(chain) > LONGEST else None
+    yield "crates.txt has each crate behind those that it stands on", "; ".join(out_of_order(crates)) or None
     folders = sorted(os.listdir(os.path.join(TOP, "crates")))
     there = {it for it in folders if os.path.isdir(os.path.join(TOP, "crates", it, "src"))}
     yield "crates.txt has the crates", ", ".join(sorted(there ^ set(crates))) or None
@@ -195,6 +230,8 @@ def faults():
     table = set(re.findall(r"^\| `(\w+)` \|", page, re.M))
     yield "ARCHITECTURE.md has the crates", ", ".join(sorted(table ^ set(crates))) or None
     yield "ARCHITECTURE.md says what they stand on", "`tests/rules.py --write` mends it" if page != with_libraries(page) else None
+    yield "README.md has the crates", readme_fault(crates)
+    yield "the old text of each planted bug stands once", ", ".join(edit_faults(crates)) or None
     page = read("docs", "THEOREM.md")
     yield "THEOREM.md has the lengths of the edge", "`tests/rules.py --write` mends it" if page != with_lengths(page) else None
     page = read("docs", "DEFINITIONS.md")

@@ -3,6 +3,7 @@
 `Child.run` tells how a run ended, what it wrote, and what it took. `Ended.shape_fault` says whether a run ended in a form that
 `docs/FORMATS.md` does not have, whatever it was given.
 """
+import fcntl
 import functools
 import os
 import re
@@ -44,8 +45,11 @@ SHAPES = {
 ANSWERED, USAGE = 0, 2
 NEEDED = {"bench": ("--number", "1048576"), "reduced": ("--mark", "1")}
 
-# Additions that took this machine's likes so many seconds of processor time, when bounds were set.
+# Additions, and bytes that are copied, which took this machine's likes so many seconds of processor time, when bounds were set; and how
+# often a run that is too slow is tried again, since a machine may be slow for a while.
 WORK, WORK_SECONDS = 300_000, 0.03
+COPIED, COPIED_SECONDS = 32 * 1024 * 1024, 0.04
+TRIES = 3
 
 # The kilobytes by which runs that do the same differ.
 SLACK = 4_096
@@ -120,9 +124,14 @@ class Child:
         """The input to read from, which has these bytes; and what is to be closed."""
         if by_pipe and len(given) <= PIPE_ROOM:
             reading, writing = os.pipe()
-            os.write(writing, given)
+            # (a user with many pipes gets small ones, in which a writer would wait)
+            has_room = len(given) <= fcntl.fcntl(writing, fcntl.F_GETPIPE_SZ)
+            if has_room:
+                os.write(writing, given)
             os.close(writing)
-            return reading, reading
+            if has_room:
+                return reading, reading
+            os.close(reading)
         replaced(self.input, given)
         return self.input, None
 
@@ -198,12 +207,27 @@ def begins_in(program):
 @functools.lru_cache(maxsize=None)
 def slowness():
     """How many times slower this machine is than the one for which bounds on processor time are set, and at least 1."""
-    def took():
+
+    def took(work):
         begun = time.process_time()
-        sum(at * at % 7 for at in range(WORK))
+        work()
         return time.process_time() - begun
 
-    return max(1.0, min(took() for _ in range(5)) / WORK_SECONDS)
+    def least(work):
+        return min(took(work) for _ in range(5))
+
+    copied = least(lambda: bytes(bytearray(COPIED)))
+    return max(1.0, least(lambda: sum(at * at % 7 for at in range(WORK))) / WORK_SECONDS, copied / COPIED_SECONDS)
+
+
+def least_seconds(seconds, bound, again):
+    """The processor time of a run that took so many seconds; where that is beyond a bound, the least of a few, which `again` makes."""
+    for _ in range(TRIES):
+        if seconds <= bound * slowness():
+            break
+        slowness.cache_clear()
+        seconds = min(seconds, again().seconds)
+    return seconds
 
 
 def words_of(command):

@@ -1,6 +1,7 @@
 """Tries `./kh` and `./build` in a small copy of the repository, with a toolchain of its own that proves nothing and takes no time.
 
-`tests/program` runs these behind its rows.
+On the path are that toolchain and the commands that both call, and no others, so that no `rt` of this machine is found. `tests/program`
+runs these behind its rows.
 """
 import os
 import shutil
@@ -11,6 +12,7 @@ from running import PATIENCE
 
 TOP = os.path.dirname(os.path.dirname(os.path.abspath(__file__)))
 CANNOT_RUN = 70
+COMMANDS = "cat chmod cp dirname env find flock grep head mkdir mktemp mv nproc readlink rm sed sh sleep tail touch tr wc".split()
 
 # What stands in for `rt`: it writes its words down, "proves" two crates, "builds" a program that says its words, and "tries" one.
 TOOLCHAIN = """\
@@ -38,6 +40,10 @@ class Copy:
         self.write(os.path.join("crates", "kh_main", "stdin"), "")
         self.write(os.path.join("bin", "rt"), TOOLCHAIN)
         os.chmod(os.path.join(folder, "bin", "rt"), 0o755)
+        os.mkdir(os.path.join(folder, "commands"))
+        for name, path in ((name, shutil.which(name)) for name in COMMANDS):
+            if path:
+                os.symlink(path, os.path.join(folder, "commands", name))
 
     def write(self, path, text):
         path = os.path.join(self.folder, path)
@@ -46,10 +52,11 @@ class Copy:
             file.write(text)
 
     def start(self, name, *words, toolchain=True, refused=""):
-        path = "/usr/bin:/bin"
-        settings = {"PATH": f"{self.folder}/bin:{path}" if toolchain else path, "TOLD": self.told, "REFUSED": refused}
+        path, pipe = os.path.join(self.folder, "commands"), subprocess.PIPE
+        path = f"{self.folder}/bin:{path}" if toolchain else path
+        settings = {"PATH": path, "TMPDIR": self.folder, "TOLD": self.told, "REFUSED": refused}
         command = [os.path.join(self.folder, name), *words]
-        return subprocess.Popen(command, env=settings, stdin=subprocess.DEVNULL, stdout=subprocess.PIPE, stderr=subprocess.PIPE, text=True)
+        return subprocess.Popen(command, env=settings, stdin=subprocess.DEVNULL, stdout=pipe, stderr=pipe, text=True)
 
     def run(self, name, *words, **settings):
         """The status, what was written, and whether standard error said anything."""

@@ -14,8 +14,8 @@ from importlib.util import module_from_spec, spec_from_loader
 
 import plain_diagrams
 import plain_drawing
-from cut_texts import TREFOIL_TABLE
 from link_rows import REDUCED_TREFOIL
+from row_texts import TREFOIL, TREFOIL_OVER_THREE, TREFOIL_TABLE
 from running import PATIENCE
 
 TOP = os.path.dirname(os.path.dirname(os.path.abspath(__file__)))
@@ -31,16 +31,7 @@ def script(name):
 
 
 DRAWING = script("drawing")
-TREFOIL = "PD[X[1,4,2,5], X[3,6,4,1], X[5,2,6,3]]"
-TWO_FIELDS = TREFOIL_TABLE + """\
-table 2
-field 3
-j -9 i -3 dim 1
-j -5 i -2 dim 1
-j -3 i 0 dim 1
-j -1 i 0 dim 1
-jones -1*q^-9 1*q^-5 1*q^-3 1*q^-1
-"""
+TWO_FIELDS = TREFOIL_TABLE + TREFOIL_OVER_THREE
 TWO_GRIDS = """\
 over 2 elements              over 3 elements
 j\\i | -3  -2  -1   0 |  χ    j\\i | -3  -2  -1   0 |  χ

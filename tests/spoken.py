@@ -4,6 +4,7 @@
 """
 import os
 import pty
+import re
 import shutil
 import subprocess
 import tempfile
@@ -65,9 +66,16 @@ STATUSES = [
 ]
 PROGRAM = "#!/bin/sh\necho answer\nexit %d\n"
 
+# What is said to be waited for at a terminal.
+WAITS = [
+    (["homology"], "a code"), (["--field", "3", "certify"], "a code"), (["edit"], "a code"), (["verify"], "a log"),
+    (["--workers=2", "--", "verify"], "a log"), (["bench", "--number", "7"], ""), (["homologies"], ""), (["homology", "verify"], ""),
+]
+
 
 def said(status, words):
-    came = subprocess.run([HELP, str(status), *words], capture_output=True, cwd=TOP, timeout=PATIENCE)
+    nothing = subprocess.DEVNULL
+    came = subprocess.run([HELP, str(status), *words], stdin=nothing, capture_output=True, cwd=TOP, timeout=PATIENCE)
     return came.stdout.decode("latin-1"), came.stderr.decode("latin-1")
 
 
@@ -80,14 +88,15 @@ def list_fault(text):
 def word_faults():
     for words, first in WRONG:
         wrote, errors = said(2, words)
-        fault = list_fault(wrote) if (wrote.split("\n")[0], errors) == (f"kh: {first}", "") else f"{wrote[:200]!r} and not {first!r}"
-        yield f"kh-help: {words}"[:80], fault
+        is_said = (wrote.split("\n")[0], errors) == (f"kh: {first}", "")
+        yield f"kh-help: {words}"[:80], list_fault(wrote) if is_said else f"{wrote[:200]!r} and not {first!r}"
     for words in RIGHT:
         wrote, _ = said(2, words)
         yield f"kh-help: {words}", None if wrote.startswith("kh: these words give no command\n") else wrote[:200]
     for words in LONG:
         wrote, _ = said(2, words)
-        yield f"kh-help: {words} at length", list_fault(wrote) or (None if "Statuses:" in wrote and wrote.startswith("kh: ") else wrote[:99])
+        is_long = "Statuses:" in wrote and wrote.startswith("kh: ")
+        yield f"kh-help: {words} at length", list_fault(wrote) or (None if is_long else wrote[:99])
 
 
 def status_faults(copy):
@@ -100,12 +109,17 @@ def status_faults(copy):
         right = (came.returncode, came.stdout) == (status, "answer\n") and came.stderr.startswith(begin)
         lines = 1 if begin else 0
         yield f"./kh with status {status}", None if right and came.stderr.count("\n") == lines else str(came)
-    for words, waits in ((["homology"], "a code"), (["verify"], "a log"), (["bench", "--number", "7"], ""), (["homologies"], "")):
-        ours, theirs = pty.openpty()
+    for words, waits in WAITS:
+        try:
+            ours, theirs = pty.openpty()
+        except OSError as stop:
+            print(f"./kh {words} at a terminal: not tried, since there is none to be had: {stop}")
+            continue
         came = subprocess.run([os.path.join(copy.folder, "kh"), *words], stdin=theirs, capture_output=True, text=True)
         os.close(ours), os.close(theirs)
-        said_of = came.stderr.partition(" is waited for")[0].removeprefix("kh: ") if " is waited for" in came.stderr else ""
-        yield f"./kh {words} at a terminal", None if said_of == waits else str(came)
+        said_of, file = re.match(r"(?:kh: (a \w+) is waited for; .*: kh (\w+) < FILE\n)?", came.stderr).groups("")
+        right = (said_of, file) == (waits, words[-1] if waits else "")
+        yield f"./kh {words} at a terminal", None if right else str(came)
 
 
 def faults(program=None):

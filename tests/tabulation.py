@@ -15,8 +15,9 @@ import time
 from running import PATIENCE
 
 TOP = os.path.dirname(os.path.dirname(os.path.abspath(__file__)))
-TABULATE = os.path.join(TOP, "tabulate", "kh-tabulate")
+TABULATE, ON_MANY = (os.path.join(TOP, "tabulate", name) for name in ("kh-tabulate", "on-many"))
 COUNT = 24
+GRACE = 30
 HEAD = ["name", "code", "field", "status", "table_rows", "jones", "refusal", "seconds"]
 PROGRAM = """\
 #!/bin/sh
@@ -38,8 +39,9 @@ esac
 
 
 def heeds_signals():
-    """What is done in a new process, so that it heeds Control-C also where this script was begun without."""
-    signal.signal(signal.SIGINT, signal.SIG_DFL)
+    """What is done in a new process, so that it heeds the signals that stop it also where this script was begun without."""
+    for number in (signal.SIGINT, signal.SIGTERM):
+        signal.signal(number, signal.SIG_DFL)
 
 
 def is_living(number):
@@ -49,6 +51,14 @@ def is_living(number):
             return file.read().rpartition(")")[2].split()[0] not in "ZX"
     except OSError:
         return False
+
+
+def lines_of(path):
+    """The lines of a file, none where there is none."""
+    if not os.path.exists(path):
+        return []
+    with open(path, encoding="utf-8") as file:
+        return file.read().splitlines()
 
 
 class Folder:
@@ -83,11 +93,11 @@ class Folder:
         return started.returncode, wrote, errors
 
     def stop(self, number, *words, is_alone=False):
-        """Begins what these words start, and sends it, or it and its group, a signal once it is held and has kept something more; how it
-        ended."""
-        held, before = self.calls() + COUNT // 2, self.kept()
-        started, begun = self.start(*self.tabulated(*words), held=held), time.monotonic()
-        while (self.calls() <= held or self.kept() <= before) and started.poll() is None and time.monotonic() - begun < PATIENCE:
+        """Begins what these words start, and sends it, or it and its group, a signal once a program more says that it is held, and
+        something more is kept; how it ended."""
+        held, kept = len(self.held()), self.kept()
+        started, begun = self.start(*self.tabulated(*words), held=self.calls() + COUNT // 2), time.monotonic()
+        while (len(self.held()) <= held or self.kept() <= kept) and started.poll() is None and time.monotonic() - begun < PATIENCE:
             time.sleep(0.05)
         if started.poll() is None:
             (os.kill if is_alone else os.killpg)(started.pid, number)
@@ -95,22 +105,23 @@ class Folder:
         return started.returncode
 
     def living(self):
-        """How many of the programs that were held still run."""
-        with open(self.told + ".held", encoding="utf-8") as file:
-            return sum(is_living(line.strip()) for line in file)
+        """How many of the programs that were held still run, once those that are being ended have had time to."""
+        numbers, begun = self.held(), time.monotonic()
+        while any(map(is_living, numbers)) and time.monotonic() - begun < GRACE:
+            time.sleep(0.05)
+        return sum(map(is_living, numbers))
+
+    def held(self):
+        """The numbers of the programs that have said that they are held."""
+        return lines_of(self.told + ".held")
 
     def calls(self):
-        if not os.path.exists(self.told):
-            return 0
-        with open(self.told, encoding="utf-8") as file:
-            return len(file.readlines())
+        """How often the program has been called for homology."""
+        return len(lines_of(self.told))
 
     def kept(self):
         """How many results are kept so far, in the database and in lines."""
-        count = 0
-        if os.path.exists(self.at("out")):
-            with open(self.at("out"), encoding="utf-8") as file:
-                count += len(file.readlines())
+        count = len(lines_of(self.at("out")))
         try:
             database = sqlite3.connect(f"file:{self.at('results.db')}?mode=ro", uri=True)
             count += database.execute("select count(*) from results").fetchone()[0]
@@ -232,12 +243,32 @@ def rows_of_a_list(folder):
     return None if rows == wanted_rows and len(every) == 5 else f"{rows}, {every}"
 
 
+def tabs_in_codes(folder):
+    """A tab in a code is a space in a row, so that each row has its columns; in lines of JSON it stays."""
+    with open(folder.at("some"), "w", encoding="utf-8") as file:
+        file.write("one\tPD[\tLoop[1]]\n")
+    folder.run("run", folder.at("some"), folder.at("results.db"), "--fields", "2")
+    rows = [line.split("\t") for line in folder.run("write", folder.at("results.db"))[1].splitlines()]
+    right = [len(row) for row in rows] == [len(HEAD)] * 2 and rows[1][:3] == ["one", "PD[ Loop[1]]", "2"]
+    return None if right and folder.results()[0][1] == "PD[\tLoop[1]]" else f"{rows}, {folder.results()}"
+
+
+def has_parallel(test):
+    """Whether GNU parallel is installed (another program has the same name); where it is not, it is told that a test is left out."""
+    came = None
+    if shutil.which("parallel"):
+        came = subprocess.run(["parallel", "--version"], stdin=subprocess.DEVNULL, capture_output=True, text=True, timeout=PATIENCE)
+    if came and came.stdout.startswith("GNU parallel"):
+        return True
+    print(f"tabulate: GNU parallel is not installed, so {test} is not tried")
+    return False
+
+
 def by_parallel(folder):
-    if not shutil.which("parallel"):
-        print("tabulate: GNU parallel is not installed, so it is not tried")
+    if not has_parallel("a list in parts"):
         return None
     parts = folder.at("of parts")
-    words = (os.path.join(TOP, "tabulate", "on-many"), folder.at("list"), parts)
+    words = (ON_MANY, folder.at("list"), parts)
     folder.start(*words).communicate(timeout=PATIENCE)
     with open(folder.at("mended"), "w", encoding="utf-8") as file:
         file.write("one\tPD[Loop[1]]\n")
@@ -247,17 +278,37 @@ def by_parallel(folder):
     return result_fault(folder) or (None if mended.returncode == 65 and "another list" in said else said)
 
 
+def lost_by_parallel(folder):
+    """A link without an answer keeps no other out of the database; the status is not 0, and the same words try that link again."""
+    if not has_parallel("a list with a link that has no answer"):
+        return None
+    parts = folder.at("of parts")
+    with open(folder.at("some"), "w", encoding="utf-8") as file:
+        file.write("one\tPD[Loop[1]]\ntwo\tlost\n")
+    for calls in (4, 2):
+        before, started = folder.calls(), folder.start(ON_MANY, folder.at("some"), parts)
+        _, said = started.communicate(timeout=PATIENCE)
+        if started.returncode != 1 or folder.calls() - before != calls or "results.db" not in os.listdir(parts):
+            return f"status {started.returncode}, {folder.calls() - before} calls, {os.listdir(parts)}, {said}"
+    os.rename(os.path.join(parts, "results.db"), folder.at("results.db"))
+    return None if [row[0] for row in folder.results()] == ["one", "one"] else str(folder.results())
+
+
 TESTS = (
     killed_run, interrupted_run, ended_run, killed_work, ended_work, options_on_both_sides, what_is_missing, lost_answers, rows_of_a_list,
-    by_parallel,
+    tabs_in_codes, by_parallel, lost_by_parallel,
 )  # fmt: skip
 
 
 def faults(program=None):
     """The name of each test, and what is wrong, if anything is."""
     for test in TESTS:
-        with tempfile.TemporaryDirectory() as path:
+        path = tempfile.mkdtemp()
+        try:
             yield f"tabulate: {test.__name__.replace('_', ' ')}", test(Folder(path))
+        finally:
+            # (a program that was killed late may still write there)
+            shutil.rmtree(path, ignore_errors=True)
 
 
 if __name__ == "__main__":
