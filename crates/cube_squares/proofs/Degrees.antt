@@ -9,7 +9,7 @@ use Rattle.std.proofs.lemmas.Int.{ints}
 use Rattle.std.proofs.lemmas.List.Sums.{sum_by-cons}
 use Rattle.std.proofs.Math.Pow.{pow-lt}
 use Rattle.kh_types.specs.Acceptance.{accepted}
-use Rattle.kh_types.specs.Bits.{ones}
+use Rattle.kh_types.specs.Bits.{ones, one_if}
 use Rattle.kh_types.specs.Code.{Code, IsCrossing, place_of}
 use Rattle.kh_types.specs.Circles.{circle_count}
 use Rattle.kh_types.specs.Differential.{coefficient, coefficient_at, edge_sign}
@@ -18,7 +18,6 @@ use Rattle.kh_types.specs.Generators.{Generator, generators, generators_at, has_
 use Rattle.cube_squares.specs.NextDegrees.{IsNext}
 use Rattle.cube_squares.proofs.Merges.{IsSwitch, switch-edge}
 use Rattle.kh_types.proofs.ListSums.{sum_by-alike, sum_by-filter, sum_by-none}
-use Rattle.cube_squares.proofs.Marks.{one_if}
 use Rattle.cube_squares.proofs.MarkedLabels.{labels-lower}
 use Rattle.cube_squares.proofs.TouchedCircles.{fits, fits-decides}
 use Rattle.cube_squares.proofs.Signs.{ones-set_below}

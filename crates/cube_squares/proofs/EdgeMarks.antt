@@ -5,7 +5,7 @@ use Rattle.std.specs.Bool.{Decides}
 use Rattle.std.specs.List.{list_all, sum_by}
 use Rattle.std.proofs.lemmas.Bool.{eqb-true, eq-eqb, ne_eqb}
 use Rattle.std.proofs.lemmas.Bool.Decides.{same_from_decides}
-use Rattle.kh_types.specs.Bits.{bit}
+use Rattle.kh_types.specs.Bits.{bit, one_if}
 use Rattle.kh_types.specs.Code.{Code, arc_count, arcs_and_loops}
 use Rattle.kh_types.specs.Differential.{label_of}
 use Rattle.kh_types.specs.Generators.{Generator}
@@ -15,7 +15,7 @@ use Rattle.kh_types.specs.CircleNumbers.{IsName, circle_number, number_of}
 use Rattle.kh_types.specs.Edges.{arc_at_slot}
 use Rattle.cube_squares.proofs.Merges.{IsMerge, IsSwitch, circle_in}
 use Rattle.cube_squares.proofs.SquareKinds.{circle-on}
-use Rattle.cube_squares.proofs.Marks.{IsOff, hits, hits-circle, hits-cons, hits-off, hits-on, on_or_off, one_if}
+use Rattle.cube_squares.proofs.Marks.{IsOff, hits, hits-circle, hits-cons, hits-off, hits-on, on_or_off}
 
 -- a label is 0 or 1, and one for all arcs of a circle
 pub label_of-le : (code : Code) (generator : Generator) (arc : ℕ) → label_of code generator arc ≤ 1

@@ -7,7 +7,8 @@ use Rattle.kh_types.specs.Generators.{Generator}
 use Rattle.kh_types.specs.CircleNumbers.{IsName}
 use Rattle.kh_types.specs.Edges.{arc_at_slot}
 use Rattle.cube_squares.proofs.Merges.{IsMerge, IsSwitch}
-use Rattle.cube_squares.proofs.Marks.{hits, hits-circle, hits-off, hits-on, on_or_off, one_if}
+use Rattle.cube_squares.proofs.Marks.{hits, hits-circle, hits-off, hits-on, on_or_off}
+use Rattle.kh_types.specs.Bits.{one_if}
 use Rattle.cube_squares.proofs.EdgeMarks.{IsEnd, IsEnd-first, IsEnd-third, IsMarked, grown, is_marked, is_marked-decides, label_of-le}
 
 -- behind a merge

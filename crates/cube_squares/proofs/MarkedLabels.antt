@@ -5,7 +5,7 @@ use Rattle.std.specs.List.{All, filter, sum_by}
 use Rattle.std.proofs.lemmas.Bool.Decides.{nat_tests}
 use Rattle.std.proofs.lemmas.List.Elements.{All-cons, All-filter, All-head, All-tail}
 use Rattle.kh_types.specs.Acceptance.{accepted}
-use Rattle.kh_types.specs.Bits.{ones}
+use Rattle.kh_types.specs.Bits.{ones, one_if}
 use Rattle.kh_types.specs.Code.{Code}
 use Rattle.kh_types.specs.Circles.{circle_count, circle_names}
 use Rattle.kh_types.specs.Differential.{label_of}
@@ -15,7 +15,7 @@ use Rattle.kh_types.specs.Edges.{arc_at_slot}
 use Rattle.kh_types.proofs.CircleNumbers.{IsCircle-of}
 use Rattle.cube_squares.proofs.Merges.{IsSwitch, circle_in}
 use Rattle.kh_types.proofs.ListSums.{sum_by-alike, sum_by-filter, sum_by-places, sum_by-plus, sum_by-range_alike, sum_by-zeros}
-use Rattle.cube_squares.proofs.Marks.{hits, hits-cons, hits-sum, one_if}
+use Rattle.cube_squares.proofs.Marks.{hits, hits-cons, hits-sum}
 use Rattle.cube_squares.proofs.LabelNumbers.{IsName-name_at, IsName-names, name_at, ones-labels, sum_by-names}
 use Rattle.cube_squares.proofs.EdgeMarks.{IsChange, IsMarked, label_of-circle, label_of-le, marked-merge, split-marked}
 

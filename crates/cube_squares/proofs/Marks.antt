@@ -7,6 +7,7 @@ use Rattle.std.proofs.Math.Path.{fun_ext}
 use Rattle.std.proofs.lemmas.Bool.{cases_eq}
 use Rattle.std.proofs.lemmas.Bool.Decides.{nat_tests}
 use Rattle.std.proofs.lemmas.List.Sums.{sum_by-cons}
+use Rattle.kh_types.specs.Bits.{one_if}
 use Rattle.kh_types.specs.Classes.{merged}
 use Rattle.kh_types.specs.Code.{Code}
 use Rattle.kh_types.specs.Edges.{arc_at_slot}
@@ -14,10 +15,6 @@ use Rattle.cube_squares.specs.Squares.{circle_at_slot}
 use Rattle.cube_squares.proofs.Merges.{IsMerge, circle_in}
 use Rattle.cube_squares.proofs.SquareKinds.{IsOn, circle-on}
 use Rattle.kh_types.proofs.ListSums.{sum_by-plus}
-
--- 1 where a test passes, else 0
-abbrev pub one_if : Bool → ℕ
-one_if passes = cond passes 1 0
 
 -- how many of the marked arcs are on the circle of an arc
 unfoldable pub hits : Code → ℕ → List ℕ → ℕ → ℕ

@@ -8,7 +8,7 @@ use Rattle.std.proofs.lemmas.Bool.Decides.{Decides-and, Decides-eqb}
 use Rattle.std.proofs.lemmas.Nat.{mul-mod_first}
 use Rattle.std.proofs.Math.Nat.{zero-mod}
 use Rattle.kh_types.specs.Acceptance.{accepted}
-use Rattle.kh_types.specs.Bits.{bit}
+use Rattle.kh_types.specs.Bits.{bit, one_if}
 use Rattle.kh_types.specs.Code.{Code, IsCrossing, place_of}
 use Rattle.kh_types.specs.Circles.{circle_count}
 use Rattle.kh_types.specs.Differential.{coefficient, coefficient_at, edge_sign, is_edge}
@@ -17,7 +17,6 @@ use Rattle.kh_types.specs.Edges.{state_behind}
 use Rattle.kh_types.proofs.EdgeBits.{bit-set_other, bit-set_there, set-within}
 use Rattle.cube_squares.proofs.SquareKinds.{edges-square}
 use Rattle.kh_types.proofs.ListSums.{sum_by-alike, sum_by-flat_map, sum_by-map, sum_by-none, sum_by-single, sum_by-times, sum_by-zeros}
-use Rattle.cube_squares.proofs.Marks.{one_if}
 use Rattle.cube_squares.proofs.TouchedCircles.{fits}
 use Rattle.cube_squares.proofs.Paths.{path_count, path_count-turned}
 use Rattle.cube_squares.proofs.Signs.{signs-opposite}

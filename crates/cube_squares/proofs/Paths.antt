@@ -14,7 +14,8 @@ use Rattle.cube_squares.specs.Squares.{EndOnOne, EndOnTwo, IsKind}
 use Rattle.cube_squares.proofs.Merges.{IsSwitch, circle_in}
 use Rattle.cube_squares.proofs.SquareKinds.{HasEdges}
 use Rattle.kh_types.proofs.ListSums.{sum_by-alike, sum_by-none, sum_by-single, sum_by-times, sum_by-turned}
-use Rattle.cube_squares.proofs.Marks.{hits, hits-circle, hits-exchanged, hits-moved, one_if}
+use Rattle.cube_squares.proofs.Marks.{hits, hits-circle, hits-exchanged, hits-moved}
+use Rattle.kh_types.specs.Bits.{one_if}
 use Rattle.cube_squares.proofs.LabelNumbers.{label-exists, label-once}
 use Rattle.cube_squares.proofs.EdgeMarks.{IsMarked, edge-marks, grown, is_marked, is_marked-decides}
 use Rattle.cube_squares.proofs.MarkBounds.{hits-grown_le}

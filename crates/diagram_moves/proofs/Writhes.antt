@@ -20,7 +20,8 @@ use Rattle.kinks_and_fingers.proofs.FingerDrops.{places-two}
 use Rattle.kinks_and_fingers.proofs.FingerDropSums.{HasBigonAt-slots, bigon-signs, plus-kept_two}
 use Rattle.kinks_and_fingers.proofs.FingerSigns.{minus_count-fingered, plus_count-fingered}
 use Rattle.kinks_and_fingers.proofs.KinkClosing.{kept_are}
-use Rattle.kinks_and_fingers.proofs.KinkDropSums.{count-later, one_if, plus-kept}
+use Rattle.kinks_and_fingers.proofs.KinkDropSums.{count-later, plus-kept}
+use Rattle.kh_types.specs.Bits.{one_if}
 use Rattle.kinks_and_fingers.proofs.KinkSigns.{minus_count-kinked, plus_count-kinked}
 use Rattle.kinks_and_fingers.proofs.KinkSizes.{IsKinkable-accepted}
 use Rattle.slides.specs.Triangles.{dart_at_slot, step}

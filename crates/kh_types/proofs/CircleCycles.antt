@@ -28,7 +28,7 @@ pub arc-at_place : (crossings : List (List ℕ)) (choice place : ℕ) → IsColo
     → IsArc crossings (arc_at crossings place)
 arc-at_place crossings choice place coloured below = coloured.arcs (dart_at place) (IsDart-at crossings place below)
 
-colour-at_place : (choice place : ℕ) → colour choice (dart_at place) ≡ place_colour choice place
+pub colour-at_place : (choice place : ℕ) → colour choice (dart_at place) ≡ place_colour choice place
 colour-at_place choice place =
     let e : place / 4 + 1 - 1 ≡ place / 4 = omega arith in ap (λ k. (bit choice k + place % 4) % 2) e
 

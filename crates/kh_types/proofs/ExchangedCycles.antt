@@ -26,7 +26,7 @@ exchange-below n f other x y below exchange z z_below = elim (one_or_other x y z
 ]
 
 -- the way back after the exchange
-abbrev exchange_back : (ℕ → ℕ) → (ℕ → ℕ) → ℕ → ℕ → ℕ → ℕ
+abbrev pub exchange_back : (ℕ → ℕ) → (ℕ → ℕ) → ℕ → ℕ → ℕ → ℕ
 exchange_back f back x y z = cond (nat_eq z (f x)) y (cond (nat_eq z (f y)) x (back z))
 
 chosen-first : (a b z u v w : ℕ) → z ≡ a → cond (nat_eq z a) u (cond (nat_eq z b) v w) ≡ u
@@ -100,7 +100,7 @@ AreJoined-exchange n f back other x y permutes exchange =
 
 -- after two classes became one, the two numbers are in it, and there is one class fewer
 
-AreJoined-together : (n : ℕ) (before after : List ℕ) (x y : ℕ) → IsNamed n before → x < n → y < n → AreJoined before after x y
+pub AreJoined-together : (n : ℕ) (before after : List ℕ) (x y : ℕ) → IsNamed n before → x < n → y < n → AreJoined before after x y
     → slice_index after x ≡ slice_index after y
 AreJoined-together n before after x y named x_below y_below merge =
     let size = named.size in

@@ -11,7 +11,7 @@ use Rattle.kh_types.proofs.WalkLemmas.{AreCycles}
 use Rattle.kh_types.specs.Permutations.{AreJoined, IsExchange}
 use Rattle.kh_types.proofs.Ways.{IsOneToOne, IsWay-whole}
 
-IsExchange-back : (m : ℕ) (f other : ℕ → ℕ) (d e : ℕ) → IsExchange m f other d e → IsExchange m other f d e
+pub IsExchange-back : (m : ℕ) (f other : ℕ → ℕ) (d e : ℕ) → IsExchange m f other d e → IsExchange m other f d e
 IsExchange-back m f other d e exchanged = record {
   x_below = exchanged.x_below;
   y_below = exchanged.y_below;
@@ -78,7 +78,7 @@ parted m f back other other_back cycles others d e are others_are exchanged d_be
     ]
 
 -- two classes that are one after two others became one
-merged-same : (a b c d : ℕ) → merged a b c ≡ merged a b d → (c ≡ d) ⊎ (((c ≡ a) × (d ≡ b)) ⊎ ((c ≡ b) × (d ≡ a)))
+pub merged-same : (a b c d : ℕ) → merged a b c ≡ merged a b d → (c ≡ d) ⊎ (((c ≡ a) × (d ≡ b)) ⊎ ((c ≡ b) × (d ≡ a)))
 merged-same a b c d same = grind (arith, nat_tests)
 
 -- where d and e are on two cycles of f and on one of the other function, the other's cycles are those of f with the two joined

@@ -19,7 +19,7 @@ merged-le x y class = grind (arith, nat_tests)
 merged-twice : (x y class : ℕ) → merged x y (merged x y class) ≡ merged x y class
 merged-twice x y class = grind (arith, nat_tests)
 
-merged-same : (x y class : ℕ) → x ≡ y → merged x y class ≡ class
+pub merged-same : (x y class : ℕ) → x ≡ y → merged x y class ≡ class
 merged-same x y class same = grind (arith, nat_tests)
 
 merged-swapped : (x y class : ℕ) → merged y x class ≡ merged x y class
@@ -147,10 +147,10 @@ pub min-fixed : (f : ℕ → ℕ) (x y : ℕ) → f x ≡ x → f y ≡ y → f 
 min-fixed f x y at_x at_y =
     elim (min-cases x y) [ inl is ↦ ap f is ∙ at_x ∙ sym is | inr is ↦ ap f is ∙ at_y ∙ sym is ]
 
-greater_fails : (x y class z : ℕ) → x ≢ y → z ≡ max x y → class ≡ z → nat_eq (merged x y class) z ≡ false
+pub greater_fails : (x y class z : ℕ) → x ≢ y → z ≡ max x y → class ≡ z → nat_eq (merged x y class) z ≡ false
 greater_fails x y class z apart is_max own = grind (arith, nat_tests)
 
-other_same : (x y class z : ℕ) → z ≢ max x y → (z ≡ min x y → class ≡ z) → nat_eq (merged x y class) z ≡ nat_eq class z
+pub other_same : (x y class z : ℕ) → z ≢ max x y → (z ≡ min x y → class ≡ z) → nat_eq (merged x y class) z ≡ nat_eq class z
 other_same x y class z other own = grind (arith, nat_tests)
 
 -- joining two classes takes one name away from those in a range, the greater of their two

@@ -19,7 +19,7 @@ joined_slot-cases smoothing slot = choice (nat_eq smoothing 0) (slot + 1 - 2 * (
     choice true x y = inl refl
     choice false x y = inr refl
 
-joined_slot-below : (smoothing slot : ℕ) → slot < 4 → joined_slot smoothing slot < 4
+pub joined_slot-below : (smoothing slot : ℕ) → slot < 4 → joined_slot smoothing slot < 4
 joined_slot-below smoothing slot below =
     elim (joined_slot-cases smoothing slot) [ inl is ↦ omega (arith, is, below) | inr is ↦ omega (arith, is) ]
 
@@ -101,7 +101,7 @@ pairs_by is_zero slots =
     cond is_zero ((arc_in slots 0, arc_in slots 1) ∷ (arc_in slots 2, arc_in slots 3) ∷ [])
     ((arc_in slots 0, arc_in slots 3) ∷ (arc_in slots 1, arc_in slots 2) ∷ [])
 
-slots-by : (g : ℕ → ℕ) (is_zero : Bool) (slots : List ℕ) → Respects g (pairs_by is_zero slots) → (slot : ℕ) → slot < 4
+pub slots-by : (g : ℕ → ℕ) (is_zero : Bool) (slots : List ℕ) → Respects g (pairs_by is_zero slots) → (slot : ℕ) → slot < 4
     → g (arc_in slots (cond is_zero (slot + 1 - 2 * (slot % 2)) (3 - slot))) ≡ g (arc_in slots slot)
 slots-by g true slots respects zero below = sym respects.0
 slots-by g true slots respects (suc zero) below = respects.0
@@ -114,7 +114,7 @@ slots-by g false slots respects (suc (suc zero)) below = respects.1.0
 slots-by g false slots respects (suc (suc (suc zero))) below = respects.0
 slots-by g false slots respects (suc (suc (suc (suc slot)))) below = absurd (omega (arith, below))
 
-by-slots : (g : ℕ → ℕ) (is_zero : Bool) (slots : List ℕ)
+pub by-slots : (g : ℕ → ℕ) (is_zero : Bool) (slots : List ℕ)
     → ((slot : ℕ) → slot < 4 → g (arc_in slots (cond is_zero (slot + 1 - 2 * (slot % 2)) (3 - slot))) ≡ g (arc_in slots slot))
     → Respects g (pairs_by is_zero slots)
 by-slots g true slots same = (sym (same 0 (omega arith)), (sym (same 2 (omega arith)), tt))
@@ -125,7 +125,7 @@ by-slots g false slots same = (sym (same 0 (omega arith)), (sym (same 1 (omega a
 abbrev pub smoothings_from : ℕ → ℕ → List (List ℕ) → List (ℕ × ℕ)
 smoothings_from state place crossings = flat_map (λ at. smoothing_of (bit state at.0) at.1) (enumerate_from place crossings)
 
-crossing-from : (g : ℕ → ℕ) (state place : ℕ) (crossings : List (List ℕ)) → Respects g (smoothings_from state place crossings)
+pub crossing-from : (g : ℕ → ℕ) (state place : ℕ) (crossings : List (List ℕ)) → Respects g (smoothings_from state place crossings)
     → (k : ℕ) → k < length crossings → Respects g (smoothing_of (bit state (place + k)) (slice_index_or crossings k []))
 crossing-from g state place [] respects k below = absurd (omega (arith, below))
 crossing-from g state place (slots ∷ crossings) respects zero below =
@@ -140,7 +140,7 @@ crossing-from g state place (slots ∷ crossings) respects (suc k) below =
     (AllByRecursion-second (λ pair. g pair.0 ≡ g pair.1) (smoothing_of (bit state place) slots)
     (smoothings_from state (place + 1) crossings) respects) k (omega (arith, below)))
 
-from-crossings : (g : ℕ → ℕ) (state place : ℕ) (crossings : List (List ℕ))
+pub from-crossings : (g : ℕ → ℕ) (state place : ℕ) (crossings : List (List ℕ))
     → ((k : ℕ) → k < length crossings → Respects g (smoothing_of (bit state (place + k)) (slice_index_or crossings k [])))
     → Respects g (smoothings_from state place crossings)
 from-crossings g state place [] each = tt

@@ -8,6 +8,7 @@ pub mod CancelLemmas
 pub mod ClassLemmas
 pub mod JoinedClasses
 pub mod ClassCounts
+pub mod CountedClasses
 pub mod CircleBound
 pub mod QuantumDegrees
 pub mod TableRows

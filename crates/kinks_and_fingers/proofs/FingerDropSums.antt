@@ -7,7 +7,7 @@ use Rattle.std.proofs.lemmas.List.{length-map}
 use Rattle.std.proofs.lemmas.List.FromFn.{length-map-range_with_len}
 use Rattle.std.proofs.lemmas.List.Sums.{count_by-le-length}
 use Rattle.kh_types.specs.Acceptance.{accepted}
-use Rattle.kh_types.specs.Bits.{bit, ones}
+use Rattle.kh_types.specs.Bits.{bit, ones, one_if}
 use Rattle.kh_types.specs.Circles.{circle_count}
 use Rattle.kh_types.specs.Code.{Code, arc_count}
 use Rattle.kh_types.specs.Darts.{partner_at}
@@ -30,7 +30,7 @@ use Rattle.kinks_and_fingers.proofs.OldDarts.{heads-partner, dart_in-slot}
 use Rattle.kinks_and_fingers.proofs.KeptCodes.{length-kept}
 use Rattle.kinks_and_fingers.proofs.StrandCircles.{count-parts, circles-dropped}
 use Rattle.kinks_and_fingers.proofs.KinkClosing.{before}
-use Rattle.kinks_and_fingers.proofs.KinkDropSums.{count-later, count-filter, count-one, term-is, sums-alike, one_if}
+use Rattle.kinks_and_fingers.proofs.KinkDropSums.{count-later, count-filter, count-one, term-is, sums-alike}
 use Rattle.kinks_and_fingers.proofs.Insertions.{int_sum-with_bit, HasBit-with_bit}
 use Rattle.kinks_and_fingers.proofs.FingerDrops.{places-two, late-below}
 use Rattle.kinks_and_fingers.proofs.FingerTerms.{term_of-finger, term_of-finger_other}

@@ -8,7 +8,7 @@ use Rattle.std.proofs.lemmas.List.{length-map}
 use Rattle.std.proofs.lemmas.List.FromFn.{length-map-range_with_len}
 use Rattle.std.proofs.lemmas.List.Sums.{sum_by-cons, count_by-le-length}
 use Rattle.kh_types.specs.Acceptance.{accepted}
-use Rattle.kh_types.specs.Bits.{ones}
+use Rattle.kh_types.specs.Bits.{one_if, ones}
 use Rattle.kh_types.specs.Code.{Code, arc_count}
 use Rattle.kh_types.specs.Directions.{is_positive, plus_count, minus_count, positive_at}
 use Rattle.kh_types.specs.StateSum.{int_sum, state_sum, state_term, circle_coefficient, signed_by_parity}
@@ -62,9 +62,6 @@ kink-sign code c p is kink =
     ∙ ap not (head_in p))
 
 -- the numbers of positive and negative crossings
-
-abbrev pub one_if : Bool → ℕ
-one_if b = cond b 1 0
 
 abbrev one_unless : Bool → ℕ
 one_unless b = cond b 0 1

@@ -10,7 +10,7 @@ use Rattle.kh_types.proofs.JoinedClasses.{slice_index-range}
 use Rattle.kh_types.proofs.ListSums.{sum_by-range_alike}
 use Rattle.kh_types.proofs.Ranges.{range-append}
 use Rattle.kh_types.specs.Classes.{AreBelow, class_count, classes_of, is_least, joined, merged, merged_all}
-use Rattle.cube_squares.proofs.Marks.{one_if}
+use Rattle.kh_types.specs.Bits.{one_if}
 use Rattle.kh_types.proofs.ClassLemmas.{length-joined}
 
 -- all numbers raised

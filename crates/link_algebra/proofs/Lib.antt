@@ -11,7 +11,6 @@ pub mod Duality
 pub mod IntSums
 pub mod TermProducts
 pub mod ClassParts
-pub mod CountedClasses
 pub mod UnitedCircles
 pub mod UnitedSums
 pub mod UnitedComponents

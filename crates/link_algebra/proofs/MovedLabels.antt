@@ -11,7 +11,7 @@ use Rattle.kh_types.proofs.CircleNumbers.{IsCircle-of}
 use Rattle.kh_types.proofs.ListSums.{sum_by-none}
 use Rattle.kh_types.proofs.QuantumDegrees.{ones-le}
 use Rattle.kh_types.specs.Acceptance.{accepted}
-use Rattle.kh_types.specs.Bits.{bit, ones}
+use Rattle.kh_types.specs.Bits.{bit, ones, one_if}
 use Rattle.kh_types.specs.CircleNumbers.{IsName}
 use Rattle.kh_types.specs.Circles.{circle_count}
 use Rattle.kh_types.specs.Code.{Code}
@@ -20,7 +20,7 @@ use Rattle.kh_types.specs.Generators.{generator_of}
 use Rattle.cube_squares.proofs.EdgeMarks.{IsMarked, label_of-circle, label_of-le}
 use Rattle.cube_squares.proofs.LabelNumbers.{label-exists}
 use Rattle.cube_squares.proofs.MarkedLabels.{IsMarked-marked_by, IsName-marked_by, marked_by, ones-marked}
-use Rattle.cube_squares.proofs.Marks.{hits, hits-cons, hits-sum, one_if}
+use Rattle.cube_squares.proofs.Marks.{hits, hits-cons, hits-sum}
 use Rattle.cube_squares.proofs.Merges.{circle_in}
 use Rattle.link_algebra.proofs.Flips.{flipped, ones-flipped}
 use Rattle.link_algebra.proofs.TurnedCircles.{Corresponds, IsName-moved}

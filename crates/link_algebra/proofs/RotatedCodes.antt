@@ -25,7 +25,7 @@ use Rattle.kh_types.specs.Edges.{arc_at_slot}
 use Rattle.kh_types.specs.Faces.{face_count, face_pair, faces_of, piece_count, piece_pair}
 use Rattle.kh_types.specs.declared.dart.Dart.{Dart}
 use Rattle.cube_squares.proofs.LabelNumbers.{bit-number_from, number_from, number_from-below}
-use Rattle.link_algebra.proofs.CountedClasses.{at-respects, class_count-alike, respects-at}
+use Rattle.kh_types.proofs.CountedClasses.{at-respects, class_count-alike, respects-at}
 use Rattle.link_algebra.proofs.Renamings.{IsRotated}
 use Rattle.link_algebra.proofs.UnitedAccepted.{faces-below, pieces-below}
 

@@ -8,6 +8,7 @@ use Rattle.std.specs.List.{flat_map, range_with_len}
 use Rattle.kh_types.proofs.AcceptedLemmas.{HasArcsTwice-accepted, HasArcsTwice-directed, IsAccepted-is}
 use Rattle.kh_types.proofs.CircleBound.{ArcsBelow-slots, passes_of-below}
 use Rattle.kh_types.proofs.ClassCounts.{class_count-components}
+use Rattle.kh_types.proofs.CountedClasses.{below-range}
 use Rattle.kh_types.proofs.DartColours.{IsColoured-checkerboard}
 use Rattle.kh_types.proofs.DartPairs.{IsDartOf-first_dart, IsOtherDart-partner, IsOtherPlace-partner_at, partner_at-only}
 use Rattle.kh_types.proofs.RangeCounts.{list_all-each}
@@ -64,12 +65,6 @@ map-range_alike f g a zero same = refl
 map-range_alike f g a (suc k) same =
     ap₂ (λ x xs. x ∷ xs) (same a (omega arith) (omega arith))
     (map-range_alike f g (a + 1) k (λ q from below. same q (omega arith) (omega arith)))
-
-below-range : (f : ℕ → ℕ × ℕ) (bound a k : ℕ) → ((q : ℕ) → a ≤ q → q < a + k → ((f q).0 < bound) × ((f q).1 < bound))
-    → AreBelow bound (map f (range_with_len a k))
-below-range f bound a zero below = tt
-below-range f bound a (suc k) below =
-    (below a (omega arith) (omega arith), below-range f bound (a + 1) k (λ q from inside. below q (omega arith) (omega arith)))
 
 -- classes of places of both
 classes-blocks : (f g h : ℕ → ℕ × ℕ) (m k shift more size : ℕ)

@@ -11,7 +11,7 @@ use Rattle.kh_types.specs.Acceptance.{accepted}
 use Rattle.kh_types.specs.Classes.{AreBelow, classes_of}
 use Rattle.kh_types.specs.Code.{Code, IsArc, IsCrossing, arc_count, arc_in, place_of, slots_of}
 use Rattle.kh_types.specs.Components.{arcs_in, component_of, components_of, passes_of}
-use Rattle.cube_squares.proofs.Marks.{one_if}
+use Rattle.kh_types.specs.Bits.{one_if}
 use Rattle.link_algebra.proofs.ClassParts.{classes-parts, index-back, index-front, index-lifted, length-classes, lifted, lifted_pairs}
 use Rattle.link_algebra.proofs.UnitedCircles.{HoldsNames, HoldsNames-accepted, HoldsNames-first, HoldsNames-rest, SlotsHold, below-lifted_pairs, lowered, slot-raised}
 use Rattle.link_algebra.proofs.UnitedSums.{length-both}

@@ -6,11 +6,10 @@ use Rattle.std.specs.Ordering.{int_eq}
 use Rattle.std.proofs.Math.Nat.{pow-suc}
 use Rattle.std.proofs.lemmas.Bool.{cases_eq}
 use Rattle.std.proofs.lemmas.Int.{ints}
-use Rattle.kh_types.specs.Bits.{bit, ones}
+use Rattle.kh_types.specs.Bits.{bit, ones, one_if}
 use Rattle.kh_types.specs.StateSum.{circle_coefficient}
 use Rattle.kh_types.proofs.BitLemmas.{bit-past, ones-more}
 use Rattle.kh_types.proofs.EdgeBits.{bit-set_there, bit-set_other}
-use Rattle.cube_squares.proofs.Marks.{one_if}
 use Rattle.kh_types.proofs.ListSums.{sum_by-none, sum_by-range_alike}
 use Rattle.kh_types.proofs.LabelDegrees.{degree_of_label, labels_with, labels_with-is, lower-test, sum_by-halves, upper-test}
 

@@ -8,7 +8,8 @@ use Rattle.kh_types.specs.Generators.{Generator}
 use Rattle.kh_types.specs.CircleNumbers.{IsName}
 use Rattle.kh_types.specs.Edges.{arc_at_slot}
 use Rattle.cube_squares.proofs.EdgeMarks.{IsChange, label_of-circle, label_of-le}
-use Rattle.cube_squares.proofs.Marks.{on_or_off, one_if}
+use Rattle.cube_squares.proofs.Marks.{on_or_off}
+use Rattle.kh_types.specs.Bits.{one_if}
 use Rattle.cube_squares.proofs.Merges.{IsSwitch, switch-edge}
 use Rattle.cube_squares.proofs.Pairs.{IsStep, coefficient_at-edge, edge_or_zero, times-zero}
 use Rattle.cube_squares.proofs.SquareKinds.{circle-on}

@@ -11,7 +11,7 @@ use Rattle.std.proofs.lemmas.List.Elements.{All-filter, filter_passes}
 use Rattle.std.proofs.lemmas.List.Sums.{length-filter}
 use Rattle.kh_types.specs.declared.limits.TheConstants.{CROSSINGS, EXPONENT}
 use Rattle.kh_types.specs.Acceptance.{accepted}
-use Rattle.kh_types.specs.Bits.{bit, ones}
+use Rattle.kh_types.specs.Bits.{bit, ones, one_if}
 use Rattle.kh_types.specs.Code.{Code}
 use Rattle.kh_types.specs.Directions.{plus_count, minus_count}
 use Rattle.kh_types.specs.Circles.{circle_count}
@@ -27,7 +27,6 @@ use Rattle.kh_types.proofs.QuantumDegrees.{IsWithin-place, generators_at-degrees
 use Rattle.prime_field.specs.Residues.{IsField}
 use Rattle.kh_types.specs.CircleNumbers.{IsName, circle_number}
 use Rattle.kh_types.proofs.CircleNumbers.{IsCircle-of, number_of-below}
-use Rattle.cube_squares.proofs.Marks.{one_if}
 use Rattle.kh_types.proofs.ListSums.{sum_by-alike, sum_by-filter, sum_by-flat_map, sum_by-map, sum_by-zeros}
 use Rattle.kh_types.proofs.AlternatingSums.{alternating, alternating-add, alternating-alike, alternating-neighbours, alternating-sum, signed_by-add, signed_by-zero}
 use Rattle.kh_types.proofs.Integers.{int_eq-other}

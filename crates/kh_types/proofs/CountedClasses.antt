@@ -5,8 +5,8 @@ use Rattle.std.proofs.lemmas.List.Sums.{length-filter}
 use Rattle.std.specs.List.{range_with_len, sum_by}
 use Rattle.std.specs.Prelude.{nat_eq, slice_index}
 use Rattle.kh_types.proofs.ListSums.{sum_by-none, sum_by-range_alike, sum_by-single, sum_by-turned}
-use Rattle.kh_types.specs.Classes.{IsNamed, Respects, class_count, is_least}
-use Rattle.cube_squares.proofs.Marks.{one_if}
+use Rattle.kh_types.specs.Classes.{AreBelow, IsNamed, Respects, class_count, is_least}
+use Rattle.kh_types.specs.Bits.{one_if}
 
 -- numbers below m stand for numbers below n, and back, so that they are together here where they are together there
 pub record AreAlike (m n : ℕ) (f back : ℕ → ℕ) (first second : List ℕ) : Type 0 where
@@ -100,3 +100,9 @@ pub at-respects : (g : ℕ → ℕ) (h : ℕ → ℕ × ℕ) (a n : ℕ) → ((q
 at-respects g h a zero each = tt
 at-respects g h a (suc n) each =
     (each a (omega arith) (omega arith), at-respects g h (a + 1) n (λ q from below. each q (omega arith) (omega arith)))
+
+pub below-range : (f : ℕ → ℕ × ℕ) (bound a k : ℕ) → ((q : ℕ) → a ≤ q → q < a + k → ((f q).0 < bound) × ((f q).1 < bound))
+    → AreBelow bound (map f (range_with_len a k))
+below-range f bound a zero below = tt
+below-range f bound a (suc k) below =
+    (below a (omega arith) (omega arith), below-range f bound (a + 1) k (λ q from inside. below q (omega arith) (omega arith)))
