@@ -10,12 +10,12 @@ from fractions import Fraction
 
 TOP = os.path.dirname(os.path.dirname(os.path.abspath(__file__)))
 sys.path.insert(0, os.path.join(TOP, "tests"))
-import plain_diagrams
+import plain.diagrams
 
 
 def colours_of(code):
     """The face of each dart, and the colour of each face: the two sides of an arc differ."""
-    faces, partner = plain_diagrams.faces(code), plain_diagrams.partners(code)
+    faces, partner = plain.diagrams.faces(code), plain.diagrams.partners(code)
     face = {dart: number for number, them in enumerate(faces) for dart in them}
     colour, todo = {}, []
     for start in range(len(faces)):
@@ -38,7 +38,7 @@ def goeritz(code):
     white = sorted(it for it in colour if colour[it] == 0)
     place = {it: number for number, it in enumerate(white)}
     matrix, correction = [[Fraction(0)] * len(white) for _ in white], 0
-    for number, crossing in enumerate(plain_diagrams.accepted(code).crossings, 1):
+    for number, crossing in enumerate(plain.diagrams.accepted(code).crossings, 1):
         # (the face of a dart has the corner at its crossing between its slot and the next)
         at = 0 if colour[face[number, 0]] == 0 else 1
         kind = 1 if at == 0 else -1

@@ -4,16 +4,16 @@
     tests/cut_texts.py PROGRAM
 
 What a trefoil's planar diagram and Gauss code come to, cut to each length, was worked out by hand; of the inputs of all commands in
-`fault_cases.py` each beginning is compared with the plain readings. `tests/program` runs these cases behind its rows. The last line is
+`faulty/cases.py` each beginning is compared with the plain readings. `tests/program` runs these cases behind its rows. The last line is
 'N passed, M failed'.
 """
 import sys
 
-import fault_cases
-import plain_answers
-import plain_words
-from row_texts import EMPTY_TABLE, FIGURE_EIGHT, FIGURE_EIGHT_TABLE, TREFOIL, TREFOIL_IN_GAUSS, TREFOIL_TABLE
-from running import Child, fault_of, known_commands, tell_all
+import faulty.cases
+import plain.answers
+import plain.words
+from rows.texts import EMPTY_TABLE, FIGURE_EIGHT, FIGURE_EIGHT_TABLE, TREFOIL, TREFOIL_IN_GAUSS, TREFOIL_TABLE
+from shared.running import Child, fault_of, known_commands, tell_all
 
 LONGEST = 260
 
@@ -69,10 +69,10 @@ def schedules(child):
 def beginnings(child, program):
     """Each beginning of each short input, by its command, as the plain readings answer it."""
     commands = known_commands(program)
-    for case in fault_cases.known(commands):
+    for case in faulty.cases.known(commands):
         for size in range(len(case.given) if len(case.given) <= LONGEST else 0):
             given = case.given[:size]
-            wanted = plain_answers.answer(case.words, given, commands, plain_words.OPTIONS)
+            wanted = plain.answers.answer(case.words, given, commands, plain.words.OPTIONS)
             came = child.run(case.words, given)
             fault = came.shape_fault() or wanted.fault(came.status, came.wrote)
             yield f"{case.name} cut to {size} bytes", f"{fault} on {given!r}" if fault else None

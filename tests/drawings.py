@@ -9,10 +9,10 @@ cases behind its rows. The last line is 'N passed, M failed'.
 """
 import sys
 
-import known_diagrams
-import plain_diagrams as codes
-import plain_drawing
-from running import Child, fault_of, told
+import plain.diagrams as codes
+import plain.drawing
+from shared import known_diagrams
+from shared.running import Child, fault_of, told
 
 NAME = "draw, "
 DRAWN = 400
@@ -41,7 +41,7 @@ NESTED = (
 
 
 def nested():
-    import plain_moves as moves
+    import plain.moves as moves
 
     for name, lines in NESTED:
         diagram = known_diagrams.diagram_of("PD[X[1,1,2,2]]")
@@ -67,7 +67,7 @@ def texts():
 def width_fault(child):
     """What is wrong with the widest row of the closed braid, if anything is."""
     text = known_diagrams.text_of(known_diagrams.braid(STRANDS, LETTERS))
-    found = plain_drawing.shown(child.run(["draw"], text.encode()).wrote.decode()).widest
+    found = plain.drawing.shown(child.run(["draw"], text.encode()).wrote.decode()).widest
     return None if found == WIDEST else f"{found} strands"
 
 
@@ -84,11 +84,11 @@ def faults(program, word=""):
     for name, text in texts():
         if word in NAME + name:
             code = codes.read(text)
-            yield NAME + name, fault_of(child, ["draw"], text, 0, plain_drawing.drawing(code))
-            yield f"{NAME}{name}, what it shows", plain_drawing.difference(child.run(["draw"], text.encode()).wrote.decode(), code)
+            yield NAME + name, fault_of(child, ["draw"], text, 0, plain.drawing.drawing(code))
+            yield f"{NAME}{name}, what it shows", plain.drawing.difference(child.run(["draw"], text.encode()).wrote.decode(), code)
 
 
 if __name__ == "__main__":
-    from running import tell_all
+    from shared.running import tell_all
 
     sys.exit(tell_all(faults(*sys.argv[1:])) if len(sys.argv) in (2, 3) else __doc__)

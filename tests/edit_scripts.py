@@ -6,7 +6,7 @@
 `tests/program` runs these cases behind its rows. The draws are the same in each run. A case is one run of the program: the moves that can
 be made from a diagram, one after another; a move that cannot be made; the counts of a diagram that came; its Jones polynomial or homology,
 which has to be that of the first; a script of moves that are taken back and made again; `check` on a code some of whose arcs were
-changed; or a line of `edit_by_hand.py`. With a word only the cases whose names have it are run. The last line is 'N passed, M failed'.
+changed; or a line of `rows/edit_by_hand.py`. With a word only the cases whose names have it are run. The last line is 'N passed, M failed'.
 """
 import functools
 import os
@@ -15,15 +15,13 @@ import subprocess
 import sys
 from typing import NamedTuple
 
-import edit_by_hand as hand
-import plain_diagrams as codes
-import plain_moves as moves
-import random_moves as draws
-from running import PATIENCE
-
-HERE = os.path.dirname(os.path.abspath(__file__))
-sys.path.insert(0, os.path.join(os.path.dirname(HERE), "bench"))
-from braids import planar_diagram
+import drawn.moves as draws
+import plain.diagrams as codes
+import plain.moves as moves
+import rows.edit_by_hand as hand
+from shared.places import DATA
+from shared.running import PATIENCE
+from bench.braids import planar_diagram
 
 NAME = "edit, "
 STEPS = 200
@@ -37,7 +35,7 @@ HOMOLOGY_GENERATORS = 200_000
 
 def stored(name):
     """The texts of a file of links beside this script, by their names."""
-    with open(os.path.join(HERE, name), encoding="utf-8") as file:
+    with open(os.path.join(DATA, name), encoding="utf-8") as file:
         blocks = [block.strip().splitlines() for block in file.read().split("\n\n")[1:]]
     return {head.split(":")[0]: text for head, text, *_ in blocks}
 

@@ -3,14 +3,14 @@
 """
 import cut_texts
 import drawings
-import fault_calls
-import fault_limits
-import fault_streams
+import faulty.calls
+import faulty.limits
+import faulty.streams
 import link_algebra
 import logs
 import reduced_tables
-from fuzzing import Fuzzer
-from running import Child, unknown_commands
+from drawn.fuzzer import Fuzzer
+from shared.running import Child, unknown_commands
 
 INPUTS = 3_000
 SEED = "the gate"
@@ -32,9 +32,9 @@ def faults(program, word=""):
         yield from module.faults(program, word)
     for name, cases in (
         ("drawn inputs", lambda: drawn_inputs(program)),
-        ("calls", lambda: fault_calls.few(program)),
-        ("streams", lambda: fault_streams.few(program, Child(program).run)),
-        ("limits", lambda: fault_limits.few(program)),
+        ("calls", lambda: faulty.calls.few(program)),
+        ("streams", lambda: faulty.streams.few(program, Child(program).run)),
+        ("limits", lambda: faulty.limits.few(program)),
     ):
         if word in name:
             yield from ((f"{name}: {case}", fault) for case, fault in cases())

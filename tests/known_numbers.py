@@ -6,14 +6,14 @@ import os
 import subprocess
 from concurrent.futures import ThreadPoolExecutor
 
-from running import PATIENCE
+from shared.places import DATA
+from shared.running import PATIENCE
 
-TOP = os.path.dirname(os.path.dirname(os.path.abspath(__file__)))
 
 
 def stored():
     """The words of a run, and what it has to write, for each number and field."""
-    with open(os.path.join(TOP, "tests", "numbers.txt"), encoding="utf-8") as file:
+    with open(os.path.join(DATA, "numbers.txt"), encoding="utf-8") as file:
         for line in file.read().split("\n\n", 1)[1].splitlines():
             number, loops, generators, over_two, over_three, *polynomial = line.split()
             for field, dimension in (("2", over_two), ("3", over_three)):

@@ -10,13 +10,13 @@ these cases behind its rows. The last line is 'N passed, M failed'.
 import re
 import sys
 
-import known_diagrams
-import plain_algebra as algebra
-import plain_answers
-import plain_cube
-import plain_diagrams as codes
-from plain_codes import Ended
-from running import Child, fault_of, tell_all, told
+import plain.algebra as algebra
+import plain.answers
+import plain.cube
+import plain.diagrams as codes
+from plain.codes import Ended
+from shared import known_diagrams
+from shared.running import Child, fault_of, tell_all, told
 
 COMMANDS = ("mirror", "reverse", "union")
 DRAWN = 300
@@ -110,7 +110,7 @@ def wrong(came, wanted):
 def invariants(child):
     """Tables and polynomials of 60 diagrams, their mirror images and reversals, over four fields."""
     texts = [text for _, text in known_diagrams.begun() + known_diagrams.stored() if len(codes.read(text).crossings) <= 9]
-    few = [text for text in texts if plain_cube.generator_count(codes.read(text)) <= 20_000]
+    few = [text for text in texts if plain.cube.generator_count(codes.read(text)) <= 20_000]
     few += [known_diagrams.text_of(it) for it in known_diagrams.drawn("tables", 60 - len(few[:40]), most=7)]
     for text in few[:40] + few[-20:]:
         image = child.run(["mirror"], text.encode()).wrote.decode()
@@ -133,9 +133,9 @@ def pairs(child):
         for second in texts:
             both = algebra.united(codes.read(first), codes.read(second))
             yield "union, a pair", fault_of(child, ["union"], f"{first};{second}", 0, codes.printed(both) + "\n")
-            line = plain_cube.polynomial_line(algebra.product(*(terms_of(tables[text][1]) for text in (first, second))))
+            line = plain.cube.polynomial_line(algebra.product(*(terms_of(tables[text][1]) for text in (first, second))))
             yield "union, its polynomial", fault_of(child, ["jones"], codes.printed(both), 0, line)
-            if plain_cube.generator_count(both) <= 100_000:
+            if plain.cube.generator_count(both) <= 100_000:
                 table = table_of(child, codes.printed(both), "2")[0]
                 yield "union, its table", wrong(table, algebra.product(tables[first][0], tables[second][0]))
 
@@ -152,11 +152,11 @@ def refused_pairs(child):
 def union_answer(first, second):
     """The status and the text of a union of two texts, by the plain readings."""
     try:
-        one = codes.code_of(plain_answers.read(first.encode()))
+        one = codes.code_of(plain.answers.read(first.encode()))
     except Ended as it:
         return it.status, it.line + "\n"
     try:
-        other = codes.code_of(plain_answers.read(second.encode()))
+        other = codes.code_of(plain.answers.read(second.encode()))
     except Ended as it:
         return it.status, f"second\n{it.line}\n"
     try:

@@ -8,7 +8,7 @@ and its table is that of `homology`. Twenty good logs, of which `certify` writes
 (5,000): a digit is another; a line is lost, doubled, exchanged with another, or moved to the next block; the field, the diagram or a row of
 the table is another; the end is cut off. Each result is accepted or refused as the plain reading says, with the line and the cause, by the
 program and by `show/verify.py`. Texts of 64 MiB that are no logs are refused within a second. `tests/program` runs all of this behind its
-rows, with fewer edits; the rows of logs are `tests/log_rows.py`. The last line is 'N passed, M failed'.
+rows, with fewer edits; the rows of logs are `tests/rows/log.py`. The last line is 'N passed, M failed'.
 """
 import importlib.machinery
 import importlib.util
@@ -18,15 +18,15 @@ import random
 import subprocess
 import sys
 
-import known_diagrams
-import log_rows
-import plain_cube
-import plain_diagrams as codes
-import plain_logs
-from log_rows import CURL, LONGEST
-from running import Child, Long, fault_of, least_seconds, slowness, tell_all, told
+import plain.cube
+import plain.diagrams as codes
+import plain.logs
+import rows.log
+from rows.log import CURL, LONGEST
+from shared import known_diagrams
+from shared.places import TOP
+from shared.running import Child, Long, fault_of, least_seconds, slowness, tell_all, told
 
-TOP = os.path.dirname(os.path.dirname(os.path.abspath(__file__)))
 VERIFIER = os.path.join(TOP, "show", "verify.py")
 EDITS = 5_000
 IN_THE_GATE = 1_000
@@ -40,7 +40,7 @@ SPELLINGS = ("00", "-0", "+1", "1 ", " 1", "-1", "1000", "12345678", "9999999", 
 
 
 def size_of(text):
-    return plain_cube.generator_count(codes.read(text))
+    return plain.cube.generator_count(codes.read(text))
 
 
 def certified_texts():
@@ -69,7 +69,7 @@ def certificate_faults(child, text, field):
     same = certify(child, text, field, "--workers", "4") == log
     yield f"{name}, by four workers", None if same else f"another log of {text}"
     if size_of(text) <= BY_THE_DEFINITION:
-        came, wanted = plain_logs.verdict(log.encode()), (0, "verified\n" + plain_cube.table(known_diagrams.diagram_of(text), field))
+        came, wanted = plain.logs.verdict(log.encode()), (0, "verified\n" + plain.cube.table(known_diagrams.diagram_of(text), field))
         yield f"{name}, by the plain reading", None if came == wanted else f"{came} of {log[:500]!r}"
 
 
@@ -95,7 +95,7 @@ def good_logs(child):
     logs = [certify(child, text, FIELDS[number % 4]) for number, text in enumerate(certified_texts()[:18:2])]
     draw = random.Random("logs")
     for number, diagram in enumerate(known_diagrams.drawn("logs", 11, most=4)):
-        logs.append(plain_logs.written(diagram, int(FIELDS[number % 4]), lambda pivots: draw.choice(sorted(pivots))))
+        logs.append(plain.logs.written(diagram, int(FIELDS[number % 4]), lambda pivots: draw.choice(sorted(pivots))))
     return logs
 
 
@@ -162,7 +162,7 @@ def edits(child, count):
             log = edited(draw, log, logs) or "log 1\n"
         given.append(log)
     for log in given:
-        wanted = plain_logs.verdict(log.encode())
+        wanted = plain.logs.verdict(log.encode())
         yield "verify, an edited log", fault_of(child, ["verify"], log, *wanted)
         came = other(log.encode())
         yield "show/verify.py, an edited log", None if came == wanted else f"{came} and not {wanted} on {log[:600]!r}"
@@ -186,7 +186,7 @@ def second_verifier():
 
 def verifier_runs():
     """Runs of `show/verify.py` as a program on the rows of logs, but for those of millions of bytes."""
-    for name, words, given, status, text in log_rows.ROWS:
+    for name, words, given, status, text in rows.log.ROWS:
         if words == ["verify"] and len(given) < LONGEST:
             log = given if isinstance(given, bytes) else given.encode()
             done = subprocess.run([sys.executable, VERIFIER], input=log, capture_output=True)
@@ -207,7 +207,7 @@ def hostile(child):
     for name, filler in FILLERS:
         for head in HEADS:
             first, again = head.encode(), filler.encode()
-            wanted = plain_logs.verdict(first + again * SHORTER)
+            wanted = plain.logs.verdict(first + again * SHORTER)
             given = Long(LONGEST, again, first)
             came = child.run(["verify"], given)
             right = (came.status, came.wrote, came.said) == (wanted[0], wanted[1].encode(), b"")
@@ -232,7 +232,7 @@ def faults(program, word="", count=IN_THE_GATE):
 def row_faults(program):
     """What is wrong with the rows of logs, which `tests/program` has itself."""
     child = Child(program)
-    for name, words, given, status, text in log_rows.ROWS:
+    for name, words, given, status, text in rows.log.ROWS:
         yield name, fault_of(child, words, given, status, text)
 
 

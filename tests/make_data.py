@@ -19,10 +19,9 @@ import subprocess
 import sys
 from collections import Counter
 
-HERE = os.path.dirname(os.path.abspath(__file__))
-sys.path.insert(0, os.path.join(os.path.dirname(HERE), "bench"))
-from braids import planar_diagram
-from plain_cube import with_path
+from plain.cube import with_path
+from shared.places import DATA
+from bench.braids import planar_diagram
 
 HEAD = """\
 # {what} Each link is a closed braid: its strands, and its letters k
@@ -95,7 +94,7 @@ def table_of(other, strands, letters):
 
 def compare_tables(other):
     """Stops where a block of `tables.txt` is not what the other program and this script find."""
-    with open(os.path.join(HERE, "tables.txt"), encoding="utf-8") as file:
+    with open(os.path.join(DATA, "tables.txt"), encoding="utf-8") as file:
         for block in file.read().split("\n\n")[1:]:
             name, text, *lines = block.strip().splitlines()
             if lines != lines_of(other, text):
@@ -166,12 +165,12 @@ def number_line(other, number):
 
 
 def write_numbers(other):
-    with open(os.path.join(HERE, "numbers.txt"), "w", encoding="utf-8") as file:
+    with open(os.path.join(DATA, "numbers.txt"), "w", encoding="utf-8") as file:
         file.write(NUMBERS_HEAD + "".join(number_line(other, number) + "\n" for number in NUMBERS))
 
 
 def write(name, what, lines, blocks):
-    with open(os.path.join(HERE, name), "w", encoding="utf-8") as file:
+    with open(os.path.join(DATA, name), "w", encoding="utf-8") as file:
         file.write("\n\n".join([HEAD.format(what=what, lines=lines).rstrip("\n"), *blocks]) + "\n")
 
 

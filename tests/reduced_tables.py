@@ -12,11 +12,11 @@ import re
 import sys
 from collections import Counter
 
-import known_diagrams
 import link_algebra
-import plain_cube
-import plain_diagrams as codes
-from running import Child, fault_of, tell_all, told
+import plain.cube
+import plain.diagrams as codes
+from shared import known_diagrams
+from shared.running import Child, fault_of, tell_all, told
 
 FIELDS = "2357"
 WHOLE = 1_000
@@ -94,20 +94,20 @@ def doubled(table):
 
 def table_faults(child, name, diagram, mark, field, whole_table):
     """What is wrong with a reduced table, rule by rule."""
-    text, jones = known_diagrams.text_of(diagram), plain_cube.jones_line(diagram)
+    text, jones = known_diagrams.text_of(diagram), plain.cube.jones_line(diagram)
     status, table, others = reduced(child, text, mark, field)
     head = [f"mark {mark}", "table 2", f"field {field}"]
     yield f"{name}, its lines", link_algebra.wrong((status, others), (0, [*head, *jones.splitlines()]))
-    circle = plain_cube.with_circle(Counter(plain_cube.characteristic(table)))
+    circle = plain.cube.with_circle(Counter(plain.cube.characteristic(table)))
     polynomial = {at: circle[at] for at in sorted(circle) if circle[at]}
-    yield f"{name}, its Euler characteristic", link_algebra.wrong(polynomial, plain_cube.state_sum(diagram))
+    yield f"{name}, its Euler characteristic", link_algebra.wrong(polynomial, plain.cube.state_sum(diagram))
     if is_alternating_knot(diagram):
         diagonals = {j - 2 * i for j, i in table}
         yield f"{name}, one diagonal", None if len(diagonals) == 1 else f"{text}: {diagonals}"
     if field == "2":
         yield f"{name}, twice is the table", link_algebra.wrong(doubled(table), whole_table)
-    if plain_cube.generator_count(codes.code_of(diagram)) <= WHOLE:
-        wanted = "".join(line + "\n" for line in head[:1]) + plain_cube.table(diagram, int(field), mark) + jones
+    if plain.cube.generator_count(codes.code_of(diagram)) <= WHOLE:
+        wanted = "".join(line + "\n" for line in head[:1]) + plain.cube.table(diagram, int(field), mark) + jones
         yield f"{name}, by the definition", fault_of(child, ["reduced", "--mark", str(mark), "--field", field], text, 0, wanted)
 
 
@@ -117,7 +117,7 @@ def chosen():
     named += [("drawn at random", diagram) for diagram in known_diagrams.drawn("reduced", 40, most=7)]
     for name, diagram in named:
         names = 2 * len(diagram.crossings) + diagram.loops
-        if names and plain_cube.generator_count(codes.code_of(diagram)) <= GENERATORS:
+        if names and plain.cube.generator_count(codes.code_of(diagram)) <= GENERATORS:
             yield name, diagram, range(1, names + 1)
 
 

@@ -29,7 +29,7 @@ struct Marked {
     rows: &'static [(i16, i16, u32)],
 }
 
-/// A mark on an arc, and one on a loop. The values are from `tests/plain_cube.py`; those of the
+/// A mark on an arc, and one on a loop. The values are from `tests/plain/cube.py`; those of the
 /// loop are the trefoil's own, since v- on the loop lowers each quantum degree by one.
 const MARKED: &[Marked] = &[
     Marked {

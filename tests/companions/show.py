@@ -1,0 +1,329 @@
+"""Tries the scripts of `show/` on stored outputs of `kh`: those of `tests/data`, and drawings made by `plain.drawing`.
+
+`tests/program` runs these behind its rows. No program is run for them but those of `show/`.
+"""
+import itertools
+import math
+import os
+import re
+import subprocess
+import sys
+import tempfile
+from importlib.machinery import SourceFileLoader
+from importlib.util import module_from_spec, spec_from_loader
+
+import plain.diagrams
+import plain.drawing
+from rows.link import REDUCED_TREFOIL
+from rows.texts import TREFOIL, TREFOIL_OVER_THREE, TREFOIL_TABLE
+from shared.places import DATA, TOP
+from shared.running import PATIENCE
+
+
+def script(name):
+    """A script of `show/` as a module."""
+    sys.path.insert(0, os.path.join(TOP, "show"))
+    loader = SourceFileLoader(f"show_{name}", os.path.join(TOP, "show", name))
+    module = module_from_spec(spec_from_loader(loader.name, loader))
+    loader.exec_module(module)
+    return module
+
+
+DRAWING = script("drawing")
+TWO_FIELDS = TREFOIL_TABLE + TREFOIL_OVER_THREE
+TWO_GRIDS = """\
+over 2 elements              over 3 elements
+j\\i | -3  -2  -1   0 |  χ    j\\i | -3  -2  -1   0 |  χ
+----+----------------+---    ----+----------------+---
+ -1 |              1 |  1     -1 |              1 |  1
+ -3 |              1 |  1     -3 |              1 |  1
+ -5 |      1         |  1     -5 |      1         |  1
+ -7 |  1*  1*        |  0     -7 |  0*  0*        |  0
+ -9 |  1             | -1     -9 |  1             | -1
+* not the same over all these fields: torsion
+"""
+REDUCED_GRID = """\
+over 2 elements, reduced at 1
+j\\i | -3  -2  -1   0 |  χ
+----+----------------+---
+ -2 |              1 |  1
+ -4 |                |  0
+ -6 |      1         |  1
+ -8 |  1             | -1
+"""
+TREFOIL_DRAWN = """\
+╭───────────────────╮   ╭───╮
+│                   ╰─╮ │   │
+│           ╭───╮   ╭───╯   │
+│           │   │   │ ╰─╮   │
+╰─────╮     │   │   │   │   │
+╭─────│─────╯   ╰───╯   │   │
+│     ╰─────╮           │   │
+│   ╭───╮   │           │   │
+╰─╮ │   │   │           │   │
+╭─│─╯   ╰───╯           │   │
+│ ╰─╮                   │   │
+│   ╰───────────────────╯   │
+╰───────────────────────────╯
+"""
+POLYNOMIALS = "field 2\nq^-9 t^-3 + q^-7 t^-3 + q^-7 t^-2 + q^-5 t^-2 + q^-3 + q^-1\n"
+POLYNOMIALS += "field 3\nq^-9 t^-3 + q^-5 t^-2 + q^-3 + q^-1\n"
+AS_OTHERS_WRITE = "field 3\nq^(-3) + 1/q + 1/(q^5*t^2)+q^{-9}t^{-3}\n"
+
+# A script, its words, its input, its status, what it writes: all of it, or what the one line on standard error has.
+ROWS = [
+    ("two fields", "table", [], TWO_FIELDS, 0, TWO_GRIDS),
+    ("a reduced table", "table", [], REDUCED_TREFOIL, 0, REDUCED_GRID),
+    ("no table", "table", [], "", 1, "there is no table"),
+    ("a refused code", "table", [], "refused genus faces 3 wanted 5\n", 1, "line 1 is no line of a table"),
+    ("a wrong dimension", "table", [], TWO_FIELDS.replace("j -1 i 0 dim 1", "j -1 i 0 dim 2", 1), 1, "does not fit its Jones line"),
+    ("two diagrams", "table", [], TWO_FIELDS + "table 2\nfield 5\nj 0 i 0 dim 1\njones 1*q^0\n", 1, "more than one diagram"),
+    ("two fields", "polynomial", [], TWO_FIELDS, 0, POLYNOMIALS),
+    ("two fields back", "polynomial", ["--table"], POLYNOMIALS, 0, TWO_FIELDS),
+    ("as others write", "polynomial", ["--table"], AS_OTHERS_WRITE, 0, TWO_FIELDS[TWO_FIELDS.rindex("table 2") :]),
+    ("no field", "polynomial", ["--table", "--field", "7"], "1\n", 0, "table 2\nfield 7\nj 0 i 0 dim 1\njones 1*q^0\n"),
+    ("a reduced table back", "polynomial", ["--table"], "mark 1\nfield 2\nq^-8 t^-3 + q^-6 t^-2 + q^-2\n", 0, REDUCED_TREFOIL),
+    ("another letter", "polynomial", ["--table"], "q + x\n", 1, "line 1: no polynomial in q and t goes on so: x"),
+    ("a difference", "polynomial", ["--table"], "q - q^-1\n", 1, "is no dimension"),
+    ("a sum below", "polynomial", ["--table"], "1/(q + t)\n", 1, "divides by a sum"),
+    ("a trefoil", "drawing", [], plain.drawing.drawing(plain.diagrams.read(TREFOIL)), 0, TREFOIL_DRAWN),
+    ("nothing drawn", "drawing", [], "", 0, ""),
+    ("a loop", "drawing", [], "open 1: /\\\nclose 1: \\/\n", 0, "╭───╮\n╰───╯\n"),
+    ("open strands", "drawing", [], "open 1: /\\\n", 1, "2 strands open"),
+    ("other cells", "drawing", [], "open 1: /\\ |\n", 1, "line 1 is no slice below 0 strands"),
+    ("a place too far", "drawing", [], "open 1: /\\\nleft 2: | \\-\n", 1, "line 2 is no slice below 2 strands"),
+]
+
+
+def run(name, words, given):
+    """The status of a script of `show/`, and what it wrote."""
+    path = os.path.join(TOP, "show", name)
+    settings = dict(os.environ, COLUMNS="100")
+    came = subprocess.run([path, *words], input=given, capture_output=True, text=True, env=settings, timeout=PATIENCE)
+    return came.returncode, came.stdout, came.stderr
+
+
+def row_fault(name, words, given, status, wanted):
+    came, wrote, errors = run(name, words, given)
+    if status == 0:
+        right = (came, wrote, errors) == (0, wanted, "")
+    else:
+        right = (came, wrote) == (status, "") and wanted in errors and errors.count("\n") == 1 and errors.startswith(f"{name}: ")
+    return None if right else f"{(came, wrote, errors)} and not {(status, wanted)}"
+
+
+def stored_tables():
+    """All tables beside this file, one behind the other, as `kh homology` writes them."""
+    texts = []
+    for name in ("tables.txt", "large_tables.txt"):
+        with open(os.path.join(DATA, name), encoding="utf-8") as file:
+            for block in file.read().split("\n\n")[1:]:
+                _, _, *tables, jones = block.strip().splitlines()
+                for line in tables:
+                    field, rows = line.split(": ")
+                    lines = ["j {} i {} dim {}\n".format(*row.split(",")) for row in rows.split()]
+                    texts.append(f"table 2\nfield {field}\n{''.join(lines)}{jones}\n")
+    return "".join(texts)
+
+
+def round_fault():
+    """All stored tables, turned into polynomials and back, are themselves."""
+    text = stored_tables()
+    polynomials = run("polynomial", [], text)
+    back = run("polynomial", ["--table"], polynomials[1])
+    return None if back == (0, text, "") and text.count("table 2") > 100 else f"{polynomials[0]}, {back[0]}, {back[2]}"
+
+
+def least_turn(passes):
+    """A closed sequence of passes at named crossings in its least form, over all beginnings and both directions."""
+    forms = []
+    for order in (passes, passes[::-1]):
+        for start in range(len(order) or 1):
+            names, turned = {}, order[start:] + order[:start]
+            forms.append([(names.setdefault(crossing, len(names)), over) for crossing, over in turned])
+    return min(forms)
+
+
+def passes_of(code):
+    """The passes of each component of a code: the crossing, and whether it goes over."""
+    following, enters = plain.diagrams.followers(code), {}
+    for number, (under, over, _) in enumerate(plain.diagrams.accepted(code).crossings):
+        enters[under.enters], enters[over.enters] = (number, False), (number, True)
+    for component in plain.diagrams.components(code):
+        arcs = [component[0]]
+        while len(arcs) < len(component):
+            arcs.append(following[arcs[-1]])
+        yield [enters[arc] for arc in arcs]
+
+
+# The ways that a sign leads: up, down, left, right.
+UP, DOWN, LEFT, RIGHT = (-1, 0), (1, 0), (0, -1), (0, 1)
+WAYS = {"│": (UP, DOWN), "─": (LEFT, RIGHT), "╭": (DOWN, RIGHT), "╮": (DOWN, LEFT), "╰": (UP, RIGHT), "╯": (UP, LEFT)}
+
+
+def leads(page, place, way):
+    """Whether the sign at a place has this way."""
+    return way in WAYS.get(page.get(place), ())
+
+
+def step(place, way):
+    return place[0] + way[0], place[1] + way[1]
+
+
+def opposite(way):
+    return -way[0], -way[1]
+
+
+def drawn_passes(text):
+    """The passes of each closed curve of a drawing in the terminal, found by walking over its signs."""
+    page = {(y, x): sign for y, line in enumerate(text.splitlines()) for x, sign in enumerate(line) if sign != " "}
+
+    def is_crossing(place):
+        return all(leads(page, step(place, way), opposite(way)) for way in (UP, DOWN, LEFT, RIGHT))
+
+    crossings = {place for place in page if is_crossing(place)}
+    todo = {(place, way) for place in page if place not in crossings for way in WAYS[page[place]]}
+    while todo:
+        start = place, way = min(todo)
+        passes = []
+        while True:
+            todo.discard((place, way))
+            place = step(place, way)
+            if place in crossings:
+                passes.append((place, way in WAYS[page[place]]))
+                continue
+            todo.discard((place, opposite(way)))
+            way = next(it for it in WAYS[page[place]] if it != opposite(way))
+            if (place, way) == start:
+                break
+        yield passes
+
+
+def drawn_fault(code):
+    """The drawing in the terminal has the passes of the code, component by component, as long as each component is taken alone."""
+    wrote = "\n".join(DRAWING.lines_of(DRAWING.read_drawing(plain.drawing.drawing(code))))
+    found = sorted(map(least_turn, drawn_passes(wrote)))
+    wanted = sorted([*map(least_turn, passes_of(code)), *[[]] * code.loops])
+    return None if found == wanted else f"{plain.diagrams.printed(code)}: {found} and not {wanted}"
+
+
+def points_of(path):
+    """Points on a path, not far from one another."""
+    points, words = [], re.findall(r"[MLC][^MLCZ]*|Z", path)
+    for word in words:
+        numbers = list(map(float, word[1:].split()))
+        ends = list(zip(numbers[::2], numbers[1::2])) or points[:1]
+        if word[0] == "M":
+            points += ends
+            continue
+        a, d = points[-1], ends[-1]
+        b, c = ends[:2] if word[0] == "C" else (a, d)
+        steps = 2 + int(math.dist(a, d) / 2)
+        for at in (it / steps for it in range(1, steps + 1)):
+            u, v, w, z = (1 - at) ** 3, 3 * (1 - at) ** 2 * at, 3 * (1 - at) * at**2, at**3
+            points.append((u * a[0] + v * b[0] + w * c[0] + z * d[0], u * a[1] + v * b[1] + w * c[1] + z * d[1]))
+    return points
+
+
+def close(strand, other):
+    """The points of two strands that are in one square of a grid or in squares side by side."""
+    squares = {}
+    for x, y in other:
+        squares.setdefault((x // 5, y // 5), []).append((x, y))
+    for x, y in strand:
+        for across in (-1, 0, 1):
+            for down in (-1, 0, 1):
+                yield from (((x, y), it) for it in squares.get((x // 5 + across, y // 5 + down), []))
+
+
+def picture_fault(code):
+    """The picture has a strand for each under pass and for each closed curve over all others, strands that keep their distance, and
+    as many colours as there are components, up to eight.
+    """
+    wrote = DRAWING.svg_of(DRAWING.read_drawing(plain.drawing.drawing(code)))
+    paths = re.findall(r'stroke="(#\w+)" d="([^"]*)"', wrote)
+    over_all = code.loops + sum(all(over for _, over in passes) for passes in passes_of(code))
+    closed = sum(path.endswith("Z") for _, path in paths)
+    counts = (len(paths) - closed, closed, len({colour for colour, _ in paths}))
+    wanted = (len(code.crossings), over_all, min(8, len(plain.diagrams.components(code)) + code.loops))
+    strands = [points_of(path) for _, path in paths]
+    near = sum(math.dist(p, q) < 4.5 for one, strand in enumerate(strands) for other in strands[:one] for p, q in close(strand, other))
+    return None if counts == wanted and not near else f"{plain.diagrams.printed(code)}: {counts} and not {wanted}, {near} points too near"
+
+
+def diagrams():
+    """Codes of many kinds: the stored ones, and closed braids with curls and loops."""
+    codes = ["PD[X[1,1,2,2],X[3,4,4,3],Loop[5],Loop[6]]", "PD[X[4,1,3,2],X[2,3,1,4]]", "PD[X[1,4,2,3],X[2,4,1,3]]", TREFOIL]
+    for name in ("tables.txt", "polynomials.txt"):
+        with open(os.path.join(DATA, name), encoding="utf-8") as file:
+            codes += [block.strip().splitlines()[1] for block in file.read().split("\n\n")[1:]]
+    return [plain.diagrams.read(it) for it in codes]
+
+
+def named_circles(code, state):
+    """The circles of a state, by their least arcs, each a list of arcs, and each loop with its own number."""
+    pairs = []
+    for bit, (i, j, k, l) in zip(state, code.crossings):
+        pairs += [(i, l), (j, k)] if bit else [(i, j), (k, l)]
+    circles = [sorted(it) for it in plain.diagrams.classes(plain.diagrams.arcs_of(code), pairs)]
+    first = 2 * len(code.crossings) + 1
+    return sorted(circles + [[loop] for loop in range(first, first + code.loops)])
+
+
+def states_fault(code):
+    """The picture of the cube has each state with the number of its circles, classes of arcs and loops. Without the code the states may
+    have the crossings in another order; with it the picture names the circles too."""
+    drawing, caption = plain.drawing.drawing(code), r">([01]+|the one state): (\d+) circle"
+    states = list(itertools.product((0, 1), repeat=len(code.crossings)))
+    wanted = {"".join(map(str, state)) or "the one state": named_circles(code, state) for state in states}
+    status, wrote, errors = run("states", [], drawing)
+    found = sorted((text.count("1"), int(count)) for text, count in re.findall(caption, wrote))
+    if (status, errors, found) != (0, "", sorted((text.count("1"), len(circles)) for text, circles in wanted.items())):
+        return f"{found} and not {wanted}, {errors}"
+    with tempfile.NamedTemporaryFile("w", encoding="utf-8") as file:
+        file.write(plain.diagrams.printed(code) + "\n")
+        file.flush()
+        status, wrote, errors = run("states", ["--numbers", file.name], drawing)
+    texts = re.findall(caption + r".*\n<text (.*)</text>", wrote)
+    named = {text: [list(map(int, it.split(","))) for it in re.findall(r"{([\d,]+)}", names)] for text, _, names in texts}
+    counts = {text: int(count) for text, count, _ in texts}
+    right = (status, errors, named) == (0, "", wanted) and counts == {text: len(circles) for text, circles in wanted.items()}
+    return None if right else f"{named} and not {wanted}, {errors}"
+
+
+def numbers_fault(code):
+    """The picture with numbers has each arc and each crossing once, and none for the drawing of another code."""
+    drawing = plain.drawing.drawing(code)
+    with tempfile.TemporaryDirectory() as folder:
+        path = os.path.join(folder, "code")
+        with open(path, "w", encoding="utf-8") as file:
+            file.write(plain.diagrams.printed(code) + "\n")
+        status, wrote, errors = run("drawing", ["--svg", "--numbers", path], drawing)
+        other = run("drawing", ["--svg", "--numbers", path], plain.drawing.drawing(plain.diagrams.read("PD[X[1,1,2,2]]")))
+    found = [int(it) for it in re.findall(r">(\d+)</text>", wrote)]
+    wanted = sorted([*range(1, len(code.crossings) + 1), *plain.diagrams.arcs_of(code)])
+    if (status, errors, sorted(found)) != (0, "", wanted):
+        return f"{sorted(found)} and not {wanted}, {errors}"
+    return None if other[0] == 1 and "is not one of this planar diagram" in other[2] else f"{other}"
+
+
+def pictures_fault():
+    """The pictures of `docs/pictures` are what their script makes."""
+    came = subprocess.run([os.path.join(TOP, "show", "pictures"), "--test"], capture_output=True, text=True, timeout=PATIENCE)
+    return None if (came.returncode, came.stderr) == (0, "") else came.stderr
+
+
+def faults(program=None):
+    """The name of each test, and what is wrong, if anything is."""
+    for what, name, words, given, status, wanted in ROWS:
+        yield f"show/{name}: {what}", row_fault(name, words, given, status, wanted)
+    yield "show/polynomial: all stored tables and back", round_fault()
+    for number, code in enumerate(diagrams()):
+        yield f"show/drawing: diagram {number} in the terminal", drawn_fault(code)
+    for number, code in enumerate(diagrams()[:42:6]):
+        yield f"show/drawing: diagram {number} as a picture", picture_fault(code)
+    for number, code in enumerate(diagrams()[:4]):
+        yield f"show/states: diagram {number}", states_fault(code)
+    for number, code in enumerate(diagrams()[1:6]):
+        yield f"show/drawing: diagram {number + 1} with numbers", numbers_fault(code)
+    yield "show/pictures: the pictures of the pages", pictures_fault()

@@ -1,0 +1,36 @@
+"""The rows of `--workers` of `tests/program`: a name, words, an input, the status, what is written."""
+from rows.texts import (
+    CHECK, FIGURE_EIGHT, FIGURE_EIGHT_TABLE, HOMOLOGY, MANY_GENERATORS, TREFOIL, TREFOIL_COUNTS, TREFOIL_JONES, TREFOIL_OVER_THREE,
+    USAGE, curls,
+)
+
+ROWS = [
+    ("one worker", HOMOLOGY + ["--workers", "1"], FIGURE_EIGHT, 0, FIGURE_EIGHT_TABLE),
+    ("eight workers", HOMOLOGY + ["--workers", "8"], FIGURE_EIGHT, 0, FIGURE_EIGHT_TABLE),
+    ("64 workers over three elements", HOMOLOGY + ["--field", "3", "--workers", "64"], TREFOIL, 0, TREFOIL_OVER_THREE),
+    ("workers of a check", CHECK + ["--workers", "09"], TREFOIL, 0, TREFOIL_COUNTS),
+    ("workers on twenty curls", HOMOLOGY + ["--workers", "4"], curls(20), 6, MANY_GENERATORS),
+    ("no workers", HOMOLOGY + ["--workers", "0"], TREFOIL, 2, USAGE),
+    ("65 workers", HOMOLOGY + ["--workers", "65"], TREFOIL, 2, USAGE),
+    ("workers in three digits", HOMOLOGY + ["--workers", "001"], TREFOIL, 2, USAGE),
+    ("workers with a sign", HOMOLOGY + ["--workers", "+1"], TREFOIL, 2, USAGE),
+    ("workers in an empty word", HOMOLOGY + ["--workers", ""], TREFOIL, 2, USAGE),
+    ("workers twice", HOMOLOGY + ["--workers", "2", "--workers", "2"], TREFOIL, 2, USAGE),
+    ("eight workers in two digits", ["homology", "--workers", "08"], FIGURE_EIGHT, 0, FIGURE_EIGHT_TABLE),
+    ("64 workers on the figure eight", ["homology", "--workers", "64"], FIGURE_EIGHT, 0, FIGURE_EIGHT_TABLE),
+    ("three workers over three elements", ["homology", "--workers", "3", "--field", "3"], TREFOIL, 0, TREFOIL_OVER_THREE),
+    ("two workers on a virtual crossing", ["homology", "--workers", "2"], "PD[X[1,2,1,2]]", 1, "refused checkerboard at arc 1\n"),
+    ("64 workers of a check", ["check", "--workers", "64"], TREFOIL, 0, TREFOIL_COUNTS),
+    ("one worker of a polynomial", ["jones", "--field", "5", "--workers", "01"], TREFOIL, 0, TREFOIL_JONES),
+    ("nine workers of a schedule that is refused", ["schedule", "--workers", "9"], TREFOIL + ";look", 1, "refused line 1\n"),
+    ("no workers in two digits", ["homology", "--workers", "00"], TREFOIL, 2, USAGE),
+    ("99 workers", ["homology", "--workers", "99"], TREFOIL, 2, USAGE),
+    ("100 workers", ["homology", "--workers", "100"], TREFOIL, 2, USAGE),
+    ("workers below none", ["homology", "--workers", "-1"], TREFOIL, 2, USAGE),
+    ("workers with a space behind", ["homology", "--workers", "1 "], TREFOIL, 2, USAGE),
+    ("workers in a wide digit", ["homology", "--workers", "\uff11"], TREFOIL, 2, USAGE),
+    ("workers in letters", ["homology", "--workers", "two"], TREFOIL, 2, USAGE),
+    ("no workers of a conversion", ["convert", "--workers", "0"], TREFOIL, 2, USAGE),
+    ("workers without a number", ["homology", "--workers"], TREFOIL, 2, USAGE),
+    ("a long word as workers", ["homology", "--workers", "a-word-of-more-than-eight-bytes", "--to", "pd"], TREFOIL, 2, USAGE),
+]
