@@ -1,139 +1,16 @@
-"""Tries `tabulate/` with a program that takes a twentieth of a second, writes down each call, and refuses some codes.
+"""Tries `tabulate/` with a program of its own, in a folder for each test (`shared/tabulating.py`).
 
-A run that is to be killed is held half-way, however fast the machine is: after so many calls the program waits, and a program that it has
-begun, until the folder is gone. `tests/program` runs these behind its rows. GNU parallel is tried where it is installed.
+`tests/program` runs these behind its rows. GNU parallel is tried where it is installed.
 """
 import json
 import os
 import shutil
 import signal
-import sqlite3
 import subprocess
 import tempfile
-import time
 
-from shared.places import TOP
 from shared.running import PATIENCE
-
-TABULATE, ON_MANY = (os.path.join(TOP, "tabulate", name) for name in ("kh-tabulate", "on-many"))
-COUNT = 24
-GRACE = 30
-HEAD = ["name", "code", "field", "status", "table_rows", "jones", "refusal", "seconds"]
-PROGRAM = """\
-#!/bin/sh
-[ "$1" = homology ] || { echo accepted; exit 0; }
-echo "$3" >>"$TOLD"
-read -r code
-[ "$(wc -l <"$TOLD")" -le "${HELD:-1000000}" ] || {
-    sh -c 'echo "$$" >>"$TOLD.held"; while [ -e "$TOLD" ]; do sleep 0.1; done'
-    exit 70
-}
-sleep 0.05
-case $code in
-lost) exit 70 ;;
-bad) echo "refused text at 0"; exit 1 ;;
-large) echo "limit generators 6630936 of 4194304"; exit 6 ;;
-*) printf 'table 2\\nfield %s\\nj -1 i 0 dim 1\\nj 1 i 0 dim 1\\njones 1*q^-1 1*q^1\\n' "$3" ;;
-esac
-"""
-
-
-def heeds_signals():
-    """What is done in a new process, so that it heeds the signals that stop it also where this script was begun without."""
-    for number in (signal.SIGINT, signal.SIGTERM):
-        signal.signal(number, signal.SIG_DFL)
-
-
-def is_living(number):
-    """Whether a process runs, where /proc says it: one that has ended may be listed until it is waited for."""
-    try:
-        with open(f"/proc/{number}/stat", encoding="utf-8") as file:
-            return file.read().rpartition(")")[2].split()[0] not in "ZX"
-    except OSError:
-        return False
-
-
-def lines_of(path):
-    """The lines of a file, none where there is none."""
-    if not os.path.exists(path):
-        return []
-    with open(path, encoding="utf-8") as file:
-        return file.read().splitlines()
-
-
-class Folder:
-    """A folder with the program and a list."""
-
-    def __init__(self, path):
-        self.path, self.told, self.said = path, os.path.join(path, "told"), ""
-        self.program = os.path.join(path, "kh")
-        with open(self.program, "w", encoding="utf-8") as file:
-            file.write(PROGRAM)
-        os.chmod(self.program, 0o755)
-        with open(self.at("list"), "w", encoding="utf-8") as file:
-            file.write("# a list\n" + "".join(f"link {k}\tPD[Loop[{k}]]\n" for k in range(COUNT)) + "wrong\tbad\nhuge\tlarge\n")
-
-    def at(self, name):
-        return os.path.join(self.path, name)
-
-    def start(self, *words, held=None):
-        """Begins these words, whose program is held after so many calls in all."""
-        settings = dict(os.environ, TOLD=self.told, KH=self.program, FIELDS="2,3", **({"HELD": str(held)} if held else {}))
-        pipe = subprocess.PIPE
-        return subprocess.Popen(
-            words, env=settings, stdout=pipe, stderr=pipe, start_new_session=True, text=True, preexec_fn=heeds_signals
-        )
-
-    def tabulated(self, *words):
-        return (TABULATE, "--kh", self.program, "--fields", "2,3", *words)
-
-    def run(self, *words):
-        started = self.start(*self.tabulated(*words))
-        wrote, errors = started.communicate(timeout=PATIENCE)
-        return started.returncode, wrote, errors
-
-    def stop(self, number, *words, is_alone=False):
-        """Begins what these words start, and sends it, or it and its group, a signal once a program more says that it is held, and
-        something more is kept; how it ended."""
-        held, kept = len(self.held()), self.kept()
-        started, begun = self.start(*self.tabulated(*words), held=self.calls() + COUNT // 2), time.monotonic()
-        while (len(self.held()) <= held or self.kept() <= kept) and started.poll() is None and time.monotonic() - begun < PATIENCE:
-            time.sleep(0.05)
-        if started.poll() is None:
-            (os.kill if is_alone else os.killpg)(started.pid, number)
-        _, self.said = started.communicate(timeout=PATIENCE)
-        return started.returncode
-
-    def living(self):
-        """How many of the programs that were held still run, once those that are being ended have had time to."""
-        numbers, begun = self.held(), time.monotonic()
-        while any(map(is_living, numbers)) and time.monotonic() - begun < GRACE:
-            time.sleep(0.05)
-        return sum(map(is_living, numbers))
-
-    def held(self):
-        """The numbers of the programs that have said that they are held."""
-        return lines_of(self.told + ".held")
-
-    def calls(self):
-        """How often the program has been called for homology."""
-        return len(lines_of(self.told))
-
-    def kept(self):
-        """How many results are kept so far, in the database and in lines."""
-        count = len(lines_of(self.at("out")))
-        try:
-            database = sqlite3.connect(f"file:{self.at('results.db')}?mode=ro", uri=True)
-            count += database.execute("select count(*) from results").fetchone()[0]
-            database.close()
-        except sqlite3.OperationalError:
-            pass
-        return count
-
-    def results(self):
-        """What is kept, without seconds, in order."""
-        lines = self.run("--json", "write", self.at("results.db"))[1].splitlines()
-        return sorted(tuple(it for name, it in json.loads(line).items() if name != "seconds") for line in lines)
+from shared.tabulating import COUNT, HEAD, ON_MANY, TABULATE, Folder
 
 
 def wanted():
@@ -144,11 +21,19 @@ def wanted():
         yield "huge", "large", field, 6, "", "", "limit generators 6630936 of 4194304"
 
 
-def result_fault(folder):
-    """What is wrong with the results: each code and field has one, and not all were worked out twice."""
-    found, again = folder.results(), folder.calls() - 2 * (COUNT + 2)
+def kept_fault(folder):
+    """What is wrong with what is kept: each code and field has one result, and the dimensions are those of the texts."""
+    found, (kept, said) = folder.results(), folder.dimensions()
     if found != sorted(wanted()):
         return f"{len(found)} results: {found[:2]}"
+    return None if kept == said else f"dimensions {kept[:100]} and not {said[:100]}"
+
+
+def result_fault(folder):
+    """What is wrong with the results, of which not all may be worked out twice."""
+    again = folder.calls() - 2 * (COUNT + 2)
+    if kept_fault(folder):
+        return kept_fault(folder)
     return None if 0 <= again <= 2 * COUNT else f"{again} calls too many"
 
 
@@ -207,7 +92,7 @@ def what_is_missing(folder):
     calls = [("write", none), ("run", none, none + ".db"), ("store", none + ".db", none), ("work", none, none + ".out")]
     calls += [("run", there, none, "--kh", program) for program in (none, "/bin/true", folder.path)]
     calls += [("work", there, none, "--kh", none), ("write", there), ("store", none, there)]
-    calls += [("write", folder.at("results.db"), "--list", none)]
+    calls += [("write", folder.at("results.db"), "--list", none), ("query", "same", none), ("rebuild", none), ("rebuild", there)]
     folder.run("run", there, folder.at("results.db"))
     before = os.listdir(folder.path)
     for words in calls:
@@ -219,8 +104,7 @@ def what_is_missing(folder):
 
 def lost_answers(folder):
     """Where the program gave no answer there is no row, the status is not 0, and the same words try it again."""
-    with open(folder.at("some"), "w", encoding="utf-8") as file:
-        file.write("one\tPD[Loop[1]]\ntwo\tlost\n")
+    folder.write("some", "one\tPD[Loop[1]]\ntwo\tlost\n")
     for words in (("run", folder.at("some"), folder.at("results.db")), ("work", folder.at("some"), folder.at("out"))):
         for calls in (4, 2):
             before = folder.calls()
@@ -234,8 +118,7 @@ def rows_of_a_list(folder):
     """Blank lines and comments are left out, a line without a tab has its number, the same line twice is one; a mended list has its own
     rows."""
     for code in ("bad", "PD[Loop[1]]"):
-        with open(folder.at("some"), "w", encoding="utf-8") as file:
-            file.write(f"# a list\n \n\nb\t{code}\nPD[]\na\tlarge\nb\t{code}\n")
+        folder.write("some", f"# a list\n \n\nb\t{code}\nPD[]\na\tlarge\nb\t{code}\n")
         folder.run("run", folder.at("some"), folder.at("results.db"), "--fields", "2")
     every = folder.run("write", folder.at("results.db"))[1].splitlines()
     rows = [line.split("\t")[:4] for line in folder.run("write", "--list", folder.at("some"), folder.at("results.db"))[1].splitlines()]
@@ -245,12 +128,138 @@ def rows_of_a_list(folder):
 
 def tabs_in_codes(folder):
     """A tab in a code is a space in a row, so that each row has its columns; in lines of JSON it stays."""
-    with open(folder.at("some"), "w", encoding="utf-8") as file:
-        file.write("one\tPD[\tLoop[1]]\n")
+    folder.write("some", "one\tPD[\tLoop[1]]\n")
     folder.run("run", folder.at("some"), folder.at("results.db"), "--fields", "2")
     rows = [line.split("\t") for line in folder.run("write", folder.at("results.db"))[1].splitlines()]
     right = [len(row) for row in rows] == [len(HEAD)] * 2 and rows[1][:3] == ["one", "PD[ Loop[1]]", "2"]
     return None if right and folder.results()[0][1] == "PD[\tLoop[1]]" else f"{rows}, {folder.results()}"
+
+
+# A list with each kind of answer, and none, and what the last line says of it where each has ended.
+KINDS = "one\tPD[Loop[1]]\ntwo\tbad\nthree\tlarge\nfour\tlost\nfive\tstarved\nsix\tslow\n"
+COUNTED = "1 answered, 1 refused, 1 too large, 1 out of memory, 1 out of time, 1 without an answer, of 6\n"
+
+
+def counts(folder):
+    """The last line counts all that is wanted by what became of it, also what was there before and what has not begun."""
+    first = folder.write("first", KINDS.partition("four")[0])
+    folder.run("run", first, folder.at("results.db"), "--fields", "2")
+    path = folder.write("some", KINDS)
+    for words in (("run", path, folder.at("results.db")), ("work", path, folder.at("out"))):
+        if words[0] == "work":
+            folder.run("work", first, folder.at("out"), "--fields", "2")
+        status, _, errors = folder.run(*words, "--fields", "2", "--seconds", "3")
+        if status != 1 or f"kh-tabulate: {path}: {COUNTED}" not in errors or "six over 2: no answer" not in errors or folder.living():
+            return f"{words}: status {status}, {folder.living()} living, {errors}"
+    folder.stop(signal.SIGTERM, "run", "--jobs", "2", folder.at("list"), folder.at("results.db"), is_alone=True)
+    counted = sum(int(it.split()[0]) for it in folder.said.split(f"{folder.at('list')}: ")[-1].split(", of ")[0].split(", "))
+    return None if counted == 2 * (COUNT + 2) and f"not worked out, of {counted}\n" in folder.said else folder.said
+
+
+def none_answered(folder):
+    """Where nothing was answered the status is 3, of a run and of what is stored; a part of a list may be so."""
+    path, empty = folder.write("some", "two\tbad\nthree\tlarge\n"), folder.write("none", "# no link\n")
+    calls = [(3, "run", path, folder.at("results.db")), (3, "run", empty, folder.at("results.db")), (0, "work", path, folder.at("out"))]
+    calls += [(0, "work", empty, folder.at("nothing")), (3, "store", folder.at("results.db"), folder.at("out"))]
+    for wanted_status, *words in calls:
+        status, _, errors = folder.run(*words)
+        if status != wanted_status or ("nothing was answered" in errors) != (status == 3) or ": 0 answered" not in errors:
+            return f"{words}: status {status}, {errors}"
+    return None
+
+
+OLDER = """
+create table results (
+    name text, code text, field integer, status integer, table_rows text, jones text, refusal text, seconds real,
+    primary key (name, code, field)
+)
+"""
+
+
+def older_database(folder):
+    """A database of an older version keeps its results and their order, and has their dimensions; nothing is worked out again."""
+    folder.select(OLDER)
+    rows = [row for row in wanted() if row[0] not in ("link 1", "link 2")]
+    for row in reversed(rows):
+        folder.select(f"insert into results values {(*row, 0.5)}")
+    before = folder.run("write", folder.at("results.db"))[1], folder.run("query", "torsion", folder.at("results.db"))[0]
+    status, _, errors = folder.run("rebuild", folder.at("results.db"))
+    kept, said = folder.dimensions()
+    if status or kept != said or len(said) != 4 * (COUNT - 2) or (folder.run("write", folder.at("results.db"))[1], 0) != before:
+        return f"status {status}, {errors}, {kept} and not {said}"
+    folder.run("run", folder.at("list"), folder.at("results.db"))
+    return kept_fault(folder) or (None if folder.calls() == 4 else f"{folder.calls()} calls")
+
+
+def dropped_results(folder):
+    """What is dropped by other programs has no dimensions any more, what is stored again has them once, and what was spoilt is rebuilt."""
+    folder.run("work", folder.at("list"), folder.at("out"))
+    for _ in range(2):
+        folder.run("store", folder.at("results.db"), folder.at("out"))
+    if result_fault(folder):
+        return result_fault(folder)
+    folder.select("delete from results where name = 'link 3' and field = 2")
+    kept, said = folder.dimensions()
+    if kept != said or len(said) != 4 * COUNT - 2:
+        return f"{kept} and not {said}"
+    folder.select("update dimensions set dim = 7 where j = 1")
+    _, _, errors = folder.run("rebuild", folder.at("results.db"))
+    kept, said = folder.dimensions()
+    return None if kept == said and f"dimensions of {2 * COUNT - 1} results" in errors else f"{errors}, {kept} and not {said}"
+
+
+# A list, the questions, and what they answer. The old code of `mended` stays in the database, and is not in the list.
+MENDED = "mended\tbad\n"
+ASKED = "a\tPD[Loop[1]]\nb\ttrefoil\nc\tPD[Loop[2]]\nd\ttrefoil\tturned\nhuge\tlarge\nmended\tPD[]\n"
+TORSION = "name\tj\ti\tover_2\tover_3\tover_5\tover_7\tcode\n"
+SAME = "class\tname\tfields\tcode\n"
+REFUSED = "name\tfields\tstatus\tline\tcode\n"
+LARGE = "huge\t{}\t6\tlimit generators 6630936 of 4194304\tlarge\n"
+FOUR = "".join(f"{name}\t7\t{i}\t1\t0\t\t\t{code}\n" for name, code in (("b", "trefoil"), ("d", "trefoil turned")) for i in (2, 3))
+UNKNOTS = "1\ta\t{0}\tPD[Loop[1]]\n1\tc\t{0}\tPD[Loop[2]]\n1\tmended\t{0}\tPD[]\n"
+QUESTIONS = [
+    (
+        ("same",),
+        SAME + UNKNOTS.format("2,3") + "2\tb\t2,3\ttrefoil\n2\td\t2,3\ttrefoil turned\n",
+        "2 classes with 5 of 5 links that have a table",
+    ),
+    (
+        ("torsion",),
+        TORSION + FOUR,
+        "2 links with torsion, 3 whose tables are the same over all of their fields, 2 with fewer than two tables",
+    ),
+    (
+        ("torsion", "--fields", "3"),
+        TORSION,
+        "0 links with torsion, 0 whose tables are the same over all of their fields, 6 with fewer than two tables",
+    ),
+    (("refused",), REFUSED + LARGE.format("2,3") + "mended\t2\t1\trefused text at 0\tbad\n", "2 links refused or too large, 5 others"),
+    (("refused", "--fields", "3"), REFUSED + LARGE.format("3"), "1 links refused or too large, 5 others"),
+    (("refused", "--list"), REFUSED + LARGE.format("2,3"), "1 links refused or too large, 5 others"),
+]
+
+
+def questions(folder):
+    """Each ready question, to all results, to those over some fields and to those of a list."""
+    folder.run("run", folder.write("mended", MENDED), folder.at("results.db"), "--fields", "2")
+    folder.run("run", folder.write("some", ASKED), folder.at("results.db"))
+    for (question, *options), wrote, said in QUESTIONS:
+        options += [folder.at("some")] if options == ["--list"] else []
+        came = folder.start(TABULATE, "query", question, folder.at("results.db"), *options)
+        found = (*came.communicate(timeout=PATIENCE), came.returncode)
+        if found != (wrote, f"kh-tabulate: {said}\n", 0):
+            return f"{question} {options}: {found} and not {wrote}{said}"
+    return None
+
+
+def helps(folder):
+    """Each script says what it does, and what its options are."""
+    for name in ("kh-tabulate", "measure", "braids", "on-many"):
+        came = folder.start(os.path.join(os.path.dirname(TABULATE), name), "--help")
+        wrote, errors = came.communicate(timeout=PATIENCE)
+        if came.returncode or errors or name not in wrote:
+            return f"{name}: status {came.returncode}, {wrote}, {errors}"
+    return None
 
 
 def has_parallel(test):
@@ -270,9 +279,7 @@ def by_parallel(folder):
     parts = folder.at("of parts")
     words = (ON_MANY, folder.at("list"), parts)
     folder.start(*words).communicate(timeout=PATIENCE)
-    with open(folder.at("mended"), "w", encoding="utf-8") as file:
-        file.write("one\tPD[Loop[1]]\n")
-    mended = folder.start(words[0], folder.at("mended"), parts)
+    mended = folder.start(words[0], folder.write("mended", "one\tPD[Loop[1]]\n"), parts)
     _, said = mended.communicate(timeout=PATIENCE)
     os.rename(os.path.join(parts, "results.db"), folder.at("results.db"))
     return result_fault(folder) or (None if mended.returncode == 65 and "another list" in said else said)
@@ -283,8 +290,7 @@ def lost_by_parallel(folder):
     if not has_parallel("a list with a link that has no answer"):
         return None
     parts = folder.at("of parts")
-    with open(folder.at("some"), "w", encoding="utf-8") as file:
-        file.write("one\tPD[Loop[1]]\ntwo\tlost\n")
+    folder.write("some", "one\tPD[Loop[1]]\ntwo\tlost\n")
     for calls in (4, 2):
         before, started = folder.calls(), folder.start(ON_MANY, folder.at("some"), parts)
         _, said = started.communicate(timeout=PATIENCE)
@@ -294,9 +300,19 @@ def lost_by_parallel(folder):
     return None if [row[0] for row in folder.results()] == ["one", "one"] else str(folder.results())
 
 
+def none_by_parallel(folder):
+    """Where each link has a result and none was answered the status is 3."""
+    if not has_parallel("a list of which nothing is answered"):
+        return None
+    started = folder.start(ON_MANY, folder.write("some", "two\tbad\n"), folder.at("of parts"))
+    _, said = started.communicate(timeout=PATIENCE)
+    return None if started.returncode == 3 and "nothing was answered" in said else f"status {started.returncode}, {said}"
+
+
 TESTS = (
     killed_run, interrupted_run, ended_run, killed_work, ended_work, options_on_both_sides, what_is_missing, lost_answers, rows_of_a_list,
-    tabs_in_codes, by_parallel, lost_by_parallel,
+    tabs_in_codes, counts, none_answered, older_database, dropped_results, questions, helps, by_parallel, lost_by_parallel,
+    none_by_parallel,
 )  # fmt: skip
 
 

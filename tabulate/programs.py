@@ -1,0 +1,90 @@
+"""Runs `kh homology` for `kh-tabulate`, so that all that was begun can be stopped, and reads what it answers."""
+import os
+import shutil
+import signal
+import subprocess
+import threading
+import time
+
+from results import Fault
+
+# The statuses of `kh` that say something of a link, with the word that its first line begins with.
+ANSWERS = {0: "table", 1: "refused", 6: "limit"}
+OUT_OF_MEMORY = 5
+
+
+class Lost(Exception):
+    """A program gave no answer: what it is counted as, and how it ended."""
+
+    def __init__(self, kind, how):
+        super().__init__(how)
+        self.kind = kind
+
+
+def try_program(path):
+    """Says where a program is missing, or is another one."""
+    if not shutil.which(path):
+        raise Fault(f"there is no program {path}: ./build makes the one that is taken without --kh")
+    if not subprocess.run([path, "check"], input=b"PD[]", capture_output=True, check=False).stdout.startswith(b"accepted"):
+        raise Fault(f"{path} is no kh, since its check does not accept PD[]")
+
+
+class Programs:
+    """The programs that run, each in a group of its own with what it begins. Once they are stopped no other begins."""
+
+    def __init__(self, path, seconds):
+        try_program(path)
+        self.path, self.seconds, self.lock, self.running, self.stopped = path, seconds, threading.Lock(), set(), False
+
+    def answer(self, code, field):
+        """The status and what was written, or nothing where all are stopped."""
+        words, pipe = [self.path, "homology", "--field", str(field)], subprocess.PIPE
+        with self.lock:
+            if self.stopped:
+                return None
+            program = subprocess.Popen(words, stdin=pipe, stdout=pipe, stderr=pipe, start_new_session=True)
+            self.running.add(program)
+        try:
+            wrote, _ = program.communicate(code.encode(), self.seconds)
+        except subprocess.TimeoutExpired:
+            end_group(program)
+            program.communicate()
+            wrote = None
+        # (where a signal stops this, the program is still one that runs)
+        with self.lock:
+            self.running.discard(program)
+        if wrote is None:
+            raise Lost("out of time", f"did not end in {self.seconds:g} seconds")
+        return program.returncode, wrote.decode(errors="replace")
+
+    def stop(self):
+        with self.lock:
+            self.stopped = True
+            for program in self.running:
+                end_group(program)
+
+
+def end_group(program):
+    """Ends a program and what it has begun."""
+    try:
+        os.killpg(program.pid, signal.SIGKILL)
+    except ProcessLookupError:
+        pass  # (it has ended by itself)
+
+
+def result_of(programs, name, code, field):
+    """What `kh homology` answers to a code over a field; nothing where all are stopped."""
+    begun = time.monotonic()
+    came = programs.answer(code, field)
+    seconds = round(time.monotonic() - begun, 4)
+    if not came:
+        return None
+    status, wrote = came
+    if status not in ANSWERS or not wrote.startswith(ANSWERS[status]):
+        how = f"ended with signal {-status}" if status < 0 else f"ended with status {status}"
+        raise Lost("out of memory" if status == OUT_OF_MEMORY else "without an answer", how)
+    lines = wrote.splitlines()
+    table = [" ".join(line.split()[1::2]) for line in lines if line.startswith("j ")]
+    jones = next((line.removeprefix("jones ") for line in lines if line.startswith("jones ")), "")
+    refusal = "" if status == 0 else " ".join(lines)
+    return name, code, field, status, "; ".join(table), jones, refusal, seconds
