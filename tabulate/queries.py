@@ -69,11 +69,11 @@ def refused(links, counts):
 
 
 QUESTIONS = {
-    "same": (same, ("class", "name", "fields", "code"), "{classes} classes with {links} of {answered} links that have a table"),
+    "same": (same, ("class", "name", "fields", "code"), "classes: {classes}; links in them: {links}, of {answered} with a table"),
     "torsion": (
         torsion,
         ("name", "j", "i", *(f"over_{field}" for field in FIELDS), "code"),
-        "{torsion} links with torsion, {none} whose tables are the same over all of their fields, {unknown} with fewer than two tables",
+        "links with torsion: {torsion}; with the same table over all fields: {none}; with fewer than two tables: {unknown}",
     ),
-    "refused": (refused, ("name", "fields", "status", "line", "code"), "{refused} links refused or too large, {answered} others"),
+    "refused": (refused, ("name", "fields", "status", "line", "code"), "links refused or too large: {refused}; others: {answered}"),
 }

@@ -221,21 +221,13 @@ QUESTIONS = [
     (
         ("same",),
         SAME + UNKNOTS.format("2,3") + "2\tb\t2,3\ttrefoil\n2\td\t2,3\ttrefoil turned\n",
-        "2 classes with 5 of 5 links that have a table",
+        "classes: 2; links in them: 5, of 5 with a table",
     ),
-    (
-        ("torsion",),
-        TORSION + FOUR,
-        "2 links with torsion, 3 whose tables are the same over all of their fields, 2 with fewer than two tables",
-    ),
-    (
-        ("torsion", "--fields", "3"),
-        TORSION,
-        "0 links with torsion, 0 whose tables are the same over all of their fields, 6 with fewer than two tables",
-    ),
-    (("refused",), REFUSED + LARGE.format("2,3") + "mended\t2\t1\trefused text at 0\tbad\n", "2 links refused or too large, 5 others"),
-    (("refused", "--fields", "3"), REFUSED + LARGE.format("3"), "1 links refused or too large, 5 others"),
-    (("refused", "--list"), REFUSED + LARGE.format("2,3"), "1 links refused or too large, 5 others"),
+    (("torsion",), TORSION + FOUR, "links with torsion: 2; with the same table over all fields: 3; with fewer than two tables: 2"),
+    (("torsion", "--fields", "3"), TORSION, "links with torsion: 0; with the same table over all fields: 0; with fewer than two tables: 6"),
+    (("refused",), REFUSED + LARGE.format("2,3") + "mended\t2\t1\trefused text at 0\tbad\n", "links refused or too large: 2; others: 5"),
+    (("refused", "--fields", "3"), REFUSED + LARGE.format("3"), "links refused or too large: 1; others: 5"),
+    (("refused", "--list"), REFUSED + LARGE.format("2,3"), "links refused or too large: 1; others: 5"),
 ]
 
 
