@@ -6,57 +6,15 @@ import json
 import os
 import subprocess
 import tempfile
+from collections import Counter
 
+from rows.compare import ROWS
 from shared.places import TOP
 from shared.running import PATIENCE
 
 MAKE = os.path.join(TOP, "reference", "make")
 COMPARE = os.path.join(TOP, "reference", "compare")
-TREFOIL = {"name": "3_1", "field": 3, "rows": [[1, 0, 1], [3, 0, 1], [5, 2, 1], [9, 3, 1]]}
-AGREE = "the tables agree\n"
-
-MIRRORED = "nearest is the mirror image, with i and j negated; there:\n"
-EXCHANGED = "nearest is the reference with i before j; there:\n"
-OTHERS = "".join(f"j {j} i {i}: {here}, and {1 - here} in the reference\n" for j, i, here in ((-1, 0, 1), (3, 0, 0), (5, 2, 0), (9, 3, 0)))
-
-# A table of another program, and the status and what is written or said.
-COMPARED = [
-    ("the same", "q + q^3 + q^5 t^2 + q^9 t^3", 0, AGREE),
-    ("in rows", "1 0 1\n3, 0, 1\n5 2 1\n9 3 1\n", 0, AGREE),
-    ("as kh writes it", "table 2\nfield 3\nj 1 i 0 dim 1\nj 3 i 0 dim 1\nj 5 i 2 dim 1\nj 9 i 3 dim 1\njones 1*q^1\n", 0, AGREE),
-    ("a term less", "q + q^3 + q^9 t^3", 1, "j 5 i 2: 0, and 1 in the reference\n"),
-    ("a term more", "q + q^3 + q^5 t^2 + q^9 t^3 + 2 q^7 t^2", 1, "j 7 i 2: 2, and 0 in the reference\n"),
-    ("mirrored", "1/q + 1/q^3 + 1/(q^5 t^2) + 1/(q^9 t^3)", 1, "it is the table of the mirror image: i and j are negated\n"),
-    ("q turned", "1/q + 1/q^3 + t^2/q^5 + t^3/q^9", 1, "j is negated: q stands for the inverse of the reference's\n"),
-    ("t turned", "q + q^3 + q^5/t^2 + q^9/t^3", 1, "i is negated: t stands for the inverse of the reference's\n"),
-    ("i before j", "0 1 1\n0 3 1\n2 5 1\n3 9 1\n", 1, "the columns are exchanged: i stands before j\n"),
-    ("mirrored, and a term more", "1/q + 1/q^3 + 1/(q^5 t^2) + 1/(q^9 t^3) + 1/(q^7 t^2)", 1, MIRRORED + "j -7 i -2: 1, and 0 there\n"),
-    ("i before j, and another number", "0 1 1\n0 3 1\n2 5 1\n3 9 2\n", 1, EXCHANGED + "j 9 i 3: 2, and 1 there\n"),
-    ("another link", "1/q + q", 1, OTHERS),
-    ("rows in one line", "1 0 1; 3 0 1; 5 2 1; 9 3 1", 0, AGREE),
-    ("no table", "1 0 1\nnone\n", 1, "compare: line 2 is no row of a table, and the text no polynomial in q and t: none\n"),
-    ("strokes", "1 0 1 / 3 0 1\n", 1, "compare: line 1 is no row of a table, and the text no polynomial in q and t: 1 0 1 / 3 0 1\n"),
-    ("a row twice", "1 0 1\n3 0 1\n1 0 1\n", 1, "compare: line 3 gives j 1 i 0 a second time\n"),
-    ("another field", "field 5\n1 0 1\n", 1, "compare: the table is over 5 elements, and --field names 3\n"),
-    ("nothing", "\n", 1, "compare: the text has no dimension above 0\n"),
-    ("by nothing", "q/0\n", 1, "compare: the polynomial divides by 0\n"),
-]
-
-# A table over two elements that is tried alone, and the status and what is written.
-LEFT = "table 2\nfield 2\nj -9 i -3 dim 1\nj -7 i -3 dim 1\nj -7 i -2 dim 1\nj -5 i -2 dim 1\nj -3 i 0 dim 1\nj -1 i 0 dim 1\n"
-JONES = "jones -1*q^-9 1*q^-5 1*q^-3 1*q^-1\n"
-OTHER_JONES = "its Jones line is another than its Euler characteristic\n"
-NOT_DIVISIBLE = "its Euler characteristic is not divisible by q + q^-1, as that of a link is\n"
-NO_PAIRS = "i -2 does not split into pairs j and j + 2, as each i over two elements does\n"
-NO_COUNT = "its Euler characteristic at q = 1 is 1; of c components it is 2^c, with c even or odd as j is\n"
-ODD_AND_EVEN = "some j are even and some are odd; of a link all are even or odd as the number of its components is\n"
-ALONE = [
-    ("the same", LEFT + JONES, 0, JONES + "nothing speaks against this table\n"),
-    ("another Jones line", LEFT + "jones 1*q^-1\n", 1, JONES + OTHER_JONES),
-    ("a pair less", LEFT.replace("j -7 i -3 dim 1\nj -7 i -2 dim 1\n", ""), 1, JONES + NO_PAIRS.replace("-2", "-3", 1) + NO_PAIRS),
-    ("a row less", LEFT.replace("j -5 i -2 dim 1\n", ""), 1, "jones -1*q^-9 1*q^-3 1*q^-1\n" + NOT_DIVISIBLE + NO_COUNT + NO_PAIRS),
-    ("odd and even", "0 0 1\n2 0 1\n1 0 1\n3 0 1\n", 1, "jones 1*q^0 1*q^1 1*q^2 1*q^3\n" + ODD_AND_EVEN),
-]
+VECTORS = os.path.join(TOP, "reference", "vectors.jsonl")
 
 
 def fault_of(*words):
@@ -64,24 +22,148 @@ def fault_of(*words):
     return None if (came.returncode, came.stdout, came.stderr) == (0, "all are as stored\n", "") else came.stdout + came.stderr
 
 
-def compare_faults():
+def compare_fault(words, given, status, said):
+    """What is wrong with what is said of a table, if anything is."""
+    came = subprocess.run([COMPARE, *words], input=given, capture_output=True, text=True, timeout=PATIENCE)
+    found = came.returncode, came.stdout + came.stderr
+    return None if found == (status, said) else f"{found} and not {(status, said)}"
+
+
+# Answers of a program to 3_1, 4_1, 8_19 and the Hopf link over three elements, in all forms, and what is said of them.
+TREFOIL = '{"name": "3_1", "field": 3, "rows": [[1, 0, 1], [3, 0, 1], [5, 2, 1], [9, 3, 1]]}'
+EIGHT = '{"name": "4_1", "field": 3, "table_rows": "-5 -2 1; -1 -1 1; -1 0 1; 1 0 1; 1 1 1; 5 2 1"}'
+LARGE = '{"name": "8_19", "field": 3, "table": "q^5 + q^7 + q^9 t^2 + q^11 t^4 + q^13 t^3 + q^13 t^4 + q^15 t^5 + q^17 t^5"}'
+HOPF = '{"name": "Hopf", "field": 3, "rows": [[0, 0, 1], [2, 0, 1], [4, 2, 1], [6, 2, 1]]}'
+FINE = [TREFOIL, EIGHT, LARGE, HOPF]
+SHIFTED = '{"name": "3_1", "field": 3, "table": "q^3 + q^5 + q^7 t^2 + q^11 t^3"}'
+WRONG = ["4_1 over 3: j -5 i -2: 2, and 1 in the reference", "8_19 over 3: j 15 i 5: 0, and 1 in the reference; and 1 row more"]
+MIRRORED = [
+    '{"name": "3_1", "field": 3, "table": {"0": {"-1": 1, "-3": 1}, "-2": {"-5": 1}, "-3": {"-9": 1}}}',
+    '{"name": "4_1", "field": 3, "table": {"2": {"5": 1}, "1": {"1": 1}, "0": {"1": 1, "-1": 1}, "-1": {"-1": 1}, "-2": {"-5": 1}}}',
+    '{"name": "Hopf", "field": 3, "table": {"0": {"0": 1, "-2": 1}, "-2": {"-4": 1, "-6": 1}}}',
+]
+COLLECTIONS = [
+    ("all agree", FINE, 0, ["4 of 4 answers agree"]),
+    ("the file's own first line", ['{"made by": "a program"}', *FINE], 0, ["4 of 4 answers agree"]),
+    ("an answer less", FINE[1:], 1, ["3 of 3 answers agree", "1 link has no answer over 3: 3_1"]),
+    (
+        "one explained",
+        [SHIFTED, *FINE[1:]],
+        1,
+        ["3 of 4 answers agree", "1 answer (3_1 over 3): the same table, with j shifted by 2"],
+    ),
+    (
+        "two are other tables",
+        [TREFOIL, EIGHT.replace("-2 1;", "-2 2;"), LARGE.replace(" + q^15 t^5 + q^17 t^5", ""), HOPF],
+        1,
+        ["2 of 4 answers agree", "2 answers are other tables:", *(f"  {it}" for it in WRONG)],
+    ),
+    (
+        "exact in one way",
+        MIRRORED,
+        1,
+        [
+            "1 of 3 answers agree",
+            "3 of 3 are exact in one way: it is the table of the mirror image: i and j are negated",
+            "1 link has no answer over 3: 8_19",
+            "compare: pairs are read as i, j, as all tell in which it can be told",
+        ],
+    ),
+    (
+        "another name",
+        [TREFOIL.replace("3_1", "4_1"), TREFOIL, LARGE, HOPF],
+        1,
+        ["3 of 4 answers agree", "1 answer (4_1 over 3): this is the table of 3_1"],
+    ),
+    (
+        "a reduced one",
+        [*FINE, '{"name": "3_1", "field": 3, "reduced": true, "table": "q^2 + q^6 t^2 + q^8 t^3"}'],
+        1,
+        ["5 of 5 answers agree", "3 links have no answer over 3, reduced: 4_1, 8_19 and Hopf"],
+    ),
+    (
+        "no answers",
+        [*FINE, "nothing", '{"name": "3_1", "refusal": "limit generators 5 of 4"}', '{"name": "9_1", "rows": [[0, 0, 1]]}', '{"field": 3}'],
+        1,
+        [
+            "4 of 4 answers agree",
+            "3 answers are no tables:",
+            "  line 5: it is no JSON",
+            "  line 6, 3_1: limit generators 5 of 4",
+            "  line 8: it has no name",
+            "1 answer is of no link of the reference: 9_1",
+        ],
+    ),
+]
+# The same in a folder: files by their names.
+FILES = {
+    "3_1.3.txt": "q + q^3 + q^5 t^2 + q^9 t^3",
+    "4_1.txt": "field 3\n-5 -2 1\n-1 -1 1\n-1 0 1\n1 0 1\n1 1 1\n5 2 1\n",
+    "8_19.3": "q^5 + q^7 + q^9 t^2 + q^11 t^4 + q^13 t^3 + q^13 t^4 + q^15 t^5 + q^17 t^5",
+    "Hopf.json": '{"field": 3, "rows": [[0, 0, 1], [2, 0, 1], [4, 2, 1], [6, 2, 1]]}',
+}
+
+
+def few_vectors(folder):
+    """A file of vectors with the four links over three elements alone."""
+    path = os.path.join(folder, "vectors")
+    with open(path, "w", encoding="utf-8") as file:
+        for it in lines_of_reference():
+            if it["field"] == 3 and it["name"] in ("3_1", "4_1", "8_19", "Hopf"):
+                file.write(json.dumps(it) + "\n")
+    return path
+
+
+def collection_faults():
+    """The name of each case of many answers, and what is wrong, if anything is."""
     with tempfile.TemporaryDirectory() as folder:
-        path = os.path.join(folder, "vectors")
-        with open(path, "w", encoding="utf-8") as file:
-            file.write(json.dumps({"made by": "this test"}) + "\n" + json.dumps(TREFOIL) + "\n")
-        known = ["3_1", "--field", "3", "--vectors", path]
-        for words, rows in ((known, COMPARED), (["--alone", "--field", "2"], ALONE)):
-            for name, given, *wanted in rows:
-                came = subprocess.run([COMPARE, *words], input=given, capture_output=True, text=True, timeout=PATIENCE)
-                found = [came.returncode, came.stdout + came.stderr]
-                yield f"reference/compare {words[0]}: {name}", None if found == wanted else f"{found} and not {wanted}"
-        came = subprocess.run([COMPARE, "3_1", "--field", "0"], input="", capture_output=True, text=True, timeout=PATIENCE)
-        is_told = came.returncode == 2 and "the reference has no rational table: take --field 7" in came.stderr
-        yield "reference/compare: no rational tables", None if is_told else came.stdout + came.stderr
+        vectors, answers, files = few_vectors(folder), os.path.join(folder, "answers"), os.path.join(folder, "files")
+        for name, lines, status, said in COLLECTIONS:
+            with open(answers, "w", encoding="utf-8") as file:
+                file.write("".join(f"{line}\n" for line in lines))
+            fault = compare_fault(["--all", answers, "--vectors", vectors], "", status, "".join(f"{it}\n" for it in said))
+            yield f"reference/compare --all: {name}", fault
+        os.mkdir(files)
+        for name, text in FILES.items():
+            with open(os.path.join(files, name), "w", encoding="utf-8") as file:
+                file.write(text)
+        yield "reference/compare --all: a folder", compare_fault(["--all", files, "--vectors", vectors], "", 0, "4 of 4 answers agree\n")
+    whole = compare_fault(["--all", VECTORS], "", 0, "672 of 672 answers agree\n")
+    yield "reference/compare --all: the reference itself", whole
+
+
+def lines_of_reference():
+    with open(VECTORS, encoding="utf-8") as file:
+        return [json.loads(line) for line in file.read().splitlines()[1:]]
+
+
+def halving_faults():
+    """The links whose reduced tables do not fit: over two elements the unreduced table is the reduced one twice, at j - 1 and j + 1, and
+    over each field the reduced Euler characteristic times q + q^-1 is the Jones polynomial."""
+    for it in lines_of_reference():
+        for part in it["reduced"]:
+            double, jones = Counter(), Counter()
+            for j, i, dimension in part["rows"]:
+                for step in (-1, 1):
+                    double[j + step, i] += dimension
+                    jones[j + step] += (-1) ** i * dimension
+            is_twice = it["field"] != 2 or sorted([*pair, count] for pair, count in double.items()) == it["rows"]
+            if not is_twice or [[at, jones[at]] for at in sorted(jones) if jones[at]] != it["jones"]:
+                yield f"{it['name']} over {it['field']} at {part['marks']}"
+
+
+def help_fault(name):
+    came = subprocess.run([os.path.join(TOP, "reference", name), "--help"], capture_output=True, text=True, timeout=PATIENCE)
+    return None if came.returncode == 0 and not came.stderr and f"reference/{name}" in came.stdout else came.stdout + came.stderr
 
 
 def faults(program):
     """The name of each test, and what is wrong, if anything is."""
-    yield from compare_faults()
+    for name, words, given, status, said in ROWS:
+        yield f"reference/compare {words}: {name}", compare_fault(words.split(), given, status, said)
+    yield from collection_faults()
+    yield "reference: reduced tables", "; ".join(halving_faults()) or None
+    for name in ("compare", "make"):
+        yield f"reference/{name} --help", help_fault(name)
     yield "reference: determinants and signatures", fault_of("--published")
     yield "reference: a part of the vectors", fault_of("--test", "--kh", program)
