@@ -13,7 +13,8 @@ import faulty.cases
 import plain.answers
 import plain.words
 from rows.texts import EMPTY_TABLE, FIGURE_EIGHT, FIGURE_EIGHT_TABLE, TREFOIL, TREFOIL_IN_GAUSS, TREFOIL_TABLE
-from shared.running import Child, fault_of, known_commands, tell_all
+from shared.pool import tell_parts
+from shared.running import Child, fault_of, known_commands
 
 LONGEST = 260
 
@@ -35,6 +36,7 @@ def cut_gauss(size):
 
 
 def cuts(child):
+    """The trefoil's texts, cut to each length."""
     for name, text, line in (("a trefoil", TREFOIL, cut_trefoil), ("a Gauss code", TREFOIL_IN_GAUSS, cut_gauss)):
         for size in range(len(text)):
             yield f"{name} cut to {size} bytes", fault_of(child, ["homology"], text[:size], 1, line(size) + "\n")
@@ -66,9 +68,9 @@ def schedules(child):
         yield "schedule, 64 workers at one block", fault_of(child, ["schedule"], f"{FIGURE_EIGHT};{script}", 0, wanted)
 
 
-def beginnings(child, program):
+def beginnings(child):
     """Each beginning of each short input, by its command, as the plain readings answer it."""
-    commands = known_commands(program)
+    commands = known_commands(child.program)
     for case in faulty.cases.known(commands):
         for size in range(len(case.given) if len(case.given) <= LONGEST else 0):
             given = case.given[:size]
@@ -78,12 +80,11 @@ def beginnings(child, program):
             yield f"{case.name} cut to {size} bytes", f"{fault} on {given!r}" if fault else None
 
 
-def faults(program, word=""):
-    """The name of each case whose name has the word, and what is wrong with it, if anything is."""
-    child = Child(program)
-    for group in (cuts(child), limits(child), schedules(child), beginnings(child, program)):
-        yield from ((name, fault) for name, fault in group if word in name)
+def parts(program, word=""):
+    """The parts of these tests: a name, and what gives the name of each case and what is wrong with it, if anything is."""
+    for group in (cuts, limits, schedules, beginnings):
+        yield f"cut texts, {group.__name__}", lambda group=group: group(Child(program))
 
 
 if __name__ == "__main__":
-    sys.exit(tell_all(faults(*sys.argv[1:])) if len(sys.argv) in (2, 3) else __doc__)
+    sys.exit(tell_parts(parts, __doc__))

@@ -11,7 +11,9 @@ import sys
 
 import plain.diagrams as codes
 import plain.drawing
+import plain.moves as moves
 from shared import known_diagrams
+from shared.pool import tell_parts
 from shared.running import Child, fault_of, told
 
 NAME = "draw, "
@@ -41,8 +43,7 @@ NESTED = (
 
 
 def nested():
-    import plain.moves as moves
-
+    """The name and the text of each nested diagram."""
     for name, lines in NESTED:
         diagram = known_diagrams.diagram_of("PD[X[1,1,2,2]]")
         for line in lines:
@@ -88,7 +89,10 @@ def faults(program, word=""):
             yield f"{NAME}{name}, what it shows", plain.drawing.difference(child.run(["draw"], text.encode()).wrote.decode(), code)
 
 
-if __name__ == "__main__":
-    from shared.running import tell_all
+def parts(program, word=""):
+    """The part of these tests: its name, and what gives the name of each case and what is wrong with it, if anything is."""
+    yield "drawings", lambda: faults(program, word)
 
-    sys.exit(tell_all(faults(*sys.argv[1:])) if len(sys.argv) in (2, 3) else __doc__)
+
+if __name__ == "__main__":
+    sys.exit(tell_parts(parts, __doc__))

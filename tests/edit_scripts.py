@@ -19,60 +19,18 @@ import drawn.moves as draws
 import plain.diagrams as codes
 import plain.moves as moves
 import rows.edit_by_hand as hand
-from shared.places import DATA
+from shared import known_diagrams
+from shared.pool import tell_parts
 from shared.running import PATIENCE
-from bench.braids import planar_diagram
 
 NAME = "edit, "
 STEPS = 200
-SCRIPTS = 2000
+SCRIPTS, SHARES = 2000, 8
 LONG_SCRIPTS = 20
 CHANGED_CODES = 1000
 JONES_CROSSINGS = 14
 HOMOLOGY_CROSSINGS = 10
 HOMOLOGY_GENERATORS = 200_000
-
-
-def stored(name):
-    """The texts of a file of links beside this script, by their names."""
-    with open(os.path.join(DATA, name), encoding="utf-8") as file:
-        blocks = [block.strip().splitlines() for block in file.read().split("\n\n")[1:]]
-    return {head.split(":")[0]: text for head, text, *_ in blocks}
-
-
-def diagrams():
-    """The diagrams that moves begin with: a name and a text."""
-    yield from (
-        ("no crossings", "PD[]"),
-        ("two loops", "PD[Loop[1], Loop[2]]"),
-        ("a curl", hand.CURL),
-        ("a curl of the other sign", "PD[X[1,2,2,1]]"),
-        ("a curl over first, with loops", "PD[X[2,2,1,1], Loop[3], Loop[4]]"),
-        ("a curl over first of the other sign", "PD[X[2,1,1,2]]"),
-        ("a Hopf link", hand.HOPF),
-        ("the other Hopf link", "PD[X[1,3,2,4], X[3,1,4,2]]"),
-        ("two curls apart", hand.TWO_CURLS),
-        ("a circle over a circle", hand.CIRCLE_OVER_CIRCLE),
-        ("a circle over a circle, listed the other way", "PD[X[2,4,1,3], X[1,4,2,3], Loop[5]]"),
-        ("a circle over a curl", hand.CIRCLE_OVER_CURL),
-        ("a circle with a curl over a circle", hand.CIRCLE_WITH_CURL),
-        ("a Hopf link with a curl", hand.HOPF_WITH_CURL),
-        ("a trefoil", hand.TREFOIL),
-        ("the other trefoil", "PD[X[4,2,5,1], X[6,4,1,3], X[2,6,3,5]]"),
-        ("two triangles", hand.TWO_TRIANGLES),
-        ("a figure eight", "PD[X[4,2,5,1], X[8,6,1,5], X[6,3,7,4], X[2,7,3,8]]"),
-        ("a curl and a trefoil apart, with a loop", "PD[X[1,1,2,2], X[3,6,4,7], X[5,8,6,3], X[7,4,8,5], Loop[1]]"),
-        ("two Hopf links apart", "PD[X[4,1,3,2], X[2,3,1,4], X[8,5,7,6], X[6,7,5,8]]"),
-        ("five curls and eight loops", hand.with_more(hand.curls(5), ", ".join(["Loop[1]"] * 8))),
-        ("twelve curls", hand.curls(12)),
-    )
-    tables, polynomials = stored("tables.txt"), stored("polynomials.txt")
-    for name in ("5_2", "Whitehead", "6_3", "Borromean", "T(2,6)", "7_7", "8_18", "8_19", "9_42", "10_123", "10_152"):
-        yield name, tables[name]
-    for strands, letters in ((4, [1, -2, 3] * 4), (3, [1, 2] * 6), (3, [1, -2] * 7), (4, [1, 2, 3, -2] * 4)):
-        yield f"a braid of {len(letters)} crossings on {strands} strands", planar_diagram(strands, letters)
-    for name, text in list(polynomials.items())[:7:3]:
-        yield name, text
 
 
 class Case(NamedTuple):
@@ -249,40 +207,47 @@ def equal_tables(program):
             yield from alike(program, ["homology", "--field", field], texts)
 
 
-def groups():
-    """The name of each group of cases, and what gives them for a program."""
+def some_by_hand():
+    """The groups whose answers were worked out by hand."""
     for name, *it in hand.ROWS:
         yield f"by hand, {name}", by_hand(name, *it)
     yield from {"nine loops": nine_loops, "bad lines": bad_lines, "kept diagrams": kept_diagrams}.items()
-    yield "tables of equal links", equal_tables
-    chains = [Chain(*it) for it in diagrams()]
-    for what in ("moves", "acceptance", "polynomials", "tables"):
-        for chain in chains:
-            yield f"{what} from {chain.name}", getattr(chain, what)
-    texts = [text for _, text in diagrams() if codes.read(text).crossings]
+
+
+def groups():
+    """The name of each part of these tests, with its groups of cases: the name of each, and what gives them for a program."""
+    yield "by hand", [*some_by_hand()]
+    yield "tables of equal links", [("tables of equal links", equal_tables)]
+    begun = known_diagrams.begun()
+    for chain in (Chain(*it) for it in begun):
+        # (what its moves are is found out once)
+        whats = ("moves", "acceptance", "polynomials", "tables")
+        yield chain.name, [(f"{what} from {chain.name}", getattr(chain, what)) for what in whats]
+    texts = [text for _, text in begun if codes.read(text).crossings]
     small = [text for text in texts if len(codes.read(text).crossings) <= 6] + ["PD[]"]
-    yield "changed codes", functools.partial(changed_codes, texts=texts)
-    yield "scripts", functools.partial(scripts, small=small, seed="scripts", count=SCRIPTS, lines_for=draws.short_lines)
-    yield "long scripts", functools.partial(scripts, small=small[:-1], seed="long", count=LONG_SCRIPTS, lines_for=draws.many_lines)
+    yield "changed codes", [("changed codes", functools.partial(changed_codes, texts=texts))]
+    for share in range(SHARES):
+        short = functools.partial(scripts, small=small, seed=f"scripts {share}", count=SCRIPTS // SHARES, lines_for=draws.short_lines)
+        yield f"scripts, share {share}", [("scripts", short)]
+    yield "long scripts", [
+        ("long scripts", functools.partial(scripts, small=small[:-1], seed="long", count=LONG_SCRIPTS, lines_for=draws.many_lines))
+    ]
 
 
-def faults(program, word=""):
-    """The name of each case whose name has the word, and what is wrong with it, if anything is."""
-    for name, cases in groups():
-        if word in NAME + name:
-            for case in cases(program):
-                yield NAME + name, case.fault()
+def faults(program, chosen):
+    """The name of each case of these groups, and what is wrong with it, if anything is."""
+    for name, cases in chosen:
+        for case in cases(program):
+            yield NAME + name, case.fault()
 
 
-def main(program, word=""):
-    passed, failed = 0, 0
-    for name, fault in faults(os.path.abspath(program), word):
-        passed, failed = passed + (not fault), failed + bool(fault)
-        if fault:
-            print(f"{name}: {fault}")
-    print(f"{passed} passed, {failed} failed")
-    return 1 if failed or not passed else 0
+def parts(program, word=""):
+    """The parts of these tests with groups whose names have the word, and what gives what is wrong with each case, if anything is."""
+    for name, them in groups():
+        chosen = [it for it in them if word in NAME + it[0]]
+        if chosen:
+            yield NAME + name, functools.partial(faults, os.path.abspath(program), chosen)
 
 
 if __name__ == "__main__":
-    sys.exit(main(*sys.argv[1:]) if len(sys.argv) in (2, 3) else __doc__)
+    sys.exit(tell_parts(parts, __doc__))

@@ -1,13 +1,14 @@
 """Compares what `kh bench` writes of the numbers of `numbers.txt`, over two elements and over three, with what is stored there.
 
-`tests/program` runs these behind its rows: all of them, as many at once as there are processors.
+`tests/program` runs these behind its rows, in a few shares.
 """
 import os
 import subprocess
-from concurrent.futures import ThreadPoolExecutor
 
 from shared.places import DATA
 from shared.running import PATIENCE
+
+SHARES = 8
 
 
 
@@ -31,9 +32,14 @@ def fault_of(program, words, wanted):
     return None if seen == right else f"{seen} and not {right}"
 
 
-def faults(program, word):
-    """The words of each run that have this word, and what is wrong with the run, if anything is."""
+def faults(program, runs):
+    """The words of each of these runs, and what is wrong with it, if anything is."""
+    for words, wanted in runs:
+        yield " ".join(words), fault_of(program, words, wanted)
+
+
+def parts(program, word=""):
+    """The parts of these tests, of the runs whose words have this word: a name, and what gives what is wrong with each run."""
     runs = [run for run in stored() if word in " ".join(run[0])]
-    with ThreadPoolExecutor(len(os.sched_getaffinity(0))) as pool:
-        found = pool.map(lambda run: fault_of(program, *run), runs)
-        yield from ((" ".join(words), fault) for (words, _), fault in zip(runs, found))
+    for share in range(SHARES):
+        yield f"numbers, share {share}", lambda some=runs[share::SHARES]: faults(program, some)

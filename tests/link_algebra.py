@@ -16,7 +16,8 @@ import plain.cube
 import plain.diagrams as codes
 from plain.codes import Ended
 from shared import known_diagrams
-from shared.running import Child, fault_of, tell_all, told
+from shared.pool import tell_parts
+from shared.running import Child, fault_of, told
 
 COMMANDS = ("mirror", "reverse", "union")
 DRAWN = 300
@@ -165,13 +166,12 @@ def union_answer(first, second):
         return it.status, it.line + "\n"
 
 
-def faults(program, word=""):
-    """The name of each case, and what is wrong with it, if anything is; with a word, of those whose names have it."""
+def parts(program, word=""):
+    """The parts of these tests: a name, and what gives the name of each case and what is wrong with it, if anything is."""
     if told(program, *COMMANDS):
-        child = Child(program)
         for group in (rows, new_codes, invariants, pairs, refused_pairs):
-            yield from ((name, fault) for name, fault in group(child) if word in name)
+            yield f"link algebra, {group.__name__}", lambda group=group: group(Child(program))
 
 
 if __name__ == "__main__":
-    sys.exit(tell_all(faults(*sys.argv[1:])) if len(sys.argv) in (2, 3) else __doc__)
+    sys.exit(tell_parts(parts, __doc__))

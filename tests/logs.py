@@ -10,14 +10,15 @@ the table is another; the end is cut off. Each result is accepted or refused as 
 program and by `show/verify.py`. Texts of 64 MiB that are no logs are refused within a second. `tests/program` runs all of this behind its
 rows, with fewer edits; the rows of logs are `tests/rows/log.py`. The last line is 'N passed, M failed'.
 """
+import argparse
 import importlib.machinery
 import importlib.util
-import itertools
 import os
 import random
 import subprocess
 import sys
 
+import drawn.logs
 import plain.cube
 import plain.diagrams as codes
 import plain.logs
@@ -25,6 +26,7 @@ import rows.log
 from rows.log import CURL, LONGEST
 from shared import known_diagrams
 from shared.places import TOP
+from shared.pool import faults_of
 from shared.running import Child, Long, fault_of, least_seconds, slowness, tell_all, told
 
 VERIFIER = os.path.join(TOP, "show", "verify.py")
@@ -35,8 +37,7 @@ GENERATORS = 10_000
 BY_THE_DEFINITION = 2_500
 LARGE = (30_000, 300_000)
 FIELDS = "2357"
-WORDS = ("cancel 0 0 0", "cancel 0 0", "cancel -1 0 0", "block 1", "block -1", "block", "table 2", "log 1", "", " ", "field 3", "end")
-SPELLINGS = ("00", "-0", "+1", "1 ", " 1", "-1", "1000", "12345678", "9999999", "1\r", "1.0", "\u0661", "")
+
 
 
 def size_of(text):
@@ -73,14 +74,11 @@ def certificate_faults(child, text, field):
         yield f"{name}, by the plain reading", None if came == wanted else f"{came} of {log[:500]!r}"
 
 
-def certificates(child):
-    """What the program writes of thirty diagrams over each field, and of larger ones over two and three elements."""
-    for text in certified_texts():
-        for field in map(int, FIELDS):
-            yield from certificate_faults(child, text, field)
-    for text in (text for _, text in known_diagrams.begun() if LARGE[0] <= size_of(text) <= LARGE[1]):
-        for field in (2, 3):
-            yield from certificate_faults(child, text, field)
+def certificates(child, field):
+    """What the program writes of thirty diagrams over a field, and of larger ones over two and three elements."""
+    large = [text for _, text in known_diagrams.begun() if LARGE[0] <= size_of(text) <= LARGE[1]] if field in (2, 3) else []
+    for text in certified_texts() + large:
+        yield from certificate_faults(child, text, field)
 
 
 def refusals(child):
@@ -99,59 +97,6 @@ def good_logs(child):
     return logs
 
 
-def edited(draw, log, others):
-    """The log after a change."""
-    lines = log.split("\n")
-    at, far = (draw.randrange(len(lines)) for _ in range(2))
-    kind = draw.randrange(12)
-    if kind == 0:
-        return changed_digit(draw, log)
-    if kind == 1:
-        del lines[at]
-    elif kind == 2:
-        lines.insert(at, lines[at])
-    elif kind == 3:
-        lines[at], lines[far] = lines[far], lines[at]
-    elif kind == 4:
-        lines.insert(far, lines.pop(at))
-    elif kind == 5:
-        return moved_to_the_next_block(draw, lines)
-    elif kind == 6:
-        lines[2:3] = [f"field {draw.choice('2357469')}"]
-    elif kind == 7:
-        lines[1:2] = draw.choice(others).split("\n")[1:2]
-    elif kind == 8:
-        return log[: draw.randrange(len(log))]
-    elif kind == 9:
-        lines[at] = draw.choice(WORDS)
-    elif kind == 10:
-        words = lines[at].split(" ")
-        words[draw.randrange(len(words))] = draw.choice(SPELLINGS)
-        lines[at] = " ".join(words)
-    else:
-        return log[: draw.randrange(len(log))] + draw.choice("\0\r\n \t-09jx\u00e9") + log[draw.randrange(len(log)) :]
-    return "\n".join(lines)
-
-
-def changed_digit(draw, log):
-    """Another digit, or the same, stands where one stood; a log without a digit stays as it is."""
-    places = [at for at, letter in enumerate(log) if letter.isdigit()]
-    if not places:
-        return log
-    at = draw.choice(places)
-    return log[:at] + draw.choice("0123456789") + log[at + 1 :]
-
-
-def moved_to_the_next_block(draw, lines):
-    """A cancellation stands behind the head of the block that follows."""
-    steps = [at for at, line in enumerate(lines) if line.startswith("cancel ")]
-    if steps:
-        at = draw.choice(steps)
-        behind = [far for far in range(at, len(lines)) if lines[far].startswith("block ")]
-        lines.insert(behind[0] if behind else len(lines) - 1, lines.pop(at))
-    return "\n".join(lines)
-
-
 def edits(child, count):
     """Edited logs, and logs that are cut at each byte, as the plain reading judges them."""
     logs, draw, other = good_logs(child), random.Random("edits"), second_verifier()
@@ -159,7 +104,7 @@ def edits(child, count):
     while len(given) < count:
         log = draw.choice(logs)
         for _ in range(draw.choice((1, 1, 1, 2, 3))):
-            log = edited(draw, log, logs) or "log 1\n"
+            log = drawn.logs.edited(draw, log, logs) or "log 1\n"
         given.append(log)
     for log in given:
         wanted = plain.logs.verdict(log.encode())
@@ -218,15 +163,20 @@ def hostile(child):
             yield f"{case}, memory", f"{came.kilobytes} KB" if child.takes_more(came, HOSTILE_KILOBYTES) else None
 
 
-def faults(program, word="", count=IN_THE_GATE):
-    """The name of each case, and what is wrong with it, if anything is; with a word, of those whose names have it."""
-    child, begun = Child(program), []
-    if told(program, "verify"):
-        begun += [hostile(child)]
+def parts(program, word="", count=IN_THE_GATE):
+    """The parts of these tests: a name, and what gives the name of each case and what is wrong with it, if anything is."""
     if told(program, "verify", "certify"):
-        begun += [certificates(child), refusals(child), edits(child, count)]
-    for group in (*begun, verifier_runs()):
-        yield from ((name, fault) for name, fault in group if word in name)
+        for field in map(int, FIELDS):
+            yield f"certificates over {field}", lambda field=field: certificates(Child(program), field)
+        yield "certify, refusals", lambda: refusals(Child(program))
+        yield "edited logs", lambda: edits(Child(program), count)
+    yield "show/verify.py", verifier_runs
+
+
+def timed_parts(program, word=""):
+    """The part that measures time and memory, and is to run alone."""
+    if told(program, "verify"):
+        yield "texts of 64 MiB", lambda: hostile(Child(program))
 
 
 def row_faults(program):
@@ -236,8 +186,14 @@ def row_faults(program):
         yield name, fault_of(child, words, given, status, text)
 
 
+def main():
+    reader = argparse.ArgumentParser(description=__doc__, formatter_class=argparse.RawDescriptionHelpFormatter)
+    reader.add_argument("program")
+    reader.add_argument("--edits", type=int, default=EDITS)
+    settings = reader.parse_args()
+    tried = ("rows", lambda: row_faults(settings.program)), *parts(settings.program, count=settings.edits)
+    return tell_all(faults_of(tried, timed_parts(settings.program)))
+
+
 if __name__ == "__main__":
-    arguments = sys.argv[1:]
-    wanted_edits = int(arguments[2]) if arguments[1:2] == ["--edits"] and len(arguments) == 3 else EDITS
-    tried = itertools.chain(row_faults(arguments[0]), faults(arguments[0], "", wanted_edits)) if len(arguments) in (1, 3) else None
-    sys.exit(tell_all(tried) if tried else __doc__)
+    sys.exit(main())

@@ -13,6 +13,7 @@ joined (Kauffman's bracket by tangles), and goes through no states; for the link
 OTHER is given `--bench` and the number, makes the closed braid of its digits itself, and writes the four lines of `kh bench`; their
 Jones line is compared with what this script works out from the digits. No value is taken from `kh`.
 """
+import argparse
 import os
 import re
 import subprocess
@@ -174,7 +175,10 @@ def write(name, what, lines, blocks):
         file.write("\n\n".join([HEAD.format(what=what, lines=lines).rstrip("\n"), *blocks]) + "\n")
 
 
-def main(other):
+def main():
+    reader = argparse.ArgumentParser(description=__doc__, formatter_class=argparse.RawDescriptionHelpFormatter)
+    reader.add_argument("other")
+    other = reader.parse_args().other
     compare_tables(other)
     tables = [table_of(other, *braid) for braid in TABLES]
     write("large_tables.txt", "Homology tables of links of 17 crossings.", "for each field the rows j,i,dim; the Jones line.", tables)
@@ -184,4 +188,4 @@ def main(other):
 
 
 if __name__ == "__main__":
-    sys.exit(main(sys.argv[1]) if len(sys.argv) == 2 else __doc__)
+    main()

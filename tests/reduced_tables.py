@@ -16,11 +16,13 @@ import link_algebra
 import plain.cube
 import plain.diagrams as codes
 from shared import known_diagrams
-from shared.running import Child, fault_of, tell_all, told
+from shared.pool import tell_parts
+from shared.running import Child, fault_of, told
 
 FIELDS = "2357"
 WHOLE = 1_000
 GENERATORS = 30_000
+SHARES = 8
 TREFOIL = "PD[X[1,4,2,5], X[3,6,4,1], X[5,2,6,3]]"
 REDUCED_TREFOIL = """\
 mark 1
@@ -112,30 +114,40 @@ def table_faults(child, name, diagram, mark, field, whole_table):
 
 
 def chosen():
-    """The knots and links of few generators, with the marks that are tried."""
+    """The knots and links of few generators, with the fields that are tried at each mark: of most marks the first alone."""
     named = [(name, known_diagrams.diagram_of(text)) for name, text in known_diagrams.begun() + known_diagrams.stored()]
     named += [("drawn at random", diagram) for diagram in known_diagrams.drawn("reduced", 40, most=7)]
     for name, diagram in named:
         names = 2 * len(diagram.crossings) + diagram.loops
         if names and plain.cube.generator_count(codes.code_of(diagram)) <= GENERATORS:
-            yield name, diagram, range(1, names + 1)
+            yield name, diagram, {mark: FIELDS if mark in (1, names) else "2" for mark in range(1, names + 1)}
 
 
-def faults(program, word=""):
-    """The name of each case, and what is wrong with it, if anything is; with a word, of those whose names have it."""
-    if not told(program, "reduced"):
-        return
-    child = Child(program)
+def by_hand(child):
     for words, given, status, text in ROWS:
-        if word in "reduced, by hand":
-            yield "reduced, by hand", fault_of(child, words, given, status, text)
-    for name, diagram, marks in chosen():
-        if word in f"reduced, {name}":
-            yield from marked_faults(child, name, diagram, {mark: FIELDS if mark in (marks[0], marks[-1]) else "2" for mark in marks})
+        yield "reduced, by hand", fault_of(child, words, given, status, text)
+
+
+def named():
+    """The prime knots and links of few crossings, with all their marks over each field."""
     for name, text in known_diagrams.named():
-        if word in f"reduced, {name}":
-            diagram = known_diagrams.diagram_of(text)
-            yield from marked_faults(child, name, diagram, dict.fromkeys(range(1, 2 * len(diagram.crossings) + 1), FIELDS))
+        diagram = known_diagrams.diagram_of(text)
+        yield name, diagram, dict.fromkeys(range(1, 2 * len(diagram.crossings) + 1), FIELDS)
+
+
+def parts(program, word=""):
+    """The parts of these tests: a name, and what gives the name of each case and what is wrong with it, if anything is."""
+    if told(program, "reduced"):
+        yield "reduced, by hand", lambda: by_hand(Child(program))
+        diagrams = [it for it in (*chosen(), *named()) if word in f"reduced, {it[0]}"]
+        for share in range(SHARES):
+            yield f"reduced tables, share {share}", lambda some=diagrams[share::SHARES]: all_faults(Child(program), some)
+
+
+def all_faults(child, diagrams):
+    """What is wrong with the reduced tables of these diagrams."""
+    for name, diagram, fields in diagrams:
+        yield from marked_faults(child, name, diagram, fields)
 
 
 def marked_faults(child, name, diagram, fields):
@@ -147,4 +159,4 @@ def marked_faults(child, name, diagram, fields):
 
 
 if __name__ == "__main__":
-    sys.exit(tell_all(faults(*sys.argv[1:])) if len(sys.argv) in (2, 3) else __doc__)
+    sys.exit(tell_parts(parts, __doc__))

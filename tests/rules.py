@@ -12,6 +12,7 @@ by hand or in the list at its end, which has each name with the first sentence o
 are as long as docs/THEOREM.md says. The old text of each planted bug of must-fail/ and more-edits/ stands once in its file, and must-fail/
 has two or three of them or none.
 """
+import argparse
 import os
 import re
 import sys
@@ -266,7 +267,9 @@ def faults():
 
 
 def main():
-    if sys.argv[1:] == ["--write"]:
+    reader = argparse.ArgumentParser(description=__doc__, formatter_class=argparse.RawDescriptionHelpFormatter)
+    reader.add_argument("--write", action="store_true")
+    if reader.parse_args().write:
         write("DEFINITIONS.md", page_by_hand().rstrip("\n") + "\n\n" + written_list())
         write("THEOREM.md", with_lengths(read("docs", "THEOREM.md")))
         write("ARCHITECTURE.md", with_libraries(read("docs", "ARCHITECTURE.md")))

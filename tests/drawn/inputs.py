@@ -5,13 +5,14 @@ Each function is given a source of draws. What an input comes to is not known he
 import json
 import re
 
+import drawn.logs
 import drawn.moves as draws
-import logs
 import plain.answers as answers
 import plain.cube
 import plain.diagrams as codes
 import plain.logs
 import plain.moves as moves
+from rows.log import CURL
 from bench.braids import closure
 
 BLANKS = (" ", " ", "\n", "\t", "\r\n", "  ", " \t\r\n")
@@ -30,7 +31,7 @@ STARTS = (
     *('[[1,1,2,"a"]]', '[[1,1,2,2.0],{"b":[null,true]}]', "[0,[1,2,3,4,5]]", "[1e400]", '["\\ud834\\udd1e"]'),
 )
 FIRST_DIAGRAMS = ("PD[X[1,1,2,2]]", "PD[X[4,1,3,2], X[2,3,1,4]]", "PD[X[1,1,2,2], X[3,3,4,4], Loop[1]]")
-OTHER_LOGS = (logs.CURL, "log 1\nPD[X[1,2,1,2]]\n", "log 1\nPD[Loop[1]]\n")
+OTHER_LOGS = (CURL, "log 1\nPD[X[1,2,1,2]]\n", "log 1\nPD[Loop[1]]\n")
 LOG_HEADS = ("log 1", "log 1", "log 1", "log 1", "log 2", "log 01", "log", "")
 LOG_DEGREES = (0, 0, 1, -1, 2, -2, 3, -3, 5, -5, 20, -20, 88, -88, 999, -999, 1000, "-0", "01", "+1", "")
 LOG_PLACES = (0, 0, 0, 1, 1, 2, 3, 5, 23, 4_194_303, 9_999_999, 10_000_000, 2**32, 2**64, "00", "-0", -1, "+1", "")
@@ -219,7 +220,7 @@ def log_text(draw):
     diagram = diagram if len(diagram.crossings) <= 4 else codes.accepted(codes.read(FIRST_DIAGRAMS[0]))
     log = plain.logs.written(diagram, draw.choice((2, 3, 5, 7)), lambda pivots: draw.choice(sorted(pivots)))
     for _ in range(draw.choice((0, 1, 1, 1, 2))):
-        log = logs.edited(draw, log, [log, *OTHER_LOGS]) or "log 1\n"
+        log = drawn.logs.edited(draw, log, [log, *OTHER_LOGS]) or "log 1\n"
     return log
 
 

@@ -3,23 +3,53 @@ import os
 import random
 
 import drawn.moves as draws
-import edit_scripts
 import plain.diagrams as codes
 import plain.moves as moves
+import rows.edit_by_hand as hand
+from shared import stored_links
 from shared.places import TOP
 from bench.braids import closure, planar_diagram
 
 ALTERNATING_BRAIDS = ((3, [1, -2] * 10), (5, [1, -2, 3, -4] * 5), (6, [1, -2, 3, -4, 5] * 4), (2, [1] * 20), (4, [1, -2, 3] * 6 + [1, -2]))
+BRAIDS = ((4, [1, -2, 3] * 4), (3, [1, 2] * 6), (3, [1, -2] * 7), (4, [1, 2, 3, -2] * 4))
+SOME_TABLES = ("5_2", "Whitehead", "6_3", "Borromean", "T(2,6)", "7_7", "8_18", "8_19", "9_42", "10_123", "10_152")
+SMALL = (
+    ("no crossings", "PD[]"),
+    ("two loops", "PD[Loop[1], Loop[2]]"),
+    ("a curl", hand.CURL),
+    ("a curl of the other sign", "PD[X[1,2,2,1]]"),
+    ("a curl over first, with loops", "PD[X[2,2,1,1], Loop[3], Loop[4]]"),
+    ("a curl over first of the other sign", "PD[X[2,1,1,2]]"),
+    ("a Hopf link", hand.HOPF),
+    ("the other Hopf link", "PD[X[1,3,2,4], X[3,1,4,2]]"),
+    ("two curls apart", hand.TWO_CURLS),
+    ("a circle over a circle", hand.CIRCLE_OVER_CIRCLE),
+    ("a circle over a circle, listed the other way", "PD[X[2,4,1,3], X[1,4,2,3], Loop[5]]"),
+    ("a circle over a curl", hand.CIRCLE_OVER_CURL),
+    ("a circle with a curl over a circle", hand.CIRCLE_WITH_CURL),
+    ("a Hopf link with a curl", hand.HOPF_WITH_CURL),
+    ("a trefoil", hand.TREFOIL),
+    ("the other trefoil", "PD[X[4,2,5,1], X[6,4,1,3], X[2,6,3,5]]"),
+    ("two triangles", hand.TWO_TRIANGLES),
+    ("a figure eight", "PD[X[4,2,5,1], X[8,6,1,5], X[6,3,7,4], X[2,7,3,8]]"),
+    ("a curl and a trefoil apart, with a loop", "PD[X[1,1,2,2], X[3,6,4,7], X[5,8,6,3], X[7,4,8,5], Loop[1]]"),
+    ("two Hopf links apart", "PD[X[4,1,3,2], X[2,3,1,4], X[8,5,7,6], X[6,7,5,8]]"),
+    ("five curls and eight loops", hand.with_more(hand.curls(5), ", ".join(["Loop[1]"] * 8))),
+    ("twelve curls", hand.curls(12)),
+)
 
 
 def stored():
     """The name and the text of each link with a stored table: knots and links of 5 to 10 crossings."""
-    return list(edit_scripts.stored("tables.txt").items())
+    return list(stored_links.texts("tables.txt").items())
 
 
 def begun():
-    """The name and the text of each diagram that the moves of `edit_scripts.py` begin with."""
-    return list(edit_scripts.diagrams())
+    """The name and the text of each diagram that moves begin with."""
+    tables, polynomials = stored_links.texts("tables.txt"), stored_links.texts("polynomials.txt")
+    some = [(name, tables[name]) for name in SOME_TABLES]
+    braids = [(f"a braid of {len(word)} crossings on {strands} strands", planar_diagram(strands, word)) for strands, word in BRAIDS]
+    return [*SMALL, *some, *braids, *list(polynomials.items())[:7:3]]
 
 
 def named():
@@ -33,8 +63,8 @@ def named():
 
 def large():
     """Links of up to 20 crossings, and diagrams of many pieces and loops."""
-    yield from edit_scripts.stored("large_tables.txt").items()
-    yield from edit_scripts.stored("polynomials.txt").items()
+    yield from stored_links.texts("large_tables.txt").items()
+    yield from stored_links.texts("polynomials.txt").items()
     for strands, letters in ALTERNATING_BRAIDS:
         yield f"{len(letters)} letters on {strands} strands", planar_diagram(strands, letters)
     curls = tuple((arc, arc, arc + 1, arc + 1) for arc in range(1, 41, 2))

@@ -4,4 +4,5 @@ import sys
 
 TOP = os.path.dirname(os.path.dirname(os.path.dirname(os.path.abspath(__file__))))
 DATA = os.path.join(TOP, "tests", "data")
+KH = os.path.join(TOP, "kh")
 sys.path.append(TOP)
