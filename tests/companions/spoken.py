@@ -1,4 +1,5 @@
-"""Tries what `./kh` says on standard error: `tools/kh-help` alone, and `./kh` around a program that ends as it is told.
+"""Tries what `./kh` says on standard error: `tools/kh-help` alone, `./kh` around a program that ends as it is told, and, in
+`companions/explained.py`, around the program.
 
 `tests/program` runs these behind its rows.
 """
@@ -9,7 +10,7 @@ import shutil
 import subprocess
 import tempfile
 
-from companions import scripts
+from companions import explained, scripts
 from shared.places import TOP
 from shared.running import PATIENCE
 
@@ -57,12 +58,16 @@ RIGHT = [["homology"], ["--", "homology"], ["homology", "--"], ["--field", "3", 
 RIGHT += [["reduced", "--mark", "7"], ["certify", "--field", "7"], ["verify"]]
 LONG = [["--help"], ["-h"], ["help"], ["homology", "--help"], ["--version"], ["version"], ["-V"]]
 
-# What the program ends with, and how what is said begins.
+# What the program ends with, and how the lines that are said begin.
 STATUSES = [
-    (0, ""), (1, ""), (6, ""), (7, ""),
-    (3, "kh: standard input can not be read"),
-    (4, "kh: standard output did not take the whole answer"),
-    (5, "kh: out of memory"),
+    (0, []),
+    (1, ['kh: docs/FORMATS.md, "What is accepted"', "kh: where the input is a file", "kh: tools/kh-codes reads", "  tools/kh-codes FILE |"]),
+    (3, ["kh: standard input can not be read"]),
+    (4, ["kh: standard output did not take the whole answer"]),
+    (5, ["kh: out of memory"]),
+    (6, ["kh: homology, reduced, schedule, certify and verify alone have a limit", "  convert, draw,", "  are those of all commands"]),
+    (7, ["kh: docs/FORMATS.md lists when a move can not be made"]),
+    (8, []),
 ]
 PROGRAM = "#!/bin/sh\necho answer\nexit %d\n"
 
@@ -75,7 +80,7 @@ WAITS = [
 
 def said(status, words):
     nothing = subprocess.DEVNULL
-    came = subprocess.run([HELP, str(status), *words], stdin=nothing, capture_output=True, cwd=TOP, timeout=PATIENCE)
+    came = subprocess.run([HELP, str(status), "", "", *words], stdin=nothing, capture_output=True, cwd=TOP, timeout=PATIENCE)
     return came.stdout.decode("latin-1"), came.stderr.decode("latin-1")
 
 
@@ -100,15 +105,15 @@ def word_faults():
 
 
 def status_faults(copy):
-    """Around a program that ends with each status the answer and the status stay, and one line is said, or none."""
+    """Around a program that ends with each status the answer and the status stay, whatever is said."""
     program = os.path.join(copy.folder, "crates", "kh_main", "out", "kh_main")
-    for status, begin in STATUSES:
+    for status, begins in STATUSES:
         copy.write(os.path.relpath(program, copy.folder), PROGRAM % status)
         os.chmod(program, 0o755)
         came = subprocess.run([os.path.join(copy.folder, "kh"), "homology"], stdin=subprocess.DEVNULL, capture_output=True, text=True)
-        right = (came.returncode, came.stdout) == (status, "answer\n") and came.stderr.startswith(begin)
-        lines = 1 if begin else 0
-        yield f"./kh with status {status}", None if right and came.stderr.count("\n") == lines else str(came)
+        lines = came.stderr.splitlines()
+        right = (came.returncode, came.stdout) == (status, "answer\n") and len(lines) == len(begins)
+        yield f"./kh with status {status}", None if right and all(map(str.startswith, lines, begins)) else str(came)
     for words, waits in WAITS:
         try:
             ours, theirs = pty.openpty()
@@ -122,7 +127,7 @@ def status_faults(copy):
         yield f"./kh {words} at a terminal", None if right else str(came)
 
 
-def faults(program=None):
+def faults(program):
     """The name of each test, and what is wrong, if anything is."""
     yield from word_faults()
     with tempfile.TemporaryDirectory() as folder:
@@ -130,3 +135,4 @@ def faults(program=None):
         os.makedirs(os.path.join(folder, "tools"))
         shutil.copy(HELP, os.path.join(folder, "tools"))
         yield from status_faults(copy)
+    yield from explained.faults(program)

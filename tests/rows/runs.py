@@ -27,7 +27,7 @@ from shared.running import PATIENCE, Long, begins_in, pieces_of
 # Tables of rows, each a name, words, an input, the status and what is written.
 ANSWERS = (rows.input, rows.word, rows.homology, rows.jones, rows.count, rows.worker, rows.schedule, rows.bench)
 OUT_OF_MEMORY = 5
-EXPLAINED = (2, 3, 4, 5)
+EXPLAINED = range(1, 8)
 NOT_BEGUN = 127
 LARGE = "17 crossings"
 
