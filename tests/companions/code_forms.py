@@ -1,4 +1,4 @@
-"""Tries `tools/kh-codes`: rows, and random diagrams that are written in each form and read back.
+"""Tries `tools/kh-codes`: rows, random diagrams that are written in each form and read back, and what is true of what it writes.
 
 `tests/program` runs these behind its rows. Whether a text is an accepted code is asked of `plain.diagrams`.
 """
@@ -7,6 +7,7 @@ import tempfile
 
 import plain.diagrams
 from companions import code_rows as rows
+from companions import code_truth
 from companions.code_texts import diagrams, forms, run, run_each
 from shared.places import TOP
 
@@ -66,3 +67,4 @@ def faults(program=None):
         came = run([], rows.TREFOIL, tools)
         yield "kh-codes: by way of another name of its folder", None if came == (0, rows.TREFOIL + "\n", "") else str(came)
     yield from form_faults()
+    yield from ((f"kh-codes: {name}", fault) for name, fault in code_truth.faults())
