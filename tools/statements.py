@@ -15,7 +15,7 @@ import link_names
 MINUS, QUOTES = "\u2010\u2011\u2012\u2013\u2014\u2015\u2212\ufe63\uff0d", "\"'`“”‘’"
 ALIKE = str.maketrans({**dict.fromkeys(MINUS, "-"), **dict.fromkeys(QUOTES, " ")})
 COMMENT = re.compile(r"(^|\s)#.*")
-BETWEEN = re.compile(r"\s*(:=|=|:|\t)\s*")
+BETWEEN = re.compile(r"\s*(:=|=|:|\t|(?P<of_row>[,;|])(?=\s*[\[({]))\s*")
 WORDS = r"(?i:PD|GaussCode|Link|PlanarDiagram|braid|BR|DT\w*|Dowker\w*|Knot|TorusKnot|TorusLink)\b|T\s*[\[(]"
 OPEN, BEHIND = r"[\[({]", r"[\s;,.]*$"
 BEGIN = re.compile(rf"\s*({WORDS}|{OPEN}|({codes.BARE.pattern}|\$?{link_names.NAME}\$?){BEHIND})")
@@ -99,7 +99,9 @@ def named(line):
     """The name before a code, the code, and all that stands before it."""
     plain = line.translate(ALIKE)
     for found in BETWEEN.finditer(plain):
-        if is_name(plain[: found.start()]) and BEGIN.match(plain, found.end()):
+        before = plain[: found.start()]
+        is_one = re.fullmatch(link_names.NAME, before.strip()) if found["of_row"] else is_name(before)
+        if is_one and BEGIN.match(plain, found.end()):
             name, head = line[: found.start()], line[: found.end()]
             return " ".join(name.split()).strip(QUOTES + " "), line[found.end() :], head.expandtabs(1)
     return "", line, ""

@@ -315,6 +315,7 @@ MORE = [
     ("a table with strokes and titles", [], f"name|pd_notation\nName|PD Notation\n3_1|{GOOD}\n", 0, [("3_1", TREFOIL)], ""),
     ("a table without quotes", [], "name,dt_notation,x\n3_1,[4, 6, 2],y\n", 0, [("3_1", BY_DOWKER)], by_dowker("3_1", 2)),
     ("a table with quotes alone", [], 'name,braid_notation\n3_1,"1, 1, 1"\n', 0, [("3_1", RIGHT)], on_strands(2, "3_1", 2)),
+    ("rows without a heading", [], f'3_1,"{GOOD}"\nk;[4, 6, 2]\n', 0, [("3_1", TREFOIL), ("k", BY_DOWKER)], by_dowker("k", 2) + counted(2)),
     ("a table with semicolons", [], "name;braid_notation\n3_1;{1;1;1}\n", 0, [("3_1", RIGHT)], on_strands(2, "3_1", 2)),
     (
         "a code behind a table",
