@@ -280,7 +280,7 @@ def row_faults():
 def help_faults():
     """What is wrong with the examples that `--help` has, if anything is: each is read, and is a trefoil or the unknot."""
     _, wrote, _ = run(["--help"], "")
-    forms, table = re.search(r"\(or the unknot\):\n\n(.*?)\n\n.*?blank line:\n\n(.*?)\n\n", wrote, re.S).groups()
+    forms, table = re.search(r"\(or the unknot\):\n\n(.*?)\n\n.*?its fields:\n\n(.*?)\n\n", wrote, re.S).groups()
     examples = [line.strip().split("  ")[0] for line in forms.splitlines()] + [textwrap.dedent(table)]
     status, lines, said = run_each(examples)
     wanted = {name: polynomial(code_of(line)) for name, line in zip(("3_1", "unknot"), turned(("3_1", "unknot")))}
