@@ -7,12 +7,12 @@ import re
 from typing import NamedTuple
 
 OPEN, CLOSE = "[({", "])}"
-TOKEN = re.compile(r'(?P<blank>[\s"“”\\]+)|(?P<number>[-+]?\d+)|(?P<word>[A-Za-z_][A-Za-z_.0-9]*)|(?P<sign>[\[\](){},;:])')
+TOKEN = re.compile(r"(?P<blank>[\s\\]+)|(?P<number>[-+]?\d+)|(?P<word>[A-Za-z_][A-Za-z_.0-9]*)|(?P<sign>[\[\](){},;:^*])")
+BARE = re.compile(r"\s*[-+]?\d+([\s,;]+[-+]?\d+)*\s*")
+# The most digits of a number, with its sign, and the most brackets in one another.
+LONGEST, DEEPEST = 10, 20
 # What a list of crossings, a crossing and a circle without crossings may be called.
 DIAGRAMS, CROSSINGS = {"", "PD", "Link", "PlanarDiagram", "pd", "PD_code"}, {"", "X", "Xp", "Xm", "Crossing"}
-BRAID = re.compile(r"(?i)braid\b|BR\b")
-DOWKER = re.compile(r"(?i)(DT|Dowker)[a-z_]*(?=\s*($|[:\[({]))")
-NO_DOWKER = "DT codes are not read, as they do not say the hand: have the other program write a planar diagram"
 
 
 class Fault(Exception):
@@ -50,11 +50,14 @@ class Links(NamedTuple):
 
 def tokens_of(text):
     """The tokens of a text, and one behind them for its end."""
-    tokens, place = [], 0
+    tokens, place, depth = [], 0, 0
     while place < len(text):
         found = TOKEN.match(text, place)
         if not found:
             raise Fault(f"no code has a {text[place]!r} here", place)
+        depth += (found[0] in OPEN) - (found[0] in CLOSE)
+        if depth > DEEPEST or found.lastgroup == "number" and len(found[0]) > LONGEST:
+            raise Fault("no code has so large a number" if depth <= DEEPEST else "no code has so many brackets in one another", place)
         if found.lastgroup != "blank":
             tokens.append(Token(found.lastgroup, found[0], place))
         place = found.end()
@@ -87,27 +90,30 @@ class Reader:
         return Node(place, word, None, self.items(token))
 
     def items(self, opened):
-        """The items of a list up to the bracket that closes it."""
+        """The items of a list up to the bracket that closes it; a comma may stand behind the last."""
         items = []
-        while True:
-            token = self.next()
-            if token.kind == "end":
-                raise Fault("this bracket is not closed", opened.place)
-            if token.text in CLOSE and not items:
-                break
+        while not self.is_at_close(opened):
             items.append(self.tree())
-            token = self.next()
-            if token.text and token.text in CLOSE:
-                break
-            if token.kind == "end":
-                raise Fault("this bracket is not closed", opened.place)
-            if token.text not in (",", ";"):
-                raise Fault("a comma is missing before this", token.place)
-            self.step()
+            if len(items) > 2 and items[-1].items is not None and are_numbers(items[:-1]):
+                raise Fault("this bracket is not closed before the next one opens", opened.place)
+            if not self.is_at_close(opened):
+                token = self.step()
+                if token.text not in (",", ";"):
+                    raise Fault("a comma is missing before this", token.place)
+        self.close(opened)
+        return items
+
+    def is_at_close(self, opened):
+        """Whether a bracket closes here; at the end of the text the one that was opened is not closed."""
+        if self.next().kind == "end":
+            raise Fault("this bracket is not closed", opened.place)
+        return self.next().text in CLOSE
+
+    def close(self, opened):
+        """Steps over the bracket that closes another."""
+        token = self.step()
         if CLOSE.index(token.text) != OPEN.index(opened.text):
             raise Fault(f"this bracket does not close the {opened.text} before it", token.place)
-        self.step()
-        return items
 
     def finish(self):
         """Refuses what stands behind a code."""
@@ -115,12 +121,41 @@ class Reader:
             raise Fault("the code has ended before this", self.next().place)
 
 
+def tree_of(text):
+    """The tree of a text; several numbers without brackets are a list."""
+    if BARE.fullmatch(text):
+        numbers = [Node(it.place, "", int(it.text), None) for it in tokens_of(text)[:-1] if it.kind == "number"]
+        return Node(numbers[0].place, "", None, numbers) if len(numbers) > 1 else numbers[0]
+    reader = Reader(text)
+    node = reader.tree()
+    reader.finish()
+    return node
+
+
 def numbers_of(node, what):
     """The numbers of a list of nothing but numbers."""
+    if node.items is None:
+        raise Fault(f"{what} stands in brackets", node.place)
     for item in node.items:
         if item.items is not None:
             raise Fault(f"{what} has no lists in it", item.place)
     return [item.value for item in node.items]
+
+
+def are_numbers(nodes):
+    return all(it.items is None for it in nodes)
+
+
+def groups_of(node):
+    """The numbers, as nodes, of lists of numbers in a list, of one such list, or of a number alone; nothing where it is none of these."""
+    if node.items is None:
+        return [[node]]
+    while len(node.items) == 1 and node.items[0].items is not None and not are_numbers(node.items[0].items):
+        node = node.items[0]
+    if are_numbers(node.items):
+        return [node.items]
+    groups = [it.items for it in node.items]
+    return groups if None not in groups and all(map(are_numbers, groups)) else None
 
 
 def unwrapped(node):
@@ -133,23 +168,15 @@ def unwrapped(node):
     return node
 
 
-def is_dowker(node):
-    """Whether a list has nothing but even numbers, each once: so are DT codes."""
-    numbers = [item.value for item in node.items]
-    return len(numbers) > 1 and None not in numbers and all(it % 2 == 0 for it in numbers) and len(set(map(abs, numbers))) == len(numbers)
-
-
 def read_planar(node):
     """A planar diagram: a list of crossings and circles."""
     node = unwrapped(node)
     if node.word not in DIAGRAMS:
         raise Fault(f"{node.word} is no form of a code", node.place)
     crossings, loops, places = [], 0, {}
-    if is_dowker(node):
-        raise Fault(NO_DOWKER, node.place)
     for item in node.items:
         if item.items is None:
-            raise Fault("a crossing in brackets is wanted here; before a braid word write braid:", item.place)
+            raise Fault("a crossing in brackets is wanted here", item.place)
         labels = numbers_of(item, "a crossing")
         if item.word == "Loop" and len(labels) == 1:
             loops += 1
@@ -166,95 +193,6 @@ def read_planar(node):
             times = {1: "once"}.get(len(found), f"{len(found)} times")
             raise Fault(f"each arc stands twice, and {label} stands {times}", found[-1])
     return Links(crossings, loops, places)
-
-
-def closure(strands, letters, place):
-    """The closed braid of these letters: m lets the strand at m cross over the next, -m under it; strands go upwards. Its labels rise along
-    each component."""
-    if any(letter == 0 or abs(letter) >= strands for letter in letters):
-        raise Fault(f"a braid on {strands} strands has the letters 1 to {strands - 1} and their inverses alone", place)
-    at, fresh, crossings, after = list(range(strands)), strands, [], {}
-    for letter in letters:
-        left = abs(letter) - 1
-        low_left, low_right, high_left, high_right = at[left], at[left + 1], fresh, fresh + 1
-        crossings.append([low_right, high_right, high_left, low_left] if letter > 0 else [low_left, low_right, high_right, high_left])
-        after.update({low_left: high_right, low_right: high_left})
-        at[left], at[left + 1], fresh = high_left, high_right, fresh + 2
-    bottom_of = dict(zip(at, range(strands)))
-    loops = sum(top == bottom for top, bottom in bottom_of.items())
-    closed = [[bottom_of.get(label, label) for label in it] for it in crossings]
-    numbers = numbers_along({label: bottom_of.get(it, it) for label, it in after.items()}, closed, letters)
-    return Links([[numbers[label] for label in it] for it in closed], loops, {})
-
-
-def numbers_along(after, crossings, letters):
-    """Numbers that rise along each component, beginning with its least label; of two arcs that go over twice the one that enters the first
-    crossing comes first."""
-    unders = {label for labels in crossings for label in labels[::2]}
-    numbers = {}
-    for label in sorted(after):
-        if label not in numbers and after[after[label]] == label and not unders & {label, after[label]}:
-            label = next(it[3 if letter > 0 else 1] for it, letter in zip(crossings, letters) if label in it)
-        while label not in numbers:
-            numbers[label] = len(numbers) + 1
-            label = after[label]
-    return numbers
-
-
-def read_braid(text):
-    """A braid word: `braid 3: 1 2 1 2`, or the lists BR[3, {1, 2, 1, 2}] and {3, {1, 2, 1, 2}}."""
-    reader = Reader(text)
-    if reader.next().kind == "word" and reader.next().text.lower() == "braid":
-        reader.step()
-        head = reader.next()
-        numbers = [reader.step() for _ in range(2) if reader.next().kind == "number" and reader.tokens[reader.at + 1].text == ":"]
-        if reader.next().text == ":":
-            reader.step()
-        letters = []
-        while reader.next().kind != "end":
-            token = reader.step()
-            if token.kind == "number":
-                letters.append(int(token.text))
-            elif token.text not in OPEN + CLOSE + ",;":
-                raise Fault("a letter of a braid is a number", token.place)
-        strands = int(numbers[0].text) if numbers else max(map(abs, letters), default=0) + 1
-        return strands, closure(strands, letters, head.place)
-    node = reader.tree()
-    reader.finish()
-    if len(node.items) != 2 or node.items[0].value is None or node.items[1].items is None:
-        raise Fault("a braid is a number of strands and a list of letters", node.place)
-    strands = node.items[0].value
-    return strands, closure(strands, numbers_of(node.items[1], "a braid word"), node.items[1].place)
-
-
-def read_gauss(text):
-    """A signed Gauss code: components with passes, positive over and negative under, and the signs of the crossings."""
-    reader = Reader(text)
-    body = reader.tree()
-    signs = numbers_of(reader.tree(), "the list of signs") if reader.next().kind != "end" else []
-    reader.finish()
-    end = reader.next().place
-    groups = body.items if any(item.items is not None for item in body.items) else [body] if body.items else []
-    components = [numbers_of(it, "a component") for it in groups if it.items is not None]
-    if any(it.items is None for it in groups):
-        raise Fault("components in braces are wanted here", body.place)
-    if any(components) and not signs:
-        raise Fault("Signs[..], with the signs of the crossings, is missing here: without them a Gauss code does not say the hand", end)
-    ends, arc = {}, 1
-    for component in components:
-        if len(component) == 2 and min(component) > 0:
-            component.sort()
-        for place, label in enumerate(component):
-            ends[label] = arc + place, arc + (place + 1) % len(component)
-        arc += len(component)
-    count = len(ends) // 2
-    if sorted(map(abs, ends)) != sorted([*range(1, count + 1)] * 2) or arc != 2 * count + 1 or len(signs) != count:
-        raise Fault("each crossing has one pass over, one under and one sign", body.place)
-    crossings = []
-    for number, sign in enumerate(signs, 1):
-        (u, v), (s, t) = ends[-number], ends[number]
-        crossings.append([u, t, v, s] if sign > 0 else [u, s, v, t])
-    return Links(crossings, sum(not it for it in components), {})
 
 
 def partners_of(crossings):
