@@ -217,7 +217,7 @@ def main(arguments):
 
 
 if __name__ == "__main__":
-    parser = argparse.ArgumentParser()
+    parser = argparse.ArgumentParser(description=__doc__, formatter_class=argparse.RawDescriptionHelpFormatter)
     parser.add_argument("runs", nargs="?", type=int, default=3)
     parser.add_argument("other", nargs="?", default=os.environ.get("KH_BASELINE"))
     parser.add_argument("--program", default=PROGRAM)

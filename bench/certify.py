@@ -93,7 +93,7 @@ def main(program, runs):
 
 
 if __name__ == "__main__":
-    reader = argparse.ArgumentParser()
+    reader = argparse.ArgumentParser(description=__doc__, formatter_class=argparse.RawDescriptionHelpFormatter)
     reader.add_argument("runs", nargs="?", type=int, default=2)
     reader.add_argument("--program", default=PROGRAM)
     given = reader.parse_args()

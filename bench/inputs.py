@@ -7,11 +7,11 @@ For each input the runs of the two are alternated, so that whatever else the mac
 ratio, and whether a run gets by with an address space of 20 MB; with a word only the inputs whose names have it. Build the program
 first, by `./build`. The gate does not run it.
 """
+import argparse
 import os
 import resource
 import statistics
 import subprocess
-import sys
 import time
 
 TOP = os.path.dirname(os.path.dirname(os.path.abspath(__file__)))
@@ -71,4 +71,8 @@ def main(runs, word):
 
 
 if __name__ == "__main__":
-    main(int(sys.argv[1]) if len(sys.argv) > 1 else 50, sys.argv[2] if len(sys.argv) > 2 else "")
+    reader = argparse.ArgumentParser(description=__doc__, formatter_class=argparse.RawDescriptionHelpFormatter)
+    reader.add_argument("runs", nargs="?", type=int, default=50)
+    reader.add_argument("word", nargs="?", default="")
+    words = reader.parse_args()
+    main(words.runs, words.word)

@@ -8,10 +8,10 @@ times of `kh` stand alone. Runs of the two are alternated. For each diagram it p
 gets by with an address space of 8 MB; and at the end by how much a crossing more multiplies its time. The system counts user time in
 ticks, so the mean of many runs is taken. Build the program first, by `./build`. The gate does not run it.
 """
+import argparse
 import os
 import resource
 import subprocess
-import sys
 import tempfile
 
 from braids import planar_diagram
@@ -66,4 +66,8 @@ def main(runs, other):
 
 
 if __name__ == "__main__":
-    main(int(sys.argv[1]) if len(sys.argv) > 1 else 40, sys.argv[2:])
+    reader = argparse.ArgumentParser(description=__doc__, formatter_class=argparse.RawDescriptionHelpFormatter)
+    reader.add_argument("runs", nargs="?", type=int, default=40)
+    reader.add_argument("other", nargs=argparse.REMAINDER, metavar="OTHER WORDS")
+    words = reader.parse_args()
+    main(words.runs, words.other)

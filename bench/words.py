@@ -93,7 +93,7 @@ def main(arguments):
 
 
 if __name__ == "__main__":
-    parser = argparse.ArgumentParser()
+    parser = argparse.ArgumentParser(description=__doc__, formatter_class=argparse.RawDescriptionHelpFormatter)
     parser.add_argument("runs", nargs="?", type=int, default=31)
     parser.add_argument("--program", default=PROGRAM)
     sys.exit(main(parser.parse_args()))

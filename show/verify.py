@@ -191,6 +191,8 @@ def verify(data):
 
 
 if __name__ == "__main__":
+    if sys.argv[1:2] in (["-h"], ["--help"]):
+        sys.exit(print(__doc__))
     try:
         status, answer = verify(sys.stdin.buffer.read(LOG_BYTES + 1))
     except Fails as stop:
