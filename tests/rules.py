@@ -5,19 +5,22 @@
     tests/rules.py --write   writes anew what follows from the sources: the list at the end of docs/DEFINITIONS.md, the lengths in
                              docs/THEOREM.md, and what crates stand on in docs/ARCHITECTURE.md
 
-No chain of crates that stand on one another is longer than seven. crates.txt has each crate behind those that it stands on. Each crate has
-its line in docs/ARCHITECTURE.md, with those that it stands on, and is named in README.md's list by crate. Every name of a definition that
-a clause of a public function cites is found in docs/DEFINITIONS.md, by hand or in the list at its end, which has each name with the first
-sentence of the comment at its definition. The files that are trusted are as long as docs/THEOREM.md says. The old text of each planted
-bug of must-fail/ and more-edits/ stands once in its file.
+No chain of crates that stand on one another is longer than seven. crates.txt has each crate behind those that it stands on, under one of
+its headings, and says in the line above what it is. Each crate has its line in docs/ARCHITECTURE.md, with those that it stands on, and
+is named in README.md's list by crate. Every name of a definition that a clause of a public function cites is found in docs/DEFINITIONS.md,
+by hand or in the list at its end, which has each name with the first sentence of the comment at its definition. The files that are trusted
+are as long as docs/THEOREM.md says. The old text of each planted bug of must-fail/ and more-edits/ stands once in its file, and must-fail/
+has two or three of them or none.
 """
 import os
 import re
 import sys
 import textwrap
 
-TOP = os.path.dirname(os.path.dirname(os.path.abspath(__file__)))
+from shared.places import TOP
+
 LONGEST = 7
+HEADINGS = "foundations diagrams cube moves texts cancellation threads program tests".split()
 COLUMNS = 135
 HEADING = "## All names in public contracts"
 BY_CRATE, BEHIND_CRATES = "\nBy crate:\n", "\n*Trusted.*"
@@ -68,6 +71,17 @@ def out_of_order(below):
             yield f"{name} stands above {', '.join(above)}"
 
 
+def heading_fault(text):
+    """The headings of crates.txt, where they are not those that are wanted."""
+    found = re.findall(r"^## (\w+): \w", text, re.M)
+    return None if found == HEADINGS else ", ".join(found)
+
+
+def without_a_word(text, crates):
+    """The crates of crates.txt with no line above that says what they are."""
+    return set(crates) - set(re.findall(r"^# \S.*\n(\w+)[ :]", text, re.M))
+
+
 def readme_fault(crates):
     """The crates that README.md does not name in its list by crate or behind it, and heads of that list that are no crates."""
     page = read("README.md").partition(BY_CRATE)[2].partition(BEHIND_CRATES)[0]
@@ -88,6 +102,14 @@ def edit_faults(crates):
                 count = read(source).count(edit["old"]) if os.path.isfile(source) else 0
                 if count != 1 or edit["old"] == edit["new"]:
                     yield f"{os.path.relpath(path, TOP)} ({count} times)"
+
+
+def wrong_counts(crates):
+    """The crates of which the gate tries one planted bug, or more than three."""
+    for crate in crates:
+        count = len(list(files(crate, "must-fail", ".edit")))
+        if count not in (0, 2, 3):
+            yield f"{crate} ({count})"
 
 
 def files(crate, folder, ending):
@@ -223,6 +245,9 @@ def faults():
     chain = longest_chain(crates)
     yield "no long chain of crates", f"{len(chain)} crates: {', '.join(chain)}" if len(chain) > LONGEST else None
     yield "crates.txt has each crate behind those that it stands on", "; ".join(out_of_order(crates)) or None
+    text = read("crates.txt")
+    yield "crates.txt has its headings", heading_fault(text)
+    yield "crates.txt says what each crate is", ", ".join(sorted(without_a_word(text, crates))) or None
     folders = sorted(os.listdir(os.path.join(TOP, "crates")))
     there = {it for it in folders if os.path.isdir(os.path.join(TOP, "crates", it, "src"))}
     yield "crates.txt has the crates", ", ".join(sorted(there ^ set(crates))) or None
@@ -232,6 +257,7 @@ def faults():
     yield "ARCHITECTURE.md says what they stand on", "`tests/rules.py --write` mends it" if page != with_libraries(page) else None
     yield "README.md has the crates", readme_fault(crates)
     yield "the old text of each planted bug stands once", ", ".join(edit_faults(crates)) or None
+    yield "the gate tries two or three planted bugs of a crate, or none", ", ".join(wrong_counts(crates)) or None
     page = read("docs", "THEOREM.md")
     yield "THEOREM.md has the lengths of the edge", "`tests/rules.py --write` mends it" if page != with_lengths(page) else None
     page = read("docs", "DEFINITIONS.md")
