@@ -2,15 +2,15 @@
 """Rules on the list of crates and on the pages, which `tests/program` tries behind its rows.
 
     tests/rules.py           prints what breaks a rule
-    tests/rules.py --write   writes anew what follows from the sources: the list at the end of docs/DEFINITIONS.md, the lengths in
-                             docs/THEOREM.md, and what crates stand on in docs/ARCHITECTURE.md
+    tests/rules.py --write   writes anew what follows from the sources: docs/NAMES.md, and the lengths in docs/THEOREM.md and README.md
 
-No chain of crates that stand on one another is longer than seven. crates.txt has each crate behind those that it stands on, under one of
-its headings, and says in the line above what it is. Each crate has its line in docs/ARCHITECTURE.md, with those that it stands on, and
-is named in README.md's list by crate. Every name of a definition that a clause of a public function cites is found in docs/DEFINITIONS.md,
-by hand or in the list at its end, which has each name with the first sentence of the comment at its definition. The files that are trusted
-are as long as docs/THEOREM.md says. The old text of each planted bug of must-fail/ and more-edits/ stands once in its file, and must-fail/
-has two or three of them or none.
+No chain of crates that stand on one another is longer than seven. crates.txt has each crate behind those that it stands on, under a
+heading, and says in the line above what it is. Each crate has its row in docs/ARCHITECTURE.md, under the same heading, and the calls that
+the row names are functions of the crate; the files that its tables on changes name are there. Links of pages lead somewhere, and README.md
+quotes its sources line by line. Every name of a definition that a clause of a public function cites is in docs/DEFINITIONS.md, or else in
+docs/NAMES.md with the first sentence of the comment at its definition. The files that are trusted are as long as docs/THEOREM.md says, and
+as README.md says of all. CITATION.cff has the version of CHANGELOG.md. The old text of each planted bug of must-fail/ and more-edits/
+stands once in its file, and must-fail/ has two or three of them or none.
 """
 import argparse
 import os
@@ -18,14 +18,24 @@ import re
 import sys
 import textwrap
 
+from companions.pages import pages
 from shared.places import TOP
+from tools.version import version
 
 LONGEST = 7
 HEADINGS = "foundations diagrams cube moves texts cancellation threads program tests".split()
 COLUMNS = 135
-HEADING = "## All names in public contracts"
-BY_CRATE, BEHIND_CRATES = "\nBy crate:\n", "\n*Trusted.*"
+CHANGES = "## To change something"
 NAMED = re.compile(r"`(\w+)`")
+NAMED_PATH = re.compile(r"`(\w+)`|`([\w./-]*[./][\w./-]*)`")
+CRATE_ROW = re.compile(r"^\| `(\w+)` \|[^|\n]*\|([^|\n]*)\|$", re.M)
+EDGE_ROW = re.compile(r"^(\|[^|\n]*\| `(crates/[^`]*)` \| )\d+ \|", re.M)
+NAMES = """\
+# Names in public contracts
+
+What clauses of public functions cite and `docs/DEFINITIONS.md` does not read aloud: the first sentence of each definition's comment, by
+crate. `tests/rules.py --write` writes this page.
+"""
 
 IMPORT = re.compile(r"ghost use Rattle\.(\w+)\.(specs(?:\.\w+)*)\.\{([^}]*)\}")
 CLAUSE = re.compile(r"\b(?:requires|ensures)\b[^{};]*\{")
@@ -38,17 +48,11 @@ def read(*path):
         return file.read()
 
 
-def libraries():
-    """Each crate of crates.txt, with all that it stands on."""
-    lines = (line.split("#")[0] for line in read("crates.txt").splitlines())
-    named = [line.partition(":") for line in lines if ":" in line]
-    return {head.split()[0]: rest.split() for head, _, rest in named}
-
-
 def stands_on():
     """Each crate of crates.txt, with those of them that it stands on."""
-    below = libraries()
-    return {name: [it for it in rest if it in below] for name, rest in below.items()}
+    lines = (line.split("#")[0] for line in read("crates.txt").splitlines())
+    named = {head.split()[0]: rest.split() for head, colon, rest in (line.partition(":") for line in lines) if colon}
+    return {name: [it for it in rest if it in named] for name, rest in named.items()}
 
 
 def longest_chain(below):
@@ -72,23 +76,54 @@ def out_of_order(below):
             yield f"{name} stands above {', '.join(above)}"
 
 
-def heading_fault(text):
-    """The headings of crates.txt, where they are not those that are wanted."""
-    found = re.findall(r"^## (\w+): \w", text, re.M)
-    return None if found == HEADINGS else ", ".join(found)
-
-
 def without_a_word(text, crates):
     """The crates of crates.txt with no line above that says what they are."""
     return set(crates) - set(re.findall(r"^# \S.*\n(\w+)[ :]", text, re.M))
 
 
-def readme_fault(crates):
-    """The crates that README.md does not name in its list by crate or behind it, and heads of that list that are no crates."""
-    page = read("README.md").partition(BY_CRATE)[2].partition(BEHIND_CRATES)[0]
-    heads = " ".join(re.findall(r"^- ([^:]*):", page, re.M))
-    missing, strangers = set(crates) - {*NAMED.findall(page)}, {*NAMED.findall(heads)} - set(crates)
-    return ", ".join(sorted(missing | strangers)) or None
+def under_headings(text, heading, crate):
+    """The headings of a text, each with the crates under it."""
+    parts = re.split(heading, text, flags=re.M)[1:]
+    return [(name.lower(), re.findall(crate, part, re.M)) for name, part in zip(parts[::2], parts[1::2])]
+
+
+def unknown_calls(page, crates):
+    """The calls that the row of a crate names, and that are no functions of its code."""
+    for crate, promised in CRATE_ROW.findall(page):
+        code = "".join(read(path) for path in files(crate, "src", ".rt"))
+        known = {name for _, name in FUNCTION.findall(code)} | {*crates}
+        yield from (f"{name} of {crate}" for name in NAMED.findall(promised) if name not in known)
+
+
+def absent_paths(page, crates):
+    """The files that the tables on changes open, each in the folder of the crate before it or at the top, and that are not there."""
+    for row in re.findall(r"^\|[^|\n]*\|([^|\n]*)\|", page.partition(CHANGES)[2], re.M):
+        crate = ""
+        for name, path in NAMED_PATH.findall(row):
+            crate = name if name in crates else crate
+            if path and not any(os.path.exists(os.path.join(TOP, *it, path)) for it in ([], ["crates", crate])):
+                yield f"{path} of {crate}"
+
+
+def misquoted(page):
+    """The first lines of those blocks of a page that stand so in none of the sources that it links."""
+    sources = [read(path) for path in re.findall(r"\]\((crates/[^)]*)\)", page)]
+    blocks = re.findall(r"^```(?:rust|antt)\n(.*?)^```$", page, re.M | re.S)
+    return [block.split("\n")[0] for block in blocks if not any(block in source for source in sources)]
+
+
+def headings(page):
+    """The anchors of a page's headings, as they are made on the web: small letters, hyphens for spaces, no other signs."""
+    return {re.sub(r"[^\w -]", "", it.lower()).replace(" ", "-") for it in re.findall(r"^#+ (.*)$", page, re.M)}
+
+
+def broken_links():
+    """The links of pages that lead to no file or to no heading."""
+    for name in ["CONTRIBUTING.md", "CHANGELOG.md", *pages()]:
+        for path, anchor in re.findall(r"\]\((?!https?:)([^)#\s]*)#?([^)\s]*)\)", read(name)):
+            there = os.path.normpath(os.path.join(os.path.dirname(name), path)) if path else name
+            if not os.path.exists(os.path.join(TOP, there)) or (anchor and anchor not in headings(read(there))):
+                yield f"{name}: {path}#{anchor}"
 
 
 def edit_faults(crates):
@@ -192,20 +227,9 @@ def is_read_aloud(name, page):
     return re.search(r"`[^`\n]*(?<![\w-])" + re.escape(name) + r"(?![\w-])[^`\n]*`", page) is not None
 
 
-def page_by_hand():
-    return read("docs", "DEFINITIONS.md").split("\n" + HEADING)[0]
-
-
-def written_list():
-    """The section that lists names which the rest of the page does not have."""
-    page, crates = page_by_hand(), stands_on()
-    lines = [
-        HEADING,
-        "",
-        "What clauses of public functions cite, and the sections above do not read aloud: the first sentence of each definition's comment.",
-        "`tests/rules.py --write` writes this list.",
-        "",
-    ]
+def written_names(crates):
+    """The page of names that the definitions do not read aloud."""
+    page, lines = read("docs", "DEFINITIONS.md"), [NAMES]
     for crate in crates:
         names = sorted({name for name, where, _ in cited_names(crates) if where == crate and not is_read_aloud(name, page)})
         if names:
@@ -219,60 +243,69 @@ def written_list():
 
 def with_lengths(page):
     """The page with the lengths of the files that its table names."""
-    row = re.compile(r"^(\|[^|]*\| `(crates/[^`]*)` \| )\d+ \|", re.M)
-    return row.sub(lambda it: f"{it.group(1)}{len(read(it.group(2)).splitlines())} |", page)
+    return EDGE_ROW.sub(lambda it: f"{it.group(1)}{len(read(it.group(2)).splitlines())} |", page)
 
 
-def with_libraries(page):
-    """The page with what each crate of its table stands on, but the crates of tests, which stand on what they test."""
-    known = libraries()
-
-    def row(it):
-        if it.group(2) not in known or "test" in it.group(3):
-            return it.group(0)
-        return f"{it.group(1)}{', '.join(f'`{name}`' for name in known[it.group(2)])} |".replace("|  |", "| |")
-
-    return re.sub(r"^(\| `(\w+)` \|.*\| )([^|]*)\|$", row, page, flags=re.M)
+def with_length_of_edge(page):
+    """The page with the lines of all these files together, where it links them."""
+    length = sum(len(read(path).splitlines()) for _, path in EDGE_ROW.findall(read("docs", "THEOREM.md")))
+    return re.sub(r"\[\d+ lines\]", f"[{length} lines]", page)
 
 
-def write(name, text):
-    with open(os.path.join(TOP, "docs", name), "w", encoding="utf-8") as file:
+def write(text, *path):
+    with open(os.path.join(TOP, *path), "w", encoding="utf-8") as file:
         file.write(text.rstrip("\n") + "\n")
+
+
+def crate_faults(crates):
+    """The rules on the list of crates, and what breaks them."""
+    chain = longest_chain(crates)
+    yield "no long chain of crates", f"{len(chain)} crates: {', '.join(chain)}" if len(chain) > LONGEST else None
+    yield "crates.txt has each crate behind those that it stands on", "; ".join(out_of_order(crates)) or None
+    yield "crates.txt says what each crate is", ", ".join(sorted(without_a_word(read("crates.txt"), crates))) or None
+    folders = sorted(os.listdir(os.path.join(TOP, "crates")))
+    there = {it for it in folders if os.path.isdir(os.path.join(TOP, "crates", it, "src"))}
+    yield "crates.txt has the crates", ", ".join(sorted(there ^ set(crates))) or None
+    yield "the old text of each planted bug stands once", ", ".join(edit_faults(crates)) or None
+    yield "the gate tries two or three planted bugs of a crate, or none", ", ".join(wrong_counts(crates)) or None
+
+
+def page_faults(crates):
+    """The rules on the pages, and what breaks them."""
+    page = read("docs", "ARCHITECTURE.md")
+    rows = under_headings(page.partition(CHANGES)[0], r"^\*\*(\w+)\*\*: .*$", r"^\| `(\w+)` \|")
+    lines = under_headings(read("crates.txt"), r"^## (\w+): .*$", r"^(\w+)[ :]")
+    other = {heading for one, two in ((rows, lines), (lines, rows)) for heading, names in one if (heading, names) not in two}
+    yield "ARCHITECTURE.md has the crates under the headings of crates.txt", ", ".join(sorted(other)) or None
+    yield "ARCHITECTURE.md names calls of the crates", ", ".join(unknown_calls(page, crates)) or None
+    yield "ARCHITECTURE.md opens files that are there", ", ".join(absent_paths(page, crates)) or None
+    yield "links of pages lead somewhere", ", ".join(broken_links()) or None
+    page = read("README.md")
+    yield "README.md quotes its sources", "; ".join(misquoted(page)) or None
+    yield "README.md has the length of the edge", "`tests/rules.py --write` mends it" if page != with_length_of_edge(page) else None
+    page = read("docs", "THEOREM.md")
+    yield "THEOREM.md has the lengths of the edge", "`tests/rules.py --write` mends it" if page != with_lengths(page) else None
+    given = re.search(r"^version: (.*)$", read("CITATION.cff"), re.M)[1]
+    yield "CITATION.cff has the version", f"{given} and not {version()}" if given != version() else None
+    page = read("docs", "DEFINITIONS.md") + read("docs", "NAMES.md")
+    missing = [f"{name} of {crate}" for name, crate, _ in cited_names(crates) if not is_read_aloud(name, page)]
+    yield "each name in a public contract is in DEFINITIONS.md or NAMES.md", ", ".join(missing) or None
 
 
 def faults():
     """The name of each rule, and what breaks it, if anything does."""
     crates = stands_on()
-    chain = longest_chain(crates)
-    yield "no long chain of crates", f"{len(chain)} crates: {', '.join(chain)}" if len(chain) > LONGEST else None
-    yield "crates.txt has each crate behind those that it stands on", "; ".join(out_of_order(crates)) or None
-    text = read("crates.txt")
-    yield "crates.txt has its headings", heading_fault(text)
-    yield "crates.txt says what each crate is", ", ".join(sorted(without_a_word(text, crates))) or None
-    folders = sorted(os.listdir(os.path.join(TOP, "crates")))
-    there = {it for it in folders if os.path.isdir(os.path.join(TOP, "crates", it, "src"))}
-    yield "crates.txt has the crates", ", ".join(sorted(there ^ set(crates))) or None
-    page = read("docs", "ARCHITECTURE.md")
-    table = set(re.findall(r"^\| `(\w+)` \|", page, re.M))
-    yield "ARCHITECTURE.md has the crates", ", ".join(sorted(table ^ set(crates))) or None
-    yield "ARCHITECTURE.md says what they stand on", "`tests/rules.py --write` mends it" if page != with_libraries(page) else None
-    yield "README.md has the crates", readme_fault(crates)
-    yield "the old text of each planted bug stands once", ", ".join(edit_faults(crates)) or None
-    yield "the gate tries two or three planted bugs of a crate, or none", ", ".join(wrong_counts(crates)) or None
-    page = read("docs", "THEOREM.md")
-    yield "THEOREM.md has the lengths of the edge", "`tests/rules.py --write` mends it" if page != with_lengths(page) else None
-    page = read("docs", "DEFINITIONS.md")
-    missing = [f"{name} of {crate}" for name, crate, _ in cited_names(crates) if not is_read_aloud(name, page)]
-    yield "each name in a public contract is in DEFINITIONS.md", ", ".join(missing) or None
+    yield from crate_faults(crates)
+    yield from page_faults(crates)
 
 
 def main():
     reader = argparse.ArgumentParser(description=__doc__, formatter_class=argparse.RawDescriptionHelpFormatter)
-    reader.add_argument("--write", action="store_true")
+    reader.add_argument("--write", action="store_true", help="write anew what follows from the sources")
     if reader.parse_args().write:
-        write("DEFINITIONS.md", page_by_hand().rstrip("\n") + "\n\n" + written_list())
-        write("THEOREM.md", with_lengths(read("docs", "THEOREM.md")))
-        write("ARCHITECTURE.md", with_libraries(read("docs", "ARCHITECTURE.md")))
+        write(written_names(stands_on()), "docs", "NAMES.md")
+        write(with_lengths(read("docs", "THEOREM.md")), "docs", "THEOREM.md")
+        write(with_length_of_edge(read("README.md")), "README.md")
     broken = [f"{name}: {fault}" for name, fault in faults() if fault]
     print("\n".join(broken) or "no rule is broken")
     return 1 if broken else 0

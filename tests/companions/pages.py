@@ -2,8 +2,8 @@
 
 In the blocks of `docs/`, `examples/README.md` and `README.md` a line that begins with `$ ` is a command, and the lines up to the next such
 line or the end of the block are what it writes. Commands run one after another in a folder that has all of the repository, with `./kh`
-the program that is tested; what they write into files stays for the commands of the same page. `README.md` shows the output of its first
-command in the block behind it. Behind the pages come the texts of `docs/pictures`. `tests/program` runs these behind its rows.
+the program that is tested; what they write into files stays for the commands of the same page. Behind the pages come the texts of
+`docs/pictures`. `tests/program` runs these behind its rows.
 """
 import os
 import re
@@ -36,12 +36,6 @@ def commands(text):
                 shown.append(line)
 
 
-def first_of_readme(text):
-    """The first command of the first page, with the block behind it."""
-    one, other = [it[1] for it in BLOCK.finditer(text)][:2]
-    return one.split("\n")[0].split("#")[0].strip(), other, 1
-
-
 def folder_of(path, program):
     """A folder with all of the repository, but for the program."""
     for name in os.listdir(TOP):
@@ -58,10 +52,9 @@ def page_faults(name, program):
         return
     with open(path, encoding="utf-8") as file:
         text = file.read()
-    found = [*([first_of_readme(text)] if name == "README.md" else []), *commands(text)]
     with tempfile.TemporaryDirectory() as folder:
         folder_of(folder, program)
-        for command, shown, line in found:
+        for command, shown, line in commands(text):
             settings = dict(os.environ, COLUMNS="100", LC_ALL="C", PYTHONUTF8="1")
             words, nothing = ["sh", "-c", command], subprocess.DEVNULL
             came = subprocess.run(words, cwd=folder, env=settings, stdin=nothing, capture_output=True, text=True, timeout=PATIENCE)
