@@ -64,6 +64,10 @@ read-small forms.Pd bytes code read = pd-small bytes code read
 read-small forms.Gauss bytes code read = gauss-small bytes code read
 read-small forms.Json bytes code read = json-small bytes code read
 
+-- the code of a text has few crossings
+pub few_crossings-read : (bytes : List ℕ) (code : Code) → IsCodeRead bytes (Ok code) → length code.crossings ≤ CROSSINGS
+few_crossings-read bytes code read = (read-small (input_form bytes) bytes code read).crossings
+
 pub text-fault : (bytes : List ℕ) (code : Code) (fault : CodeFault) → IsCodeRead bytes (Ok code) → first_fault code ≡ Some fault
     → IsTextFault fault
 text-fault bytes code (faults.ArcRange crossing slot) read is = tt

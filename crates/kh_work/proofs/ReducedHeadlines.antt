@@ -20,11 +20,12 @@ use Rattle.kh_replies.specs.declared.status.Status.{Status}
 use Rattle.kh_replies.specs.declared.status.Status.TheVariants.{Done}
 use Rattle.kh_replies.specs.Jones.{jones_line}
 use Rattle.kh_replies.specs.Replies.{Reply, reply_of}
+use Rattle.kh_replies.proofs.TextFaults.{few_crossings-read}
 use Rattle.kh_work.specs.Answer.{IsAnswer}
 use Rattle.kh_work.specs.Reduced.{mark_line}
 use Rattle.kh_work.specs.Runs.{IsProgramRun, Seen, IsAcceptedText, HasWrittenReduced, KeepsReduced}
 use Rattle.kh_work.specs.Told.{Gives}
-use Rattle.kh_work.proofs.Headlines.{field-sized}
+use Rattle.kh_work.proofs.Headlines.{field-sized, whole-undisturbed}
 use Rattle.kh_work.proofs.OneAnswer.{HaveOneReply-task, IsAnswer-one}
 use Rattle.kh_work.proofs.ReducedAnswers.{IsAnswer-reduced}
 
@@ -66,12 +67,13 @@ written-reduced status before after field mark code reply is_field is_accepted f
 pub reduced-run : (words : List (List ℕ)) (source_before source_after sink_before sink_after : Seen)
     (same_source same_sink : Type 0) (status : Status)
     → IsProgramRun words source_before source_after sink_before sink_after same_source same_sink status
-    → KeepsReduced words source_before sink_before sink_after status
+    → KeepsReduced words source_before source_after sink_before sink_after status
 reduced-run words source_before source_after sink_before sink_after same_source same_sink status is_run
-    bytes command mark code is_bytes is_command is_reduced is_given text marked whole =
+    bytes command mark code is_bytes is_command is_reduced is_given text marked undisturbed =
+    let whole = whole-undisturbed words source_before source_after sink_before sink_after same_source same_sink status is_run undisturbed in
     let Answered : Option (List ℕ) → Type 0 = λ known. IfSome known (λ all.
     (reply : Reply) × IsAnswer words all reply × Gives reply status sink_before.bytes sink_after.bytes) in
     let told = subst Answered is_bytes (is_run.answered whole) in
     written-reduced status sink_before.bytes sink_after.bytes command.field mark code told.0 (IsCommand-sizes words command is_command).0
-    text.is_accepted text.few_crossings marked
+    text.is_accepted (few_crossings-read bytes code text.read) marked
     (reduced-answer words bytes command mark code told.0 is_command is_reduced is_given text marked told.1) told.2

@@ -1,6 +1,7 @@
 -- What is written of a reply is what a run promises.
-use Rattle.std.proofs.Common.{◌≡◌, ◌⊎◌, inl, inr, ℕ, List, IfSome, sym, subst, refl, ◌∙◌, Result, Ok, Err, None, Some}
+use Rattle.std.proofs.Common.{◌≡◌, ◌⊎◌, inl, inr, ℕ, List, [], take, IfSome, sym, subst, refl, ◌∙◌, Result, Ok, Err, None, Some}
 use Rattle.std.specs.declared.option.Option.{Option}
+use Rattle.std.specs.Io.KnownBytes.{Appends}
 use Rattle.kh_io.specs.Faults.{Rose}
 use Rattle.kh_work.specs.declared.answer.ReplyStop.{ReplyStop}
 use Rattle.kh_work.specs.declared.answer.ReplyStop.TheVariants as stops
@@ -44,6 +45,7 @@ run_whole words source_before source_after sink_before sink_after same_source sa
       quiet_source = λ w. replied.quiet;
       quiet_sink = λ w. quiet;
       unwritten = λ stopped. absurd (not_stopped status whole stopped);
+      gained = (reply.text, gives.written);
       prefix_written = λ is. absurd (subst IsWhole is whole);
       blind_prefix = λ nothing is. absurd (subst IsWhole is whole);
       complete = λ read wrote. inl whole;
@@ -66,15 +68,16 @@ run_cut words source_before source_after sink_before sink_after same_source same
       quiet_source = λ whole. absurd (subst IsWhole is_fault whole);
       quiet_sink = λ whole. absurd (subst IsWhole is_fault whole);
       unwritten = λ stopped. absurd (not_both status is_fault stopped);
+      gained = (take prefix.count reply.text, prefix.written);
       prefix_written = λ is. with_answer source_before.bytes words reply (λ r. GivesPrefix r sink_before.bytes sink_after.bytes) replied.known prefix;
       blind_prefix = λ nothing is. (reply, replied.blind nothing, prefix);
       complete = λ read wrote. absurd (wrote rose);
     }
 
 run_unread : (words : List (List ℕ)) (source_before source_after sink_before sink_after : Seen) (same_source same_sink : Type 0)
-    (status : Status) → IsReplied words source_before source_after same_source (Err stops.ReadFault) → status ≡ ReadFault → same_sink
+    (status : Status) → IsReplied words source_before source_after same_source (Err stops.ReadFault) → status ≡ ReadFault → same_sink → Appends sink_before.bytes sink_after.bytes []
     → IsProgramRun words source_before source_after sink_before sink_after same_source same_sink status
-run_unread words source_before source_after sink_before sink_after same_source same_sink status replied is_fault same =
+run_unread words source_before source_after sink_before sink_after same_source same_sink status replied is_fault same nothing =
     record {
       answered = λ whole. absurd (subst IsWhole is_fault whole);
       blind_answered = λ nothing whole. absurd (subst IsWhole is_fault whole);
@@ -87,15 +90,16 @@ run_unread words source_before source_after sink_before sink_after same_source s
       quiet_source = λ whole. absurd (subst IsWhole is_fault whole);
       quiet_sink = λ whole. absurd (subst IsWhole is_fault whole);
       unwritten = λ stopped. same;
+      gained = ([], nothing);
       prefix_written = λ is. let both : ReadFault ≡ WriteFault = sym is_fault ∙ is in absurd (cc);
       blind_prefix = λ nothing is. let both : ReadFault ≡ WriteFault = sym is_fault ∙ is in absurd (cc);
       complete = λ read wrote. absurd (read (replied.fault refl));
     }
 
 run_unmade : (words : List (List ℕ)) (source_before source_after sink_before sink_after : Seen) (same_source same_sink : Type 0)
-    (status : Status) → IsReplied words source_before source_after same_source (Err stops.NoMemory) → status ≡ NoMemory → same_sink
+    (status : Status) → IsReplied words source_before source_after same_source (Err stops.NoMemory) → status ≡ NoMemory → same_sink → Appends sink_before.bytes sink_after.bytes []
     → IsProgramRun words source_before source_after sink_before sink_after same_source same_sink status
-run_unmade words source_before source_after sink_before sink_after same_source same_sink status replied is_memory same =
+run_unmade words source_before source_after sink_before sink_after same_source same_sink status replied is_memory same nothing =
     record {
       answered = λ whole. absurd (subst IsWhole is_memory whole);
       blind_answered = λ nothing whole. absurd (subst IsWhole is_memory whole);
@@ -108,6 +112,7 @@ run_unmade words source_before source_after sink_before sink_after same_source s
       quiet_source = λ whole. absurd (subst IsWhole is_memory whole);
       quiet_sink = λ whole. absurd (subst IsWhole is_memory whole);
       unwritten = λ stopped. same;
+      gained = ([], nothing);
       prefix_written = λ is. let both : NoMemory ≡ WriteFault = sym is_memory ∙ is in absurd (cc);
       blind_prefix = λ nothing is. let both : NoMemory ≡ WriteFault = sym is_memory ∙ is in absurd (cc);
       complete = λ read wrote. inr is_memory;
@@ -122,10 +127,10 @@ IsProgramRun-written words source_before source_after sink_before sink_after sam
     run_whole words source_before source_after sink_before sink_after same_source same_sink reply status replied gives quiet
 IsProgramRun-written words source_before source_after sink_before sink_after same_source same_sink (Ok reply) status replied (inr (is, rose, prefix)) =
     run_cut words source_before source_after sink_before sink_after same_source same_sink reply status replied is rose prefix
-IsProgramRun-written words source_before source_after sink_before sink_after same_source same_sink (Err stops.ReadFault) status replied (is, same) =
-    run_unread words source_before source_after sink_before sink_after same_source same_sink status replied is same
-IsProgramRun-written words source_before source_after sink_before sink_after same_source same_sink (Err stops.NoMemory) status replied (is, same) =
-    run_unmade words source_before source_after sink_before sink_after same_source same_sink status replied is same
+IsProgramRun-written words source_before source_after sink_before sink_after same_source same_sink (Err stops.ReadFault) status replied (is, same, nothing) =
+    run_unread words source_before source_after sink_before sink_after same_source same_sink status replied is same nothing
+IsProgramRun-written words source_before source_after sink_before sink_after same_source same_sink (Err stops.NoMemory) status replied (is, same, nothing) =
+    run_unmade words source_before source_after sink_before sink_after same_source same_sink status replied is same nothing
 
 -- a draft that was completed keeps what is known of it
 pub IsReplied-completed : (words : List (List ℕ)) (source_before source_after : Seen) (same_source : Type 0) (this reply : Reply)

@@ -1,12 +1,12 @@
 -- The promises of a run. All of it is this project's rule.
-use Rattle.std.specs.Prelude.{◌≡◌, ◌≢◌, ◌⊎◌, ℕ, ℤ, pos, ◌+ℤ◌, ◌-ℤ◌, ◌≤◌, List, ◌++◌, length, IfOk, IfSome, IsTrue, OnOk, Some, Result, Ok, Err, true}
+use Rattle.std.specs.Prelude.{◌≡◌, ◌≢◌, ◌⊎◌, ℕ, ℤ, pos, ◌+ℤ◌, ◌-ℤ◌, ◌≤◌, List, [], ◌++◌, length, IfOk, IfSome, IsTrue, OnOk, Some, Result, Ok, Err, true}
 use Rattle.std.specs.declared.option.Option.{Option}
 use Rattle.std.specs.Io.KnownBytes.{Appends}
 use Rattle.kh_types.specs.Acceptance.{accepted}
 use Rattle.kh_types.specs.Code.{Code}
 use Rattle.kh_types.specs.StateSum.{euler, polynomial_text, state_sum}
 use Rattle.kh_types.specs.Table.{table, table_text}
-use Rattle.kh_types.specs.declared.limits.TheConstants.{CROSSINGS, INPUT_BYTES}
+use Rattle.kh_types.specs.declared.limits.TheConstants.{INPUT_BYTES}
 use Rattle.circle_smoothing.specs.GeneratorCounts.{generator_count}
 use Rattle.circle_smoothing.specs.declared.limits.TheConstants.{GENERATORS}
 use Rattle.reduced_cube.specs.Reduced.{is_mark, reduced_table}
@@ -63,7 +63,7 @@ abbrev pub IsWritten : Result Reply ReplyStop → Seen → Seen → Type 0 → S
 IsWritten (Ok reply) before after same_sink status =
     (Gives reply status before.bytes after.bytes × (after.faults ≡ before.faults))
     ⊎ ((status ≡ WriteFault) × Rose before.faults after.faults × GivesPrefix reply before.bytes after.bytes)
-IsWritten (Err stop) before after same_sink status = (status ≡ status_of stop) × same_sink
+IsWritten (Err stop) before after same_sink status = (status ≡ status_of stop) × same_sink × Appends before.bytes after.bytes []
 
 -- a run with these words ended with this status; the source and the sink were as seen before and after it, and each may be the same
 pub record IsProgramRun (words : List (List ℕ)) (source_before source_after sink_before sink_after : Seen)
@@ -86,6 +86,8 @@ pub record IsProgramRun (words : List (List ℕ)) (source_before source_after si
   -- where an answer is written whole no count of faults has risen
   pub quiet_source : IsWhole status → source_after.faults ≡ source_before.faults
   pub quiet_sink : IsWhole status → sink_after.faults ≡ sink_before.faults
+  -- the sink keeps what it had, and gains some bytes behind it, whatever is known of the source
+  pub gained : (bytes : List ℕ) × Appends sink_before.bytes sink_after.bytes bytes
   -- on a fault of reading and out of memory nothing is written, and on a fault of writing a prefix of an answer
   pub unwritten : (status ≡ ReadFault) ⊎ (status ≡ NoMemory) → same_sink
   pub prefix_written : status ≡ WriteFault → IfSome source_before.bytes (λ bytes.
@@ -108,15 +110,20 @@ pub record IsAcceptedText (bytes : List ℕ) (code : Code) : Type 0 where
   pub few_bytes : length bytes ≤ INPUT_BYTES
   pub read : IsCodeRead bytes (Ok code)
   pub is_accepted : IsTrue (accepted code)
-  pub few_crossings : length code.crossings ≤ CROSSINGS
   pub few_generators : generator_count code ≤ GENERATORS
 
--- a run whose words mean `homology`, over an input that is the text of the code of an accepted diagram within the limits, writes its
--- homology over the field that the command has, unless a fault or want of memory ends it
-abbrev pub KeepsHeadline : List (List ℕ) → Seen → Seen → Seen → Status → Type 0
-KeepsHeadline words source_before sink_before sink_after status =
+-- nothing disturbed a run: neither count of faults rose in it or stood at its last value, and it did not end for want of memory
+pub record IsUndisturbed (source_before source_after sink_before sink_after : Seen) (status : Status) : Type 0 where
+  pub reading : ¬ Rose source_before.faults source_after.faults
+  pub writing : ¬ Rose sink_before.faults sink_after.faults
+  pub memory : status ≢ NoMemory
+
+-- a run that nothing disturbed, whose words mean `homology`, over an input that is the text of the code of an accepted diagram within
+-- the limits, writes its homology over the field that the command has
+abbrev pub KeepsHeadline : List (List ℕ) → Seen → Seen → Seen → Seen → Status → Type 0
+KeepsHeadline words source_before source_after sink_before sink_after status =
     (bytes : List ℕ) (command : Command) (code : Code) → source_before.bytes ≡ Some bytes → IsCommand words command
-    → command.task ≡ Homology → IsAcceptedText bytes code → IsWhole status
+    → command.task ≡ Homology → IsAcceptedText bytes code → IsUndisturbed source_before source_after sink_before sink_after status
     → HasWrittenHomology command.field code status sink_before.bytes sink_after.bytes
 
 -- a run has ended as done, and a sink has gained the line of a mark, the reduced homology table of a code at it over the field of p
@@ -130,10 +137,11 @@ pub record HasWrittenReduced (p mark : ℕ) (code : Code) (ended : Status) (befo
       → euler (reduced_table p code mark) (exponent -ℤ pos 1) +ℤ euler (reduced_table p code mark) (exponent +ℤ pos 1)
       ≡ state_sum code exponent
 
--- a run whose words mean `reduced` at an arc or a loop of the accepted diagram within the limits whose text the input is writes its
--- reduced homology there, over the field that the command has, unless a fault or want of memory ends it
-abbrev pub KeepsReduced : List (List ℕ) → Seen → Seen → Seen → Status → Type 0
-KeepsReduced words source_before sink_before sink_after status =
+-- a run that nothing disturbed, whose words mean `reduced` at an arc or a loop of the accepted diagram within the limits whose text the
+-- input is, writes its reduced homology there, over the field that the command has
+abbrev pub KeepsReduced : List (List ℕ) → Seen → Seen → Seen → Seen → Status → Type 0
+KeepsReduced words source_before source_after sink_before sink_after status =
     (bytes : List ℕ) (command : Command) (mark : ℕ) (code : Code) → source_before.bytes ≡ Some bytes → IsCommand words command
-    → command.task ≡ Reduced → command.mark ≡ Some mark → IsAcceptedText bytes code → is_mark code mark ≡ true → IsWhole status
+    → command.task ≡ Reduced → command.mark ≡ Some mark → IsAcceptedText bytes code → is_mark code mark ≡ true
+    → IsUndisturbed source_before source_after sink_before sink_after status
     → HasWrittenReduced command.field mark code status sink_before.bytes sink_after.bytes

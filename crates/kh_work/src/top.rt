@@ -29,9 +29,11 @@ pub fn run<R: Threads + Wait + Sync, S: Source, K: Sink, G: Gate + Sync>(
         (seen (S.left source.old) (S.faults source.old)) (seen (S.left source.new) (S.faults source.new))
         (seen (K.written sink.old) (K.faults sink.old)) (seen (K.written sink.new) (K.faults sink.new))
         (source.new ≡ source.old) (sink.new ≡ sink.old) result }
-    ensures headline { KeepsHeadline words.now (seen (S.left source.old) (S.faults source.old))
+    ensures headline { KeepsHeadline words.now
+        (seen (S.left source.old) (S.faults source.old)) (seen (S.left source.new) (S.faults source.new))
         (seen (K.written sink.old) (K.faults sink.old)) (seen (K.written sink.new) (K.faults sink.new)) result }
-    ensures reduced { KeepsReduced words.now (seen (S.left source.old) (S.faults source.old))
+    ensures reduced { KeepsReduced words.now
+        (seen (S.left source.old) (S.faults source.old)) (seen (S.left source.new) (S.faults source.new))
         (seen (K.written sink.old) (K.faults sink.old)) (seen (K.written sink.new) (K.faults sink.new)) result }
 {
     let made = reply_by(rt, alloc, words, source, gate);
@@ -50,9 +52,11 @@ pub fn run_alone<S: Source, K: Sink>(
         (seen (S.left source.old) (S.faults source.old)) (seen (S.left source.new) (S.faults source.new))
         (seen (K.written sink.old) (K.faults sink.old)) (seen (K.written sink.new) (K.faults sink.new))
         (source.new ≡ source.old) (sink.new ≡ sink.old) result }
-    ensures headline { KeepsHeadline words.now (seen (S.left source.old) (S.faults source.old))
+    ensures headline { KeepsHeadline words.now
+        (seen (S.left source.old) (S.faults source.old)) (seen (S.left source.new) (S.faults source.new))
         (seen (K.written sink.old) (K.faults sink.old)) (seen (K.written sink.new) (K.faults sink.new)) result }
-    ensures reduced { KeepsReduced words.now (seen (S.left source.old) (S.faults source.old))
+    ensures reduced { KeepsReduced words.now
+        (seen (S.left source.old) (S.faults source.old)) (seen (S.left source.new) (S.faults source.new))
         (seen (K.written sink.old) (K.faults sink.old)) (seen (K.written sink.new) (K.faults sink.new)) result }
 {
     let alone = reply_alone(alloc, words, source);
