@@ -1,0 +1,100 @@
+-- The circles of an object at an outer state, as those that a smoothing of the next crossing closes and those of the new object.
+use Rattle.std.proofs.Common.{◌≡◌, ℕ, zero, suc, ◌+◌, ◌<◌, ◌∙◌, List, [], ◌∷◌, ◌++◌, append_assoc, length, sym, subst, ap, arith, Bool, true, false, cond}
+use Rattle.std.specs.Prelude.{slice_index}
+use Rattle.std.specs.List.{Contains, filter, sum_by}
+use Rattle.std.proofs.lemmas.Bool.{eqb-true}
+use Rattle.std.proofs.lemmas.List.{get_or_default}
+use Rattle.kh_types.specs.Classes.{AreBelow, Respects, classes_of, is_least}
+use Rattle.kh_types.specs.Code.{Code, arc_count, arcs_and_loops}
+use Rattle.kh_types.specs.Darts.{HasArcsTwice}
+use Rattle.kh_types.proofs.ClassLemmas.{classes-together}
+use Rattle.added_crossings.specs.Codes.{closed_at, is_alive, pairing_behind, smoothing_at, step_at, points_at}
+use Rattle.added_crossings.proofs.CodeSums.{IsCut-at}
+use Rattle.added_crossings.proofs.KeptCircles.{IsCut, sum-circles, whole-joins}
+use Rattle.dotted_surfaces.specs.Points.{AreAmong}
+use Rattle.cell_complexes.specs.Alike.{HasNoDoubles}
+use Rattle.cell_complexes.proofs.Members.{Contains-kept, sum_by-members}
+use Rattle.cell_complexes.proofs.NoDoubles.{once-range}
+use Rattle.scan_laws.specs.States.{circles_at}
+use Rattle.closed_surfaces.specs.Made.{joined_outside}
+use Rattle.scan_laws.specs.Edges.{classes_at}
+use Rattle.scan_laws.proofs.States.{joint, outer-raised, outside-more, raised}
+
+pub respects-mapped : (f h : ℕ → ℕ) (pairs : List (ℕ × ℕ)) → Respects f pairs → Respects (λ x. h (f x)) pairs
+respects-mapped f h [] respects = tt
+respects-mapped f h (pair ∷ pairs) respects = (ap h respects.0, respects-mapped f h pairs respects.1)
+
+pub once-filter : (p : ℕ → Bool) (xs : List ℕ) → HasNoDoubles xs → HasNoDoubles (filter p xs)
+once-filter p [] once = λ k l d less below. absurd (omega (arith, below))
+once-filter p (x ∷ xs) once =
+    let rest_once : HasNoDoubles xs = λ k l d less below. once (suc k) (suc l) d (omega (arith, less)) (omega (arith, below)) in
+    let gone : Contains xs x → ⊥ = λ has. once 0 (suc has.0) x (omega arith) (omega (arith, has.1)) (sym has.2) in
+    step (p x) x (filter p xs) (λ has. gone (Contains-kept p xs x has).0) (once-filter p xs rest_once)
+  where
+    step : (b : Bool) (y : ℕ) (ys : List ℕ) → (Contains ys y → ⊥) → HasNoDoubles ys → HasNoDoubles (cond b (y ∷ ys) ys)
+    step false y ys gone once i j d less below = once i j d less below
+    step true y ys gone once zero zero d less below = absurd (omega (arith, less))
+    step true y ys gone once zero (suc l) d less below =
+        λ same. gone (l, omega (arith, below), get_or_default ys l y d (omega (arith, below)) ∙ sym same)
+    step true y ys gone once (suc k) zero d less below = absurd (omega (arith, less))
+    step true y ys gone once (suc k) (suc l) d less below = once k l d (omega (arith, less)) (omega (arith, below))
+
+pub once-circles : (code : Code) (k : ℕ) (m : List (ℕ × ℕ)) (t : ℕ) → HasNoDoubles (circles_at code k m t)
+once-circles code k m t =
+    once-filter (is_least (classes_at code k m t)) (points_at code k).alive
+    (once-filter (is_alive code k) (arcs_and_loops code) (once-range 1 (arc_count code.crossings + code.loops)))
+
+module _ (code : Code) (k : ℕ) (m : List (ℕ × ℕ)) (e u : ℕ) (twice : HasArcsTwice code.crossings) (below : k < length code.crossings)
+    (among : AreAmong (points_at code k).opened m) (e_below : e < 2) where
+  abbrev size : ℕ
+  size = (points_at code k).size
+
+  abbrev pub old_class : ℕ → ℕ
+  old_class x = slice_index (classes_at code k m (joint e u)) x
+
+  abbrev pub old_circles : List ℕ
+  old_circles = circles_at code k m (joint e u)
+
+  abbrev pub closed_circles_at : List ℕ
+  closed_circles_at = closed_at code k e m
+
+  abbrev pub new_circles : List ℕ
+  new_circles = circles_at code (k + 1) (pairing_behind code k e m) u
+
+  -- the joins, in the other order of brackets
+  abbrev pub inside_joins : List (ℕ × ℕ)
+  inside_joins = m ++ smoothing_at code k e
+
+  pub joins-old : m ++ joined_outside code k (joint e u) ≡ inside_joins ++ joined_outside code (k + 1) u
+  joins-old =
+      ap (λ (w : List (ℕ × ℕ)). m ++ w) (outside-more code k e u below e_below)
+      ∙ sym (append_assoc m (smoothing_at code k e) (joined_outside code (k + 1) u))
+
+  pub is-cut : IsCut (step_at code k) inside_joins (pairing_behind code k e m) (joined_outside code (k + 1) u)
+  is-cut =
+      subst (λ (w : List (ℕ × ℕ)). IsCut (step_at code k) inside_joins (pairing_behind code k e m) w) (outer-raised code (k + 1) u)
+      (IsCut-at code k e (raised (k + 1) u) m twice below among)
+
+  pub joins-below : AreBelow size (inside_joins ++ joined_outside code (k + 1) u)
+  joins-below = whole-joins (step_at code k) inside_joins (pairing_behind code k e m) (joined_outside code (k + 1) u) is-cut
+
+  pub class-respects : Respects old_class (inside_joins ++ joined_outside code (k + 1) u)
+  class-respects =
+      subst (λ (w : List (ℕ × ℕ)). Respects (λ x. slice_index (classes_of size w) x) (inside_joins ++ joined_outside code (k + 1) u)) (sym joins-old)
+      (classes-together size (inside_joins ++ joined_outside code (k + 1) u) joins-below)
+
+  circles-old : old_circles ≡ filter (is_least (classes_of size (inside_joins ++ joined_outside code (k + 1) u))) (points_at code k).alive
+  circles-old = ap (λ (w : List (ℕ × ℕ)). filter (is_least (classes_of size w)) (points_at code k).alive) joins-old
+
+  pub own-class : (z : ℕ) → Contains old_circles z → old_class z ≡ z
+  own-class z has =
+      eqb-true (old_class z) z (Contains-kept (is_least (classes_at code k m (joint e u))) (points_at code k).alive z has).1
+
+  -- sums over circles
+  pub circle-sums : (h : ℕ → ℕ) → sum_by (λ x. h (old_class x)) new_circles + sum_by (λ x. h (old_class x)) closed_circles_at
+      ≡ sum_by h old_circles
+  circle-sums h =
+      sum-circles (step_at code k) inside_joins (pairing_behind code k e m) (joined_outside code (k + 1) u) (λ x. h (old_class x)) is-cut
+      (respects-mapped old_class h (inside_joins ++ joined_outside code (k + 1) u) class-respects)
+      ∙ ap (λ (xs : List ℕ). sum_by (λ x. h (old_class x)) xs) (sym circles-old)
+      ∙ sum_by-members (λ x. h (old_class x)) h old_circles (λ z has. ap h (own-class z has))
