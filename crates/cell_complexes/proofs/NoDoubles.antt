@@ -10,16 +10,16 @@ use Rattle.cell_complexes.proofs.Members.{Contains-first, Contains-flattened, Co
 stands : {A : Type 0} (xs : List A) (k : ℕ) (d : A) → k < length xs → Contains xs (get_or xs k d)
 stands xs k d within = (k, within, get_or_default xs k (get_or xs k d) d within)
 
-once-first : {A : Type 0} (x : A) (xs : List A) → (Contains xs x → ⊥) → HasNoDoubles xs → HasNoDoubles (x ∷ xs)
+pub once-first : {A : Type 0} (x : A) (xs : List A) → (Contains xs x → ⊥) → HasNoDoubles xs → HasNoDoubles (x ∷ xs)
 once-first x xs new once k zero d less within = absurd (omega (arith, less))
 once-first {A} x xs new once zero (suc l) d less within =
     λ same. new (l, omega (arith, within), get_or_default xs l x d (omega (arith, within)) ∙ sym same)
 once-first x xs new once (suc k) (suc l) d less within = once k l d (omega (arith, less)) (omega (arith, within))
 
-once-later : {A : Type 0} (x : A) (xs : List A) → HasNoDoubles (x ∷ xs) → HasNoDoubles xs
+pub once-later : {A : Type 0} (x : A) (xs : List A) → HasNoDoubles (x ∷ xs) → HasNoDoubles xs
 once-later x xs once k l d less within = once (suc k) (suc l) d (omega (arith, less)) (omega (arith, within))
 
-first-new : {A : Type 0} (x : A) (xs : List A) → HasNoDoubles (x ∷ xs) → Contains xs x → ⊥
+pub first-new : {A : Type 0} (x : A) (xs : List A) → HasNoDoubles (x ∷ xs) → Contains xs x → ⊥
 first-new x xs once has = once 0 (suc has.0) x (omega arith) (omega (arith, has.1)) (sym has.2)
 
 pub once-range : (a n : ℕ) → HasNoDoubles (range_with_len a n)

@@ -38,7 +38,7 @@ led-made code choice state (suc k) twice coloured within =
 abbrev along : ℕ → ℕ × List ℕ → List (ℕ × ℕ)
 along state at = smoothing_of (bit state at.0) at.1
 
-smoothings-moved : (a b s t : ℕ) (xs : List (List ℕ)) → ((i : ℕ) → bit s (a + i) ≡ bit t (b + i))
+pub smoothings-moved : (a b s t : ℕ) (xs : List (List ℕ)) → ((i : ℕ) → bit s (a + i) ≡ bit t (b + i))
     → flat_map (along s) (enumerate_from a xs) ≡ flat_map (along t) (enumerate_from b xs)
 smoothings-moved a b s t [] same = refl
 smoothings-moved a b s t (x ∷ xs) same =
@@ -65,7 +65,7 @@ bit-raised k u i =
     (ap (λ n. n / 2 ^ k) (none_more (2 ^ k * u)) ∙ add-mul-div_left 0 u (pow_pos k) ∙ ap (λ n. n + u) (zero-div (2 ^ k))
     ∙ sym (none_more u)))
 
-outer-raised : (code : Code) (k u : ℕ) → outer_smoothings code (2 ^ k * u) k ≡ joined_outside code k u
+pub outer-raised : (code : Code) (k u : ℕ) → outer_smoothings code (2 ^ k * u) k ≡ joined_outside code k u
 outer-raised code k u =
     smoothings-moved k 0 (2 ^ k * u) u (drop k code.crossings) (λ i. bit-raised k u i ∙ ap (bit u) (none_more i))
 
