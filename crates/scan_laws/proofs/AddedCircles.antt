@@ -1,9 +1,8 @@
 -- The circles of an object at an outer state, as those that a smoothing of the next crossing closes and those of the new object.
-use Rattle.std.proofs.Common.{◌≡◌, ℕ, zero, suc, ◌+◌, ◌<◌, ◌∙◌, List, [], ◌∷◌, ◌++◌, append_assoc, length, sym, subst, ap, arith, Bool, true, false, cond}
+use Rattle.std.proofs.Common.{◌≡◌, ℕ, ◌+◌, ◌*◌, ◌^◌, ◌<◌, ◌∙◌, List, [], ◌∷◌, ◌++◌, append_assoc, length, sym, subst, ap, arith, Bool, true, false, cond}
 use Rattle.std.specs.Prelude.{slice_index}
 use Rattle.std.specs.List.{Contains, filter, sum_by}
 use Rattle.std.proofs.lemmas.Bool.{eqb-true}
-use Rattle.std.proofs.lemmas.List.{get_or_default}
 use Rattle.kh_types.specs.Classes.{AreBelow, Respects, classes_of, is_least}
 use Rattle.kh_types.specs.Code.{Code, arc_count, arcs_and_loops}
 use Rattle.kh_types.specs.Darts.{HasArcsTwice}
@@ -14,11 +13,12 @@ use Rattle.added_crossings.proofs.KeptCircles.{IsCut, sum-circles, whole-joins}
 use Rattle.dotted_surfaces.specs.Points.{AreAmong}
 use Rattle.cell_complexes.specs.Alike.{HasNoDoubles}
 use Rattle.cell_complexes.proofs.Members.{Contains-kept, sum_by-members}
-use Rattle.cell_complexes.proofs.NoDoubles.{once-range}
-use Rattle.scan_laws.specs.States.{circles_at}
-use Rattle.closed_surfaces.specs.Made.{joined_outside}
+use Rattle.cell_complexes.proofs.NoDoubles.{first-new, once-first, once-later, once-range}
+use Rattle.scan_laws.specs.Scans.{circles_at}
 use Rattle.scan_laws.specs.Edges.{classes_at}
-use Rattle.scan_laws.proofs.States.{joint, outer-raised, outside-more, raised}
+use Rattle.closed_surfaces.specs.Made.{joined_outside}
+use Rattle.closed_surfaces.proofs.MadePairings.{outer-raised}
+use Rattle.scan_laws.proofs.States.{joint, outside-more}
 
 pub respects-mapped : (f h : ℕ → ℕ) (pairs : List (ℕ × ℕ)) → Respects f pairs → Respects (λ x. h (f x)) pairs
 respects-mapped f h [] respects = tt
@@ -27,25 +27,25 @@ respects-mapped f h (pair ∷ pairs) respects = (ap h respects.0, respects-mappe
 pub once-filter : (p : ℕ → Bool) (xs : List ℕ) → HasNoDoubles xs → HasNoDoubles (filter p xs)
 once-filter p [] once = λ k l d less below. absurd (omega (arith, below))
 once-filter p (x ∷ xs) once =
-    let rest_once : HasNoDoubles xs = λ k l d less below. once (suc k) (suc l) d (omega (arith, less)) (omega (arith, below)) in
-    let gone : Contains xs x → ⊥ = λ has. once 0 (suc has.0) x (omega arith) (omega (arith, has.1)) (sym has.2) in
-    step (p x) x (filter p xs) (λ has. gone (Contains-kept p xs x has).0) (once-filter p xs rest_once)
+    by (p x) (λ has. first-new x xs once (Contains-kept p xs x has).0) (once-filter p xs (once-later x xs once))
   where
-    step : (b : Bool) (y : ℕ) (ys : List ℕ) → (Contains ys y → ⊥) → HasNoDoubles ys → HasNoDoubles (cond b (y ∷ ys) ys)
-    step false y ys gone once i j d less below = once i j d less below
-    step true y ys gone once zero zero d less below = absurd (omega (arith, less))
-    step true y ys gone once zero (suc l) d less below =
-        λ same. gone (l, omega (arith, below), get_or_default ys l y d (omega (arith, below)) ∙ sym same)
-    step true y ys gone once (suc k) zero d less below = absurd (omega (arith, less))
-    step true y ys gone once (suc k) (suc l) d less below = once k l d (omega (arith, less)) (omega (arith, below))
+    by : (b : Bool) → (Contains (filter p xs) x → ⊥) → HasNoDoubles (filter p xs) → HasNoDoubles (cond b (x ∷ filter p xs) (filter p xs))
+    by false new rest = rest
+    by true new rest = once-first x (filter p xs) new rest
 
 pub once-circles : (code : Code) (k : ℕ) (m : List (ℕ × ℕ)) (t : ℕ) → HasNoDoubles (circles_at code k m t)
 once-circles code k m t =
     once-filter (is_least (classes_at code k m t)) (points_at code k).alive
     (once-filter (is_alive code k) (arcs_and_loops code) (once-range 1 (arc_count code.crossings + code.loops)))
 
-module _ (code : Code) (k : ℕ) (m : List (ℕ × ℕ)) (e u : ℕ) (twice : HasArcsTwice code.crossings) (below : k < length code.crossings)
-    (among : AreAmong (points_at code k).opened m) (e_below : e < 2) where
+-- behind the first k crossings of a code another comes, with a smoothing, at a pairing of the open arcs
+pub record HasNext (code : Code) (k : ℕ) (m : List (ℕ × ℕ)) (e : ℕ) : Type 0 where
+  pub twice : HasArcsTwice code.crossings
+  pub below : k < length code.crossings
+  pub among : AreAmong (points_at code k).opened m
+  pub smoothing : e < 2
+
+module _ (code : Code) (k : ℕ) (m : List (ℕ × ℕ)) (e u : ℕ) (at : HasNext code k m e) where
   abbrev size : ℕ
   size = (points_at code k).size
 
@@ -67,13 +67,13 @@ module _ (code : Code) (k : ℕ) (m : List (ℕ × ℕ)) (e u : ℕ) (twice : Ha
 
   pub joins-old : m ++ joined_outside code k (joint e u) ≡ inside_joins ++ joined_outside code (k + 1) u
   joins-old =
-      ap (λ (w : List (ℕ × ℕ)). m ++ w) (outside-more code k e u below e_below)
+      ap (λ (w : List (ℕ × ℕ)). m ++ w) (outside-more code k e u at.below at.smoothing)
       ∙ sym (append_assoc m (smoothing_at code k e) (joined_outside code (k + 1) u))
 
   pub is-cut : IsCut (step_at code k) inside_joins (pairing_behind code k e m) (joined_outside code (k + 1) u)
   is-cut =
       subst (λ (w : List (ℕ × ℕ)). IsCut (step_at code k) inside_joins (pairing_behind code k e m) w) (outer-raised code (k + 1) u)
-      (IsCut-at code k e (raised (k + 1) u) m twice below among)
+      (IsCut-at code k e (2 ^ (k + 1) * u) m at.twice at.below at.among)
 
   pub joins-below : AreBelow size (inside_joins ++ joined_outside code (k + 1) u)
   joins-below = whole-joins (step_at code k) inside_joins (pairing_behind code k e m) (joined_outside code (k + 1) u) is-cut

@@ -22,7 +22,7 @@ use Rattle.cell_complexes.specs.Cubes.{cube_of}
 use Rattle.cell_complexes.specs.Layers.{Layer, Layers, cells_of, layer_coefficient, layer_of, object_cells}
 use Rattle.cell_complexes.proofs.Listings.{listed-named}
 use Rattle.cell_complexes.proofs.NoDoubles.{flat_map-range, map-flat_map, map-map}
-use Rattle.scan_laws.specs.States.{circles_at, circle_count_at, first_scan}
+use Rattle.scan_laws.specs.Scans.{circle_count_at, circles_at, first_scan}
 use Rattle.scan_laws.specs.Edges.{changes_by, keeps_by, outer_at}
 use Rattle.scan_laws.specs.Complexes.{complex_of, layers_of}
 use Rattle.scan_laws.proofs.Coefficients.{between-states, inside-state}

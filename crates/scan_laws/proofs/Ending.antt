@@ -1,5 +1,7 @@
--- Each accepted code has a scan that ends.
-use Rattle.std.proofs.Common.{◌≡◌, ◌≢◌, ℕ, zero, suc, inl, inr, ◌+◌, ◌*◌, ◌%◌, ◌^◌, ◌<◌, ◌≤◌, ◌∙◌, ℤ, pos, ◌+ℤ◌, List, [], ◌∷◌, length, refl, sym, subst, ap, arith, Bool, true, false, not, IsTrue}
+-- Each scan of an accepted code can be brought to an end: the crossings that are left are added, and then numbers are eliminated while
+-- there are any. Behind all crossings each coefficient other than 0 is a number, since there is one dot set, and none leads from an object
+-- to itself, by degrees; so each elimination leaves two objects less.
+use Rattle.std.proofs.Common.{◌≡◌, ◌≢◌, ℕ, zero, suc, inl, inr, ◌+◌, ◌-◌, ◌*◌, ◌%◌, ◌^◌, ◌<◌, ◌≤◌, ◌∙◌, ℤ, pos, ◌+ℤ◌, List, [], ◌∷◌, length, refl, sym, subst, ap, arith, Bool, true, false, not, IsTrue}
 use Rattle.std.specs.Prelude.{nat_eq, ◌++◌, if◌then◌else◌}
 use Rattle.std.specs.List.{Contains, filter, list_any, sum_by}
 use Rattle.std.proofs.Math.Nat.{zero-mod, mod-mod}
@@ -9,75 +11,60 @@ use Rattle.std.proofs.lemmas.Nat.{mod_below, pow_pos}
 use Rattle.kh_types.specs.Acceptance.{accepted}
 use Rattle.kh_types.specs.Classes.{classes_of, is_least}
 use Rattle.kh_types.specs.Code.{Code}
-use Rattle.kh_types.specs.Darts.{HasArcsTwice}
-use Rattle.kh_types.specs.Generators.{Generator}
 use Rattle.kh_types.specs.Products.{sum_below}
 use Rattle.kh_types.specs.Residues.{HasInverses, Same}
-use Rattle.kh_types.proofs.AcceptedLemmas.{HasArcsTwice-accepted}
 use Rattle.kh_types.proofs.Residues.{same-equal}
 use Rattle.dotted_surfaces.proofs.Components.{list_any-contained, list_any-some}
 use Rattle.dotted_maps.specs.Maps.{coefficient_in, matrix_of}
-use Rattle.dotted_surfaces.specs.Points.{AreAmong}
 use Rattle.dotted_maps.specs.Terms.{entry}
 use Rattle.dotted_maps.proofs.Identities.{entry-identity}
-use Rattle.cell_complexes.specs.Cells.{AreComplex}
-use Rattle.cell_complexes.specs.Cubes.{cube_of}
-use Rattle.cell_complexes.specs.Layers.{layer_coefficient, layer_of}
-use Rattle.cell_complexes.proofs.AlikeComplexes.{complex-alike}
-use Rattle.cell_complexes.proofs.Orders.{AreComplex-cube}
-use Rattle.scan_laws.specs.Complexes.{complex_of, layers_of}
-use Rattle.scan_laws.specs.Good.{IsGood}
-use Rattle.scan_laws.specs.States.{Scan, circle_count_at, count_behind, first_scan, pairs_of}
-use Rattle.closed_surfaces.specs.Made.{joined_outside}
 use Rattle.added_crossings.specs.Codes.{points_at}
-use Rattle.scan_laws.specs.Steps.{AreSteps, IsLast, IsNumber, IsStep, dot_sets, last_of}
-use Rattle.scan_laws.proofs.Base.{alike-first}
+use Rattle.closed_surfaces.specs.Made.{joined_outside}
+use Rattle.cell_complexes.specs.Cells.{AreComplex}
+use Rattle.cell_complexes.specs.Layers.{layer_coefficient, layer_of}
+use Rattle.scan_laws.specs.Scans.{IsScanOf, Scan, circle_count_at, count_behind, dot_sets, pairs_of}
+use Rattle.scan_laws.specs.Complexes.{complex_of, layers_of}
+use Rattle.scan_laws.specs.Eliminating.{IsNumber}
+use Rattle.scan_laws.specs.Steps.{IsLast, IsScanStep, LeadsTo}
 use Rattle.scan_laws.proofs.CellLists.{cell-of}
 use Rattle.scan_laws.proofs.Coefficients.{inside-state}
-use Rattle.scan_laws.proofs.Discharged.{sound-good}
-use Rattle.scan_laws.proofs.Eliminating.{matrix-sets}
-use Rattle.scan_laws.proofs.End.{opened-last, pairs-last}
-use Rattle.scan_laws.proofs.Good.{good-first}
-use Rattle.closed_surfaces.proofs.MadePairings.{have-surfaces}
-use Rattle.scan_laws.proofs.Points.{placed-behind}
+use Rattle.scan_laws.proofs.Kept.{keeps-step}
+use Rattle.scan_laws.proofs.LastPoints.{nothing-open, pairs-last}
+use Rattle.scan_laws.proofs.Matrices.{matrix-sets}
+use Rattle.scan_laws.proofs.Objects.{object-pairing, objects-glued, placed-behind}
 use Rattle.scan_laws.proofs.Possible.{added-scan, eliminated-scan}
-use Rattle.scan_laws.proofs.Scans.{coefficients-below}
 use Rattle.scan_laws.proofs.SplitLabels.{length-sum}
-use Rattle.scan_laws.proofs.Sound.{IsSound}
-use Rattle.scan_laws.proofs.Whole.{step-keeps}
 
--- a way from a scan to an end
+-- steps lead from a scan to an end
 pub record HasEnd (p : ℕ) (code : Code) (scan : Scan) : Type 0 where
-  pub later : List Scan
-  pub steps : AreSteps p code scan later
-  pub last : IsLast p code (last_of scan later)
+  pub end : Scan
+  pub leads : LeadsTo p code scan end
+  pub last : IsLast p code end
 
-one-step : (p : ℕ) (code : Code) (scan next : Scan) → IsStep p code scan next → HasEnd p code next → HasEnd p code scan
-one-step p code scan next step end = record { later = next ∷ end.later; steps = (step, end.steps); last = end.last }
+none-left : (p : ℕ) (code : Code) (scan : Scan) → IsLast p code scan → HasEnd p code scan
+none-left p code scan last = record { end = scan; leads = record { later = []; steps = tt; last = refl }; last = last }
+
+one-step : (p : ℕ) (code : Code) (scan next : Scan) → IsScanStep p code scan next → HasEnd p code next → HasEnd p code scan
+one-step p code scan next step has =
+    record {
+      end = has.end;
+      leads = record { later = next ∷ has.leads.later; steps = (step, has.leads.steps); last = has.leads.last };
+      last = has.last;
+    }
 
 module _ (p : ℕ) (code : Code) (field : HasInverses p) (is : IsTrue (accepted code)) where
-  twice : HasArcsTwice code.crossings
-  twice = HasArcsTwice-accepted code is
-
   positive : 0 < p
   positive = omega (arith, field.above_one)
 
   abbrev IsWhole : Scan → Type 0
   IsWhole scan = AreComplex p (complex_of p code 0 0 scan)
 
-  sound-of : (scan : Scan) → IsGood code scan → IsSound code scan
-  sound-of scan good = sound-good p code is (have-surfaces code is) scan good
-
-  among-of : (scan : Scan) → IsGood code scan → (x : ℕ) → Contains scan.numbers x
-      → AreAmong (points_at code scan.done).opened (pairs_of scan x)
-  among-of scan good x has = ((sound-of scan good).surfaces.glued x x 0 has has).first
-
-  module _ (scan : Scan) (good : IsGood code scan) (complex : IsWhole scan) (done : scan.done ≡ length code.crossings) where
+  module _ (scan : Scan) (of : IsScanOf code scan) (complex : IsWhole scan) (done : scan.done ≡ length code.crossings) where
     -- there is one set of dots
     one-set : (x y : ℕ) → dot_sets code scan x y ≡ 1
     one-set x y =
         ap (λ (points : List ℕ). 2 ^ length (filter (is_least (classes_of (points_at code 0).size (pairs_of scan x ++ pairs_of scan y)))
-        points)) (ap (λ k. (points_at code k).opened) done ∙ opened-last code twice)
+        points)) (nothing-open code is scan of done)
 
     abbrev amount : ℕ → ℕ → ℕ
     amount x y = coefficient_in (scan.terms x y) 0 % p
@@ -91,26 +78,24 @@ module _ (p : ℕ) (code : Code) (field : HasInverses p) (is : IsTrue (accepted 
         let w = joined_outside code scan.done 0 in
         let points = points_at code scan.done in
         let e = λ (kept : ℕ). entry points m m w kept 0 0 in
-        let in_list = cell-of layers a (record {
-          object = has;
-          state = pow_pos (count_behind code scan.done);
-          label = pow_pos (circle_count_at code scan x 0);
-        }) in
-        let sound = sound-of scan good in
+        let label = pow_pos (circle_count_at code scan x 0) in
+        let in_list = cell-of layers a (record { object = has; state = pow_pos (count_behind code scan.done); label = label }) in
         let one : e 0 ≡ 1 =
         entry-identity points m w 0 0
-        (record { placed = placed-behind code scan.done; pairing = sound.pairing x has; glued = sound.surfaces.glued x x 0 has has })
-        (pow_pos (circle_count_at code scan x 0)) (pow_pos (circle_count_at code scan x 0)) in
+        (record {
+          placed = placed-behind code scan.done;
+          pairing = object-pairing code is scan of x has;
+          glued = objects-glued code is scan of x x 0 has has;
+        }) label label in
         let same : Same p (layer_coefficient layers a a) (coefficient_in (scan.terms x x) 0) =
         same-equal p (layer_coefficient layers a a) (matrix_of p points m m w (scan.terms x x) 0 0) (inside-state layers a a refl)
-        ∙ matrix-sets p points m m w (scan.terms x x) 0 0 (good.dots x x has has)
+        ∙ matrix-sets p points m m w (scan.terms x x) 0 0 (of.dots x x has has)
         ∙ same-equal p (sum_below (dot_sets code scan x x) (λ kept. coefficient_in (scan.terms x x) kept * e kept))
         (coefficient_in (scan.terms x x) 0)
         (ap (λ n. sum_below n (λ kept. coefficient_in (scan.terms x x) kept * e kept)) (one-set x x)
         ∙ alone (coefficient_in (scan.terms x x) 0) (e 0) one) in
-        let next = complex.homological a a in_list in_list
-        (λ none. some (sym same ∙ ap (λ n. n % p) none ∙ zero-mod p)) in
-        never (layers.homological a) next
+        never (layers.homological a)
+        (complex.homological a a in_list in_list (λ none. some (sym same ∙ ap (λ n. n % p) none ∙ zero-mod p)))
       where
         alone : (c n : ℕ) → n ≡ 1 → c * n + 0 ≡ c
         alone c n one = ap (λ k. c * k + 0) one ∙ omega arith
@@ -131,8 +116,7 @@ module _ (p : ℕ) (code : Code) (field : HasInverses p) (is : IsTrue (accepted 
     is-number : (x y : ℕ) → Contains scan.numbers x → Contains scan.numbers y → amount x y ≢ 0 → IsNumber p code scan x y (amount x y)
     is-number x y has_x has_y some =
         record {
-          pairs = pairs-last code scan twice done (among-of scan good) y has_y
-              ∙ sym (pairs-last code scan twice done (among-of scan good) x has_x);
+          pairs = pairs-last code is scan of done y has_y ∙ sym (pairs-last code is scan of done x has_x);
           some = some;
           below = mod_below (coefficient_in (scan.terms x y) 0) p positive;
           terms = λ kept below. at kept (omega (arith, below, one-set x y));
@@ -163,32 +147,32 @@ module _ (p : ℕ) (code : Code) (field : HasInverses p) (is : IsTrue (accepted 
   -- one number is eliminated
   record IsLess (scan : Scan) : Type 0 where
     next : Scan
-    step : IsStep p code scan next
-    good : IsGood code next
+    step : IsScanStep p code scan next
+    of : IsScanOf code next
     complex : IsWhole next
     done : next.done ≡ length code.crossings
     fewer : length next.numbers + 2 ≡ length scan.numbers
 
-  less-of : (scan : Scan) (good : IsGood code scan) (complex : IsWhole scan) (done : scan.done ≡ length code.crossings)
-      → list_any (some_from scan good complex done) scan.numbers ≡ true → IsLess scan
-  less-of scan good complex done some =
-      let first = list_any-some (some_from scan good complex done) scan.numbers some in
-      let second = list_any-some (is_some scan good complex done first.0) scan.numbers first.2 in
+  less-of : (scan : Scan) (of : IsScanOf code scan) (complex : IsWhole scan) (done : scan.done ≡ length code.crossings)
+      → list_any (some_from scan of complex done) scan.numbers ≡ true → IsLess scan
+  less-of scan of complex done some =
+      let first = list_any-some (some_from scan of complex done) scan.numbers some in
+      let second = list_any-some (is_some scan of complex done first.0) scan.numbers first.2 in
       let x = first.0 in
       let y = second.0 in
-      let amount_is = some-number scan good complex done x y second.2 in
+      let amount_is = some-number scan of complex done x y second.2 in
       let differ : x ≢ y =
-      λ same. no-loop scan good complex done x first.1
-      (subst (λ z. amount scan good complex done x z ≢ 0) (sym same) amount_is) in
-      let made = eliminated-scan p code scan good positive x y (amount scan good complex done x y) differ first.1 second.1
-      (is-number scan good complex done x y first.1 second.1 amount_is) in
-      let keeps = step-keeps p code 0 0 scan made.0 field is good complex (inr made.1) in
+      λ same. no-loop scan of complex done x first.1 (subst (λ z. amount scan of complex done x z ≢ 0) (sym same) amount_is) in
+      let made = eliminated-scan p code scan of positive x y (amount scan of complex done x y) differ first.1 second.1
+      (is-number scan of complex done x y first.1 second.1 amount_is) in
+      let step = IsScanStep.eliminated made.1 in
+      let keeps = keeps-step p code 0 0 field is scan made.0 of complex step in
       let counts : sum_by (λ (z : ℕ). 1) (made.1.tail ∷ made.1.head ∷ made.0.numbers) ≡ sum_by (λ (z : ℕ). 1) scan.numbers =
       made.1.listed.sums (λ z. 1) in
       record {
         next = made.0;
-        step = inr made.1;
-        good = keeps.good;
+        step = step;
+        of = keeps.of;
         complex = keeps.complex;
         done = made.1.done ∙ done;
         fewer = omega (
@@ -200,34 +184,29 @@ module _ (p : ℕ) (code : Code) (field : HasInverses p) (is : IsTrue (accepted 
       }
 
   -- numbers are eliminated until none is left
-  ending : (fuel : ℕ) (scan : Scan) → length scan.numbers ≤ fuel → IsGood code scan → IsWhole scan → scan.done ≡ length code.crossings
+  ending : (fuel : ℕ) (scan : Scan) → length scan.numbers ≤ fuel → IsScanOf code scan → IsWhole scan → scan.done ≡ length code.crossings
       → HasEnd p code scan
-  ending zero scan few good complex done = elim (cases_Bool (list_any (some_from scan good complex done) scan.numbers)) [
-    | inl some ↦
-        let first = list_any-some (some_from scan good complex done) scan.numbers some in absurd (omega (arith, few, first.1.1))
-    | inr none ↦ record { later = []; steps = tt; last = all-zero scan good complex done none }
+  ending zero scan few of complex done = elim (cases_Bool (list_any (some_from scan of complex done) scan.numbers)) [
+    | inl some ↦ let less = less-of scan of complex done some in absurd (omega (arith, few, less.fewer))
+    | inr none ↦ none-left p code scan (all-zero scan of complex done none)
   ]
-  ending (suc fuel) scan few good complex done = elim (cases_Bool (list_any (some_from scan good complex done) scan.numbers)) [
+  ending (suc fuel) scan few of complex done = elim (cases_Bool (list_any (some_from scan of complex done) scan.numbers)) [
     | inl some ↦
-        let less = less-of scan good complex done some in
+        let less = less-of scan of complex done some in
         one-step p code scan less.next less.step
-        (ending fuel less.next (omega (arith, few, less.fewer)) less.good less.complex less.done)
-    | inr none ↦ record { later = []; steps = tt; last = all-zero scan good complex done none }
+        (ending fuel less.next (omega (arith, few, less.fewer)) less.of less.complex less.done)
+    | inr none ↦ none-left p code scan (all-zero scan of complex done none)
   ]
 
   -- all crossings are added
-  adding-all : (rest : ℕ) (scan : Scan) → scan.done + rest ≡ length code.crossings → IsGood code scan → IsWhole scan → HasEnd p code scan
-  adding-all zero scan left good complex = ending (length scan.numbers) scan (omega arith) good complex (omega (arith, left))
-  adding-all (suc rest) scan left good complex =
-      let made = added-scan p code scan good (omega (arith, left)) in
-      let keeps = step-keeps p code 0 0 scan made.0 field is good complex (inl made.1) in
-      one-step p code scan made.0 (inl made.1)
-      (adding-all rest made.0 (omega (arith, left, made.1.done)) keeps.good keeps.complex)
+  adding-all : (rest : ℕ) (scan : Scan) → scan.done + rest ≡ length code.crossings → IsScanOf code scan → IsWhole scan → HasEnd p code scan
+  adding-all zero scan left of complex = ending (length scan.numbers) scan (omega arith) of complex (omega (arith, left))
+  adding-all (suc rest) scan left of complex =
+      let made = added-scan p code scan of (omega (arith, left)) in
+      let step = IsScanStep.added made.1 in
+      let keeps = keeps-step p code 0 0 field is scan made.0 of complex step in
+      one-step p code scan made.0 step (adding-all rest made.0 (omega (arith, left, made.1.done)) keeps.of keeps.complex)
 
-  pub scan-ends : HasEnd p code first_scan
-  scan-ends =
-      let named = λ (x : Generator). layer_of 0 x.state x.label in
-      let one : Generator → ℕ = λ x. 1 in
-      adding-all (length code.crossings) first_scan (omega arith) (good-first code)
-      (complex-alike p named one (cube_of p code 0 0) (complex_of p code 0 0 first_scan) (alike-first p 0 0 code field.above_one)
-      (coefficients-below p code 0 0 first_scan field.above_one) (AreComplex-cube p code 0 0 field.above_one is))
+  pub scan-ends : (scan : Scan) → IsScanOf code scan → IsWhole scan → HasEnd p code scan
+  scan-ends scan of complex =
+      adding-all (length code.crossings - scan.done) scan (omega (arith, of.within)) of complex

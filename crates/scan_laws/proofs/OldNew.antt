@@ -8,24 +8,24 @@ use Rattle.std.proofs.lemmas.List.Elements.{Contains-append_cases, Contains-appe
 use Rattle.std.proofs.lemmas.List.Sums.{length-filter, sum_by-cons}
 use Rattle.kh_types.specs.Classes.{Respects, is_least}
 use Rattle.kh_types.specs.Code.{Code, arc_in}
-use Rattle.kh_types.specs.Darts.{HasArcsTwice}
 use Rattle.kh_types.proofs.ListSums.{sum_by-filter, sum_by-map, sum_by-zeros}
 use Rattle.kh_types.proofs.Lists.{AllByRecursion-append, AllByRecursion-first, AllByRecursion-second, Contains-map}
 use Rattle.dotted_surfaces.proofs.Components.{list_any-on, list_any-some}
 use Rattle.added_crossings.specs.Codes.{closed_at, pairing_behind, step_at, points_at}
 use Rattle.added_crossings.proofs.KeptCircles.{outside-among}
-use Rattle.dotted_surfaces.specs.Points.{AreAmong}
 use Rattle.dotted_maps.proofs.LeastPoints.{AreJoins, class-named, class-respected}
 use Rattle.cell_complexes.specs.Alike.{HasNoDoubles}
 use Rattle.cell_complexes.proofs.ExchangedCubes.{range-contains}
 use Rattle.cell_complexes.proofs.Members.{Contains-cases, Contains-kept, Contains-made, sum_by-members}
-use Rattle.scan_laws.specs.States.{circles_at}
-use Rattle.closed_surfaces.specs.Made.{joined_outside}
+use Rattle.scan_laws.specs.Scans.{circles_at}
 use Rattle.scan_laws.specs.Edges.{classes_at, label_by, labels_by, touched_by}
-use Rattle.scan_laws.proofs.AddedCircles.{circle-sums, class-respects, inside_joins, is-cut, old_class, once-circles, own-class}
+use Rattle.closed_surfaces.specs.Made.{joined_outside}
+use Rattle.scan_laws.proofs.AddedCircles.{HasNext, circle-sums, class-respects, inside_joins, is-cut, old_class, once-circles, own-class}
 use Rattle.scan_laws.proofs.Changes.{AreBits, total}
-use Rattle.scan_laws.proofs.Labels.{AreSame, bit-number, bit-small, mark, place, place-found}
-use Rattle.scan_laws.proofs.Points.{placed-behind}
+use Rattle.scan_laws.proofs.Labels.{bit-number, bit-small, mark, place}
+use Rattle.scan_laws.proofs.Places.{numbers-test, place-found}
+use Rattle.scan_laws.proofs.SameElements.{AreSame}
+use Rattle.scan_laws.proofs.Objects.{placed-behind}
 use Rattle.scan_laws.proofs.SplitLabels.{both-same, part}
 use Rattle.scan_laws.proofs.States.{joint}
 
@@ -72,8 +72,7 @@ kept-total f p xs = total-sum (map f (filter p xs)) ∙ sum_by-map (λ x. x) f (
 kept-count : (f : ℕ → ℕ) (p : ℕ → Bool) (xs : List ℕ) → length (map f (filter p xs)) ≡ sum_by (λ x. cond (p x) 1 0) xs
 kept-count f p xs = length-map (filter p xs) f ∙ length-filter p xs
 
-module _ (code : Code) (k : ℕ) (m : List (ℕ × ℕ)) (e u : ℕ) (twice : HasArcsTwice code.crossings) (below : k < length code.crossings)
-    (among : AreAmong (points_at code k).opened m) (e_below : e < 2) where
+module _ (code : Code) (k : ℕ) (m : List (ℕ × ℕ)) (e u : ℕ) (at : HasNext code k m e) where
   abbrev hat : List (ℕ × ℕ)
   hat = pairing_behind code k e m
 
@@ -84,7 +83,7 @@ module _ (code : Code) (k : ℕ) (m : List (ℕ × ℕ)) (e u : ℕ) (twice : Ha
   new_class x = slice_index (classes_at code (k + 1) hat u) x
 
   abbrev old : ℕ → ℕ
-  old = old_class code k m e u twice below among e_below
+  old = old_class code k m e u at
 
   abbrev names : List ℕ
   names = circles_at code k m (joint e u)
@@ -99,7 +98,7 @@ module _ (code : Code) (k : ℕ) (m : List (ℕ × ℕ)) (e u : ℕ) (twice : Ha
   names-once = once-circles code k m (joint e u)
 
   sums : (h : ℕ → ℕ) → sum_by (λ x. h (old x)) fresh + sum_by (λ x. h (old x)) closed ≡ sum_by h names
-  sums = circle-sums code k m e u twice below among e_below
+  sums = circle-sums code k m e u at
 
   same-names : AreSame names (map old (closed ++ fresh))
   same-names = both-same names old closed fresh names-once sums
@@ -108,19 +107,19 @@ module _ (code : Code) (k : ℕ) (m : List (ℕ × ℕ)) (e u : ℕ) (twice : Ha
   new-joins =
       record {
         below = (placed-behind code (k + 1)).alive;
-        among = outside-among (step_at code k) (inside_joins code k m e u twice below among e_below) hat (joined_outside code (k + 1) u)
-            (is-cut code k m e u twice below among e_below);
+        among = outside-among (step_at code k) (inside_joins code k m e u at) hat (joined_outside code (k + 1) u)
+            (is-cut code k m e u at);
       }
 
   -- what is together behind is together before
   old-respects : Respects old (hat ++ joined_outside code (k + 1) u)
   old-respects =
-      let inside = inside_joins code k m e u twice below among e_below in
+      let inside = inside_joins code k m e u at in
       let w = joined_outside code (k + 1) u in
-      let all = class-respects code k m e u twice below among e_below in
+      let all = class-respects code k m e u at in
       let P = λ (pair : ℕ × ℕ). old pair.0 ≡ old pair.1 in
       AllByRecursion-append P hat w
-      ((is-cut code k m e u twice below among e_below).made.only old (AllByRecursion-first P inside w all))
+      ((is-cut code k m e u at).made.only old (AllByRecursion-first P inside w all))
       (AllByRecursion-second P inside w all)
 
   pub old-new : (x : ℕ) → Contains alive_next x → old (new_class x) ≡ old x
@@ -165,7 +164,7 @@ module _ (code : Code) (k : ℕ) (m : List (ℕ × ℕ)) (e u : ℕ) (twice : Ha
 
     pub rest-mark : (y : ℕ) → Contains fresh y → mark fresh rest y ≡ mark names label (old y)
     rest-mark y has =
-        let found = place-found y fresh has in
+        let found = place-found nat_eq 0 y fresh numbers-test has in
         bit-number (λ x. mark names label (old x)) fresh (place y fresh) (λ x. bit-small label (place (old x) names)) found.within
         ∙ ap (λ x. mark names label (old x)) found.there
 
@@ -252,7 +251,7 @@ module _ (code : Code) (k : ℕ) (m : List (ℕ × ℕ)) (e u : ℕ) (twice : Ha
       labels-total =
           kept-total (label_by (classes_at code k m (joint e u)) (points_at code k).alive label) old_touched names
           ∙ sum_by-members (λ z. cond (old_touched z) (mark names label (old z)) 0) (λ z. cond (old_touched z) (mark names label z) 0) names
-          (λ z has. ap (λ (y : ℕ). cond (old_touched z) (mark names label y) 0) (own-class code k m e u twice below among e_below z has))
+          (λ z has. ap (λ (y : ℕ). cond (old_touched z) (mark names label y) 0) (own-class code k m e u at z has))
           ∙ touched-sum (mark names label) (λ y. mark fresh rest (new_class y))
           (λ y has. sym (rest-arc y (fresh-alive y has)))
           ∙ sym (kept-total (label_by (classes_at code (k + 1) hat u) alive_next rest) new_touched fresh)

@@ -1,7 +1,7 @@
 -- Pairings of open arcs in both forms.
 use Rattle.std.proofs.Common.{◌≡◌, ℕ, inl, inr, ◌+◌, ◌≤◌, ◌∙◌, List, [], ◌∷◌, ◌++◌, refl, sym, subst, ap, ap₂, arith, Bool, cond}
 use Rattle.std.specs.Prelude.{nat_eq}
-use Rattle.std.specs.List.{Contains, count_by, sum_by}
+use Rattle.std.specs.List.{Contains, count_by}
 use Rattle.std.specs.List.Sorted.{IsPermutation}
 use Rattle.std.proofs.lemmas.Bool.{cases_eq, cases_lt, eq-eqb, ne_eqb}
 use Rattle.std.proofs.lemmas.List.Sorted.{IsPermutation-cons, IsPermutation-middle, IsPermutation-refl, IsPermutation-sym, IsPermutation-trans}
@@ -14,10 +14,7 @@ use Rattle.cell_complexes.specs.Alike.{HasNoDoubles}
 use Rattle.cell_complexes.proofs.Members.{Contains-cases}
 use Rattle.cell_complexes.proofs.NoDoubles.{once-range}
 use Rattle.scan_laws.proofs.AddedCircles.{once-filter}
-use Rattle.scan_laws.proofs.Labels.{counted-most, counted-once, hit, is, miss, some-there}
-
-abbrev counted : ℕ → List ℕ → ℕ
-counted z xs = sum_by (is z) xs
+use Rattle.scan_laws.proofs.SameElements.{counted, counted-most, counted-once, hit, is, miss, some-there}
 
 record IsSplit (x : ℕ) (ys : List ℕ) : Type 0 where
   front : List ℕ

@@ -7,7 +7,7 @@ use Rattle.kh_types.specs.Classes.{classes_of, is_least}
 use Rattle.kh_types.specs.Code.{Code, arc_in, crossing_numbers, place_of, slots_of}
 use Rattle.kh_types.specs.Differential.{is_edge, is_merge, is_split}
 use Rattle.kh_types.specs.Generators.{generator_of}
-use Rattle.scan_laws.specs.States.{crossings_behind}
+use Rattle.scan_laws.specs.Scans.{crossings_behind}
 use Rattle.closed_surfaces.specs.Made.{joined_outside}
 use Rattle.added_crossings.specs.Codes.{points_at}
 

@@ -4,7 +4,6 @@ ghost use Rattle.std.specs.Prelude.{◌≡◌, ◌≢◌, ℕ, ℤ, List, length
 ghost use Rattle.std.specs.List.{Contains};
 ghost use Rattle.kh_types.specs.Acceptance.{accepted};
 ghost use Rattle.kh_types.specs.Code.{Code};
-ghost use Rattle.kh_types.specs.Directions.{plus_count, minus_count};
 ghost use Rattle.kh_types.specs.Residues.{HasInverses};
 ghost use Rattle.kh_types.specs.Table.{dimension, table};
 ghost use Rattle.prime_field.specs.Residues.{IsSmallPrime};
@@ -12,12 +11,41 @@ ghost use Rattle.cell_complexes.specs.Alike.{AreAlike};
 ghost use Rattle.cell_complexes.specs.Cells.{AreComplex, dimension_at};
 ghost use Rattle.cell_complexes.specs.Cubes.{cube_of, IsReordered};
 ghost use Rattle.cell_complexes.specs.Layers.{layer_of};
-ghost use Rattle.scan_laws.specs.States.{Scan, first_scan};
+ghost use Rattle.scan_laws.specs.Scans.{Scan, first_scan, IsScanOf};
 ghost use Rattle.scan_laws.specs.Complexes.{complex_of};
+ghost use Rattle.scan_laws.specs.Adding.{IsAdding};
+ghost use Rattle.scan_laws.specs.Eliminating.{IsEliminating, IsNumber};
+ghost use Rattle.scan_laws.specs.Steps.{IsScanStep, LeadsTo, IsReached, IsLast, IsEndOfScan};
 ghost use Rattle.scan_laws.specs.Counts.{counted, counted_table};
-ghost use Rattle.scan_laws.specs.Good.{IsGood};
-ghost use Rattle.cell_complexes.specs.Cubes.{listed_by};
-ghost use Rattle.scan_laws.specs.Steps.{AreSteps, IsAdding, IsEliminating, IsLast, IsNumber, IsStep, last_of};
+
+/// The theorem of the scan: where a scan of an accepted code ends, in whatever order it takes the
+/// crossings and whatever it eliminates, its objects count the dimensions of the code, and so its
+/// table; over the four fields of the program, too. And there is such an end, in every order.
+pub fn scans_count_dimensions()
+    ensures dimensions { (p : ℕ) (code : Code) (crossings : List (List ℕ)) (scan : Scan) → HasInverses p
+        → IsTrue (accepted code) → IsEndOfScan p code crossings scan → (i j : ℤ) → counted code scan i j ≡ dimension p code i j }
+    ensures table { (p : ℕ) (code : Code) (crossings : List (List ℕ)) (scan : Scan) → HasInverses p
+        → IsTrue (accepted code) → IsEndOfScan p code crossings scan → counted_table p code scan ≡ table p code }
+    ensures small { (p : ℕ) (code : Code) (crossings : List (List ℕ)) (scan : Scan) → IsSmallPrime p
+        → IsTrue (accepted code) → IsEndOfScan p code crossings scan → counted_table p code scan ≡ table p code }
+    ensures possible { (p : ℕ) (code : Code) (crossings : List (List ℕ)) → HasInverses p → IsTrue (accepted code)
+        → IsReordered code.crossings crossings → (scan : Scan) × IsEndOfScan p code crossings scan }
+{}
+
+/// What a program keeps that scans a code: the first scan is reached, and each step leads from one
+/// that is to another. One that is reached is a scan of the code, its last one has the code's
+/// table, and from each there are steps to a last one.
+pub fn reached_scans()
+    ensures first { (p : ℕ) (code : Code) → IsReached p code first_scan }
+    ensures step { (p : ℕ) (code : Code) (scan next : Scan) → IsReached p code scan → IsScanStep p code scan next
+        → IsReached p code next }
+    ensures of { (p : ℕ) (code : Code) (scan : Scan) → HasInverses p → IsTrue (accepted code) → IsReached p code scan
+        → IsScanOf code scan }
+    ensures table { (p : ℕ) (code : Code) (scan : Scan) → HasInverses p → IsTrue (accepted code) → IsReached p code scan
+        → IsLast p code scan → counted_table p code scan ≡ table p code }
+    ensures ends { (p : ℕ) (code : Code) (scan : Scan) → HasInverses p → IsTrue (accepted code) → IsReached p code scan
+        → (end : Scan) × LeadsTo p code scan end × IsLast p code end }
+{}
 
 /// Before the first crossing the complex of the scan is the cube, cell by cell.
 pub fn scans_begin_with_the_cube()
@@ -26,54 +54,25 @@ pub fn scans_begin_with_the_cube()
         (complex_of p code plus minus first_scan) }
 {}
 
-/// Each step, of a crossing added or an entry eliminated, keeps what scans are, that the complex is
-/// one, and its dimensions.
+/// Each step keeps that a scan is one of the code, that its complex is one, and its dimensions.
 pub fn steps_keep_dimensions()
-    ensures good { (p : ℕ) (code : Code) (plus minus : ℕ) (scan next : Scan) → HasInverses p → IsTrue (accepted code)
-        → IsGood code scan → AreComplex p (complex_of p code plus minus scan) → IsStep p code scan next
-        → IsGood code next }
+    ensures of { (p : ℕ) (code : Code) (plus minus : ℕ) (scan next : Scan) → HasInverses p → IsTrue (accepted code)
+        → IsScanOf code scan → AreComplex p (complex_of p code plus minus scan) → IsScanStep p code scan next
+        → IsScanOf code next }
     ensures complex { (p : ℕ) (code : Code) (plus minus : ℕ) (scan next : Scan) → HasInverses p → IsTrue (accepted code)
-        → IsGood code scan → AreComplex p (complex_of p code plus minus scan) → IsStep p code scan next
+        → IsScanOf code scan → AreComplex p (complex_of p code plus minus scan) → IsScanStep p code scan next
         → AreComplex p (complex_of p code plus minus next) }
     ensures dimensions { (p : ℕ) (code : Code) (plus minus : ℕ) (scan next : Scan) → HasInverses p → IsTrue (accepted code)
-        → IsGood code scan → AreComplex p (complex_of p code plus minus scan) → IsStep p code scan next → (i j : ℤ)
+        → IsScanOf code scan → AreComplex p (complex_of p code plus minus scan) → IsScanStep p code scan next → (i j : ℤ)
         → dimension_at p (complex_of p code plus minus next) i j ≡ dimension_at p (complex_of p code plus minus scan) i j }
 {}
 
-/// A crossing can be added to each scan on the way, and an entry that is a number eliminated: there
-/// is a scan that comes from it so.
+/// To each scan of a code the next crossing can be added, and each entry that is a number can be
+/// eliminated: there is a scan that comes from it so.
 pub fn steps_can_be_made()
-    ensures adding { (p : ℕ) (code : Code) (scan : Scan) → IsGood code scan → scan.done < length code.crossings
+    ensures adding { (p : ℕ) (code : Code) (scan : Scan) → IsScanOf code scan → scan.done < length code.crossings
         → (next : Scan) × IsAdding p code scan next }
-    ensures eliminating { (p : ℕ) (code : Code) (scan : Scan) → IsGood code scan → 0 < p → (tail head c : ℕ) → tail ≢ head
+    ensures eliminating { (p : ℕ) (code : Code) (scan : Scan) → IsScanOf code scan → 0 < p → (tail head c : ℕ) → tail ≢ head
         → Contains scan.numbers tail → Contains scan.numbers head → IsNumber p code scan tail head c
         → (next : Scan) × IsEliminating p code scan next }
-{}
-
-/// The whole theorem of the scan, in any order of the crossings: any sequence of steps that begins
-/// before the first crossing and ends behind the last one without maps counts the dimensions of the
-/// accepted code, and so its table; and there is such a sequence.
-pub fn scans_count_dimensions()
-    ensures dimensions { (p : ℕ) (code : Code) (crossings : List (List ℕ)) → HasInverses p → IsTrue (accepted code)
-        → IsReordered code.crossings crossings
-        → (later : List Scan) → AreSteps p (listed_by code crossings) first_scan later
-        → IsLast p (listed_by code crossings) (last_of first_scan later) → (i j : ℤ)
-        → counted code.loops (plus_count code.crossings) (minus_count code.crossings) (last_of first_scan later) i j
-        ≡ dimension p code i j }
-    ensures table { (p : ℕ) (code : Code) (crossings : List (List ℕ)) → HasInverses p → IsTrue (accepted code)
-        → IsReordered code.crossings crossings
-        → (later : List Scan) → AreSteps p (listed_by code crossings) first_scan later
-        → IsLast p (listed_by code crossings) (last_of first_scan later)
-        → counted_table p code (plus_count code.crossings) (minus_count code.crossings) (last_of first_scan later)
-        ≡ table p code }
-    ensures small { (p : ℕ) (code : Code) (crossings : List (List ℕ)) → IsSmallPrime p → IsTrue (accepted code)
-        → IsReordered code.crossings crossings
-        → (later : List Scan) → AreSteps p (listed_by code crossings) first_scan later
-        → IsLast p (listed_by code crossings) (last_of first_scan later)
-        → counted_table p code (plus_count code.crossings) (minus_count code.crossings) (last_of first_scan later)
-        ≡ table p code }
-    ensures possible { (p : ℕ) (code : Code) (crossings : List (List ℕ)) → HasInverses p → IsTrue (accepted code)
-        → IsReordered code.crossings crossings
-        → (later : List Scan) × AreSteps p (listed_by code crossings) first_scan later
-        × IsLast p (listed_by code crossings) (last_of first_scan later) }
 {}
