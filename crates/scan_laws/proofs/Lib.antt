@@ -1,3 +1,4 @@
+pub mod Tests
 pub mod Places
 pub mod SameElements
 pub mod Labels
@@ -29,3 +30,5 @@ pub mod End
 pub mod Whole
 pub mod Possible
 pub mod Ending
+pub mod Checked
+pub mod TrefoilSteps

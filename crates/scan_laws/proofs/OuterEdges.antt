@@ -27,23 +27,9 @@ use Rattle.scan_laws.proofs.Labels.{bit-number, bit-small, mark, place}
 use Rattle.scan_laws.proofs.OldNew.{fresh-alive, from-names, in-names, labels-count, labels-total, new-bits, new_class, old-bits, rest-arc, touched-closed, touched-fresh}
 use Rattle.scan_laws.proofs.Parts.{circle_with, circles_left, circles_with, closed_part, left_part}
 use Rattle.scan_laws.proofs.Places.{numbers-test, place-found}
+use Rattle.scan_laws.proofs.Tests.{all-pass, pass-all}
 use Rattle.scan_laws.proofs.States.{bit-joint, count-more, joint, ones-joint}
 use Rattle.scan_laws.proofs.Untouched.{IsLater, alive-slots, slots-before, stays-alive, step-before, untouched-same}
-
--- tests of all elements
-all-pass : (p : ℕ → Bool) (xs : List ℕ) → list_all p xs ≡ true → (x : ℕ) → Contains xs x → p x ≡ true
-all-pass p [] all x has = absurd (omega (arith, has.1))
-all-pass p (y ∷ xs) all x has =
-    let parts = and_parts (p y) (list_all p xs) all in
-    elim (Contains-cases y x xs has) [
-      | inl here ↦ ap p (sym here) ∙ parts.0
-      | inr later ↦ all-pass p xs parts.1 x later
-    ]
-
-pass-all : (p : ℕ → Bool) (xs : List ℕ) → ((x : ℕ) → Contains xs x → p x ≡ true) → list_all p xs ≡ true
-pass-all p [] all = refl
-pass-all p (y ∷ xs) all =
-    ap₂ (λ a b. a && b) (all y (Contains-first y xs)) (pass-all p xs (λ x has. all x (Contains-later y x xs has)))
 
 -- two tests that say the same
 iff-same : (a b : Bool) → (a ≡ true → b ≡ true) → (b ≡ true → a ≡ true) → a ≡ b

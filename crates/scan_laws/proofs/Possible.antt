@@ -54,7 +54,7 @@ coefficient-with n f kept below =
     ∙ here-is kept (f kept)
 
 -- the places in the list of origins are numbers of them
-abbrev no_origin : Origin
+abbrev pub no_origin : Origin
 no_origin = origin_of 0 0 0
 
 abbrev pub origin_in : Code → Scan → ℕ → Origin
@@ -107,72 +107,74 @@ added-scan p code scan of below =
     )
 
 -- all numbers but two
-module _ (numbers : List ℕ) (once : HasNoDoubles numbers) (tail head : ℕ) (differ : tail ≢ head) (has_tail : Contains numbers tail)
-    (has_head : Contains numbers head) where
-  abbrev is_other : ℕ → Bool
-  is_other x = not (nat_eq x tail) && not (nat_eq x head)
+abbrev is_other : ℕ → ℕ → ℕ → Bool
+is_other tail head x = not (nat_eq x tail) && not (nat_eq x head)
 
-  abbrev pub others : List ℕ
-  others = filter is_other numbers
+abbrev pub others : List ℕ → ℕ → ℕ → List ℕ
+others numbers tail head = filter (is_other tail head) numbers
 
-  other-true : (x : ℕ) → x ≢ tail → x ≢ head → is_other x ≡ true
+module _ (numbers : List ℕ) (tail head : ℕ) where
+  other-true : (x : ℕ) → x ≢ tail → x ≢ head → is_other tail head x ≡ true
   other-true x no_tail no_head = ap₂ (λ (a b : Bool). not a && not b) (ne_eqb x tail no_tail) (ne_eqb x head no_head)
 
-  is-other : (x : ℕ) → is_other x ≡ true → (x ≢ tail) × (x ≢ head)
-  is-other x is = (
-    λ same. both_ways (is_other x) (ap (λ (a : Bool). not a && not (nat_eq x head)) (eq-eqb x tail same)) is,
-    λ same. both_ways (is_other x) (ap (λ (b : Bool). not (nat_eq x tail) && not b) (eq-eqb x head same) ∙ never (not (nat_eq x tail))) is,
-  )
+  pub no-tail : Contains (others numbers tail head) tail → ⊥
+  no-tail has =
+      both_ways (is_other tail head tail) (ap (λ (a : Bool). not a && not (nat_eq tail head)) (eq-eqb tail tail refl))
+      (Contains-kept (is_other tail head) numbers tail has).1
+
+  pub no-head : Contains (others numbers tail head) head → ⊥
+  no-head has =
+      both_ways (is_other tail head head)
+      (ap (λ (b : Bool). not (nat_eq head tail) && not b) (eq-eqb head head refl) ∙ never (not (nat_eq head tail)))
+      (Contains-kept (is_other tail head) numbers head has).1
     where
       never : (b : Bool) → (b && false) ≡ false
       never true = refl
       never false = refl
 
-  pub no-tail : Contains others tail → ⊥
-  no-tail has = (is-other tail (Contains-kept is_other numbers tail has).1).0 refl
-
-  pub no-head : Contains others head → ⊥
-  no-head has = (is-other head (Contains-kept is_other numbers head has).1).1 refl
-
-  pub others-listed : AreListed (λ (x : ℕ). x) numbers (tail ∷ head ∷ others)
-  others-listed =
-      AreListed-matched (λ (x : ℕ). x) (λ (x : ℕ). x) numbers (tail ∷ head ∷ others)
-      (record {
-        first_once = once;
-        second_once = once-first tail (head ∷ others)
-            (λ has. elim (Contains-cases head tail others has) [
-              | inl same ↦ differ (sym same)
-              | inr later ↦ no-tail later
-            ])
-            (once-first head others no-head (once-filter is_other numbers once));
-        there = λ x has. elim (cases_eq x tail) [
-          | inl same ↦ subst (λ (y : ℕ). Contains (tail ∷ head ∷ others) y) (sym same) (Contains-first tail (head ∷ others))
-          | inr not_tail ↦ elim (cases_eq x head) [
-            | inl same ↦
-                subst (λ (y : ℕ). Contains (tail ∷ head ∷ others) y) (sym same)
-                (Contains-later tail head (head ∷ others) (Contains-first head others))
-            | inr not_head ↦
-                Contains-later tail x (head ∷ others)
-                (Contains-later head x others (Contains-filter is_other numbers x (other-true x not_tail not_head) has))
-          ]
-        ];
-        back_there = λ y has. elim (Contains-cases tail y (head ∷ others) has) [
-          | inl same ↦ subst (λ (z : ℕ). Contains numbers z) same has_tail
-          | inr later ↦ elim (Contains-cases head y others later) [
-            | inl same ↦ subst (λ (z : ℕ). Contains numbers z) same has_head
-            | inr rest ↦ (Contains-kept is_other numbers y rest).0
-          ]
-        ];
-        to_back = λ y has. refl;
-        back_to = λ x has. refl;
-      })
+-- with these two they are all
+pub others-listed : (numbers : List ℕ) → HasNoDoubles numbers → (tail head : ℕ) → tail ≢ head → Contains numbers tail
+    → Contains numbers head → AreListed (λ (x : ℕ). x) numbers (tail ∷ head ∷ others numbers tail head)
+others-listed numbers once tail head differ has_tail has_head =
+    let left = others numbers tail head in
+    let test = is_other tail head in
+    AreListed-matched (λ (x : ℕ). x) (λ (x : ℕ). x) numbers (tail ∷ head ∷ left)
+    (record {
+      first_once = once;
+      second_once = once-first tail (head ∷ left)
+          (λ has. elim (Contains-cases head tail left has) [
+            | inl same ↦ differ (sym same)
+            | inr later ↦ no-tail numbers tail head later
+          ])
+          (once-first head left (no-head numbers tail head) (once-filter test numbers once));
+      there = λ x has. elim (cases_eq x tail) [
+        | inl same ↦ subst (λ (y : ℕ). Contains (tail ∷ head ∷ left) y) (sym same) (Contains-first tail (head ∷ left))
+        | inr not_tail ↦ elim (cases_eq x head) [
+          | inl same ↦
+              subst (λ (y : ℕ). Contains (tail ∷ head ∷ left) y) (sym same)
+              (Contains-later tail head (head ∷ left) (Contains-first head left))
+          | inr not_head ↦
+              Contains-later tail x (head ∷ left)
+              (Contains-later head x left (Contains-filter test numbers x (other-true numbers tail head x not_tail not_head) has))
+        ]
+      ];
+      back_there = λ y has. elim (Contains-cases tail y (head ∷ left) has) [
+        | inl same ↦ subst (λ (z : ℕ). Contains numbers z) same has_tail
+        | inr later ↦ elim (Contains-cases head y left later) [
+          | inl same ↦ subst (λ (z : ℕ). Contains numbers z) same has_head
+          | inr rest ↦ (Contains-kept test numbers y rest).0
+        ]
+      ];
+      to_back = λ y has. refl;
+      back_to = λ x has. refl;
+    })
 
 -- one entry less
 pub eliminated-scan : (p : ℕ) (code : Code) (scan : Scan) → IsScanOf code scan → 0 < p → (tail head c : ℕ) → tail ≢ head
     → Contains scan.numbers tail → Contains scan.numbers head → IsNumber p code scan tail head c
     → (next : Scan) × IsEliminating p code scan next
 eliminated-scan p code scan of positive tail head c differ has_tail has_head number =
-    let left = others scan.numbers of.once tail head differ has_tail has_head in
+    let left = others scan.numbers tail head in
     let way = λ (x y kept : ℕ). way_coefficient p code scan tail head c x y kept in
     let old = λ (x y kept : ℕ). coefficient_in (scan.terms x y) kept in
     let wanted = λ (x y kept : ℕ). minus_mod p (old x y kept) (way x y kept) in
@@ -193,8 +195,8 @@ eliminated-scan p code scan of positive tail head c differ has_tail has_head num
         has_head = has_head;
         number = number;
         listed = others-listed scan.numbers of.once tail head differ has_tail has_head;
-        no_tail = no-tail scan.numbers of.once tail head differ has_tail has_head;
-        no_head = no-head scan.numbers of.once tail head differ has_tail has_head;
+        no_tail = no-tail scan.numbers tail head;
+        no_head = no-head scan.numbers tail head;
         object = λ x has. refl;
         dots = λ x y has_x has_y. dots-with (dot_sets code scan x y) (wanted x y) 0 (dot_sets code scan x y) (omega arith);
         terms = λ x y kept has_x has_y kept_below.

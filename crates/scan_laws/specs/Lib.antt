@@ -5,3 +5,4 @@ pub mod Adding
 pub mod Eliminating
 pub mod Steps
 pub mod Counts
+pub mod Worked
