@@ -1,9 +1,9 @@
 -- Steps that are checked by computing: where tests of all objects and all dot sets pass, one scan comes from another by a step.
-use Rattle.std.proofs.Common.{◌≡◌, ◌≢◌, ℕ, ◌+◌, ◌%◌, ◌<◌, ◌∙◌, List, [], ◌∷◌, get_or, length, map, refl, sym, subst, ap, arith, Bool, true, false}
+use Rattle.std.proofs.Common.{◌≡◌, ◌≢◌, ℕ, ◌+◌, ◌%◌, ◌<◌, ◌∙◌, List, ◌∷◌, get_or, length, map, sym, subst, ap, arith, Bool, true, false}
 use Rattle.std.specs.Prelude.{nat_eq, nat_lt, if◌then◌else◌}
-use Rattle.std.specs.List.{AllByRecursion, Contains, list_all, list_any, range_with_len}
+use Rattle.std.specs.List.{Contains, list_all, list_any, range_with_len}
 use Rattle.std.proofs.lemmas.Bool.{both_ways, eq-eqb, eqb-true, ltb-true}
-use Rattle.std.proofs.lemmas.List.{get_or-map}
+use Rattle.std.proofs.lemmas.List.{get_or_default, get_or-map}
 use Rattle.std.proofs.lemmas.List.FromFn.{get_or-range_with_len, length-range_with_len}
 use Rattle.kh_types.specs.Code.{Code}
 use Rattle.kh_types.specs.Residues.{Same}
@@ -13,12 +13,15 @@ use Rattle.dotted_maps.specs.Maps.{coefficient_in}
 use Rattle.added_crossings.proofs.Members.{All-contained}
 use Rattle.cell_complexes.specs.Alike.{AreListed, AreMatched, HasNoDoubles}
 use Rattle.cell_complexes.proofs.ExchangedCubes.{range-contains}
+use Rattle.cell_complexes.proofs.NoDoubles.{once-range}
 use Rattle.scan_laws.specs.Scans.{HasDots, Object, Scan, dot_sets, first_object, pairs_of}
 use Rattle.scan_laws.specs.Adding.{IsAdding, new_coefficient, object_from, origins}
 use Rattle.scan_laws.specs.Eliminating.{IsEliminating, way_coefficient}
-use Rattle.scan_laws.specs.Steps.{IsLast}
+use Rattle.scan_laws.specs.Steps.{IsLast, IsRenumbering}
 use Rattle.scan_laws.proofs.CellLists.{contains-range}
 use Rattle.scan_laws.proofs.Possible.{no-head, no-tail, no_origin, origin_in, number_in, origins-matched, others, others-listed}
+use Rattle.scan_laws.proofs.Labels.{place}
+use Rattle.scan_laws.proofs.Places.{numbers-test, place-at, place-found}
 use Rattle.scan_laws.proofs.Tests.{all-pass}
 
 -- all terms are dotted discs
@@ -55,6 +58,17 @@ are-same p code scan f g passes x y kept has_x has_y below =
     (all-pass (entry x) scan.numbers (all-pass (λ x. list_all (entry x) scan.numbers) scan.numbers passes x has_x) y has_y) kept
     (contains-range (dot_sets code scan x y) kept below))
 
+-- objects that are listed by their places
+objects-at : {A : Type 0} (d : A) (ws : List A) (xs : List ℕ) (f : A → Object) (g : ℕ → Object) → xs ≡ range_with_len 0 (length ws)
+    → map g xs ≡ map f ws → (k : ℕ) → k < length ws → g k ≡ f (get_or ws k d)
+objects-at d ws xs f g numbers objects k below =
+    let places = range_with_len 0 (length ws) in
+    let size = length-range_with_len 0 (length ws) in
+    ap g (let e : k ≡ 0 + k = omega arith in e ∙ sym (get_or-range_with_len 0 (length ws) k 0 below))
+    ∙ sym (get_or-map g places k 0 first_object (omega (arith, below, size)))
+    ∙ ap (λ (os : List Object). get_or os k first_object) (ap (map g) (sym numbers) ∙ objects)
+    ∙ get_or-map f ws k d first_object below
+
 -- one crossing more, where objects stand in the order of their origins
 pub adding-checked : (p : ℕ) (code : Code) (scan next : Scan) → HasNoDoubles scan.numbers → scan.done < length code.crossings
     → next.done ≡ scan.done + 1 → next.numbers ≡ range_with_len 0 (length (origins code scan))
@@ -71,21 +85,13 @@ adding-checked p code scan next once within done numbers objects dots terms =
       number = number_in code scan;
       matched = subst (λ (xs : List ℕ). AreMatched (origin_in code scan) (number_in code scan) xs (origins code scan)) (sym numbers)
           (origins-matched code scan once);
-      object = λ x has. at_place x (range-contains (length (origins code scan)) x (subst (λ (xs : List ℕ). Contains xs x) numbers has));
+      object = λ x has.
+          objects-at no_origin (origins code scan) next.numbers (object_from code scan) next.object numbers objects x
+          (range-contains (length (origins code scan)) x (subst (λ (xs : List ℕ). Contains xs x) numbers has));
       dots = has-dots code next dots;
       terms = are-same p code next (λ x y kept. coefficient_in (next.terms x y) kept)
           (λ x y kept. new_coefficient p code scan (origin_in code scan x) (origin_in code scan y) kept) terms;
     }
-  where
-    at_place : (x : ℕ) → x < length (origins code scan) → next.object x ≡ object_from code scan (origin_in code scan x)
-    at_place x below =
-        let ws = origins code scan in
-        let xs = range_with_len 0 (length ws) in
-        let size = length-range_with_len 0 (length ws) in
-        ap next.object (let g : x ≡ 0 + x = omega arith in g ∙ sym (get_or-range_with_len 0 (length ws) x 0 below))
-        ∙ sym (get_or-map next.object xs x 0 first_object (omega (arith, below, size)))
-        ∙ ap (λ (os : List Object). get_or os x first_object) (ap (map next.object) (sym numbers) ∙ objects)
-        ∙ get_or-map (object_from code scan) ws x no_origin first_object below
 
 -- one entry less, where the others keep their order: the entry is a number
 abbrev pub number_passes : ℕ → Code → Scan → ℕ → ℕ → ℕ → Bool
@@ -141,6 +147,38 @@ eliminating-checked p code scan next tail head c once some below done apart tail
       dots = has-dots code next dots;
       terms = are-same p code next
           (λ x y kept. coefficient_in (next.terms x y) kept + way_coefficient p code scan tail head c x y kept)
+          (λ x y kept. coefficient_in (scan.terms x y) kept) terms;
+    }
+
+-- objects under the places of their numbers
+pub renumbering-checked : (p : ℕ) (code : Code) (scan next : Scan) → HasNoDoubles scan.numbers → next.done ≡ scan.done
+    → next.numbers ≡ range_with_len 0 (length scan.numbers) → map next.object next.numbers ≡ map scan.object scan.numbers
+    → dots_pass code next ≡ true
+    → same_pass p code scan
+    (λ x y kept. coefficient_in (next.terms (place x scan.numbers) (place y scan.numbers)) kept)
+    (λ x y kept. coefficient_in (scan.terms x y) kept) ≡ true
+    → IsRenumbering p code scan next
+renumbering-checked p code scan next once done numbers objects dots terms =
+    let xs = scan.numbers in
+    let found = λ (x : ℕ) (has : Contains xs x). place-found nat_eq 0 x xs numbers-test has in
+    record {
+      done = done;
+      number = λ x. place x xs;
+      old = λ x. get_or xs x 0;
+      matched = subst (λ (ys : List ℕ). AreMatched (λ x. place x xs) (λ x. get_or xs x 0) xs ys) (sym numbers)
+          (record {
+            first_once = once;
+            second_once = once-range 0 (length xs);
+            there = λ x has. contains-range (length xs) (place x xs) (found x has).within;
+            back_there = λ k has.
+                let below = range-contains (length xs) k has in (k, below, get_or_default xs k (get_or xs k 0) 0 below);
+            to_back = λ k has. place-at nat_eq 0 xs k numbers-test once (range-contains (length xs) k has);
+            back_to = λ x has. (found x has).there;
+          });
+      object = λ x has. objects-at 0 xs next.numbers scan.object next.object numbers objects (place x xs) (found x has).within
+          ∙ ap scan.object (found x has).there;
+      dots = has-dots code next dots;
+      terms = are-same p code scan (λ x y kept. coefficient_in (next.terms (place x xs) (place y xs)) kept)
           (λ x y kept. coefficient_in (scan.terms x y) kept) terms;
     }
 

@@ -32,3 +32,4 @@ pub mod Possible
 pub mod Ending
 pub mod Checked
 pub mod TrefoilSteps
+pub mod HopfSteps

@@ -1,7 +1,7 @@
 -- The coefficient of an edge at a later crossing, before one crossing more: it is that behind the crossing where the labels of closed
 -- circles stay, and else 0. The touched circles have as many labels on both sides, with the same sum, so they are a row of the tables on
 -- both or on neither; and a circle that is not touched is closed, or has its label behind.
-use Rattle.std.proofs.Common.{◌≡◌, ◌≢◌, ℕ, zero, suc, inl, inr, ◌+◌, ◌-◌, ◌*◌, ◌%◌, ◌^◌, ◌<◌, ◌≤◌, ◌∙◌, ◌⊎◌, List, [], ◌∷◌, ◌++◌, length, refl, sym, subst, ap, ap₂, arith, Bool, true, false, cond, ◌&&◌, ◌||◌}
+use Rattle.std.proofs.Common.{◌≡◌, ◌≢◌, ℕ, zero, suc, inl, inr, ◌+◌, ◌-◌, ◌*◌, ◌%◌, ◌^◌, ◌<◌, ◌≤◌, ◌∙◌, ◌⊎◌, List, ◌++◌, length, refl, sym, subst, ap, ap₂, arith, Bool, true, false, cond, ◌&&◌, ◌||◌}
 use Rattle.std.specs.Prelude.{nat_eq, if◌then◌else◌}
 use Rattle.std.specs.List.{Contains, list_all}
 use Rattle.std.proofs.lemmas.Bool.{and_parts, cases_Bool, cases_eq, eq-eqb, eqb-true}
@@ -17,7 +17,7 @@ use Rattle.added_crossings.specs.Steps.{after, is_none_in, near}
 use Rattle.added_crossings.proofs.CodeSteps.{IsStep-at}
 use Rattle.added_crossings.proofs.KeptCircles.{near-has}
 use Rattle.added_crossings.proofs.Labels.{map-on}
-use Rattle.cell_complexes.proofs.Members.{Contains-cases, Contains-first, Contains-kept, Contains-later}
+use Rattle.cell_complexes.proofs.Members.{Contains-kept}
 use Rattle.scan_laws.specs.Scans.{count_behind, crossings_behind}
 use Rattle.scan_laws.specs.Edges.{changes_by, classes_at, keeps_by, labels_by, outer_at, outer_coefficient, outer_sign, touched_by}
 use Rattle.scan_laws.proofs.AddedCircles.{HasNext, own-class}

@@ -1,5 +1,5 @@
 -- The steps of the trefoil's scan, checked by computing, and its table by the theorem.
-use Rattle.std.proofs.Common.{◌≡◌, ◌+◌, inl, refl, arith, IsTrue}
+use Rattle.std.proofs.Common.{◌≡◌, inl, refl, arith, IsTrue}
 use Rattle.kh_types.specs.Acceptance.{accepted, first_fault}
 use Rattle.kh_types.specs.Table.{table}
 use Rattle.kh_types.specs.WorkedCodes.{trefoil}
@@ -7,7 +7,7 @@ use Rattle.prime_field.specs.SmallFields.{field-small_prime}
 use Rattle.plain_matrix.proofs.FieldInverses.{inverses-field}
 use Rattle.cell_complexes.specs.Alike.{HasNoDoubles}
 use Rattle.cell_complexes.proofs.NoDoubles.{once-range}
-use Rattle.scan_laws.specs.Scans.{Scan, first_scan}
+use Rattle.scan_laws.specs.Scans.{first_scan}
 use Rattle.scan_laws.specs.Adding.{IsAdding}
 use Rattle.scan_laws.specs.Eliminating.{IsEliminating}
 use Rattle.scan_laws.specs.Steps.{AreSteps, IsEndOfScan, IsScanStep, last_of}
@@ -82,17 +82,28 @@ less-6 =
     (λ x. refl) refl refl
 
 pub trefoil-steps : AreSteps 2 trefoil first_scan trefoil_scans
-trefoil-steps =
+trefoil-steps = (
+  IsScanStep.added first-added,
+  (
+    IsScanStep.added second-added,
     (
-      IsScanStep.added first-added,
-      (IsScanStep.added second-added,
-      (IsScanStep.eliminated one-eliminated,
-      (IsScanStep.added third-added,
-      (IsScanStep.eliminated less-1,
-      (IsScanStep.eliminated less-2,
-      (IsScanStep.eliminated less-3,
-      (IsScanStep.eliminated less-4, (IsScanStep.eliminated less-5, (IsScanStep.eliminated less-6, tt)))))))))
-    )
+      IsScanStep.eliminated one-eliminated,
+      (
+        IsScanStep.added third-added,
+        (
+          IsScanStep.eliminated less-1,
+          (
+            IsScanStep.eliminated less-2,
+            (
+              IsScanStep.eliminated less-3,
+              (IsScanStep.eliminated less-4, (IsScanStep.eliminated less-5, (IsScanStep.eliminated less-6, tt))),
+            ),
+          ),
+        ),
+      ),
+    ),
+  ),
+)
 
 pub trefoil-end : IsEndOfScan 2 trefoil trefoil.crossings (last_of first_scan trefoil_scans)
 trefoil-end =

@@ -1,6 +1,8 @@
--- The scan of the trefoil over two elements, step by step: its objects, and the maps between them.
-use Rattle.std.specs.Prelude.{ℕ, ℤ, pos, neg_ℤ, List, [], ◌∷◌, map}
-use Rattle.dotted_maps.specs.Maps.{identity}
+-- Two scans, step by step, with their objects and the maps between them: that of the trefoil over two elements, and that of the Hopf link
+-- over three, with its crossings the other way round.
+use Rattle.std.specs.Prelude.{ℕ, ℤ, pos, neg_ℤ, List, [], ◌∷◌, ◌++◌, map, reverse}
+use Rattle.kh_types.specs.WorkedCodes.{hopf_link}
+use Rattle.dotted_maps.specs.Maps.{identity, scaled}
 use Rattle.dotted_maps.specs.declared.term.Term.{Term}
 use Rattle.scan_laws.specs.Scans.{Arrow, Object, Scan, listed_scan}
 
@@ -19,9 +21,16 @@ dotted dots = record { dots = dots; coefficient = 1 }
 abbrev pub arrow_with : List Term → ℕ × ℕ → Arrow
 arrow_with terms ends = record { tail = ends.0; head = ends.1; terms = terms }
 
--- arrows without dots
+-- arrows without dots, and those with a number times the identity
 abbrev pub plain_arrows : List (ℕ × ℕ) → List Arrow
 plain_arrows ends = map (arrow_with identity) ends
+
+abbrev pub times_arrows : ℕ → List (ℕ × ℕ) → List Arrow
+times_arrows number ends = map (arrow_with (scaled number identity)) ends
+
+-- an object that has no open arc
+abbrev pub last_object : ℕ → ℤ → Object
+last_object degree shift = object_with [] degree shift
 
 -- behind the first crossing: its two smoothings, and the saddle between them
 abbrev pub one_done : Scan
@@ -51,10 +60,7 @@ two_left =
     listed_scan 2 (1 ∷ 3 ∷ 4 ∷ []) two_objects
     (arrow_with (dotted 1 ∷ dotted 2 ∷ []) (1, 3) ∷ plain_arrows ((3, 4) ∷ []))
 
--- behind the third no arc is open: objects are labels of closed circles
-abbrev pub last_object : ℕ → ℤ → Object
-last_object degree shift = object_with [] degree shift
-
+-- behind the third no arc is open: six smoothings, with labels of the circles that they close
 abbrev pub three_objects : List Object
 three_objects =
     last_object 0 (pos 1) ∷ last_object 0 (neg_ℤ (pos 1)) ∷ last_object 0 (neg_ℤ (pos 1)) ∷ last_object 0 (neg_ℤ (pos 3))
@@ -108,3 +114,54 @@ abbrev pub trefoil_scans : List Scan
 trefoil_scans =
     one_done ∷ two_done ∷ two_left ∷ three_done
     ∷ left_after_1 ∷ left_after_2 ∷ left_after_3 ∷ left_after_4 ∷ left_after_5 ∷ left_after_6 ∷ []
+
+-- the crossings of the Hopf link the other way round
+abbrev pub hopf_crossings : List (List ℕ)
+hopf_crossings = reverse hopf_link.crossings
+
+abbrev pub hopf_one : Scan
+hopf_one =
+    listed_scan 1 (0 ∷ 1 ∷ [])
+    (object_with (two_pairs 1 4 2 3) 0 (pos 0) ∷ object_with (two_pairs 1 3 2 4) 1 (pos 0) ∷ []) (plain_arrows ((0, 1) ∷ []))
+
+abbrev pub hopf_objects : List Object
+hopf_objects =
+    last_object 0 (pos 2) ∷ last_object 0 (pos 0) ∷ last_object 0 (pos 0) ∷ last_object 0 (neg_ℤ (pos 2))
+    ∷ last_object 1 (pos 1) ∷ last_object 1 (neg_ℤ (pos 1))
+    ∷ last_object 1 (pos 1) ∷ last_object 1 (neg_ℤ (pos 1))
+    ∷ last_object 2 (pos 2) ∷ last_object 2 (pos 0) ∷ last_object 2 (pos 0) ∷ last_object 2 (neg_ℤ (pos 2))
+    ∷ []
+
+-- some of these objects, with arrows that are 1 and arrows that are 2, which is -1: the second saddle at the 1-smoothing of the first
+-- crossing
+abbrev pub hopf_with : List ℕ → List (ℕ × ℕ) → List (ℕ × ℕ) → Scan
+hopf_with numbers ones twos = listed_scan 2 numbers hopf_objects (plain_arrows ones ++ times_arrows 2 twos)
+
+abbrev pub hopf_two : Scan
+hopf_two =
+    hopf_with (0 ∷ 1 ∷ 2 ∷ 3 ∷ 4 ∷ 5 ∷ 6 ∷ 7 ∷ 8 ∷ 9 ∷ 10 ∷ 11 ∷ [])
+    ((0, 4) ∷ (0, 6) ∷ (1, 5) ∷ (1, 7) ∷ (2, 5) ∷ (2, 7) ∷ (4, 9) ∷ (4, 10) ∷ (5, 11) ∷ []) ((6, 9) ∷ (6, 10) ∷ (7, 11) ∷ [])
+
+-- from 0 to 4, 1 to 5, 6 to 9 and 7 to 11
+abbrev pub hopf_left_1 : Scan
+hopf_left_1 =
+    hopf_with (1 ∷ 2 ∷ 3 ∷ 5 ∷ 6 ∷ 7 ∷ 8 ∷ 9 ∷ 10 ∷ 11 ∷ []) ((1, 5) ∷ (1, 7) ∷ (2, 5) ∷ (2, 7) ∷ (5, 11) ∷ [])
+    ((6, 9) ∷ (6, 10) ∷ (7, 11) ∷ [])
+
+abbrev pub hopf_left_2 : Scan
+hopf_left_2 = hopf_with (2 ∷ 3 ∷ 6 ∷ 7 ∷ 8 ∷ 9 ∷ 10 ∷ 11 ∷ []) [] ((6, 9) ∷ (6, 10) ∷ (7, 11) ∷ [])
+
+abbrev pub hopf_left_3 : Scan
+hopf_left_3 = hopf_with (2 ∷ 3 ∷ 7 ∷ 8 ∷ 10 ∷ 11 ∷ []) [] ((7, 11) ∷ [])
+
+abbrev pub hopf_left_4 : Scan
+hopf_left_4 = hopf_with (2 ∷ 3 ∷ 8 ∷ 10 ∷ []) [] []
+
+-- the four that are left, under their places
+abbrev pub hopf_packed : Scan
+hopf_packed =
+    listed_scan 2 (0 ∷ 1 ∷ 2 ∷ 3 ∷ [])
+    (last_object 0 (pos 0) ∷ last_object 0 (neg_ℤ (pos 2)) ∷ last_object 2 (pos 2) ∷ last_object 2 (pos 0) ∷ []) []
+
+abbrev pub hopf_scans : List Scan
+hopf_scans = hopf_one ∷ hopf_two ∷ hopf_left_1 ∷ hopf_left_2 ∷ hopf_left_3 ∷ hopf_left_4 ∷ hopf_packed ∷ []

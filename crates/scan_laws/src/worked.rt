@@ -1,15 +1,17 @@
-//! The scan of the trefoil over two elements, step by step.
+//! Two scans, step by step: that of the trefoil over two elements, and that of the Hopf link over
+//! three.
 
 ghost use Rattle.std.specs.Prelude.{◌≡◌, [], ◌∷◌, map, codes};
 ghost use Rattle.kh_types.specs.Table.{table, table_text};
-ghost use Rattle.kh_types.specs.WorkedCodes.{trefoil};
+ghost use Rattle.kh_types.specs.WorkedCodes.{hopf_link, trefoil};
 ghost use Rattle.dotted_surfaces.specs.Surfaces.{value};
 ghost use Rattle.added_crossings.specs.Codes.{closed_at, pairing_behind};
 ghost use Rattle.added_crossings.specs.Entries.{added_surface, saddle_surface};
+ghost use Rattle.cell_complexes.specs.Cubes.{listed_by};
 ghost use Rattle.scan_laws.specs.Scans.{first_scan};
 ghost use Rattle.scan_laws.specs.Steps.{AreSteps, IsEndOfScan, last_of};
 ghost use Rattle.scan_laws.specs.Counts.{counted_table};
-ghost use Rattle.scan_laws.specs.Worked.{two_pairs, trefoil_scans};
+ghost use Rattle.scan_laws.specs.Worked.{two_pairs, trefoil_scans, hopf_crossings, hopf_scans};
 
 /// The first crossing pairs four arcs in two ways and closes nothing; the saddle between them is
 /// the one disc without a dot.
@@ -44,4 +46,13 @@ pub fn trefoil_counts()
     ensures table { counted_table 2 trefoil (last_of first_scan trefoil_scans) ≡ table 2 trefoil }
     ensures text { table_text (counted_table 2 trefoil (last_of first_scan trefoil_scans))
         ≡ codes "table 2\nfield 2\nj -9 i -3 dim 1\nj -7 i -3 dim 1\nj -7 i -2 dim 1\nj -5 i -2 dim 1\nj -3 i 0 dim 1\nj -1 i 0 dim 1\n" }
+{}
+
+/// The crossings of the Hopf link the other way round: signs are 2 modulo 3, and at the end the four
+/// objects that are left are put under their places.
+pub fn hopf_steps()
+    ensures steps { AreSteps 3 (listed_by hopf_link hopf_crossings) first_scan hopf_scans }
+    ensures end { IsEndOfScan 3 hopf_link hopf_crossings (last_of first_scan hopf_scans) }
+    ensures text { table_text (counted_table 3 hopf_link (last_of first_scan hopf_scans))
+        ≡ codes "table 2\nfield 3\nj -6 i -2 dim 1\nj -4 i -2 dim 1\nj -2 i 0 dim 1\nj 0 i 0 dim 1\n" }
 {}
