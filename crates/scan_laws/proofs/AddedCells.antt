@@ -1,26 +1,26 @@
 -- Adding a crossing changes nothing but the names of cells: a cell of an object, a state whose first bit is the smoothing of that
 -- crossing, and a label, becomes the cell of the new object that comes from the object, the smoothing and the labels of the closed
 -- circles, at the rest of the state, with the rest of the label. This is one to one, and keeps both degrees.
-use Rattle.std.proofs.Common.{◌≡◌, ℕ, suc, ◌+◌, ◌*◌, ◌/◌, ◌%◌, ◌^◌, ◌<◌, ◌∙◌, ℤ, pos, ◌+ℤ◌, ◌-ℤ◌, List, length, sym, subst, ap, ap₂, arith, IsTrue}
-use Rattle.std.specs.List.{Contains, sum_by}
+use Rattle.std.proofs.Common.{◌≡◌, ℕ, suc, ◌+◌, ◌*◌, ◌/◌, ◌%◌, ◌^◌, ◌<◌, ◌∙◌, ℤ, pos, ◌+ℤ◌, ◌-ℤ◌, length, sym, subst, ap, ap₂, arith, IsTrue}
+use Rattle.std.specs.List.{Contains}
 use Rattle.std.proofs.lemmas.Int.{ints}
 use Rattle.kh_types.specs.Acceptance.{accepted}
 use Rattle.kh_types.specs.Bits.{ones}
 use Rattle.kh_types.specs.Code.{Code}
 use Rattle.kh_types.proofs.AcceptedLemmas.{HasArcsTwice-accepted}
 use Rattle.added_crossings.specs.Codes.{closed_at}
-use Rattle.cell_complexes.specs.Alike.{AreListed, HasNoDoubles}
+use Rattle.cell_complexes.specs.Alike.{AreListed}
 use Rattle.cell_complexes.specs.Layers.{Layer, Layers, cells_of, layer_of}
 use Rattle.cell_complexes.proofs.Matched.{AreListed-matched}
 use Rattle.scan_laws.specs.Scans.{IsScanOf, Object, Scan, circle_count_at, circles_at, count_behind, pairs_of}
 use Rattle.scan_laws.specs.Complexes.{degree_of_labels, layers_of}
 use Rattle.scan_laws.specs.Adding.{IsAdding, Origin, object_from, origin_of}
-use Rattle.scan_laws.proofs.AddedCircles.{circle-sums, once-circles}
+use Rattle.scan_laws.proofs.AddedCircles.{circle-parts}
 use Rattle.scan_laws.proofs.CellLists.{cell-from, cell-of, cells-once}
 use Rattle.scan_laws.proofs.Objects.{object-among}
 use Rattle.scan_laws.proofs.Origins.{IsOrigin, origin-from, origin-of}
 use Rattle.scan_laws.proofs.Parts.{circle_with, circles_left, circles_with, closed_part, left_part}
-use Rattle.scan_laws.proofs.SplitLabels.{counts, ones-parts, part-below, parts-whole, whole, whole-below, whole-parts}
+use Rattle.scan_laws.proofs.SplitLabels.{AreParts, counts, ones-parts, part-below, parts-whole, whole, whole-below, whole-parts}
 use Rattle.scan_laws.proofs.States.{count-more, joint, joint-first, joint-parts, joint-rest, ones-joint}
 
 -- a crossing is added to a scan of an accepted code
@@ -112,66 +112,28 @@ module _ (p : ℕ) (code : Code) (plus minus : ℕ) (scan next : Scan) (added : 
   states-next : next_layers.states ≡ 2 ^ count_behind code (scan.done + 1)
   states-next = ap (λ k. 2 ^ count_behind code k) added.more.done
 
-  -- a label in two parts
-  module _ (o e u : ℕ) (has : Contains scan.numbers o) (below : e < 2) where
-    abbrev m : List (ℕ × ℕ)
-    m = pairs_of scan o
-
-    abbrev names : List ℕ
-    names = circles_with code scan.done m e u
-
-    abbrev class : ℕ → ℕ
-    class = circle_with code scan.done m e u
-
-    abbrev closed : List ℕ
-    closed = closed_at code scan.done e m
-
-    abbrev left : List ℕ
-    left = circles_left code scan.done m e u
-
-    names-once : HasNoDoubles names
-    names-once = once-circles code scan.done (pairs_of scan o) (joint e u)
-
-    sums-of : (h : ℕ → ℕ) → sum_by (λ x. h (class x)) left + sum_by (λ x. h (class x)) closed ≡ sum_by h names
-    sums-of =
-        circle-sums code scan.done (pairs_of scan o) e u
-        (record {
-          twice = HasArcsTwice-accepted code added.accepted_is;
-          below = added.more.within;
-          among = object-among code added.accepted_is scan added.of o has;
-          smoothing = below;
-        })
-
-    closed-below : (label : ℕ) → closed_part code scan.done m e u label < 2 ^ length closed
-    closed-below label = part-below names class closed left names-once sums-of closed label
-
-    left-below : (label : ℕ) → left_part code scan.done m e u label < 2 ^ length left
-    left-below label = part-below names class closed left names-once sums-of left label
-
-    whole-label : (label : ℕ) → label < 2 ^ length names
-        → whole names class closed left (closed_part code scan.done m e u label) (left_part code scan.done m e u label) ≡ label
-    whole-label label label_below = whole-parts names class closed left names-once sums-of label label_below
-
-    both-parts : (c r : ℕ) → c < 2 ^ length closed → r < 2 ^ length left
-        → (closed_part code scan.done m e u (whole names class closed left c r) ≡ c)
-        × (left_part code scan.done m e u (whole names class closed left c r) ≡ r)
-    both-parts c r c_below r_below = parts-whole names class closed left names-once sums-of c r c_below r_below
-
-    whole-small : (c r : ℕ) → whole names class closed left c r < 2 ^ length names
-    whole-small c r = whole-below names class closed left names-once sums-of c r
-
-    label-ones : (label : ℕ)
-        → ones (length closed) (closed_part code scan.done m e u label) + ones (length left) (left_part code scan.done m e u label)
-        ≡ ones (length names) label
-    label-ones label = ones-parts names class closed left names-once sums-of label
-
-    label-counts : length closed + length left ≡ length names
-    label-counts = counts names class closed left names-once sums-of
+  -- the circles of an object in two parts
+  parts : (o e u : ℕ) → Contains scan.numbers o → e < 2
+      → AreParts (circles_with code scan.done (pairs_of scan o) e u) (circle_with code scan.done (pairs_of scan o) e u)
+      (closed_at code scan.done e (pairs_of scan o)) (circles_left code scan.done (pairs_of scan o) e u)
+  parts o e u has below =
+      circle-parts code scan.done (pairs_of scan o) e u
+      (record {
+        twice = HasArcsTwice-accepted code added.accepted_is;
+        below = added.more.within;
+        among = object-among code added.accepted_is scan added.of o has;
+        smoothing = below;
+      })
 
   pub new-of : (o e u label : ℕ) → IsOld code scan o e u label → IsNew (origin_at code scan o e u label)
   new-of o e u label old =
       is-new (origin_at code scan o e u label)
-      (record { object = old.object; smoothing = old.smoothing; label = closed-below o e u old.object old.smoothing label })
+      (record {
+        object = old.object;
+        smoothing = old.smoothing;
+        label = part-below (circles_with code scan.done (pairs_of scan o) e u) (circle_with code scan.done (pairs_of scan o) e u)
+            (closed_at code scan.done e (pairs_of scan o)) label;
+      })
 
   named-there : (o e u label : ℕ) → IsOld code scan o e u label → Contains (cells_of next_layers).list (named o e u label)
   named-there o e u label old =
@@ -182,7 +144,8 @@ module _ (p : ℕ) (code : Code) (plus minus : ℕ) (scan next : Scan) (added : 
         object = new.has;
         state = omega (arith, old.state, states-next);
         label = subst (λ n. rest_at code scan o e u label < 2 ^ n) (sym (count-next (added.more.number w) u w new.object_is))
-            (left-below o e u old.object old.smoothing label);
+            (part-below (circles_with code scan.done (pairs_of scan o) e u) (circle_with code scan.done (pairs_of scan o) e u)
+            (circles_left code scan.done (pairs_of scan o) e u) label);
       })
 
   record IsNewCell (y : Layer) : Type 0 where
@@ -211,7 +174,7 @@ module _ (p : ℕ) (code : Code) (plus minus : ℕ) (scan next : Scan) (added : 
         object = new.from.object;
         smoothing = new.from.smoothing;
         state = new.state;
-        label_below = whole-small w.object w.smoothing y.state new.from.object new.from.smoothing w.label y.label;
+        label_below = whole-below (parts w.object w.smoothing y.state new.from.object new.from.smoothing) w.label y.label;
       })
 
   to-back : (y : Layer) → Contains (cells_of next_layers).list y → to (back y) ≡ y
@@ -219,10 +182,10 @@ module _ (p : ℕ) (code : Code) (plus minus : ℕ) (scan next : Scan) (added : 
       let new = new-cell y has in
       let w = added.more.origin y.object in
       let label = whole_of w y.state y.label in
-      let parts = both-parts w.object w.smoothing y.state new.from.object new.from.smoothing w.label y.label new.from.label new.rest in
+      let both = parts-whole (parts w.object w.smoothing y.state new.from.object new.from.smoothing) w.label y.label new.from.label new.rest in
       ap₂ (λ a b. named w.object a b label) (joint-first w.smoothing y.state new.from.smoothing)
       (joint-rest w.smoothing y.state new.from.smoothing)
-      ∙ ap₂ (λ c r. layer_of (added.more.number (origin_of w.object w.smoothing c)) y.state r) parts.0 parts.1
+      ∙ ap₂ (λ c r. layer_of (added.more.number (origin_of w.object w.smoothing c)) y.state r) both.0 both.1
       ∙ ap (λ x. layer_of x y.state y.label) (added.more.matched.back_to y.object new.has)
 
   back-to : (x : Layer) → Contains (cells_of layers).list x → back (to x) ≡ x
@@ -233,7 +196,7 @@ module _ (p : ℕ) (code : Code) (plus minus : ℕ) (scan next : Scan) (added : 
       let new = new-of x.object e u x.label old in
       ap (λ (v : Origin). back_of v u (rest_at code scan x.object e u x.label)) new.home
       ∙ ap₂ (λ t l. layer_of x.object t l) (sym (joint-parts x.state))
-      (whole-label x.object e u old.object old.smoothing x.label old.label_below)
+      (whole-parts (parts x.object e u old.object old.smoothing) x.label old.label_below)
 
   pub listed-next : AreListed to (cells_of layers).list (cells_of next_layers).list
   listed-next =
@@ -282,7 +245,7 @@ module _ (p : ℕ) (code : Code) (plus minus : ℕ) (scan next : Scan) (added : 
       (ones-here o e u old)
       ∙ ap (λ d. d +ℤ (pos ((scan.object o).degree + ones (count_behind code scan.done) (joint e u) + plus) -ℤ pos (2 * minus)))
       (labels_add q closed_count rest_count all_count (ones closed_count c) (ones rest_count r) (ones all_count label)
-      (label-counts o e u old.object old.smoothing) (label-ones o e u old.object old.smoothing label))
+      (counts (parts o e u old.object old.smoothing)) (ones-parts (parts o e u old.object old.smoothing) label))
     where
       labels_add : (q : ℤ) (a b c x y z : ℕ) → a + b ≡ c → x + y ≡ z
           → (q +ℤ (pos a -ℤ pos (2 * x))) +ℤ (pos b -ℤ pos (2 * y)) ≡ q +ℤ (pos c -ℤ pos (2 * z))

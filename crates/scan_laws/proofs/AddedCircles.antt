@@ -18,6 +18,7 @@ use Rattle.scan_laws.specs.Scans.{circles_at}
 use Rattle.scan_laws.specs.Edges.{classes_at}
 use Rattle.closed_surfaces.specs.Made.{joined_outside}
 use Rattle.closed_surfaces.proofs.MadePairings.{outer-raised}
+use Rattle.scan_laws.proofs.SplitLabels.{AreParts}
 use Rattle.scan_laws.proofs.States.{joint, outside-more}
 
 pub respects-mapped : (f h : ℕ → ℕ) (pairs : List (ℕ × ℕ)) → Respects f pairs → Respects (λ x. h (f x)) pairs
@@ -91,10 +92,14 @@ module _ (code : Code) (k : ℕ) (m : List (ℕ × ℕ)) (e u : ℕ) (at : HasNe
       eqb-true (old_class z) z (Contains-kept (is_least (classes_at code k m (joint e u))) (points_at code k).alive z has).1
 
   -- sums over circles
-  pub circle-sums : (h : ℕ → ℕ) → sum_by (λ x. h (old_class x)) new_circles + sum_by (λ x. h (old_class x)) closed_circles_at
+  circle-sums : (h : ℕ → ℕ) → sum_by (λ x. h (old_class x)) new_circles + sum_by (λ x. h (old_class x)) closed_circles_at
       ≡ sum_by h old_circles
   circle-sums h =
       sum-circles (step_at code k) inside_joins (pairing_behind code k e m) (joined_outside code (k + 1) u) (λ x. h (old_class x)) is-cut
       (respects-mapped old_class h (inside_joins ++ joined_outside code (k + 1) u) class-respects)
       ∙ ap (λ (xs : List ℕ). sum_by (λ x. h (old_class x)) xs) (sym circles-old)
       ∙ sum_by-members (λ x. h (old_class x)) h old_circles (λ z has. ap h (own-class z has))
+
+  -- the circles are those that are closed and those that are left
+  pub circle-parts : AreParts old_circles old_class closed_circles_at new_circles
+  circle-parts = record { once = once-circles code k m (joint e u); sums = circle-sums }

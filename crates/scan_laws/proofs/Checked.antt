@@ -4,6 +4,8 @@ use Rattle.std.specs.Prelude.{nat_eq, nat_lt, if◌then◌else◌}
 use Rattle.std.specs.List.{Contains, list_all, list_any, range_with_len}
 use Rattle.std.proofs.lemmas.Bool.{both_ways, eq-eqb, eqb-true, ltb-true}
 use Rattle.std.proofs.lemmas.List.{get_or_default, get_or-map}
+use Rattle.std.proofs.lemmas.List.Elements.{All-contains}
+use Rattle.std.proofs.lemmas.List.Sums.{AllPass-from_list_all}
 use Rattle.std.proofs.lemmas.List.FromFn.{get_or-range_with_len, length-range_with_len}
 use Rattle.kh_types.specs.Code.{Code}
 use Rattle.kh_types.specs.Residues.{Same}
@@ -22,7 +24,9 @@ use Rattle.scan_laws.proofs.CellLists.{contains-range}
 use Rattle.scan_laws.proofs.Possible.{no-head, no-tail, no_origin, origin_in, number_in, origins-matched, others, others-listed}
 use Rattle.scan_laws.proofs.Labels.{place}
 use Rattle.scan_laws.proofs.Places.{numbers-test, place-at, place-found}
-use Rattle.scan_laws.proofs.Tests.{all-pass}
+
+all-pass : {A : Type 0} (p : A → Bool) (xs : List A) → list_all p xs ≡ true → (x : A) → Contains xs x → p x ≡ true
+all-pass p xs all x has = All-contains (λ y. p y ≡ true) xs x (AllPass-from_list_all p xs all) has
 
 -- all terms are dotted discs
 abbrev pub dots_pass : Code → Scan → Bool

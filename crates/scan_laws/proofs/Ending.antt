@@ -52,6 +52,10 @@ one-step p code scan next step has =
       last = has.last;
     }
 
+-- what holds at 0 holds below 1
+at-zero : (P : ℕ → Type 0) (n : ℕ) → n < 1 → P 0 → P n
+at-zero P n below zero_has = subst P (let g : 0 ≡ n = omega (arith, below) in g) zero_has
+
 module _ (p : ℕ) (code : Code) (field : HasInverses p) (is : IsTrue (accepted code)) where
   positive : 0 < p
   positive = omega (arith, field.above_one)
@@ -119,30 +123,25 @@ module _ (p : ℕ) (code : Code) (field : HasInverses p) (is : IsTrue (accepted 
           pairs = pairs-last code is scan of done y has_y ∙ sym (pairs-last code is scan of done x has_x);
           some = some;
           below = mod_below (coefficient_in (scan.terms x y) 0) p positive;
-          terms = λ kept below. at kept (omega (arith, below, one-set x y));
+          terms = λ kept below.
+              at-zero (λ n. Same p (coefficient_in (scan.terms x y) n) (if nat_eq 0 n then coefficient_in (scan.terms x y) 0 % p else 0)) kept
+              (omega (arith, below, one-set x y)) (sym (mod-mod (coefficient_in (scan.terms x y) 0) p));
         }
-      where
-        at : (kept : ℕ) → kept < 1
-            → Same p (coefficient_in (scan.terms x y) kept) (if nat_eq 0 kept then coefficient_in (scan.terms x y) 0 % p else 0)
-        at zero below = sym (mod-mod (coefficient_in (scan.terms x y) 0) p)
-        at (suc kept) below = absurd (omega (arith, below))
 
     all-zero : list_any some_from scan.numbers ≡ false → IsLast p code scan
     all-zero none =
         record {
           done = done;
-          terms = λ x y kept has_x has_y below. at x y kept has_x has_y (omega (arith, below, one-set x y));
+          terms = λ x y kept has_x has_y below.
+              at-zero (λ n. Same p (coefficient_in (scan.terms x y) n) 0) kept (omega (arith, below, one-set x y))
+              (elim (cases_eq (amount x y) 0) [
+                | inl zero_amount ↦ zero_amount ∙ sym (zero-mod p)
+                | inr some ↦
+                    absurd (both_ways (list_any some_from scan.numbers) none
+                    (list_any-contained some_from scan.numbers x has_x
+                    (list_any-contained (is_some x) scan.numbers y has_y (ap not (ne_eqb (amount x y) 0 some)))))
+              ]);
         }
-      where
-        at : (x y kept : ℕ) → Contains scan.numbers x → Contains scan.numbers y → kept < 1 → Same p (coefficient_in (scan.terms x y) kept) 0
-        at x y zero has_x has_y below = elim (cases_eq (amount x y) 0) [
-          | inl zero_amount ↦ zero_amount ∙ sym (zero-mod p)
-          | inr some ↦
-              absurd (both_ways (list_any some_from scan.numbers) none
-              (list_any-contained some_from scan.numbers x has_x
-              (list_any-contained (is_some x) scan.numbers y has_y (ap not (ne_eqb (amount x y) 0 some)))))
-        ]
-        at x y (suc kept) has_x has_y below = absurd (omega (arith, below))
 
   -- one number is eliminated
   record IsLess (scan : Scan) : Type 0 where

@@ -26,7 +26,7 @@ use Rattle.scan_laws.specs.Adding.{IsAdding}
 use Rattle.scan_laws.specs.Eliminating.{IsEliminating}
 use Rattle.scan_laws.specs.Steps.{AreSteps, IsRenumbering, IsScanStep, LeadsTo, last_of}
 use Rattle.scan_laws.proofs.AddedCells.{IsAdded, to}
-use Rattle.scan_laws.proofs.AddedEntries.{alike-adding}
+use Rattle.scan_laws.proofs.AddedEdges.{alike-adding}
 use Rattle.scan_laws.proofs.Base.{alike-first}
 use Rattle.scan_laws.proofs.Coefficients.{between-states, inside-state, nowhere}
 use Rattle.scan_laws.proofs.Edges.{outer-below}

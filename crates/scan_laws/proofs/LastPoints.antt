@@ -3,7 +3,6 @@ use Rattle.std.proofs.Common.{◌≡◌, ℕ, zero, suc, inl, inr, ◌+◌, ◌*
 use Rattle.std.specs.Prelude.{nat_eq, nat_lt}
 use Rattle.std.specs.List.{Contains, filter, range_with_len}
 use Rattle.std.proofs.lemmas.Bool.{cases_lt, eq-eqb, eqb-true, false_from_ne_true}
-use Rattle.std.proofs.lemmas.Bool.Decides.{nat_tests}
 use Rattle.std.proofs.lemmas.List.{drop_all, length-drop}
 use Rattle.std.proofs.lemmas.List.FromFn.{get_or-range_with_len, length-range_with_len}
 use Rattle.kh_types.specs.Acceptance.{accepted}
@@ -60,33 +59,17 @@ ends-loop crossings x twice past =
     let arc = twice.slots (dart_at place) (IsDart-at crossings place (omega (arith, below))) in
     omega (arith, arc.within, past, eqb-true (arc_at crossings place) x is))))
 
-not_alive : (n : ℕ) → n ≡ 2 → nat_lt n 2 ≡ false
-not_alive n is = grind (arith, nat_tests)
-
-alive_still : (n : ℕ) → n ≡ 0 → nat_lt n 2 ≡ true
-alive_still n is = grind (arith, nat_tests)
-
-not_open : (n : ℕ) → n ≡ 2 → nat_eq n 1 ≡ false
-not_open n is = grind (arith, nat_tests)
-
-not_open_either : (n : ℕ) → n ≡ 0 → nat_eq n 1 ≡ false
-not_open_either n is = grind (arith, nat_tests)
-
 alive-last : (code : Code) → HasArcsTwice code.crossings
     → (points_at code (length code.crossings)).alive ≡ range_with_len (1 + arc_count code.crossings) code.loops
 alive-last code twice =
     filter-past (is_alive code (length code.crossings)) 1 (arc_count code.crossings) code.loops
-    (λ x from below. not_alive (ends_before code.crossings (length code.crossings) x)
-    (ends-arc code.crossings x twice from (omega (arith, below))))
-    (λ x from below. alive_still (ends_before code.crossings (length code.crossings) x)
-    (ends-loop code.crossings x twice (omega (arith, from))))
+    (λ x from below. ap (λ n. nat_lt n 2) (ends-arc code.crossings x twice from (omega (arith, below))))
+    (λ x from below. ap (λ n. nat_lt n 2) (ends-loop code.crossings x twice (omega (arith, from))))
 
 never-open : (code : Code) (x : ℕ) → HasArcsTwice code.crossings → 1 ≤ x → is_open code (length code.crossings) x ≡ false
 never-open code x twice above = elim (cases_lt (arc_count code.crossings) x) [
-  | inl past ↦ not_open_either (ends_before code.crossings (length code.crossings) x) (ends-loop code.crossings x twice past)
-  | inr within ↦
-      not_open (ends_before code.crossings (length code.crossings) x)
-      (ends-arc code.crossings x twice above (omega (arith, within)))
+  | inl past ↦ ap (λ n. nat_eq n 1) (ends-loop code.crossings x twice past)
+  | inr within ↦ ap (λ n. nat_eq n 1) (ends-arc code.crossings x twice above (omega (arith, within)))
 ]
 
 opened-last : (code : Code) → HasArcsTwice code.crossings → (points_at code (length code.crossings)).opened ≡ []

@@ -1,4 +1,3 @@
-pub mod Tests
 pub mod Places
 pub mod SameElements
 pub mod Labels
@@ -21,6 +20,7 @@ pub mod OuterEdges
 pub mod Origins
 pub mod AddedCells
 pub mod AddedEntries
+pub mod AddedEdges
 pub mod Renumbered
 pub mod Eliminating
 pub mod ScansOf

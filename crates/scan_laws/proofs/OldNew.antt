@@ -2,9 +2,9 @@
 use Rattle.std.proofs.Common.{◌≡◌, ℕ, suc, inl, inr, ◌+◌, ◌<◌, ◌≤◌, ◌∙◌, ◌⊎◌, List, [], ◌∷◌, ◌++◌, get_or, length, map, refl, sym, ap, ap₂, arith, Bool, false, cond}
 use Rattle.std.specs.Prelude.{nat_eq, slice_index}
 use Rattle.std.specs.List.{Contains, filter, range_with_len, sum_by}
-use Rattle.std.proofs.lemmas.Bool.{both_ways, cases_Bool, cases_lt, eq-eqb, eqb-true, false_from_ne_true, ne_eqb}
+use Rattle.std.proofs.lemmas.Bool.{both_ways, cases_Bool, eq-eqb, eqb-true, false_from_ne_true, ne_eqb}
 use Rattle.std.proofs.lemmas.List.{get_or_default, get_or-map, length-map}
-use Rattle.std.proofs.lemmas.List.Elements.{Contains-append_cases, Contains-append_left, Contains-append_right}
+use Rattle.std.proofs.lemmas.List.Elements.{Contains-append_left, Contains-append_right}
 use Rattle.std.proofs.lemmas.List.Sums.{length-filter, sum_by-cons}
 use Rattle.kh_types.specs.Classes.{Respects, is_least}
 use Rattle.kh_types.specs.Code.{Code, arc_in}
@@ -16,38 +16,31 @@ use Rattle.added_crossings.proofs.KeptCircles.{outside-among}
 use Rattle.dotted_maps.proofs.LeastPoints.{AreJoins, class-named, class-respected}
 use Rattle.cell_complexes.specs.Alike.{HasNoDoubles}
 use Rattle.cell_complexes.proofs.ExchangedCubes.{range-contains}
-use Rattle.cell_complexes.proofs.Members.{Contains-cases, Contains-kept, Contains-made, sum_by-members}
+use Rattle.cell_complexes.proofs.Matched.{place-once}
+use Rattle.cell_complexes.proofs.Members.{Contains-cases, Contains-kept, sum_by-members}
 use Rattle.scan_laws.specs.Scans.{circles_at}
 use Rattle.scan_laws.specs.Edges.{classes_at, label_by, labels_by, touched_by}
 use Rattle.closed_surfaces.specs.Made.{joined_outside}
-use Rattle.scan_laws.proofs.AddedCircles.{HasNext, circle-sums, class-respects, inside_joins, is-cut, old_class, once-circles, own-class}
+use Rattle.scan_laws.proofs.AddedCircles.{HasNext, circle-parts, class-respects, inside_joins, is-cut, old_class, own-class}
 use Rattle.scan_laws.proofs.Changes.{AreBits, total}
 use Rattle.scan_laws.proofs.Labels.{bit-number, bit-small, mark, place}
 use Rattle.scan_laws.proofs.Places.{numbers-test, place-found}
 use Rattle.scan_laws.proofs.SameElements.{AreSame}
 use Rattle.scan_laws.proofs.Objects.{placed-behind}
-use Rattle.scan_laws.proofs.SplitLabels.{both-same, part}
+use Rattle.scan_laws.proofs.SplitLabels.{AreParts, both-same, part}
 use Rattle.scan_laws.proofs.States.{joint}
 
 -- what stands once under a map
-pub map-apart : (f : ℕ → ℕ) (zs : List ℕ) → HasNoDoubles (map f zs) → (a b : ℕ) → Contains zs a → Contains zs b → f a ≡ f b → a ≡ b
+map-apart : (f : ℕ → ℕ) (zs : List ℕ) → HasNoDoubles (map f zs) → (a b : ℕ) → Contains zs a → Contains zs b → f a ≡ f b → a ≡ b
 map-apart f zs once a b has_a has_b same =
-    let at : (has : ℕ) (c : ℕ) → has < length zs → get_or zs has c ≡ c → get_or (map f zs) has 0 ≡ f c =
-    λ i c below here. get_or-map f zs i c 0 below ∙ ap f here in
-    let first = at has_a.0 a has_a.1 has_a.2 in
-    let second = at has_b.0 b has_b.1 has_b.2 in
     let size = length-map zs f in
-    elim (cases_lt has_a.0 has_b.0) [
-      | inl less ↦ absurd (once has_a.0 has_b.0 0 less (omega (arith, has_b.1, size)) (first ∙ same ∙ sym second))
-      | inr not_less ↦ elim (cases_lt has_b.0 has_a.0) [
-        | inl more ↦ absurd (once has_b.0 has_a.0 0 more (omega (arith, has_a.1, size)) (second ∙ sym same ∙ sym first))
-        | inr not_more ↦
-            let here : has_a.0 ≡ has_b.0 = omega (arith, not_less, not_more) in
-            sym has_a.2 ∙ ap (λ i. get_or zs i a) here ∙ get_or_default zs has_b.0 a b has_b.1 ∙ has_b.2
-      ]
-    ]
+    let at : (i c : ℕ) → i < length zs → get_or zs i c ≡ c → get_or (map f zs) i 0 ≡ f c =
+    λ i c below here. get_or-map f zs i c 0 below ∙ ap f here in
+    let here = place-once (map f zs) has_a.0 has_b.0 0 once (omega (arith, has_a.1, size)) (omega (arith, has_b.1, size))
+    (at has_a.0 a has_a.1 has_a.2 ∙ same ∙ sym (at has_b.0 b has_b.1 has_b.2)) in
+    sym has_a.2 ∙ ap (λ i. get_or zs i a) here ∙ get_or_default zs has_b.0 a b has_b.1 ∙ has_b.2
 
-pub append-apart : (f : ℕ → ℕ) (xs ys : List ℕ) → HasNoDoubles (map f (xs ++ ys)) → (x y : ℕ) → Contains xs x → Contains ys y
+append-apart : (f : ℕ → ℕ) (xs ys : List ℕ) → HasNoDoubles (map f (xs ++ ys)) → (x y : ℕ) → Contains xs x → Contains ys y
     → f x ≡ f y → ⊥
 append-apart f [] ys once x y has_x has_y same = omega (arith, has_x.1)
 append-apart f (z ∷ xs) ys once x y has_x has_y same = elim (Contains-cases z x xs has_x) [
@@ -94,14 +87,11 @@ module _ (code : Code) (k : ℕ) (m : List (ℕ × ℕ)) (e u : ℕ) (at : HasNe
   abbrev fresh : List ℕ
   fresh = circles_at code (k + 1) hat u
 
-  names-once : HasNoDoubles names
-  names-once = once-circles code k m (joint e u)
-
-  sums : (h : ℕ → ℕ) → sum_by (λ x. h (old x)) fresh + sum_by (λ x. h (old x)) closed ≡ sum_by h names
-  sums = circle-sums code k m e u at
+  parts : AreParts names old closed fresh
+  parts = circle-parts code k m e u at
 
   same-names : AreSame names (map old (closed ++ fresh))
-  same-names = both-same names old closed fresh names-once sums
+  same-names = both-same parts
 
   new-joins : AreJoins (points_at code (k + 1)).size alive_next (hat ++ joined_outside code (k + 1) u)
   new-joins =
@@ -145,12 +135,7 @@ module _ (code : Code) (k : ℕ) (m : List (ℕ × ℕ)) (e u : ℕ) (at : HasNe
   pub closed-apart : (x y : ℕ) → Contains closed x → Contains fresh y → old x ≡ old y → ⊥
   closed-apart x y has_x has_y same = append-apart old closed fresh same-names.second_once x y has_x has_y same
 
-  -- each old circle is closed or stays
-  pub from-names : (z : ℕ) → Contains names z → (x : ℕ) × (Contains closed x ⊎ Contains fresh x) × (old x ≡ z)
-  from-names z has =
-      let made = Contains-made old (closed ++ fresh) z (same-names.there z has) in
-      (made.0, Contains-append_cases closed fresh made.0 made.1, made.2)
-
+  -- and they are old circles
   pub in-names : (x : ℕ) → Contains closed x ⊎ Contains fresh x → Contains names (old x)
   in-names x either = elim either [
     | inl has ↦ same-names.back (old x) (Contains-map old (closed ++ fresh) x (Contains-append_left closed fresh x has))
@@ -230,7 +215,7 @@ module _ (code : Code) (k : ℕ) (m : List (ℕ × ℕ)) (e u : ℕ) (at : HasNe
           → sum_by (λ z. cond (old_touched z) (f z) 0) names ≡ sum_by (λ y. cond (new_touched y) (g y) 0) fresh
       touched-sum f g same =
           let h = λ (z : ℕ). cond (old_touched z) (f z) 0 in
-          sym (sums h)
+          sym (parts.sums h)
           ∙ ap₂ (λ a b. a + b)
           (sum_by-members (λ y. h (old y)) (λ y. cond (new_touched y) (g y) 0) fresh
           (λ y has. ap₂ (λ (b : Bool) (n : ℕ). cond b n 0) (touched-fresh y has) (same y has)))

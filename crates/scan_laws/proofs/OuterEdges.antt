@@ -1,10 +1,12 @@
 -- The coefficient of an edge at a later crossing, before one crossing more: it is that behind the crossing where the labels of closed
 -- circles stay, and else 0. The touched circles have as many labels on both sides, with the same sum, so they are a row of the tables on
 -- both or on neither; and a circle that is not touched is closed, or has its label behind.
-use Rattle.std.proofs.Common.{◌≡◌, ◌≢◌, ℕ, zero, suc, inl, inr, ◌+◌, ◌-◌, ◌*◌, ◌%◌, ◌^◌, ◌<◌, ◌≤◌, ◌∙◌, ◌⊎◌, List, ◌++◌, length, refl, sym, subst, ap, ap₂, arith, Bool, true, false, cond, ◌&&◌, ◌||◌}
+use Rattle.std.proofs.Common.{◌≡◌, ◌≢◌, ℕ, zero, suc, inl, inr, ◌+◌, ◌-◌, ◌*◌, ◌%◌, ◌^◌, ◌<◌, ◌≤◌, ◌∙◌, ◌⊎◌, List, [], ◌∷◌, ◌++◌, length, map, refl, sym, ap, ap₂, arith, Bool, true, false, cond, ◌&&◌, ◌||◌}
 use Rattle.std.specs.Prelude.{nat_eq, if◌then◌else◌}
-use Rattle.std.specs.List.{Contains, list_all}
-use Rattle.std.proofs.lemmas.Bool.{and_parts, cases_Bool, cases_eq, eq-eqb, eqb-true}
+use Rattle.std.specs.List.{Contains, list_all, sum_by}
+use Rattle.std.proofs.lemmas.Bool.{cases_Bool, cases_eq}
+use Rattle.std.proofs.lemmas.Bool.Decides.{nat_tests}
+use Rattle.std.proofs.lemmas.List.Sums.{sum_by-cons}
 use Rattle.kh_types.specs.Bits.{bit, ones}
 use Rattle.kh_types.specs.Classes.{classes_of, is_least}
 use Rattle.kh_types.specs.Code.{Code, place_of, slots_of}
@@ -16,26 +18,40 @@ use Rattle.added_crossings.specs.Codes.{closed_at, pairing_behind, points_at, sm
 use Rattle.added_crossings.specs.Steps.{after, is_none_in, near}
 use Rattle.added_crossings.proofs.CodeSteps.{IsStep-at}
 use Rattle.added_crossings.proofs.KeptCircles.{near-has}
-use Rattle.added_crossings.proofs.Labels.{map-on}
-use Rattle.cell_complexes.proofs.Members.{Contains-kept}
+use Rattle.cell_complexes.proofs.Members.{Contains-kept, sum_by-members}
 use Rattle.scan_laws.specs.Scans.{count_behind, crossings_behind}
 use Rattle.scan_laws.specs.Edges.{changes_by, classes_at, keeps_by, labels_by, outer_at, outer_coefficient, outer_sign, touched_by}
-use Rattle.scan_laws.proofs.AddedCircles.{HasNext, own-class}
+use Rattle.scan_laws.proofs.AddedCircles.{HasNext, circle-parts, own-class}
 use Rattle.scan_laws.proofs.Changes.{changes_test, changes-counts, total}
 use Rattle.scan_laws.proofs.Edges.{edge-or_zero, fits_at, outer-one}
-use Rattle.scan_laws.proofs.Labels.{bit-number, bit-small, mark, place}
-use Rattle.scan_laws.proofs.OldNew.{fresh-alive, from-names, in-names, labels-count, labels-total, new-bits, new_class, old-bits, rest-arc, touched-closed, touched-fresh}
+use Rattle.scan_laws.proofs.Labels.{bit-small, mark, place}
+use Rattle.scan_laws.proofs.OldNew.{fresh-alive, in-names, labels-count, labels-total, new-bits, new_class, old-bits, rest-arc, touched-closed, touched-fresh}
 use Rattle.scan_laws.proofs.Parts.{circle_with, circles_left, circles_with, closed_part, left_part}
-use Rattle.scan_laws.proofs.Places.{numbers-test, place-found}
-use Rattle.scan_laws.proofs.Tests.{all-pass, pass-all}
 use Rattle.scan_laws.proofs.States.{bit-joint, count-more, joint, ones-joint}
 use Rattle.scan_laws.proofs.Untouched.{IsLater, alive-slots, slots-before, stays-alive, step-before, untouched-same}
 
--- two tests that say the same
-iff-same : (a b : Bool) → (a ≡ true → b ≡ true) → (b ≡ true → a ≡ true) → a ≡ b
-iff-same true b there back = sym (there refl)
-iff-same false true there back = back refl
-iff-same false false there back = refl
+-- a test of all elements as the number of those that fail it, and as one number for tests of bits
+abbrev fails : (ℕ → Bool) → ℕ → ℕ
+fails p x = cond (p x) 0 1
+
+all-fails : (p : ℕ → Bool) (xs : List ℕ) → list_all p xs ≡ nat_eq (sum_by (fails p) xs) 0
+all-fails p [] = refl
+all-fails p (x ∷ xs) =
+    ap (λ b. p x && b) (all-fails p xs) ∙ by (p x) (sum_by (fails p) xs) ∙ ap (λ n. nat_eq n 0) (sym (sum_by-cons (fails p) x xs))
+  where
+    by : (b : Bool) (n : ℕ) → (b && nat_eq n 0) ≡ nat_eq (cond b 0 1 + n) 0
+    by true n = grind (arith, nat_tests)
+    by false n = grind (arith, nat_tests)
+
+bits-same : (f g : ℕ → ℕ) (xs : List ℕ) → ((x : ℕ) → f x ≤ 1) → ((x : ℕ) → g x ≤ 1)
+    → nat_eq (number_from (map f xs)) (number_from (map g xs)) ≡ list_all (λ x. nat_eq (f x) (g x)) xs
+bits-same f g [] f_small g_small = refl
+bits-same f g (x ∷ xs) f_small g_small =
+    one (f x) (g x) (number_from (map f xs)) (number_from (map g xs)) (f_small x) (g_small x)
+    ∙ ap (λ b. nat_eq (f x) (g x) && b) (bits-same f g xs f_small g_small)
+  where
+    one : (a b m n : ℕ) → a ≤ 1 → b ≤ 1 → nat_eq (a + 2 * m) (b + 2 * n) ≡ (nat_eq a b && nat_eq m n)
+    one a b m n a_small b_small = grind (arith, nat_tests, a_small, b_small)
 
 -- closed circles are at points that are alive before
 closed-alive : (code : Code) (k : ℕ) (m : List (ℕ × ℕ)) (e : ℕ) → HasNext code k m e → (x : ℕ) → Contains (closed_at code k e m) x
@@ -152,44 +168,24 @@ module _ (code : Code) (k : ℕ) (m : List (ℕ × ℕ)) (e u v : ℕ) (at : Has
       (ap (mark names_behind other) (untouched x (closed-alive code k m e at x has) fails)))
 
   keeps-same : list_all old_keeps names ≡ (nat_eq shut shut_behind && list_all new_keeps fresh)
-  keeps-same = iff-same (list_all old_keeps names) (nat_eq shut shut_behind && list_all new_keeps fresh) there back
+  keeps-same =
+      let parts = circle-parts code k m e u at in
+      let closed_keeps = λ (x : ℕ). nat_eq (mark names label (first x)) (mark names_behind other (second x)) in
+      let at_fresh = λ (x : ℕ). fails old_keeps (first x) in
+      all-fails old_keeps names
+      ∙ ap (λ n. nat_eq n 0)
+      (sym (parts.sums (fails old_keeps))
+      ∙ ap₂ (λ n m. n + m) (sum_by-members at_fresh (fails new_keeps) fresh (λ y has. ap (λ b. cond b 0 1) (fresh-keeps y has)))
+      (sum_by-members at_fresh (fails closed_keeps) closed (λ x has. ap (λ b. cond b 0 1) (closed-keeps x has))))
+      ∙ both (sum_by (fails new_keeps) fresh) (sum_by (fails closed_keeps) closed)
+      ∙ ap₂ (λ a b. a && b)
+      (sym (bits-same (λ x. mark names label (first x)) (λ x. mark names_behind other (second x)) closed
+      (λ x. bit-small label (place (first x) names)) (λ x. bit-small other (place (second x) names_behind))
+      ∙ all-fails closed_keeps closed))
+      (sym (all-fails new_keeps fresh))
     where
-      there : list_all old_keeps names ≡ true → (nat_eq shut shut_behind && list_all new_keeps fresh) ≡ true
-      there all =
-          let kept : (x : ℕ) → Contains closed x ⊎ Contains fresh x → old_keeps (first x) ≡ true =
-          λ x either. all-pass old_keeps names all (first x) (in-names code k m e u at x either) in
-          ap₂ (λ a b. a && b)
-          (eq-eqb shut shut_behind
-          (ap number_from
-          (map-on (λ x. mark names label (first x)) (λ x. mark names_behind other (second x)) closed
-          (λ x has.
-          eqb-true (mark names label (first x)) (mark names_behind other (second x)) (sym (closed-keeps x has) ∙ kept x (inl has))))))
-          (pass-all new_keeps fresh (λ y has. sym (fresh-keeps y has) ∙ kept y (inr has)))
-
-      shut-bits : (x : ℕ) → Contains closed x → shut ≡ shut_behind
-          → nat_eq (mark names label (first x)) (mark names_behind other (second x)) ≡ true
-      shut-bits x has same =
-          let found = place-found nat_eq 0 x closed numbers-test has in
-          let i = place x closed in
-          eq-eqb (mark names label (first x)) (mark names_behind other (second x))
-          (ap (λ y. mark names label (first y)) (sym found.there)
-          ∙ sym (bit-number (λ y. mark names label (first y)) closed i (λ y. bit-small label (place (first y) names)) found.within)
-          ∙ ap (λ n. bit n i) same
-          ∙ bit-number (λ y. mark names_behind other (second y)) closed i (λ y. bit-small other (place (second y) names_behind)) found.within
-          ∙ ap (λ y. mark names_behind other (second y)) found.there)
-
-      back : (nat_eq shut shut_behind && list_all new_keeps fresh) ≡ true → list_all old_keeps names ≡ true
-      back both =
-          let parts = and_parts (nat_eq shut shut_behind) (list_all new_keeps fresh) both in
-          let same : shut ≡ shut_behind = eqb-true shut shut_behind parts.0 in
-          pass-all old_keeps names
-          (λ z has.
-          let found = from-names code k m e u at z has in
-          subst (λ y. old_keeps y ≡ true) found.2
-          (elim found.1 [
-            | inl shut_there ↦ closed-keeps found.0 shut_there ∙ shut-bits found.0 shut_there same
-            | inr stays_there ↦ fresh-keeps found.0 stays_there ∙ all-pass new_keeps fresh parts.1 found.0 stays_there
-          ]))
+      both : (a b : ℕ) → nat_eq (a + b) 0 ≡ (nat_eq b 0 && nat_eq a 0)
+      both a b = grind (arith, nat_tests)
 
   fits-same : fits_at code k m (joint e u) (joint e v) label other (crossing + 1)
       ≡ (nat_eq shut shut_behind && fits_at code (k + 1) hat u v rest rest_behind crossing)

@@ -39,19 +39,26 @@ abbrev pub whole : List ℕ → (ℕ → ℕ) → List ℕ → List ℕ → ℕ 
 whole names class first second closed rest =
     relabelled (map class (first ++ second)) names (closed + 2 ^ length first * rest)
 
-module _ (names : List ℕ) (class : ℕ → ℕ) (first second : List ℕ) (once : HasNoDoubles names)
-    (sums : (h : ℕ → ℕ) → sum_by (λ x. h (class x)) second + sum_by (λ x. h (class x)) first ≡ sum_by h names) where
-  abbrev pub both : List ℕ
+-- some names are the circles of two parts, each once
+pub record AreParts (names : List ℕ) (class : ℕ → ℕ) (first second : List ℕ) : Type 0 where
+  pub once : HasNoDoubles names
+  pub sums : (h : ℕ → ℕ) → sum_by (λ x. h (class x)) second + sum_by (λ x. h (class x)) first ≡ sum_by h names
+
+pub part-below : (names : List ℕ) (class : ℕ → ℕ) (xs : List ℕ) (label : ℕ) → part names class xs label < 2 ^ length xs
+part-below names class xs label = number-below (λ x. mark names label (class x)) xs (λ x. bit-small label (place (class x) names))
+
+module _ {names : List ℕ} {class : ℕ → ℕ} {first second : List ℕ} (parts : AreParts names class first second) where
+  abbrev both : List ℕ
   both = map class (first ++ second)
+
+  turned : (a b : ℕ) → a + b ≡ b + a
+  turned a b = omega arith
 
   pub both-same : AreSame names both
   both-same =
-      same-sums names both once
+      same-sums names both parts.once
       (λ h. sum_by-map h class (first ++ second) ∙ sum_by-append (λ x. h (class x)) first second
-      ∙ turned (sum_by (λ x. h (class x)) first) (sum_by (λ x. h (class x)) second) ∙ sums h)
-    where
-      turned : (a b : ℕ) → a + b ≡ b + a
-      turned a b = omega arith
+      ∙ turned (sum_by (λ x. h (class x)) first) (sum_by (λ x. h (class x)) second) ∙ parts.sums h)
 
   pub counts : length first + length second ≡ length names
   counts =
@@ -60,44 +67,41 @@ module _ (names : List ℕ) (class : ℕ → ℕ) (first second : List ℕ) (onc
         length-sum first,
         length-sum second,
         length-sum names,
-        sums (λ z. 1),
+        parts.sums (λ z. 1),
       )
-
-  length-both : length both ≡ length names
-  length-both = length-map (first ++ second) class ∙ length-append first second ∙ counts
-
-  pub part-below : (xs : List ℕ) (label : ℕ) → part names class xs label < 2 ^ length xs
-  part-below xs label = number-below (λ x. mark names label (class x)) xs (λ x. bit-small label (place (class x) names))
 
   pub whole-below : (closed rest : ℕ) → whole names class first second closed rest < 2 ^ length names
   whole-below closed rest =
-      let label = closed + 2 ^ length first * rest in
-      number-below (mark both label) names (λ z. bit-small label (place z both))
+      let label = closed + 2 ^ length first * rest in number-below (mark both label) names (λ z. bit-small label (place z both))
 
   -- both parts are the label of all
-  parts-relabelled : (label : ℕ) → relabelled names both label ≡ part names class first label + 2 ^ length first * part names class second label
+  parts-relabelled : (label : ℕ)
+      → relabelled names both label ≡ part names class first label + 2 ^ length first * part names class second label
   parts-relabelled label =
       let f = λ (x : ℕ). mark names label (class x) in
       ap number_from (map-map (mark names label) class (first ++ second) ∙ map-append f first second)
       ∙ number-append (map f first) (map f second)
       ∙ ap (λ n. number_from (map f first) + 2 ^ n * number_from (map f second)) (length-map first f)
 
-  pub whole-parts : (label : ℕ) → label < 2 ^ length names → whole names class first second (part names class first label) (part names class second label) ≡ label
+  pub whole-parts : (label : ℕ) → label < 2 ^ length names
+      → whole names class first second (part names class first label) (part names class second label) ≡ label
   whole-parts label below =
       ap (relabelled both names) (sym (parts-relabelled label)) ∙ relabelled-back names both label both-same below
 
   pub parts-whole : (closed rest : ℕ) → closed < 2 ^ length first → rest < 2 ^ length second
-      → (part names class first (whole names class first second closed rest) ≡ closed) × (part names class second (whole names class first second closed rest) ≡ rest)
+      → (part names class first (whole names class first second closed rest) ≡ closed)
+      × (part names class second (whole names class first second closed rest) ≡ rest)
   parts-whole closed rest closed_below rest_below =
-      let label = closed + 2 ^ length first * rest in
+      let label = whole names class first second closed rest in
       let power : 2 ^ length both ≡ 2 ^ length first * 2 ^ length second =
-      ap (λ n. 2 ^ n) (length-both ∙ sym counts) ∙ pow-add 2 (length first) (length second) in
-      let small : label < 2 ^ length both =
-      subst (λ (n : ℕ). label < n) (sym power) (within closed rest (2 ^ length first) (2 ^ length second) closed_below rest_below) in
-      parts-same (2 ^ length first) (part names class first (whole names class first second closed rest)) (part names class second (whole names class first second closed rest)) closed rest
-      (part-below first (whole names class first second closed rest)) closed_below
-      (sym (parts-relabelled (whole names class first second closed rest))
-      ∙ relabelled-back both names label (same-turned names both both-same) small)
+      ap (λ n. 2 ^ n) (length-map (first ++ second) class ∙ length-append first second) ∙ pow-add 2 (length first) (length second) in
+      let small : closed + 2 ^ length first * rest < 2 ^ length both =
+      subst (λ (n : ℕ). closed + 2 ^ length first * rest < n) (sym power)
+      (within closed rest (2 ^ length first) (2 ^ length second) closed_below rest_below) in
+      parts-same (2 ^ length first) (part names class first label) (part names class second label) closed rest
+      (part-below names class first label) closed_below
+      (sym (parts-relabelled label)
+      ∙ relabelled-back both names (closed + 2 ^ length first * rest) (same-turned names both both-same) small)
     where
       within : (a b q n : ℕ) → a < q → b < n → a + q * b < q * n
       within a b q n a_below b_below =
@@ -113,8 +117,5 @@ module _ (names : List ℕ) (class : ℕ → ℕ) (first second : List ℕ) (onc
       let small : (x : ℕ) → f x ≤ 1 = λ x. bit-small label (place (class x) names) in
       ap₂ (λ m n. m + n) (ones-map f first small) (ones-map f second small)
       ∙ turned (sum_by f first) (sum_by f second)
-      ∙ sums (mark names label)
-      ∙ sym (ones-marks names label once)
-    where
-      turned : (a b : ℕ) → a + b ≡ b + a
-      turned a b = omega arith
+      ∙ parts.sums (mark names label)
+      ∙ sym (ones-marks names label parts.once)
