@@ -182,7 +182,8 @@ module _ (p : ℕ) (code : Code) (plus minus : ℕ) (scan next : Scan) (added : 
       let new = new-cell y has in
       let w = added.more.origin y.object in
       let label = whole_of w y.state y.label in
-      let both = parts-whole (parts w.object w.smoothing y.state new.from.object new.from.smoothing) w.label y.label new.from.label new.rest in
+      let two = parts w.object w.smoothing y.state new.from.object new.from.smoothing in
+      let both = parts-whole two w.label y.label new.from.label new.rest in
       ap₂ (λ a b. named w.object a b label) (joint-first w.smoothing y.state new.from.smoothing)
       (joint-rest w.smoothing y.state new.from.smoothing)
       ∙ ap₂ (λ c r. layer_of (added.more.number (origin_of w.object w.smoothing c)) y.state r) both.0 both.1

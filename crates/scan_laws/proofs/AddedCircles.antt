@@ -1,6 +1,5 @@
 -- The circles of an object at an outer state, as those that a smoothing of the next crossing closes and those of the new object.
 use Rattle.std.proofs.Common.{◌≡◌, ℕ, ◌+◌, ◌*◌, ◌^◌, ◌<◌, ◌∙◌, List, [], ◌∷◌, ◌++◌, append_assoc, length, sym, subst, ap, arith, Bool, true, false, cond}
-use Rattle.std.specs.Prelude.{slice_index}
 use Rattle.std.specs.List.{Contains, filter, sum_by}
 use Rattle.std.proofs.lemmas.Bool.{eqb-true}
 use Rattle.kh_types.specs.Classes.{AreBelow, Respects, classes_of, is_least}
@@ -9,8 +8,9 @@ use Rattle.kh_types.specs.Darts.{HasArcsTwice}
 use Rattle.kh_types.proofs.ClassLemmas.{classes-together}
 use Rattle.added_crossings.specs.Codes.{closed_at, is_alive, pairing_behind, smoothing_at, step_at, points_at}
 use Rattle.added_crossings.proofs.CodeSums.{IsCut-at}
-use Rattle.added_crossings.proofs.KeptCircles.{IsCut, sum-circles, whole-joins}
+use Rattle.added_crossings.proofs.KeptCircles.{IsCut, outside-among, sum-circles, whole-among, whole-joins}
 use Rattle.dotted_surfaces.specs.Points.{AreAmong}
+use Rattle.dotted_maps.proofs.LeastPoints.{AreJoins}
 use Rattle.cell_complexes.specs.Alike.{HasNoDoubles}
 use Rattle.cell_complexes.proofs.Members.{Contains-kept, sum_by-members}
 use Rattle.cell_complexes.proofs.NoDoubles.{first-new, once-first, once-later, once-range}
@@ -18,6 +18,8 @@ use Rattle.scan_laws.specs.Scans.{circles_at}
 use Rattle.scan_laws.specs.Edges.{classes_at}
 use Rattle.closed_surfaces.specs.Made.{joined_outside}
 use Rattle.closed_surfaces.proofs.MadePairings.{outer-raised}
+use Rattle.scan_laws.proofs.Parts.{circle_with, circles_left, circles_with}
+use Rattle.scan_laws.proofs.Points.{placed-behind}
 use Rattle.scan_laws.proofs.SplitLabels.{AreParts}
 use Rattle.scan_laws.proofs.States.{joint, outside-more}
 
@@ -34,7 +36,7 @@ once-filter p (x ∷ xs) once =
     by false new rest = rest
     by true new rest = once-first x (filter p xs) new rest
 
-pub once-circles : (code : Code) (k : ℕ) (m : List (ℕ × ℕ)) (t : ℕ) → HasNoDoubles (circles_at code k m t)
+once-circles : (code : Code) (k : ℕ) (m : List (ℕ × ℕ)) (t : ℕ) → HasNoDoubles (circles_at code k m t)
 once-circles code k m t =
     once-filter (is_least (classes_at code k m t)) (points_at code k).alive
     (once-filter (is_alive code k) (arcs_and_loops code) (once-range 1 (arc_count code.crossings + code.loops)))
@@ -50,56 +52,66 @@ module _ (code : Code) (k : ℕ) (m : List (ℕ × ℕ)) (e u : ℕ) (at : HasNe
   abbrev size : ℕ
   size = (points_at code k).size
 
-  abbrev pub old_class : ℕ → ℕ
-  old_class x = slice_index (classes_at code k m (joint e u)) x
+  abbrev hat : List (ℕ × ℕ)
+  hat = pairing_behind code k e m
 
-  abbrev pub old_circles : List ℕ
-  old_circles = circles_at code k m (joint e u)
+  abbrev inside : List (ℕ × ℕ)
+  inside = m ++ smoothing_at code k e
 
-  abbrev pub closed_circles_at : List ℕ
-  closed_circles_at = closed_at code k e m
+  abbrev outside : List (ℕ × ℕ)
+  outside = joined_outside code (k + 1) u
 
-  abbrev pub new_circles : List ℕ
-  new_circles = circles_at code (k + 1) (pairing_behind code k e m) u
+  abbrev joins : List (ℕ × ℕ)
+  joins = m ++ joined_outside code k (joint e u)
+
+  abbrev class : ℕ → ℕ
+  class = circle_with code k m e u
 
   -- the joins, in the other order of brackets
-  abbrev pub inside_joins : List (ℕ × ℕ)
-  inside_joins = m ++ smoothing_at code k e
-
-  pub joins-old : m ++ joined_outside code k (joint e u) ≡ inside_joins ++ joined_outside code (k + 1) u
+  joins-old : joins ≡ inside ++ outside
   joins-old =
       ap (λ (w : List (ℕ × ℕ)). m ++ w) (outside-more code k e u at.below at.smoothing)
       ∙ sym (append_assoc m (smoothing_at code k e) (joined_outside code (k + 1) u))
 
-  pub is-cut : IsCut (step_at code k) inside_joins (pairing_behind code k e m) (joined_outside code (k + 1) u)
+  pub is-cut : IsCut (step_at code k) inside hat outside
   is-cut =
-      subst (λ (w : List (ℕ × ℕ)). IsCut (step_at code k) inside_joins (pairing_behind code k e m) w) (outer-raised code (k + 1) u)
+      subst (λ (w : List (ℕ × ℕ)). IsCut (step_at code k) inside hat w) (outer-raised code (k + 1) u)
       (IsCut-at code k e (2 ^ (k + 1) * u) m at.twice at.below at.among)
 
-  pub joins-below : AreBelow size (inside_joins ++ joined_outside code (k + 1) u)
-  joins-below = whole-joins (step_at code k) inside_joins (pairing_behind code k e m) (joined_outside code (k + 1) u) is-cut
+  -- what is joined, before and behind, is alive
+  pub old-joins : AreJoins size (points_at code k).alive joins
+  old-joins =
+      record {
+        below = (placed-behind code k).alive;
+        among = subst (λ (w : List (ℕ × ℕ)). AreAmong (points_at code k).alive w) (sym joins-old)
+            (whole-among (step_at code k) inside hat outside is-cut);
+      }
 
-  pub class-respects : Respects old_class (inside_joins ++ joined_outside code (k + 1) u)
+  pub new-joins : AreJoins size (points_at code (k + 1)).alive (hat ++ outside)
+  new-joins =
+      record { below = (placed-behind code (k + 1)).alive; among = outside-among (step_at code k) inside hat outside is-cut }
+
+  -- circles are one on what is joined, in any order of brackets
+  pub class-respects : Respects class joins
   class-respects =
-      subst (λ (w : List (ℕ × ℕ)). Respects (λ x. slice_index (classes_of size w) x) (inside_joins ++ joined_outside code (k + 1) u)) (sym joins-old)
-      (classes-together size (inside_joins ++ joined_outside code (k + 1) u) joins-below)
+      classes-together size joins
+      (subst (λ (w : List (ℕ × ℕ)). AreBelow size w) (sym joins-old) (whole-joins (step_at code k) inside hat outside is-cut))
 
-  circles-old : old_circles ≡ filter (is_least (classes_of size (inside_joins ++ joined_outside code (k + 1) u))) (points_at code k).alive
-  circles-old = ap (λ (w : List (ℕ × ℕ)). filter (is_least (classes_of size w)) (points_at code k).alive) joins-old
+  pub class-inside : Respects class (inside ++ outside)
+  class-inside = subst (λ (w : List (ℕ × ℕ)). Respects class w) joins-old class-respects
 
-  pub own-class : (z : ℕ) → Contains old_circles z → old_class z ≡ z
-  own-class z has =
-      eqb-true (old_class z) z (Contains-kept (is_least (classes_at code k m (joint e u))) (points_at code k).alive z has).1
-
-  -- sums over circles
-  circle-sums : (h : ℕ → ℕ) → sum_by (λ x. h (old_class x)) new_circles + sum_by (λ x. h (old_class x)) closed_circles_at
-      ≡ sum_by h old_circles
-  circle-sums h =
-      sum-circles (step_at code k) inside_joins (pairing_behind code k e m) (joined_outside code (k + 1) u) (λ x. h (old_class x)) is-cut
-      (respects-mapped old_class h (inside_joins ++ joined_outside code (k + 1) u) class-respects)
-      ∙ ap (λ (xs : List ℕ). sum_by (λ x. h (old_class x)) xs) (sym circles-old)
-      ∙ sum_by-members (λ x. h (old_class x)) h old_circles (λ z has. ap h (own-class z has))
+  pub own-class : (z : ℕ) → Contains (circles_with code k m e u) z → class z ≡ z
+  own-class z has = eqb-true (class z) z (Contains-kept (is_least (classes_at code k m (joint e u))) (points_at code k).alive z has).1
 
   -- the circles are those that are closed and those that are left
-  pub circle-parts : AreParts old_circles old_class closed_circles_at new_circles
+  circle-sums : (h : ℕ → ℕ)
+      → sum_by (λ x. h (class x)) (circles_left code k m e u) + sum_by (λ x. h (class x)) (closed_at code k e m)
+      ≡ sum_by h (circles_with code k m e u)
+  circle-sums h =
+      sum-circles (step_at code k) inside hat outside (λ x. h (class x)) is-cut (respects-mapped class h (inside ++ outside) class-inside)
+      ∙ ap (λ (w : List (ℕ × ℕ)). sum_by (λ x. h (class x)) (filter (is_least (classes_of size w)) (points_at code k).alive))
+      (sym joins-old)
+      ∙ sum_by-members (λ x. h (class x)) h (circles_with code k m e u) (λ z has. ap h (own-class z has))
+
+  pub circle-parts : AreParts (circles_with code k m e u) class (closed_at code k e m) (circles_left code k m e u)
   circle-parts = record { once = once-circles code k m (joint e u); sums = circle-sums }

@@ -1,5 +1,5 @@
--- Adding a crossing keeps all coefficients. Between outer states of the others they are those of the edges at later crossings, where object,
--- smoothing and the labels of closed circles stay, and else 0 on both sides.
+-- Adding a crossing keeps all coefficients. Between outer states of the others they are those of the edges at later crossings, where
+-- object, smoothing and the labels of closed circles stay, and else 0 on both sides.
 use Rattle.std.proofs.Common.{◌≡◌, ◌≢◌, ℕ, zero, suc, inl, inr, ◌+◌, ◌*◌, ◌/◌, ◌%◌, ◌^◌, ◌<◌, ◌≤◌, ◌∙◌, refl, sym, subst, ap, ap₂, arith, cond}
 use Rattle.std.specs.Prelude.{nat_eq}
 use Rattle.std.proofs.lemmas.Bool.{cases_eq, eq-eqb, ne_eqb}

@@ -98,7 +98,8 @@ module _ (p : ℕ) (code : Code) (plus minus : ℕ) (scan next : Scan) (added : 
 
   abbrev entry_at : ℕ → ℕ → ℕ → ℕ → ℕ → ℕ → ℕ → ℕ → ℕ
   entry_at x e y f u label other kept =
-      entry_left code scan.done (pairs_of scan x) (pairs_of scan y) e f u kept (rest_at code scan x e u label) (rest_at code scan y f u other)
+      entry_left code scan.done (pairs_of scan x) (pairs_of scan y) e f u kept (rest_at code scan x e u label)
+      (rest_at code scan y f u other)
 
   abbrev sum_of_sets : ℕ → ℕ → ℕ → ℕ → ℕ → ℕ → ℕ → ℕ
   sum_of_sets x e y f u label other =
@@ -150,7 +151,8 @@ module _ (p : ℕ) (code : Code) (plus minus : ℕ) (scan next : Scan) (added : 
       let n = pairs_of scan y in
       let E = entry_at x e y e u label other in
       let number = λ (term : Term) (kept : ℕ). value (added_surface code scan.done e m n term.dots w.label v.label kept) in
-      let before = λ (term : Term). entry (points_at code scan.done) m n (joined_outside code scan.done (joint e u)) term.dots label other in
+      let w_before = joined_outside code scan.done (joint e u) in
+      let before = λ (term : Term). entry (points_at code scan.done) m n w_before term.dots label other in
       let terms = scan.terms x y in
       let colours = colour code added.accepted_is scan added.of in
       let led = object-led code added.accepted_is scan added.of in

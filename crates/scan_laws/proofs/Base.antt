@@ -27,14 +27,14 @@ use Rattle.scan_laws.specs.Edges.{changes_by, keeps_by, outer_at}
 use Rattle.scan_laws.specs.Complexes.{complex_of, layers_of}
 use Rattle.scan_laws.proofs.Coefficients.{between-states, inside-state}
 
-pub filter-all : {A : Type 0} (p : A → Bool) (xs : List A) → ((x : A) → p x ≡ true) → filter p xs ≡ xs
+filter-all : {A : Type 0} (p : A → Bool) (xs : List A) → ((x : A) → p x ≡ true) → filter p xs ≡ xs
 filter-all p [] all = refl
 filter-all p (x ∷ xs) all = ap (λ b. cond b (x ∷ filter p xs) (filter p xs)) (all x) ∙ ap (λ ys. x ∷ ys) (filter-all p xs all)
 
-pub alive-first : (code : Code) → (points_at code 0).alive ≡ arcs_and_loops code
+alive-first : (code : Code) → (points_at code 0).alive ≡ arcs_and_loops code
 alive-first code = filter-all (is_alive code 0) (arcs_and_loops code) (λ x. refl)
 
-pub circles-first : (code : Code) (state : ℕ) → circles_at code 0 [] state ≡ circle_names code state
+circles-first : (code : Code) (state : ℕ) → circles_at code 0 [] state ≡ circle_names code state
 circles-first code state = ap (λ (xs : List ℕ). filter (is_least (circles_of code state)) xs) (alive-first code)
 
 module _ (p plus minus : ℕ) (code : Code) (above : 1 < p) where

@@ -31,7 +31,7 @@ module _ (p : ℕ) (code : Code) (k : ℕ) (pairs : List (ℕ × ℕ)) (degree s
   abbrev fits : ℕ → Bool
   fits crossing = fits_at code k pairs state other label other_label crossing
 
-  pub at-edge : (crossing : ℕ) → IsStep state other crossing → term crossing ≡ cond (fits crossing) (outer_sign p degree state crossing) 0
+  at-edge : (crossing : ℕ) → IsStep state other crossing → term crossing ≡ cond (fits crossing) (outer_sign p degree state crossing) 0
   at-edge crossing step =
       ap (λ b. cond (b && fits crossing) (outer_sign p degree state crossing) 0)
       ((is_edge-decides (generator_of state label) (generator_of other other_label) crossing).1 step)

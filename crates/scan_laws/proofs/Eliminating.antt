@@ -30,7 +30,8 @@ use Rattle.scan_laws.specs.Scans.{IsScanOf, Object, Scan, circle_count_at, dot_s
 use Rattle.scan_laws.specs.Complexes.{complex_of, inner_at, layers_of}
 use Rattle.scan_laws.specs.Eliminating.{IsEliminating}
 use Rattle.scan_laws.proofs.Matrices.{below-same, matrix-below, matrix-less, matrix-sets, sum_by-below}
-use Rattle.scan_laws.proofs.Objects.{object-pairing, objects-glued, objects-inside, placed-behind}
+use Rattle.scan_laws.proofs.Objects.{object-pairing, objects-glued, objects-inside}
+use Rattle.scan_laws.proofs.Points.{placed-behind}
 use Rattle.scan_laws.proofs.Renumbered.{alike-renumbered}
 
 pub still-there : (p : ℕ) (code : Code) (scan next : Scan) (less : IsEliminating p code scan next) (x : ℕ) → Contains next.numbers x
@@ -64,8 +65,10 @@ module _ (p : ℕ) (code : Code) (plus minus : ℕ) (scan next : Scan) (field : 
       ∙ matrix-sets p points m n w terms other label (of.dots less.tail less.head less.has_tail less.has_head)
       ∙ below-same p sets (λ kept. coefficient_in terms kept * e kept) (λ kept. (if nat_eq 0 kept then less.c else 0) * e kept)
       (λ kept kept_below.
-      same-mul p (coefficient_in terms kept) (if nat_eq 0 kept then less.c else 0) (e kept) (e kept) (less.number.terms kept kept_below) refl)
-      ∙ same-equal p (sum_below sets (λ kept. (if nat_eq 0 kept then less.c else 0) * e kept)) (less.c * (if nat_eq label other then 1 else 0))
+      same-mul p (coefficient_in terms kept) (if nat_eq 0 kept then less.c else 0) (e kept) (e kept)
+      (less.number.terms kept kept_below) refl)
+      ∙ same-equal p (sum_below sets (λ kept. (if nat_eq 0 kept then less.c else 0) * e kept))
+      (less.c * (if nat_eq label other then 1 else 0))
       (sum_below-one sets 0 less.c e (pow_pos (length (discs points m n)))
       ∙ ap (λ (k : List (ℕ × ℕ)). less.c * entry points m k w 0 label other) less.number.pairs
       ∙ ap (λ x. less.c * x)
@@ -81,7 +84,8 @@ module _ (p : ℕ) (code : Code) (plus minus : ℕ) (scan next : Scan) (field : 
       record {
         objects_differ = less.differ;
         some = less.number.some;
-        labels = λ state below. ap (λ (m : List (ℕ × ℕ)). 2 ^ length (circles points m (joined_outside code scan.done state))) less.number.pairs;
+        labels = λ state below.
+            ap (λ (m : List (ℕ × ℕ)). 2 ^ length (circles points m (joined_outside code scan.done state))) less.number.pairs;
         equal = λ state label state_below below.
             number-entry state label label below below
             ∙ ap (λ b. less.c * (if b then 1 else 0) % p) (eq-eqb label label refl)
@@ -102,11 +106,14 @@ module _ (p : ℕ) (code : Code) (plus minus : ℕ) (scan next : Scan) (field : 
   left = layers_left p layers less.tail less.head less.c next.numbers
 
   pub left-complex : AreComplex p (cells_of left)
-  left-complex = complex-layers p layers less.tail less.head less.c next.numbers field complex less.listed less.no_tail less.no_head times-identity
+  left-complex =
+      complex-layers p layers less.tail less.head less.c next.numbers field complex less.listed less.no_tail less.no_head
+      times-identity
 
   pub left-dimension : (i j : ℤ) → dimension_at p (cells_of left) i j ≡ dimension_at p (complex_of p code plus minus scan) i j
   left-dimension i j =
-      dimension-layers p layers less.tail less.head less.c next.numbers field complex less.listed less.no_tail less.no_head times-identity i j
+      dimension-layers p layers less.tail less.head less.c next.numbers field complex less.listed less.no_tail less.no_head
+      times-identity i j
 
   -- the next complex is what is left
   abbrev sets_by : ℕ → Object → Object → ℕ
@@ -148,7 +155,8 @@ module _ (p : ℕ) (code : Code) (plus minus : ℕ) (scan next : Scan) (field : 
       (next.terms x y) other label in
       sym (ap₂ (λ (k : ℕ) (o : Object). matrix_by k o (next.object y)) less.done (less.object x has_x)
       ∙ ap (matrix_by scan.done (scan.object x)) (less.object y has_y)
-      ∙ matrix-less p points m h n w (scan.terms x y) (next.terms x y) (scan.terms x less.head) (scan.terms less.tail y) inv other label positive
+      ∙ matrix-less p points m h n w (scan.terms x y) (next.terms x y) (scan.terms x less.head) (scan.terms less.tail y) inv other label
+      positive
       (record {
         placed = placed-behind code scan.done;
         first = glued x less.tail state there_x less.has_tail;
@@ -166,7 +174,8 @@ module _ (p : ℕ) (code : Code) (plus minus : ℕ) (scan next : Scan) (field : 
 
   pub alike-left : AreAlike p (λ (x : Layer). x) (λ (x : Layer). 1) (cells_of left) (complex_of p code plus minus next)
   alike-left =
-      alike-renumbered p code plus minus scan next next.numbers left.inner (λ x. x) (listed-same next.numbers) (λ x y has_x has_y same. same)
+      alike-renumbered p code plus minus scan next next.numbers left.inner (λ x. x) (listed-same next.numbers)
+      (λ x y has_x has_y same. same)
       less.done less.object
       (λ x y state label other has_x has_y.
       same-equal p (left.inner x y state label other) (inner_at p code next x y state label other)

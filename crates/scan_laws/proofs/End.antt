@@ -36,9 +36,6 @@ module _ (p : ℕ) (code : Code) (is : IsTrue (accepted code)) (scan : Scan) (of
   abbrev layers : Layers
   layers = layers_of p code plus minus scan
 
-  abbrev one_of : ℕ → Layer → ℕ
-  one_of x cell = cond (has_both cells i j cell) 1 0
-
   abbrev both_at : ℕ → ℕ → ℕ → ℕ → ℕ
   both_at x zeros count label =
       cond (int_eq (pos ((scan.object x).degree + zeros) -ℤ pos minus) i
@@ -48,7 +45,8 @@ module _ (p : ℕ) (code : Code) (is : IsTrue (accepted code)) (scan : Scan) (of
   label-last : (x label : ℕ) → Contains scan.numbers x
       → cond (has_both cells i j (layer_of x 0 label)) 1 0 ≡ both_at x 0 code.loops label
   label-last x label has =
-      ap₂ (λ (zeros count : ℕ). both_at x zeros count label) (ap (λ n. ones n 0) (count_behind-last code is scan of last.done)) (circles-last code is scan of last.done x 0 has)
+      ap₂ (λ (zeros count : ℕ). both_at x zeros count label) (ap (λ n. ones n 0) (count_behind-last code is scan of last.done))
+      (circles-last code is scan of last.done x 0 has)
 
   degrees-test : (x label : ℕ)
       → int_eq (((scan.object x).shift +ℤ degree_of_labels code.loops label)

@@ -31,7 +31,8 @@ use Rattle.scan_laws.proofs.Coefficients.{inside-state}
 use Rattle.scan_laws.proofs.Kept.{keeps-step}
 use Rattle.scan_laws.proofs.LastPoints.{nothing-open, pairs-last}
 use Rattle.scan_laws.proofs.Matrices.{matrix-sets}
-use Rattle.scan_laws.proofs.Objects.{object-pairing, objects-glued, placed-behind}
+use Rattle.scan_laws.proofs.Objects.{object-pairing, objects-glued}
+use Rattle.scan_laws.proofs.Points.{placed-behind}
 use Rattle.scan_laws.proofs.Possible.{added-scan, eliminated-scan}
 use Rattle.scan_laws.proofs.SplitLabels.{length-sum}
 
@@ -124,7 +125,8 @@ module _ (p : ℕ) (code : Code) (field : HasInverses p) (is : IsTrue (accepted 
           some = some;
           below = mod_below (coefficient_in (scan.terms x y) 0) p positive;
           terms = λ kept below.
-              at-zero (λ n. Same p (coefficient_in (scan.terms x y) n) (if nat_eq 0 n then coefficient_in (scan.terms x y) 0 % p else 0)) kept
+              at-zero
+              (λ n. Same p (coefficient_in (scan.terms x y) n) (if nat_eq 0 n then coefficient_in (scan.terms x y) 0 % p else 0)) kept
               (omega (arith, below, one-set x y)) (sym (mod-mod (coefficient_in (scan.terms x y) 0) p));
         }
 

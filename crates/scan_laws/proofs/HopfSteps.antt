@@ -56,7 +56,8 @@ less-4 =
 
 packed : IsRenumbering 3 code hopf_left_4 hopf_packed
 packed =
-    renumbering-checked 3 code hopf_left_4 hopf_packed (once-eliminated 3 code hopf_left_3 hopf_left_4 once-3 less-4) refl refl refl refl refl
+    renumbering-checked 3 code hopf_left_4 hopf_packed (once-eliminated 3 code hopf_left_3 hopf_left_4 once-3 less-4) refl refl refl
+    refl refl
 
 pub hopf-steps : AreSteps 3 code first_scan hopf_scans
 hopf-steps = (

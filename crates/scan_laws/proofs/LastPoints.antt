@@ -85,7 +85,8 @@ no-pairs (pair ∷ pairs) among = absurd (omega (arith, among.0.0.1))
 least-alone : (n x : ℕ) → x < n → is_least (classes_of n []) x ≡ true
 least-alone n x below = eq-eqb (get_or (range_with_len 0 n) x 0) x (get_or-range_with_len 0 n x 0 below ∙ omega arith)
 
-module _ (code : Code) (is : IsTrue (accepted code)) (scan : Scan) (of : IsScanOf code scan) (done : scan.done ≡ length code.crossings) where
+module _ (code : Code) (is : IsTrue (accepted code)) (scan : Scan) (of : IsScanOf code scan)
+    (done : scan.done ≡ length code.crossings) where
   twice : HasArcsTwice code.crossings
   twice = HasArcsTwice-accepted code is
 
@@ -94,7 +95,8 @@ module _ (code : Code) (is : IsTrue (accepted code)) (scan : Scan) (of : IsScanO
 
   pub pairs-last : (x : ℕ) → Contains scan.numbers x → pairs_of scan x ≡ []
   pairs-last x has =
-      no-pairs (pairs_of scan x) (subst (λ (points : List ℕ). AreAmong points (pairs_of scan x)) nothing-open (object-among code is scan of x has))
+      no-pairs (pairs_of scan x)
+      (subst (λ (points : List ℕ). AreAmong points (pairs_of scan x)) nothing-open (object-among code is scan of x has))
 
   pub count_behind-last : count_behind code scan.done ≡ 0
   count_behind-last = omega (arith, length-drop scan.done code.crossings, done)

@@ -7,12 +7,13 @@ pub mod Coefficients
 pub mod States
 pub mod Edges
 pub mod Matrices
+pub mod Points
+pub mod Parts
+pub mod AddedCircles
 pub mod Pairings
 pub mod Objects
 pub mod Base
-pub mod Parts
 pub mod Obeyed
-pub mod AddedCircles
 pub mod Changes
 pub mod OldNew
 pub mod Untouched

@@ -119,7 +119,8 @@ module _ (code : Code) (is : IsTrue (accepted code)) (choice k : ℕ) (coloured 
         let s = label_behind code k 1 state m other in
         let c = closed_part code k m 0 u label in
         let d = closed_part code k m 1 u other in
-        sym (ap (λ (xs : List (List ℕ)). test (m ++ joined_outside code k (joint 0 u)) (m ++ joined_outside code k (joint 1 u)) (get_or xs 0 []))
+        sym (ap (λ (xs : List (List ℕ)). test (m ++ joined_outside code k (joint 0 u)) (m ++ joined_outside code k (joint 1 u))
+        (get_or xs 0 []))
         (behind-more code k below)
         ∙ ap₂ (λ (before behind : List (ℕ × ℕ)). test before behind (slice_index_or code.crossings k []))
         (sym (joins-same code k 0 u state m below zero_below outer)) (sym (joins-same code k 1 u state m below one_below outer))

@@ -1,42 +1,21 @@
 -- The objects of a scan of an accepted code: their pairings lead from ends to starts, and so the surfaces between them are closed.
-use Rattle.std.proofs.Common.{◌≡◌, ℕ, ◌+◌, ◌<◌, List, sym, subst, subst₂, arith, IsTrue, true}
-use Rattle.std.specs.Prelude.{nat_eq, nat_lt}
+use Rattle.std.proofs.Common.{ℕ, List, sym, subst, subst₂, IsTrue}
 use Rattle.std.specs.List.{Contains}
-use Rattle.std.proofs.lemmas.Bool.Decides.{nat_tests}
 use Rattle.kh_types.specs.Acceptance.{accepted}
-use Rattle.kh_types.specs.Code.{Code, arc_count}
+use Rattle.kh_types.specs.Code.{Code}
 use Rattle.kh_types.specs.Colours.{IsColoured}
 use Rattle.kh_types.specs.Darts.{HasArcsTwice}
 use Rattle.kh_types.proofs.AcceptedLemmas.{HasArcsTwice-accepted}
 use Rattle.kh_types.proofs.DartColours.{IsColoured-accepted}
-use Rattle.dotted_surfaces.specs.Points.{AreAmong, ArePlaced, IsPairing, inner}
+use Rattle.dotted_surfaces.specs.Points.{AreAmong, IsPairing, inner}
 use Rattle.dotted_maps.specs.Terms.{AreGlued}
-use Rattle.added_crossings.specs.Codes.{ends_before, is_alive, is_open, points_at}
+use Rattle.added_crossings.specs.Codes.{points_at}
 use Rattle.added_crossings.specs.Saddles.{pairing_of}
-use Rattle.added_crossings.proofs.Members.{All-contained, are-those, those-are}
 use Rattle.closed_surfaces.specs.Led.{IsLedAt}
 use Rattle.closed_surfaces.specs.Made.{HaveSurfaces, joined_outside}
 use Rattle.closed_surfaces.proofs.MadePairings.{have-surfaces, led-made}
 use Rattle.scan_laws.specs.Scans.{IsScanOf, Scan, pairs_of}
 use Rattle.scan_laws.proofs.Pairings.{pairing-paired}
-
--- points are placed
-abbrev count_of : Code → ℕ
-count_of code = arc_count code.crossings + code.loops
-
-open-alive : (n : ℕ) → nat_eq n 1 ≡ true → nat_lt n 2 ≡ true
-open-alive n is = grind (arith, nat_tests)
-
-pub placed-behind : (code : Code) (k : ℕ) → ArePlaced (points_at code k)
-placed-behind code k =
-    record {
-      alive = All-contained (λ x. x < count_of code + 1) (points_at code k).alive
-          (λ x has. let is = those-are (count_of code) (is_alive code k) x has in omega (arith, is.below));
-      opened = All-contained (λ x. Contains (points_at code k).alive x) (points_at code k).opened
-          (λ x has.
-          let is = those-are (count_of code) (is_open code k) x has in
-          are-those (count_of code) (is_alive code k) x is.above is.below (open-alive (ends_before code.crossings k x) is.passes));
-    }
 
 module _ (code : Code) (is : IsTrue (accepted code)) (scan : Scan) (of : IsScanOf code scan) where
   twice : HasArcsTwice code.crossings

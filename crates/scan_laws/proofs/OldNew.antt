@@ -11,22 +11,20 @@ use Rattle.kh_types.specs.Code.{Code, arc_in}
 use Rattle.kh_types.proofs.ListSums.{sum_by-filter, sum_by-map, sum_by-zeros}
 use Rattle.kh_types.proofs.Lists.{AllByRecursion-append, AllByRecursion-first, AllByRecursion-second, Contains-map}
 use Rattle.dotted_surfaces.proofs.Components.{list_any-on, list_any-some}
-use Rattle.added_crossings.specs.Codes.{closed_at, pairing_behind, step_at, points_at}
-use Rattle.added_crossings.proofs.KeptCircles.{outside-among}
-use Rattle.dotted_maps.proofs.LeastPoints.{AreJoins, class-named, class-respected}
+use Rattle.added_crossings.specs.Codes.{closed_at, pairing_behind, points_at, smoothing_at}
+use Rattle.dotted_maps.proofs.LeastPoints.{class-named, class-respected}
 use Rattle.cell_complexes.specs.Alike.{HasNoDoubles}
 use Rattle.cell_complexes.proofs.ExchangedCubes.{range-contains}
 use Rattle.cell_complexes.proofs.Matched.{place-once}
 use Rattle.cell_complexes.proofs.Members.{Contains-cases, Contains-kept, sum_by-members}
-use Rattle.scan_laws.specs.Scans.{circles_at}
 use Rattle.scan_laws.specs.Edges.{classes_at, label_by, labels_by, touched_by}
 use Rattle.closed_surfaces.specs.Made.{joined_outside}
-use Rattle.scan_laws.proofs.AddedCircles.{HasNext, circle-parts, class-respects, inside_joins, is-cut, old_class, own-class}
+use Rattle.scan_laws.proofs.AddedCircles.{HasNext, circle-parts, class-inside, is-cut, new-joins, own-class}
 use Rattle.scan_laws.proofs.Changes.{AreBits, total}
 use Rattle.scan_laws.proofs.Labels.{bit-number, bit-small, mark, place}
 use Rattle.scan_laws.proofs.Places.{numbers-test, place-found}
 use Rattle.scan_laws.proofs.SameElements.{AreSame}
-use Rattle.scan_laws.proofs.Objects.{placed-behind}
+use Rattle.scan_laws.proofs.Parts.{circle_with, circles_left, circles_with}
 use Rattle.scan_laws.proofs.SplitLabels.{AreParts, both-same, part}
 use Rattle.scan_laws.proofs.States.{joint}
 
@@ -76,16 +74,16 @@ module _ (code : Code) (k : ℕ) (m : List (ℕ × ℕ)) (e u : ℕ) (at : HasNe
   new_class x = slice_index (classes_at code (k + 1) hat u) x
 
   abbrev old : ℕ → ℕ
-  old = old_class code k m e u at
+  old = circle_with code k m e u
 
   abbrev names : List ℕ
-  names = circles_at code k m (joint e u)
+  names = circles_with code k m e u
 
   abbrev closed : List ℕ
   closed = closed_at code k e m
 
   abbrev fresh : List ℕ
-  fresh = circles_at code (k + 1) hat u
+  fresh = circles_left code k m e u
 
   parts : AreParts names old closed fresh
   parts = circle-parts code k m e u at
@@ -93,46 +91,35 @@ module _ (code : Code) (k : ℕ) (m : List (ℕ × ℕ)) (e u : ℕ) (at : HasNe
   same-names : AreSame names (map old (closed ++ fresh))
   same-names = both-same parts
 
-  new-joins : AreJoins (points_at code (k + 1)).size alive_next (hat ++ joined_outside code (k + 1) u)
-  new-joins =
-      record {
-        below = (placed-behind code (k + 1)).alive;
-        among = outside-among (step_at code k) (inside_joins code k m e u at) hat (joined_outside code (k + 1) u)
-            (is-cut code k m e u at);
-      }
-
   -- what is together behind is together before
   old-respects : Respects old (hat ++ joined_outside code (k + 1) u)
   old-respects =
-      let inside = inside_joins code k m e u at in
+      let inside = m ++ smoothing_at code k e in
       let w = joined_outside code (k + 1) u in
-      let all = class-respects code k m e u at in
+      let all = class-inside code k m e u at in
       let P = λ (pair : ℕ × ℕ). old pair.0 ≡ old pair.1 in
       AllByRecursion-append P hat w
       ((is-cut code k m e u at).made.only old (AllByRecursion-first P inside w all))
       (AllByRecursion-second P inside w all)
 
-  pub old-new : (x : ℕ) → Contains alive_next x → old (new_class x) ≡ old x
+  old-new : (x : ℕ) → Contains alive_next x → old (new_class x) ≡ old x
   old-new x has =
-      sym (class-respected old (points_at code (k + 1)).size alive_next (hat ++ joined_outside code (k + 1) u) x new-joins has old-respects)
+      sym (class-respected old (points_at code (k + 1)).size alive_next (hat ++ joined_outside code (k + 1) u) x
+      (new-joins code k m e u at) has old-respects)
 
-  pub new-there : (x : ℕ) → Contains alive_next x → Contains fresh (new_class x)
+  new-there : (x : ℕ) → Contains alive_next x → Contains fresh (new_class x)
   new-there x has =
-      class-named (points_at code (k + 1)).size alive_next (hat ++ joined_outside code (k + 1) u) x new-joins has
+      class-named (points_at code (k + 1)).size alive_next (hat ++ joined_outside code (k + 1) u) x (new-joins code k m e u at) has
 
   pub fresh-alive : (y : ℕ) → Contains fresh y → Contains alive_next y
   fresh-alive y has = (Contains-kept (is_least (classes_at code (k + 1) hat u)) alive_next y has).0
 
-  pub fresh-own : (y : ℕ) → Contains fresh y → new_class y ≡ y
-  fresh-own y has =
-      eqb-true (new_class y) y (Contains-kept (is_least (classes_at code (k + 1) hat u)) alive_next y has).1
-
-  pub fresh-apart : (x y : ℕ) → Contains fresh x → Contains fresh y → old x ≡ old y → x ≡ y
+  fresh-apart : (x y : ℕ) → Contains fresh x → Contains fresh y → old x ≡ old y → x ≡ y
   fresh-apart x y has_x has_y same =
       map-apart old (closed ++ fresh) same-names.second_once x y (Contains-append_right closed fresh x has_x)
       (Contains-append_right closed fresh y has_y) same
 
-  pub closed-apart : (x y : ℕ) → Contains closed x → Contains fresh y → old x ≡ old y → ⊥
+  closed-apart : (x y : ℕ) → Contains closed x → Contains fresh y → old x ≡ old y → ⊥
   closed-apart x y has_x has_y same = append-apart old closed fresh same-names.second_once x y has_x has_y same
 
   -- and they are old circles
@@ -147,7 +134,7 @@ module _ (code : Code) (k : ℕ) (m : List (ℕ × ℕ)) (e u : ℕ) (at : HasNe
     abbrev rest : ℕ
     rest = part names old fresh label
 
-    pub rest-mark : (y : ℕ) → Contains fresh y → mark fresh rest y ≡ mark names label (old y)
+    rest-mark : (y : ℕ) → Contains fresh y → mark fresh rest y ≡ mark names label (old y)
     rest-mark y has =
         let found = place-found nat_eq 0 y fresh numbers-test has in
         bit-number (λ x. mark names label (old x)) fresh (place y fresh) (λ x. bit-small label (place (old x) names)) found.within

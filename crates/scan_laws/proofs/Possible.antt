@@ -102,7 +102,8 @@ added-scan p code scan of below =
         object = λ x has. refl;
         dots = λ x y has_x has_y. dots-with (sets x y) (wanted x y) 0 (sets x y) (omega arith);
         terms = λ x y kept has_x has_y kept_below.
-            same-equal p (coefficient_in (next.terms x y) kept) (wanted x y kept) (coefficient-with (sets x y) (wanted x y) kept kept_below);
+            same-equal p (coefficient_in (next.terms x y) kept) (wanted x y kept)
+            (coefficient-with (sets x y) (wanted x y) kept kept_below);
       },
     )
 

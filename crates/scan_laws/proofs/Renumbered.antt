@@ -18,7 +18,7 @@ use Rattle.scan_laws.proofs.CellLists.{cell-from}
 use Rattle.scan_laws.proofs.Coefficients.{between-states, inside-state, nowhere}
 
 -- the layers of a scan, with some of its objects and with other coefficients within a state
-abbrev pub layers_with : ℕ → Code → ℕ → ℕ → Scan → List ℕ → (ℕ → ℕ → ℕ → ℕ → ℕ → ℕ) → Layers
+abbrev layers_with : ℕ → Code → ℕ → ℕ → Scan → List ℕ → (ℕ → ℕ → ℕ → ℕ → ℕ → ℕ) → Layers
 layers_with p code plus minus scan numbers inner =
     record (layers_of p code plus minus scan) { objects = numbers; inner = inner }
 
@@ -39,7 +39,8 @@ module _ (p : ℕ) (code : Code) (plus minus : ℕ) (scan next : Scan) (numbers 
   renumbered x = layer_of (number x.object) x.state x.label
 
   -- what depends on the scan's object alone
-  at-object : {A : Type 0} (f : ℕ → Object → A) (x : ℕ) → Contains numbers x → f next.done (next.object (number x)) ≡ f scan.done (scan.object x)
+  at-object : {A : Type 0} (f : ℕ → Object → A) (x : ℕ) → Contains numbers x
+      → f next.done (next.object (number x)) ≡ f scan.done (scan.object x)
   at-object f x has = ap₂ (λ (k : ℕ) (o : Object). f k o) done (object x has)
 
   abbrev cells_by : ℕ → ℕ → Object → List Layer

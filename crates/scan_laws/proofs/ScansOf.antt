@@ -36,7 +36,8 @@ state_with k s e = number_from (map (bits_with k s e) (range_with_len 0 (k + 1))
 
 bit-with : (k s e i : ℕ) → e < 2 → i < k + 1 → bit (state_with k s e) i ≡ bits_with k s e i
 bit-with k s e i e_below below =
-    bit-number (bits_with k s e) (range_with_len 0 (k + 1)) i (λ j. small (nat_eq j k) j) (omega (arith, below, length-range_with_len 0 (k + 1)))
+    bit-number (bits_with k s e) (range_with_len 0 (k + 1)) i (λ j. small (nat_eq j k) j)
+    (omega (arith, below, length-range_with_len 0 (k + 1)))
     ∙ ap (bits_with k s e) (get_or-range_with_len 0 (k + 1) i 0 below ∙ omega arith)
   where
     small : (b : Bool) (j : ℕ) → cond b e (bit s j) ≤ 1

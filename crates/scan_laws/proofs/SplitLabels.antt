@@ -111,7 +111,8 @@ module _ {names : List ℕ} {class : ℕ → ℕ} {first second : List ℕ} (par
           spread q b = omega arith
 
   pub ones-parts : (label : ℕ)
-      → ones (length first) (part names class first label) + ones (length second) (part names class second label) ≡ ones (length names) label
+      → ones (length first) (part names class first label) + ones (length second) (part names class second label)
+      ≡ ones (length names) label
   ones-parts label =
       let f = λ (x : ℕ). mark names label (class x) in
       let small : (x : ℕ) → f x ≤ 1 = λ x. bit-small label (place (class x) names) in

@@ -1,6 +1,6 @@
 -- An edge at a later crossing changes the joins at that crossing alone: so a circle that it does not touch is one at both states.
 use Rattle.std.proofs.Common.{◌≡◌, ◌≢◌, ℕ, suc, inl, inr, ◌+◌, ◌*◌, ◌^◌, ◌<◌, ◌≤◌, ◌∙◌, ◌⊎◌, List, [], ◌∷◌, ◌++◌, get_or, refl, sym, subst, ap, arith, Bool, true, false, cond}
-use Rattle.std.specs.Prelude.{nat_eq, slice_index}
+use Rattle.std.specs.Prelude.{nat_eq}
 use Rattle.std.specs.List.{Contains, enumerate_from, flat_map, range_with_len}
 use Rattle.std.proofs.lemmas.Bool.{both_ways, cases_Bool, cases_eq, eq-eqb, ne_eqb}
 use Rattle.std.proofs.lemmas.List.{get_or-drop, length-drop}
@@ -12,17 +12,16 @@ use Rattle.kh_types.proofs.EdgeBits.{bit-set_other}
 use Rattle.kh_types.proofs.Lists.{AllByRecursion-append, AllByRecursion-first, AllByRecursion-second}
 use Rattle.cube_squares.proofs.Pairs.{IsStep}
 use Rattle.dotted_surfaces.proofs.Components.{list_any-contained}
-use Rattle.dotted_surfaces.specs.Points.{AreAmong}
-use Rattle.dotted_maps.proofs.LeastPoints.{AreJoins, class-respected}
-use Rattle.added_crossings.specs.Codes.{pairing_behind, points_at, step_at}
+use Rattle.dotted_maps.proofs.LeastPoints.{class-respected}
+use Rattle.added_crossings.specs.Codes.{points_at, step_at}
 use Rattle.added_crossings.proofs.CodeSteps.{later-alive}
-use Rattle.added_crossings.proofs.KeptCircles.{next-has, whole-among}
+use Rattle.added_crossings.proofs.KeptCircles.{next-has}
 use Rattle.closed_surfaces.specs.Made.{joined_outside}
 use Rattle.scan_laws.specs.Scans.{count_behind, crossings_behind}
 use Rattle.scan_laws.specs.Edges.{classes_at, touched_by}
-use Rattle.scan_laws.proofs.AddedCircles.{HasNext, class-respects, inside_joins, is-cut, joins-old, old_class, respects-mapped}
+use Rattle.scan_laws.proofs.AddedCircles.{HasNext, class-respects, is-cut, old-joins, respects-mapped}
+use Rattle.scan_laws.proofs.Parts.{circle_with}
 use Rattle.scan_laws.proofs.CellLists.{contains-range}
-use Rattle.scan_laws.proofs.Objects.{placed-behind}
 use Rattle.scan_laws.proofs.States.{behind-more, bit-joint, joint}
 
 -- an edge of the states behind the next crossing
@@ -32,7 +31,8 @@ pub record IsLater (code : Code) (k crossing u v : ℕ) : Type 0 where
   pub step : IsStep u v crossing
 
 -- what is 0 at the slots of one crossing, and respects what one state joins, respects what a state joins that differs there
-slots-respected : (f : ℕ → ℕ) (c : ℕ) (slots : List ℕ) → ((slot : ℕ) → slot < 4 → f (arc_in slots slot) ≡ 0) → Respects f (smoothing_of c slots)
+slots-respected : (f : ℕ → ℕ) (c : ℕ) (slots : List ℕ) → ((slot : ℕ) → slot < 4 → f (arc_in slots slot) ≡ 0)
+    → Respects f (smoothing_of c slots)
 slots-respected f c slots none = by (nat_eq c 0)
   where
     same : (x y : ℕ) → x < 4 → y < 4 → f (arc_in slots x) ≡ f (arc_in slots y)
@@ -127,22 +127,13 @@ module _ (code : Code) (k : ℕ) (m : List (ℕ × ℕ)) (e u v : ℕ) (at : Has
 
   -- the circles at both states, before
   abbrev first : ℕ → ℕ
-  first = old_class code k m e u at
+  first = circle_with code k m e u
 
   abbrev second : ℕ → ℕ
-  second = old_class code k m e v at
+  second = circle_with code k m e v
 
   abbrev touched : ℕ → Bool
   touched = touched_by (classes_at code k m (joint e u)) slots
-
-  joins-at : (s : ℕ) → AreJoins (points_at code k).size alive (m ++ joined_outside code k (joint e s))
-  joins-at s =
-      record {
-        below = (placed-behind code k).alive;
-        among = subst (λ (w : List (ℕ × ℕ)). AreAmong alive w) (sym (joins-old code k m e s at))
-            (whole-among (step_at code k) (inside_joins code k m e s at) (pairing_behind code k e m) (joined_outside code (k + 1) s)
-            (is-cut code k m e s at));
-      }
 
   -- bits but one are the same
   bits-apart : (i : ℕ) → i ≢ place_of (crossing + 1) → bit (joint e v) i ≡ bit (joint e u) i
@@ -150,7 +141,8 @@ module _ (code : Code) (k : ℕ) (m : List (ℕ × ℕ)) (e u v : ℕ) (at : Has
       ap (λ t. bit t i) step-before.behind ∙ bit-set_other (joint e u) (place_of (crossing + 1)) step-before.zero_there i other
 
   moved-respects : (f : ℕ → ℕ) (s t : ℕ) → ((i : ℕ) → i ≢ place_of (crossing + 1) → bit s i ≡ bit t i)
-      → ((slot : ℕ) → slot < 4 → f (arc_in slots slot) ≡ 0) → Respects f (m ++ joined_outside code k t) → Respects f (m ++ joined_outside code k s)
+      → ((slot : ℕ) → slot < 4 → f (arc_in slots slot) ≡ 0) → Respects f (m ++ joined_outside code k t)
+      → Respects f (m ++ joined_outside code k s)
   moved-respects f s t same none respects =
       let P = λ (pair : ℕ × ℕ). f pair.0 ≡ f pair.1 in
       AllByRecursion-append P m (joined_outside code k s) (AllByRecursion-first P m (joined_outside code k t) respects)
@@ -168,22 +160,22 @@ module _ (code : Code) (k : ℕ) (m : List (ℕ × ℕ)) (e u v : ℕ) (at : Has
       none_more i = omega arith
 
   respected-at : (f : ℕ → ℕ) (s x : ℕ) → Contains alive x → Respects f (m ++ joined_outside code k (joint e s))
-      → f x ≡ f (slice_index (classes_at code k m (joint e s)) x)
+      → f x ≡ f (circle_with code k m e s x)
   respected-at f s x has respects =
-      class-respected f (points_at code k).size alive (m ++ joined_outside code k (joint e s)) x (joins-at s) has respects
+      class-respected f (points_at code k).size alive (m ++ joined_outside code k (joint e s)) x (old-joins code k m e s at) has respects
 
   is_class-respects : (s x : ℕ)
-      → Respects (is_class (λ y. slice_index (classes_at code k m (joint e s)) y) x) (m ++ joined_outside code k (joint e s))
+      → Respects (is_class (circle_with code k m e s) x) (m ++ joined_outside code k (joint e s))
   is_class-respects s x =
-      let class = λ (y : ℕ). slice_index (classes_at code k m (joint e s)) y in
-      respects-mapped class (λ c. one (nat_eq c (class x))) (m ++ joined_outside code k (joint e s))
-      (subst (λ (w : List (ℕ × ℕ)). Respects class w) (sym (joins-old code k m e s at)) (class-respects code k m e s at))
+      let class = circle_with code k m e s in
+      respects-mapped class (λ c. one (nat_eq c (class x))) (m ++ joined_outside code k (joint e s)) (class-respects code k m e s at)
 
   untouched-slot : (x slot : ℕ) → touched (first x) ≡ false → slot < 4 → is_class first x (arc_in slots slot) ≡ 0
   untouched-slot x slot fails slot_below = elim (cases_Bool (nat_eq (first (arc_in slots slot)) (first x))) [
     | inl passes ↦
         absurd (both_ways (touched (first x)) fails
-        (list_any-contained (λ slot. nat_eq (first (arc_in slots slot)) (first x)) (range_with_len 0 4) slot (contains-range 4 slot slot_below)
+        (list_any-contained (λ slot. nat_eq (first (arc_in slots slot)) (first x)) (range_with_len 0 4) slot
+        (contains-range 4 slot slot_below)
         passes))
     | inr none ↦ ap one none
   ]

@@ -27,7 +27,8 @@ labels_by circles points slots label =
 -- every circle that is not touched has the same label before and behind
 abbrev pub keeps_by : List ℕ → List ℕ → List ℕ → List ℕ → ℕ → ℕ → Bool
 keeps_by before behind points slots label other =
-    list_all (λ circle. touched_by before slots circle || nat_eq (label_by before points label circle) (label_by behind points other circle))
+    list_all (λ circle.
+    touched_by before slots circle || nat_eq (label_by before points label circle) (label_by behind points other circle))
     (filter (is_least before) points)
 
 -- the labels of the touched circles are a row of the merge table or of the split table

@@ -18,7 +18,8 @@ ghost use Rattle.scan_laws.specs.Worked.{two_pairs, trefoil_scans, hopf_crossing
 pub fn first_crossing()
     ensures zero { pairing_behind trefoil 0 0 [] ≡ two_pairs 1 4 2 5 }
     ensures one { pairing_behind trefoil 0 1 [] ≡ two_pairs 1 5 2 4 }
-    ensures saddle { map (λ kept. value (saddle_surface trefoil 0 [] 0 0 kept)) (0 ∷ 1 ∷ []) ≡ 1 ∷ 0 ∷ [] }
+    ensures saddle { map (λ dots. value (saddle_surface trefoil 0 [] 0 0 dots)) (0 ∷ 1 ∷ [])
+        ≡ 1 ∷ 0 ∷ [] }
 {}
 
 /// Where both crossings have their 0-smoothings a circle is closed. The saddle of the second one
@@ -27,11 +28,12 @@ pub fn first_crossing()
 pub fn second_crossing()
     ensures closed { closed_at trefoil 1 0 (two_pairs 1 4 2 5) ≡ 1 ∷ [] }
     ensures nothing { closed_at trefoil 1 1 (two_pairs 1 4 2 5) ≡ [] }
-    ensures plus { map (λ kept. value (saddle_surface trefoil 1 (two_pairs 1 4 2 5) 0 0 kept)) (0 ∷ 1 ∷ 2 ∷ 3 ∷ [])
-        ≡ 1 ∷ 0 ∷ 0 ∷ 0 ∷ [] }
-    ensures minus { map (λ kept. value (saddle_surface trefoil 1 (two_pairs 1 4 2 5) 1 0 kept)) (0 ∷ 1 ∷ 2 ∷ 3 ∷ [])
-        ≡ 0 ∷ 0 ∷ 1 ∷ 0 ∷ [] }
-    ensures old { map (λ kept. value (added_surface trefoil 1 0 (two_pairs 1 4 2 5) (two_pairs 1 5 2 4) 0 1 0 kept))
+    ensures plus { map (λ dots. value (saddle_surface trefoil 1 (two_pairs 1 4 2 5) 0 0 dots))
+        (0 ∷ 1 ∷ 2 ∷ 3 ∷ []) ≡ 1 ∷ 0 ∷ 0 ∷ 0 ∷ [] }
+    ensures minus { map (λ dots. value (saddle_surface trefoil 1 (two_pairs 1 4 2 5) 1 0 dots))
+        (0 ∷ 1 ∷ 2 ∷ 3 ∷ []) ≡ 0 ∷ 0 ∷ 1 ∷ 0 ∷ [] }
+    ensures old { map (λ dots.
+        value (added_surface trefoil 1 0 (two_pairs 1 4 2 5) (two_pairs 1 5 2 4) 0 1 0 dots))
         (0 ∷ 1 ∷ 2 ∷ 3 ∷ []) ≡ 0 ∷ 1 ∷ 0 ∷ 0 ∷ [] }
 {}
 
@@ -48,8 +50,8 @@ pub fn trefoil_counts()
         ≡ codes "table 2\nfield 2\nj -9 i -3 dim 1\nj -7 i -3 dim 1\nj -7 i -2 dim 1\nj -5 i -2 dim 1\nj -3 i 0 dim 1\nj -1 i 0 dim 1\n" }
 {}
 
-/// The crossings of the Hopf link the other way round: signs are 2 modulo 3, and at the end the four
-/// objects that are left are put under their places.
+/// The crossings of the Hopf link the other way round: signs are 2 modulo 3, and at the end the
+/// four objects that are left are put under their places.
 pub fn hopf_steps()
     ensures steps { AreSteps 3 (listed_by hopf_link hopf_crossings) first_scan hopf_scans }
     ensures end { IsEndOfScan 3 hopf_link hopf_crossings (last_of first_scan hopf_scans) }
