@@ -1,0 +1,70 @@
+-- The entries of terms by numbers, and the coefficients of the terms behind one crossing more.
+use Rattle.std.specs.Prelude.{map, ℕ, ◌+◌, ◌<◌, List, ◌++◌, length}
+use Rattle.kh_types.specs.Code.{Code}
+use Rattle.kh_types.specs.Darts.{HasArcsTwice}
+use Rattle.dotted_surfaces.specs.Surfaces.{Surface, IsClosed, value}
+use Rattle.dotted_surfaces.specs.Points.{AreAmong, discs, circles}
+use Rattle.dotted_surfaces.specs.Sheets.{sheet, marked, marked_else}
+use Rattle.added_crossings.specs.Steps.{near}
+use Rattle.added_crossings.specs.Codes.{points_at, step_at, smoothing_at, outer_smoothings, circles_behind, closed_at, discs_behind, disc_of, saddle_strips}
+use Rattle.added_crossings.specs.Labels.{label_at, number_of}
+
+-- the surface of a term with dots, from labels of the circles of m to labels of those of n, behind the first k crossings
+abbrev pub entry_sheet : Code → ℕ → ℕ → List (ℕ × ℕ) → List (ℕ × ℕ) → ℕ → ℕ → ℕ → Surface
+entry_sheet code k state m n dots label other =
+    let points = points_at code k in
+    let w = outer_smoothings code state k in
+    sheet points m n w (marked dots (discs points m n) ++ (marked label (circles points m w) ++ marked_else other (circles points n w)))
+
+abbrev pub entry_at : Code → ℕ → ℕ → List (ℕ × ℕ) → List (ℕ × ℕ) → ℕ → ℕ → ℕ → ℕ
+entry_at code k state m n dots label other = value (entry_sheet code k state m n dots label other)
+
+-- what the crossing adds, from labels of the circles that it closes on one side to labels of those on the other: some faces, and the
+-- discs of the new pairings, marked where no dots are kept
+abbrev pub coefficient_sheet : Code → ℕ → ℕ → ℕ → List (ℕ × ℕ) → List (ℕ × ℕ) → List (ℕ × ℕ) → List ℕ → ℕ → ℕ → ℕ → Surface
+coefficient_sheet code k first second m n faces lowers closed other_closed kept = record {
+  size = (points_at code k).size;
+  places = near (step_at code k);
+  joins = (m ++ smoothing_at code k first) ++ (n ++ smoothing_at code k second);
+  faces = marked_else kept (discs_behind code k first second m n)
+      ++ (faces ++ (marked closed (closed_at code k first m) ++ marked_else other_closed (closed_at code k second n)));
+  lowers = lowers;
+  raises = (points_at code (k + 1)).opened;
+}
+
+-- the coefficient of a dot set in the term behind the crossing, where it has one smoothing
+abbrev pub added_surface : Code → ℕ → ℕ → List (ℕ × ℕ) → List (ℕ × ℕ) → ℕ → ℕ → ℕ → ℕ → Surface
+added_surface code k smoothing m n dots closed other_closed kept =
+    coefficient_sheet code k smoothing smoothing m n (marked dots (discs (points_at code k) m n)) (points_at code k).opened closed
+    other_closed kept
+
+-- and in the saddle
+abbrev pub saddle_surface : Code → ℕ → List (ℕ × ℕ) → ℕ → ℕ → ℕ → Surface
+saddle_surface code k m closed other_closed kept =
+    coefficient_sheet code k 0 1 m m (map disc_of m) (saddle_strips code k) closed other_closed kept
+
+-- labels of the circles of a pairing, a smoothing of the crossing and what is behind it, as a function of arcs; and the labels that it
+-- gives to the circles that the crossing closes, and to those behind it
+abbrev pub label_before : Code → ℕ → ℕ → ℕ → List (ℕ × ℕ) → ℕ → ℕ → ℕ
+label_before code k smoothing state m number =
+    label_at (points_at code k).size (points_at code k).alive
+    ((m ++ smoothing_at code k smoothing) ++ outer_smoothings code state (k + 1)) number
+
+abbrev pub closed_label : Code → ℕ → ℕ → ℕ → List (ℕ × ℕ) → ℕ → ℕ
+closed_label code k smoothing state m number = number_of (label_before code k smoothing state m number) (closed_at code k smoothing m)
+
+abbrev pub label_behind : Code → ℕ → ℕ → ℕ → List (ℕ × ℕ) → ℕ → ℕ
+label_behind code k smoothing state m number =
+    number_of (label_before code k smoothing state m number) (circles_behind code k smoothing state m)
+
+-- two pairings of the open arcs where another crossing comes
+pub record ArePairedAt (code : Code) (k : ℕ) (m n : List (ℕ × ℕ)) : Type 0 where
+  pub twice : HasArcsTwice code.crossings
+  pub crossing : k < length code.crossings
+  pub first : AreAmong (points_at code k).opened m
+  pub second : AreAmong (points_at code k).opened n
+
+-- both parts are closed
+pub record AreEntriesClosed (far close : Surface) : Type 0 where
+  pub far_closed : IsClosed far
+  pub close_closed : IsClosed close

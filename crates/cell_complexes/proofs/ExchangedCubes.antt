@@ -1,0 +1,317 @@
+-- The exchange of two neighbouring crossings keeps the dimensions of the cube.
+use Rattle.std.proofs.Common.{◌≡◌, ◌≢◌, ℕ, inl, inr, zero, suc, ◌+◌, ◌-◌, ◌*◌, ◌%◌, ◌^◌, ◌<◌, ◌∙◌, ℤ, pos, ◌+ℤ◌, ◌-ℤ◌, List, length, refl, sym, subst, ap, ap₂, arith, Bool, true, false, cond}
+use Rattle.std.specs.Prelude.{nat_eq, if◌then◌else◌}
+use Rattle.std.specs.List.{Contains, range_with_len, sum_by}
+use Rattle.std.proofs.lemmas.Bool.{cases_eq}
+use Rattle.std.proofs.lemmas.Bool.Decides.{nat_tests}
+use Rattle.std.proofs.lemmas.List.FromFn.{get_or-range_with_len, length-range_with_len}
+use Rattle.kh_types.specs.Bits.{bit, ones}
+use Rattle.kh_types.specs.Circles.{circle_count}
+use Rattle.kh_types.specs.Code.{Code, place_of}
+use Rattle.kh_types.specs.Differential.{coefficient, coefficient_at}
+use Rattle.kh_types.specs.Generators.{Generator, generator_of, generators, generators_of, one_count, states}
+use Rattle.kh_types.specs.Residues.{HasInverses, Same}
+use Rattle.kh_types.proofs.Lists.{Contains-flat_map, Contains-map}
+use Rattle.kh_types.proofs.ListSums.{sum_by-alike, sum_by-flat_map, sum_by-map, sum_by-some}
+use Rattle.kh_types.proofs.Residues.{same-equal, same-multiple, same-scaled}
+use Rattle.cube_squares.proofs.Degrees.{coefficient-below}
+use Rattle.cube_squares.proofs.Pairs.{coefficient-one, edge_or_zero}
+use Rattle.cube_squares.proofs.TouchedCircles.{fits}
+use Rattle.cell_complexes.specs.Alike.{AreAlike}
+use Rattle.cell_complexes.specs.Cells.{AreComplex, dimension_at}
+use Rattle.cell_complexes.specs.Cubes.{cube_of}
+use Rattle.cell_complexes.proofs.AlikeCells.{dimension-alike}
+use Rattle.cell_complexes.proofs.AlikeComplexes.{complex-alike}
+use Rattle.cell_complexes.proofs.ExchangedBits.{bit-exchanged, both_ones, exchanged, exchanged-below, exchanged-set, exchanged-twice, moved, moved-below, ones-high, ones-moved}
+use Rattle.cell_complexes.proofs.ExchangedCodes.{circle_count-exchanged, code_with, fits-exchanged, length-with}
+use Rattle.cell_complexes.proofs.Matched.{sum_by-paired}
+use Rattle.cell_complexes.proofs.Members.{Contains-flattened, Contains-made}
+
+Contains-range : (n k : ℕ) → k < n → Contains (range_with_len 0 n) k
+Contains-range n k below = (k, omega (arith, below, length-range_with_len 0 n), get_or-range_with_len 0 n k k below ∙ omega arith)
+
+pub range-contains : (n k : ℕ) → Contains (range_with_len 0 n) k → k < n
+range-contains n k has =
+    let within : has.0 < n = omega (arith, has.1, length-range_with_len 0 n) in
+    omega (arith, within, sym has.2 ∙ get_or-range_with_len 0 n has.0 k within)
+
+record IsMember (code : Code) (x : Generator) : Type 0 where
+  state : x.state < 2 ^ length code.crossings
+  label : x.label < 2 ^ circle_count code x.state
+
+member-from : (code : Code) (x : Generator) → Contains (generators code) x → IsMember code x
+member-from code x has =
+    let by_state = Contains-flattened (generators_of code) (states code) x has in
+    let by_label = Contains-made (generator_of by_state.0) (range_with_len 0 (2 ^ circle_count code by_state.0)) x by_state.2 in
+    subst (λ (y : Generator). IsMember code y) by_label.2
+    (record {
+      state = range-contains (2 ^ length code.crossings) by_state.0 by_state.1;
+      label = range-contains (2 ^ circle_count code by_state.0) by_label.0 by_label.1;
+    })
+
+member-of : (code : Code) (x : Generator) → IsMember code x → Contains (generators code) x
+member-of code x is =
+    Contains-flat_map (generators_of code) (states code) x.state x (Contains-range (2 ^ length code.crossings) x.state is.state)
+    (Contains-map (generator_of x.state) (range_with_len 0 (2 ^ circle_count code x.state)) x.label
+    (Contains-range (2 ^ circle_count code x.state) x.label is.label))
+
+-- signs multiply
+abbrev power_sign : ℕ → ℕ → ℕ
+power_sign p n = if nat_eq (n % 2) 0 then 1 else p - 1
+
+same_parity : (p a b : ℕ) → a % 2 ≡ b % 2 → power_sign p a ≡ power_sign p b
+same_parity p a b same = ap (λ r. if nat_eq r 0 then 1 else p - 1) same
+
+signs-product : (p a b : ℕ) → 0 < p → Same p (power_sign p a * power_sign p b) (power_sign p (a + b))
+signs-product p a b positive = by (a % 2) (b % 2) refl refl
+  where
+    even : (n : ℕ) → n % 2 ≡ 0 → power_sign p n ≡ 1
+    even n is = grind (arith, nat_tests)
+
+    odd : (n : ℕ) → n % 2 ≡ 1 → power_sign p n ≡ p - 1
+    odd n is = grind (arith, nat_tests)
+
+    ring : (m : ℕ) → m * m + (m + 1) * 1 ≡ 1 + (m + 1) * m
+    ring m = omega arith
+
+    square_of : (m q : ℕ) → q ≡ m + 1 → m * m + q * 1 ≡ 1 + q * m
+    square_of m q is = ap (λ x. m * m + x * 1) is ∙ ring m ∙ ap (λ x. 1 + x * m) (sym is)
+
+    square : (q : ℕ) → 0 < q → (q - 1) * (q - 1) + q * 1 ≡ 1 + q * (q - 1)
+    square q positive = square_of (q - 1) q (omega (arith, positive))
+
+    by : (x y : ℕ) → a % 2 ≡ x → b % 2 ≡ y → Same p (power_sign p a * power_sign p b) (power_sign p (a + b))
+    by zero zero is_a is_b =
+        same-equal p (power_sign p a * power_sign p b) (power_sign p (a + b))
+        (ap₂ (λ x y. x * y) (even a is_a) (even b is_b) ∙ sym (even (a + b) (omega (arith, is_a, is_b))))
+    by zero (suc zero) is_a is_b =
+        same-equal p (power_sign p a * power_sign p b) (power_sign p (a + b))
+        (ap₂ (λ x y. x * y) (even a is_a) (odd b is_b) ∙ omega (arith, odd (a + b) (omega (arith, is_a, is_b))))
+    by (suc zero) zero is_a is_b =
+        same-equal p (power_sign p a * power_sign p b) (power_sign p (a + b))
+        (ap₂ (λ x y. x * y) (odd a is_a) (even b is_b) ∙ omega (arith, odd (a + b) (omega (arith, is_a, is_b))))
+    by (suc zero) (suc zero) is_a is_b =
+        same-equal p (power_sign p a * power_sign p b) ((p - 1) * (p - 1)) (ap₂ (λ x y. x * y) (odd a is_a) (odd b is_b))
+        ∙ sym (same-multiple p ((p - 1) * (p - 1)) 1) ∙ same-equal p ((p - 1) * (p - 1) + p * 1) (1 + p * (p - 1)) (square p positive)
+        ∙ same-multiple p 1 (p - 1) ∙ same-equal p 1 (power_sign p (a + b)) (sym (even (a + b) (omega (arith, is_a, is_b))))
+    by zero (suc (suc y)) is_a is_b = absurd (omega (arith, is_b))
+    by (suc zero) (suc (suc y)) is_a is_b = absurd (omega (arith, is_b))
+    by (suc (suc x)) y is_a is_b = absurd (omega (arith, is_a))
+
+-- steps, by their places
+record IsStepAt (code : Code) (s t place : ℕ) : Type 0 where
+  within : place < length code.crossings
+  zero_there : bit s place ≡ 0
+  behind : t ≡ s + 2 ^ place
+
+-- a coefficient other than 0 goes along a step
+step-of : (p : ℕ) (code : Code) (tail head : Generator) → coefficient p code tail head ≢ 0
+    → (place : ℕ) × IsStepAt code tail.state head.state place
+step-of p code tail head some =
+    let term = sum_by-some (coefficient_at p code tail head) 1 (length code.crossings) some in
+    elim (edge_or_zero p code tail head term.0) [
+      | inl step ↦ (
+        place_of term.0,
+        record { within = omega (arith, term.1, term.2); zero_there = step.zero_there; behind = step.behind },
+      )
+      | inr none ↦ absurd (term.3 none)
+    ]
+
+coefficient-along : (p : ℕ) (code : Code) (tail head : Generator) (place : ℕ) → IsStepAt code tail.state head.state place
+    → coefficient p code tail head ≡ cond (fits code tail head (place + 1)) (power_sign p (ones place tail.state)) 0
+coefficient-along p code tail head place step =
+    let e : place ≡ place + 1 - 1 = omega arith in
+    coefficient-one p code tail head (place + 1) (record { positive = omega arith; within = omega (arith, step.within) })
+    (record {
+      zero_there = ap (bit tail.state) (sym e) ∙ step.zero_there;
+      behind = step.behind ∙ ap (λ m. tail.state + 2 ^ m) e;
+    })
+    ∙ ap (λ m. cond (fits code tail head (place + 1)) (power_sign p (ones m tail.state)) 0) (sym e)
+
+module _ (p : ℕ) (front back : List (List ℕ)) (loops : ℕ) (field : HasInverses p) where
+  positive : 0 < p
+  positive = omega (arith, field.above_one)
+
+  abbrev k : ℕ
+  k = length front
+
+  -- a generator's name in the exchanged code, and its sign
+  abbrev name_of : Generator → Generator
+  name_of x = generator_of (exchanged (length front) x.state) x.label
+
+  abbrev sign_of : Generator → ℕ
+  sign_of x = power_sign p (both_ones (length front) x.state)
+
+  name-twice : (x : Generator) → name_of (name_of x) ≡ x
+  name-twice x = ap (λ s. generator_of s x.label) (exchanged-twice (length front) x.state)
+
+  step-exchanged : (a b : List ℕ) (s t place : ℕ) → IsStepAt (code_with front back loops a b) s t place
+      → IsStepAt (code_with front back loops b a) (exchanged (length front) s) (exchanged (length front) t) (moved (length front) place)
+  step-exchanged a b s t place step =
+      let n = length front + (2 + length back) in
+      let below : place < n = omega (arith, step.within, length-with front back loops a b) in
+      let there : moved (length front) place < n = moved-below (length front) place n (omega arith) below in
+      record {
+        within = omega (arith, there, length-with front back loops b a);
+        zero_there = bit-exchanged (length front) s place ∙ step.zero_there;
+        behind = ap (exchanged (length front)) step.behind ∙ exchanged-set (length front) s place step.zero_there;
+      }
+
+  coefficient-step : (a b : List ℕ) (tail head : Generator) (place : ℕ)
+      → IsStepAt (code_with front back loops a b) tail.state head.state place
+      → Same p (coefficient p (code_with front back loops a b) tail head)
+      (sign_of tail * (sign_of head * coefficient p (code_with front back loops b a) (name_of tail) (name_of head)))
+  coefficient-step a b tail head place step =
+      let old = code_with front back loops a b in
+      let new = code_with front back loops b a in
+      let s = tail.state in
+      let now = power_sign p (ones place s) in
+      let later = power_sign p (ones (moved (length front) place) (exchanged (length front) s)) in
+      let both = both_ones (length front) s in
+      let both_behind = both_ones (length front) (s + 2 ^ place) in
+      let rest = ones (moved (length front) place) (exchanged (length front) s) in
+      let test = fits old tail head (place + 1) in
+      let signs : Same p now (sign_of tail * (sign_of head * later)) =
+      same-equal p now (power_sign p (both + (both_behind + rest)))
+      (same_parity p (ones place s) (both + (both_behind + rest)) (ones-moved (length front) s place step.zero_there))
+      ∙ sym (signs-product p both (both_behind + rest) positive)
+      ∙ same-scaled p (power_sign p both) (power_sign p (both_behind + rest)) (power_sign p both_behind * power_sign p rest)
+      (sym (signs-product p both_behind rest positive))
+      ∙ same-equal p (power_sign p both * (power_sign p both_behind * power_sign p rest)) (sign_of tail * (sign_of head * later))
+      (ap (λ t. power_sign p both * (power_sign p (both_ones (length front) t) * power_sign p rest)) (sym step.behind)) in
+      same-equal p (coefficient p old tail head) (cond test now 0) (coefficient-along p old tail head place step)
+      ∙ by_test test now (sign_of tail) (sign_of head) later signs
+      ∙ same-equal p (sign_of tail * (sign_of head * cond test later 0))
+      (sign_of tail * (sign_of head * coefficient p new (name_of tail) (name_of head)))
+      (ap (λ c. sign_of tail * (sign_of head * c))
+      (ap (λ c. cond c later 0) (sym (fits-exchanged front back loops a b tail head place))
+      ∙ sym (coefficient-along p new (name_of tail) (name_of head) (moved (length front) place)
+      (step-exchanged a b s head.state place step))))
+    where
+      nothing : (x y : ℕ) → 0 ≡ x * (y * 0)
+      nothing x y = omega arith
+
+      by_test : (test : Bool) (now x y later : ℕ) → Same p now (x * (y * later)) → Same p (cond test now 0) (x * (y * cond test later 0))
+      by_test true now x y later same = same
+      by_test false now x y later same = same-equal p 0 (x * (y * 0)) (nothing x y)
+
+  coefficient-exchanged : (a b : List ℕ) (tail head : Generator)
+      → Same p (coefficient p (code_with front back loops a b) tail head)
+      (sign_of tail * (sign_of head * coefficient p (code_with front back loops b a) (name_of tail) (name_of head)))
+  coefficient-exchanged a b tail head =
+      let old = code_with front back loops a b in
+      let new = code_with front back loops b a in
+      let there = coefficient p new (name_of tail) (name_of head) in
+      elim (cases_eq (coefficient p old tail head) 0) [
+        | inr some ↦
+            let step = step-of p old tail head some in
+            coefficient-step a b tail head step.0 step.1
+        | inl none ↦ elim (cases_eq there 0) [
+          | inl none_there ↦
+              same-equal p (coefficient p old tail head) (sign_of tail * (sign_of head * there))
+              (none ∙ nothing (sign_of tail) (sign_of head) ∙ ap (λ c. sign_of tail * (sign_of head * c)) (sym none_there))
+          | inr some ↦
+              let step = step-of p new (name_of tail) (name_of head) some in
+              let home = step-exchanged b a (name_of tail).state (name_of head).state step.0 step.1 in
+              coefficient-step a b tail head (moved (length front) step.0)
+              (subst₂' home (exchanged-twice (length front) tail.state) (exchanged-twice (length front) head.state))
+        ]
+      ]
+    where
+      nothing : (x y : ℕ) → 0 ≡ x * (y * 0)
+      nothing x y = omega arith
+
+      subst₂' : {s t u v place : ℕ} → IsStepAt (code_with front back loops a b) s t place → s ≡ u → t ≡ v
+          → IsStepAt (code_with front back loops a b) u v place
+      subst₂' {s} {t} {u} {v} {place} step is_s is_t =
+          subst (λ (m : ℕ). IsStepAt (code_with front back loops a b) m v place) is_s
+          (subst (λ (m : ℕ). IsStepAt (code_with front back loops a b) s m place) is_t step)
+
+  -- the lists of generators
+  member-exchanged : (a b : List ℕ) (x : Generator) → Contains (generators (code_with front back loops a b)) x
+      → Contains (generators (code_with front back loops b a)) (name_of x)
+  member-exchanged a b x has =
+      let old = code_with front back loops a b in
+      let new = code_with front back loops b a in
+      let is = member-from old x has in
+      let n = length front + (2 + length back) in
+      let below : x.state < 2 ^ n = subst (λ m. x.state < 2 ^ m) (length-with front back loops a b) is.state in
+      member-of new (name_of x)
+      (record {
+        state = subst (λ m. exchanged (length front) x.state < 2 ^ m) (sym (length-with front back loops b a))
+            (exchanged-below (length front) (length back) x.state below);
+        label = subst (λ m. x.label < 2 ^ m) (sym (circle_count-exchanged front back loops a b x.state)) is.label;
+      })
+
+  sums-exchanged : (a b : List ℕ) (f : Generator → ℕ)
+      → sum_by f (generators (code_with front back loops b a)) ≡ sum_by (λ x. f (name_of x)) (generators (code_with front back loops a b))
+  sums-exchanged a b f =
+      let old = code_with front back loops a b in
+      let new = code_with front back loops b a in
+      let n = length front + (2 + length back) in
+      let ex = exchanged (length front) in
+      let by_state = λ (s : ℕ). sum_by f (generators_of new s) in
+      sum_by-flat_map f (generators_of new) (states new)
+      ∙ ap (λ m. sum_by by_state (range_with_len 0 (2 ^ m))) (length-with front back loops b a)
+      ∙ sum_by-paired (2 ^ n) (2 ^ n) ex ex by_state
+      (record {
+        there_below = λ s below. exchanged-below (length front) (length back) s below;
+        back_below = λ s below. exchanged-below (length front) (length back) s below;
+        back_there = λ s below. exchanged-twice (length front) s;
+        there_back = λ s below. exchanged-twice (length front) s;
+      })
+      ∙ ap (λ m. sum_by (λ s. by_state (ex s)) (range_with_len 0 (2 ^ m))) (sym (length-with front back loops a b))
+      ∙ sum_by-alike (λ s. by_state (ex s)) (λ s. sum_by (λ x. f (name_of x)) (generators_of old s))
+      (λ s.
+      sum_by-map f (generator_of (ex s)) (range_with_len 0 (2 ^ circle_count new (ex s)))
+      ∙ ap (λ m. sum_by (λ l. f (generator_of (ex s) l)) (range_with_len 0 (2 ^ m))) (circle_count-exchanged front back loops a b s)
+      ∙ sym (sum_by-map (λ x. f (name_of x)) (generator_of s) (range_with_len 0 (2 ^ circle_count old s))))
+      (states old)
+      ∙ sym (sum_by-flat_map (λ x. f (name_of x)) (generators_of old) (states old))
+
+  one_count-exchanged : (a b : List ℕ) (s : ℕ)
+      → one_count (code_with front back loops b a) (exchanged (length front) s) ≡ one_count (code_with front back loops a b) s
+  one_count-exchanged a b s =
+      let n = length front + (2 + length back) in
+      ap (λ m. ones m (exchanged (length front) s)) (length-with front back loops b a)
+      ∙ ones-high (length front) s n (omega arith)
+      ∙ ap (λ m. ones m s) (sym (length-with front back loops a b))
+
+  alike-exchanged : (a b : List ℕ) (plus minus : ℕ)
+      → AreAlike p name_of sign_of (cube_of p (code_with front back loops a b) plus minus)
+      (cube_of p (code_with front back loops b a) plus minus)
+  alike-exchanged a b plus minus =
+      let old = code_with front back loops a b in
+      record {
+        listed = record {
+          there = member-exchanged a b;
+          back = λ y has. (name_of y, member-exchanged b a y has, name-twice y);
+          sums = sums-exchanged a b;
+        };
+        squares = λ x has.
+            let n = both_ones (length front) x.state in
+            signs-product p n n positive
+            ∙ same-equal p (power_sign p (n + n)) 1 (same_parity p (n + n) 0 (omega arith));
+        homological = λ x has. ap (λ m. pos m -ℤ pos minus) (one_count-exchanged a b x.state);
+        quantum = λ x has.
+            ap₂ (λ c m. (pos c -ℤ pos (2 * ones c x.label)) +ℤ (pos (m + plus) -ℤ pos (2 * minus)))
+            (circle_count-exchanged front back loops a b x.state) (one_count-exchanged a b x.state);
+        coefficient = λ x y has_x has_y. coefficient-exchanged a b x y;
+      }
+
+  pub dimension-exchanged : (a b : List ℕ) (plus minus : ℕ) (i j : ℤ)
+      → dimension_at p (cube_of p (code_with front back loops b a) plus minus) i j
+      ≡ dimension_at p (cube_of p (code_with front back loops a b) plus minus) i j
+  dimension-exchanged a b plus minus i j =
+      let old = code_with front back loops a b in
+      let new = code_with front back loops b a in
+      dimension-alike p name_of sign_of (cube_of p old plus minus) (cube_of p new plus minus) (alike-exchanged a b plus minus) field
+      (λ x y. coefficient-below p old x y field.above_one) (λ x y. coefficient-below p new x y field.above_one) i j
+
+  pub complex-exchanged : (a b : List ℕ) (plus minus : ℕ) → AreComplex p (cube_of p (code_with front back loops a b) plus minus)
+      → AreComplex p (cube_of p (code_with front back loops b a) plus minus)
+  complex-exchanged a b plus minus complex =
+      let old = code_with front back loops a b in
+      let new = code_with front back loops b a in
+      complex-alike p name_of sign_of (cube_of p old plus minus) (cube_of p new plus minus) (alike-exchanged a b plus minus)
+      (λ x y. coefficient-below p new x y field.above_one) complex

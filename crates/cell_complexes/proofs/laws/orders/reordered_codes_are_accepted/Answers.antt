@@ -1,0 +1,12 @@
+use Rattle.cell_complexes.proofs.AnyOrder.{accepted-reordered, reordered-accepted}
+use Rattle.cell_complexes.proofs.laws.orders.reordered_codes_are_accepted.Goals as goal
+
+pub returns : goal.returns
+returns c =
+    record {
+      accepted = λ code crossings is order. accepted-reordered code.loops code.crossings crossings order is;
+      either = λ code crossings order. (
+        reordered-accepted code.loops code.crossings crossings order,
+        accepted-reordered code.loops code.crossings crossings order,
+      );
+    }

@@ -1,0 +1,193 @@
+-- Steps that are checked by computing: where tests of all objects and all dot sets pass, one scan comes from another by a step.
+use Rattle.std.proofs.Common.{◌≡◌, ◌≢◌, ℕ, ◌+◌, ◌%◌, ◌<◌, ◌∙◌, List, ◌∷◌, get_or, length, map, sym, subst, ap, arith, Bool, true, false}
+use Rattle.std.specs.Prelude.{nat_eq, nat_lt, if◌then◌else◌}
+use Rattle.std.specs.List.{Contains, list_all, list_any, range_with_len}
+use Rattle.std.proofs.lemmas.Bool.{both_ways, eq-eqb, eqb-true, ltb-true}
+use Rattle.std.proofs.lemmas.List.{get_or_default, get_or-map}
+use Rattle.std.proofs.lemmas.List.Elements.{All-contains}
+use Rattle.std.proofs.lemmas.List.Sums.{AllPass-from_list_all}
+use Rattle.std.proofs.lemmas.List.FromFn.{get_or-range_with_len, length-range_with_len}
+use Rattle.kh_types.specs.Code.{Code}
+use Rattle.kh_types.specs.Residues.{Same}
+use Rattle.dotted_surfaces.proofs.Components.{list_any-some}
+use Rattle.dotted_maps.specs.declared.term.Term.{Term}
+use Rattle.dotted_maps.specs.Maps.{coefficient_in}
+use Rattle.added_crossings.proofs.Members.{All-contained}
+use Rattle.cell_complexes.specs.Alike.{AreListed, AreMatched, HasNoDoubles}
+use Rattle.cell_complexes.proofs.ExchangedCubes.{range-contains}
+use Rattle.cell_complexes.proofs.NoDoubles.{once-range}
+use Rattle.scan_laws.specs.Scans.{HasDots, Object, Scan, dot_sets, first_object, pairs_of}
+use Rattle.scan_laws.specs.Adding.{IsAdding, new_coefficient, object_from, origins}
+use Rattle.scan_laws.specs.Eliminating.{IsEliminating, way_coefficient}
+use Rattle.scan_laws.specs.Steps.{IsLast, IsRenumbering}
+use Rattle.scan_laws.proofs.CellLists.{contains-range}
+use Rattle.scan_laws.proofs.Possible.{no-head, no-tail, no_origin, origin_in, number_in, origins-matched, others, others-listed}
+use Rattle.scan_laws.proofs.Labels.{place}
+use Rattle.scan_laws.proofs.Places.{numbers-test, place-at, place-found}
+
+all-pass : {A : Type 0} (p : A → Bool) (xs : List A) → list_all p xs ≡ true → (x : A) → Contains xs x → p x ≡ true
+all-pass p xs all x has = All-contains (λ y. p y ≡ true) xs x (AllPass-from_list_all p xs all) has
+
+-- all terms are dotted discs
+abbrev pub dots_pass : Code → Scan → Bool
+dots_pass code scan =
+    list_all (λ x. list_all (λ y. list_all (λ (term : Term). nat_lt term.dots (dot_sets code scan x y)) (scan.terms x y)) scan.numbers)
+    scan.numbers
+
+has-dots : (code : Code) (scan : Scan) → dots_pass code scan ≡ true → (x y : ℕ) → Contains scan.numbers x → Contains scan.numbers y
+    → HasDots code scan x y
+has-dots code scan passes x y has_x has_y =
+    let row = λ (x : ℕ). list_all (λ y. list_all (λ (term : Term). nat_lt term.dots (dot_sets code scan x y)) (scan.terms x y))
+    scan.numbers in
+    let entry = λ (y : ℕ). list_all (λ (term : Term). nat_lt term.dots (dot_sets code scan x y)) (scan.terms x y) in
+    All-contained (λ (term : Term). term.dots < dot_sets code scan x y) (scan.terms x y)
+    (λ term has.
+    ltb-true term.dots (dot_sets code scan x y)
+    (all-pass (λ (t : Term). nat_lt t.dots (dot_sets code scan x y)) (scan.terms x y)
+    (all-pass entry scan.numbers (all-pass row scan.numbers passes x has_x) y has_y) term has))
+
+-- two numbers for each two objects and each dot set are the same modulo p
+abbrev pub same_pass : ℕ → Code → Scan → (ℕ → ℕ → ℕ → ℕ) → (ℕ → ℕ → ℕ → ℕ) → Bool
+same_pass p code scan f g =
+    list_all (λ x. list_all (λ y. list_all (λ kept. nat_eq (f x y kept % p) (g x y kept % p)) (range_with_len 0 (dot_sets code scan x y)))
+    scan.numbers) scan.numbers
+
+are-same : (p : ℕ) (code : Code) (scan : Scan) (f g : ℕ → ℕ → ℕ → ℕ) → same_pass p code scan f g ≡ true → (x y kept : ℕ)
+    → Contains scan.numbers x → Contains scan.numbers y → kept < dot_sets code scan x y → Same p (f x y kept) (g x y kept)
+are-same p code scan f g passes x y kept has_x has_y below =
+    let at = λ (x y kept : ℕ). nat_eq (f x y kept % p) (g x y kept % p) in
+    let entry = λ (x y : ℕ). list_all (at x y) (range_with_len 0 (dot_sets code scan x y)) in
+    eqb-true (f x y kept % p) (g x y kept % p)
+    (all-pass (at x y) (range_with_len 0 (dot_sets code scan x y))
+    (all-pass (entry x) scan.numbers (all-pass (λ x. list_all (entry x) scan.numbers) scan.numbers passes x has_x) y has_y) kept
+    (contains-range (dot_sets code scan x y) kept below))
+
+-- objects that are listed by their places
+objects-at : {A : Type 0} (d : A) (ws : List A) (xs : List ℕ) (f : A → Object) (g : ℕ → Object) → xs ≡ range_with_len 0 (length ws)
+    → map g xs ≡ map f ws → (k : ℕ) → k < length ws → g k ≡ f (get_or ws k d)
+objects-at d ws xs f g numbers objects k below =
+    let places = range_with_len 0 (length ws) in
+    let size = length-range_with_len 0 (length ws) in
+    ap g (let e : k ≡ 0 + k = omega arith in e ∙ sym (get_or-range_with_len 0 (length ws) k 0 below))
+    ∙ sym (get_or-map g places k 0 first_object (omega (arith, below, size)))
+    ∙ ap (λ (os : List Object). get_or os k first_object) (ap (map g) (sym numbers) ∙ objects)
+    ∙ get_or-map f ws k d first_object below
+
+-- one crossing more, where objects stand in the order of their origins
+pub adding-checked : (p : ℕ) (code : Code) (scan next : Scan) → HasNoDoubles scan.numbers → scan.done < length code.crossings
+    → next.done ≡ scan.done + 1 → next.numbers ≡ range_with_len 0 (length (origins code scan))
+    → map next.object next.numbers ≡ map (object_from code scan) (origins code scan)
+    → dots_pass code next ≡ true
+    → same_pass p code next (λ x y kept. coefficient_in (next.terms x y) kept)
+    (λ x y kept. new_coefficient p code scan (origin_in code scan x) (origin_in code scan y) kept) ≡ true
+    → IsAdding p code scan next
+adding-checked p code scan next once within done numbers objects dots terms =
+    record {
+      within = within;
+      done = done;
+      origin = origin_in code scan;
+      number = number_in code scan;
+      matched = subst (λ (xs : List ℕ). AreMatched (origin_in code scan) (number_in code scan) xs (origins code scan)) (sym numbers)
+          (origins-matched code scan once);
+      object = λ x has.
+          objects-at no_origin (origins code scan) next.numbers (object_from code scan) next.object numbers objects x
+          (range-contains (length (origins code scan)) x (subst (λ (xs : List ℕ). Contains xs x) numbers has));
+      dots = has-dots code next dots;
+      terms = are-same p code next (λ x y kept. coefficient_in (next.terms x y) kept)
+          (λ x y kept. new_coefficient p code scan (origin_in code scan x) (origin_in code scan y) kept) terms;
+    }
+
+-- one entry less, where the others keep their order: the entry is a number
+abbrev pub number_passes : ℕ → Code → Scan → ℕ → ℕ → ℕ → Bool
+number_passes p code scan tail head c =
+    list_all (λ kept. nat_eq (coefficient_in (scan.terms tail head) kept % p) ((if nat_eq 0 kept then c else 0) % p))
+    (range_with_len 0 (dot_sets code scan tail head))
+
+is-number : (p : ℕ) (code : Code) (scan : Scan) (tail head c : ℕ) → number_passes p code scan tail head c ≡ true → (kept : ℕ)
+    → kept < dot_sets code scan tail head → Same p (coefficient_in (scan.terms tail head) kept) (if nat_eq 0 kept then c else 0)
+is-number p code scan tail head c passes kept below =
+    eqb-true (coefficient_in (scan.terms tail head) kept % p) ((if nat_eq 0 kept then c else 0) % p)
+    (all-pass (λ kept. nat_eq (coefficient_in (scan.terms tail head) kept % p) ((if nat_eq 0 kept then c else 0) % p))
+    (range_with_len 0 (dot_sets code scan tail head)) passes kept (contains-range (dot_sets code scan tail head) kept below))
+
+abbrev pub has_number : List ℕ → ℕ → Bool
+has_number numbers x = list_any (nat_eq x) numbers
+
+has-number : (numbers : List ℕ) (x : ℕ) → has_number numbers x ≡ true → Contains numbers x
+has-number numbers x passes =
+    let found = list_any-some (nat_eq x) numbers passes in
+    subst (λ (y : ℕ). Contains numbers y) (sym (eqb-true x found.0 found.2)) found.1
+
+pub eliminating-checked : (p : ℕ) (code : Code) (scan next : Scan) (tail head c : ℕ) → HasNoDoubles scan.numbers → 0 < c → c < p
+    → next.done ≡ scan.done → nat_eq tail head ≡ false → has_number scan.numbers tail ≡ true → has_number scan.numbers head ≡ true
+    → pairs_of scan head ≡ pairs_of scan tail → number_passes p code scan tail head c ≡ true
+    → next.numbers ≡ others scan.numbers tail head → ((x : ℕ) → next.object x ≡ scan.object x) → dots_pass code next ≡ true
+    → same_pass p code next (λ x y kept. coefficient_in (next.terms x y) kept + way_coefficient p code scan tail head c x y kept)
+    (λ x y kept. coefficient_in (scan.terms x y) kept) ≡ true
+    → IsEliminating p code scan next
+eliminating-checked p code scan next tail head c once some below done apart tail_in head_in pairs number numbers object dots terms =
+    let differ : tail ≢ head = λ same. both_ways (nat_eq tail head) apart (eq-eqb tail head same) in
+    let has_tail = has-number scan.numbers tail tail_in in
+    let has_head = has-number scan.numbers head head_in in
+    record {
+      done = done;
+      tail = tail;
+      head = head;
+      c = c;
+      differ = differ;
+      has_tail = has_tail;
+      has_head = has_head;
+      number = record {
+        pairs = pairs;
+        some = λ none. omega (arith, some, none);
+        below = below;
+        terms = is-number p code scan tail head c number;
+      };
+      listed = subst (λ (xs : List ℕ). AreListed (λ (x : ℕ). x) scan.numbers (tail ∷ head ∷ xs)) (sym numbers)
+          (others-listed scan.numbers once tail head differ has_tail has_head);
+      no_tail = λ has. no-tail scan.numbers tail head (subst (λ (xs : List ℕ). Contains xs tail) numbers has);
+      no_head = λ has. no-head scan.numbers tail head (subst (λ (xs : List ℕ). Contains xs head) numbers has);
+      object = λ x has. object x;
+      dots = has-dots code next dots;
+      terms = are-same p code next
+          (λ x y kept. coefficient_in (next.terms x y) kept + way_coefficient p code scan tail head c x y kept)
+          (λ x y kept. coefficient_in (scan.terms x y) kept) terms;
+    }
+
+-- objects under the places of their numbers
+pub renumbering-checked : (p : ℕ) (code : Code) (scan next : Scan) → HasNoDoubles scan.numbers → next.done ≡ scan.done
+    → next.numbers ≡ range_with_len 0 (length scan.numbers) → map next.object next.numbers ≡ map scan.object scan.numbers
+    → dots_pass code next ≡ true
+    → same_pass p code scan
+    (λ x y kept. coefficient_in (next.terms (place x scan.numbers) (place y scan.numbers)) kept)
+    (λ x y kept. coefficient_in (scan.terms x y) kept) ≡ true
+    → IsRenumbering p code scan next
+renumbering-checked p code scan next once done numbers objects dots terms =
+    let xs = scan.numbers in
+    let found = λ (x : ℕ) (has : Contains xs x). place-found nat_eq 0 x xs numbers-test has in
+    record {
+      done = done;
+      number = λ x. place x xs;
+      old = λ x. get_or xs x 0;
+      matched = subst (λ (ys : List ℕ). AreMatched (λ x. place x xs) (λ x. get_or xs x 0) xs ys) (sym numbers)
+          (record {
+            first_once = once;
+            second_once = once-range 0 (length xs);
+            there = λ x has. contains-range (length xs) (place x xs) (found x has).within;
+            back_there = λ k has.
+                let below = range-contains (length xs) k has in (k, below, get_or_default xs k (get_or xs k 0) 0 below);
+            to_back = λ k has. place-at nat_eq 0 xs k numbers-test once (range-contains (length xs) k has);
+            back_to = λ x has. (found x has).there;
+          });
+      object = λ x has. objects-at 0 xs next.numbers scan.object next.object numbers objects (place x xs) (found x has).within
+          ∙ ap scan.object (found x has).there;
+      dots = has-dots code next dots;
+      terms = are-same p code scan (λ x y kept. coefficient_in (next.terms (place x xs) (place y xs)) kept)
+          (λ x y kept. coefficient_in (scan.terms x y) kept) terms;
+    }
+
+-- no map left
+pub last-checked : (p : ℕ) (code : Code) (scan : Scan) → scan.done ≡ length code.crossings
+    → same_pass p code scan (λ x y kept. coefficient_in (scan.terms x y) kept) (λ x y kept. 0) ≡ true → IsLast p code scan
+last-checked p code scan done terms =
+    record { done = done; terms = are-same p code scan (λ x y kept. coefficient_in (scan.terms x y) kept) (λ x y kept. 0) terms }

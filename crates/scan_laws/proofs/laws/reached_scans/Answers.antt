@@ -1,0 +1,19 @@
+use Rattle.scan_laws.proofs.Ending.{scan-ends}
+use Rattle.scan_laws.proofs.Whole.{in-own-order, reached-first, reached-stands, reached-step, table-same, whole-theorem}
+use Rattle.scan_laws.proofs.laws.reached_scans.Goals as goal
+
+pub returns : goal.returns
+returns c =
+    record {
+      first = reached-first;
+      step = reached-step;
+      of = λ p code scan field is reached. (reached-stands p code 0 0 scan field is reached).of;
+      table = λ p code scan field is reached last.
+          table-same p code scan
+          (whole-theorem p code code.crossings scan field is
+          (record { order = in-own-order code.crossings; reached = reached; last = last }));
+      ends = λ p code scan field is reached.
+          let stands = reached-stands p code 0 0 scan field is reached in
+          let has = scan-ends p code field is scan stands.of stands.complex in
+          (has.end, has.leads, has.last);
+    }
