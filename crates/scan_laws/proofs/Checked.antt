@@ -1,4 +1,6 @@
--- Steps that are checked by computing: where tests of all objects and all dot sets pass, one scan comes from another by a step.
+-- Steps that are checked by computing: where tests of all objects and all dot sets pass, one scan comes from another by a step. Objects
+-- stand in the order of their origins, or keep their numbers, or have their places for numbers. `Passes` is what has to compute for one
+-- move, `AllPass` for a list of them, and `steps-checked` makes steps of it.
 use Rattle.std.proofs.Common.{◌≡◌, ◌≢◌, ℕ, ◌+◌, ◌%◌, ◌<◌, ◌∙◌, List, [], ◌∷◌, get_or, length, map, sym, subst, ap, arith, Bool, true, not, ◌&&◌}
 use Rattle.std.specs.Prelude.{nat_eq, nat_lt, if◌then◌else◌}
 use Rattle.std.specs.List.{Contains, list_all, list_any, range_with_len}

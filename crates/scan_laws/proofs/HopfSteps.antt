@@ -25,7 +25,25 @@ hopf_moves =
 
 -- all that is asked of the steps computes
 hopf-passes : AllPass 3 code first_scan hopf_moves
-hopf-passes = ((refl, refl, refl, refl), ((refl, refl, refl, refl), ((refl, refl, refl, refl, refl), ((refl, refl, refl, refl, refl), ((refl, refl, refl, refl, refl), ((refl, refl, refl, refl, refl), ((refl, refl, refl, refl), tt)))))))
+hopf-passes = (
+  (refl, refl, refl, refl),
+  (
+    (refl, refl, refl, refl),
+    (
+      (refl, refl, refl, refl, refl),
+      (
+        (refl, refl, refl, refl, refl),
+        (
+          (refl, refl, refl, refl, refl),
+          (
+            (refl, refl, refl, refl, refl),
+            ((refl, refl, refl, refl), tt),
+          ),
+        ),
+      ),
+    ),
+  ),
+)
 
 pub hopf-steps : AreSteps 3 code first_scan hopf_scans
 hopf-steps = steps-checked 3 code first_scan hopf_moves (once-range 0 1) hopf-passes

@@ -29,7 +29,34 @@ trefoil_moves =
 
 -- all that is asked of the steps computes
 trefoil-passes : AllPass 2 trefoil first_scan trefoil_moves
-trefoil-passes = ((refl, refl, refl, refl), ((refl, refl, refl, refl), ((refl, refl, refl, refl, refl), ((refl, refl, refl, refl), ((refl, refl, refl, refl, refl), ((refl, refl, refl, refl, refl), ((refl, refl, refl, refl, refl), ((refl, refl, refl, refl, refl), ((refl, refl, refl, refl, refl), ((refl, refl, refl, refl, refl), tt))))))))))
+trefoil-passes = (
+  (refl, refl, refl, refl),
+  (
+    (refl, refl, refl, refl),
+    (
+      (refl, refl, refl, refl, refl),
+      (
+        (refl, refl, refl, refl),
+        (
+          (refl, refl, refl, refl, refl),
+          (
+            (refl, refl, refl, refl, refl),
+            (
+              (refl, refl, refl, refl, refl),
+              (
+                (refl, refl, refl, refl, refl),
+                (
+                  (refl, refl, refl, refl, refl),
+                  ((refl, refl, refl, refl, refl), tt),
+                ),
+              ),
+            ),
+          ),
+        ),
+      ),
+    ),
+  ),
+)
 
 pub trefoil-steps : AreSteps 2 trefoil first_scan trefoil_scans
 trefoil-steps = steps-checked 2 trefoil first_scan trefoil_moves (once-range 0 1) trefoil-passes
