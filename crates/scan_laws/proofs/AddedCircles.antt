@@ -52,8 +52,8 @@ module _ (code : Code) (k : ℕ) (m : List (ℕ × ℕ)) (e u : ℕ) (at : HasNe
   abbrev size : ℕ
   size = (points_at code k).size
 
-  abbrev hat : List (ℕ × ℕ)
-  hat = pairing_behind code k e m
+  abbrev later_pairs : List (ℕ × ℕ)
+  later_pairs = pairing_behind code k e m
 
   abbrev inside : List (ℕ × ℕ)
   inside = m ++ smoothing_at code k e
@@ -73,9 +73,9 @@ module _ (code : Code) (k : ℕ) (m : List (ℕ × ℕ)) (e u : ℕ) (at : HasNe
       ap (λ (w : List (ℕ × ℕ)). m ++ w) (outside-more code k e u at.below at.smoothing)
       ∙ sym (append_assoc m (smoothing_at code k e) (joined_outside code (k + 1) u))
 
-  pub is-cut : IsCut (step_at code k) inside hat outside
+  pub is-cut : IsCut (step_at code k) inside later_pairs outside
   is-cut =
-      subst (λ (w : List (ℕ × ℕ)). IsCut (step_at code k) inside hat w) (outer-raised code (k + 1) u)
+      subst (λ (w : List (ℕ × ℕ)). IsCut (step_at code k) inside later_pairs w) (outer-raised code (k + 1) u)
       (IsCut-at code k e (2 ^ (k + 1) * u) m at.twice at.below at.among)
 
   -- what is joined, before and behind, is alive
@@ -84,18 +84,18 @@ module _ (code : Code) (k : ℕ) (m : List (ℕ × ℕ)) (e u : ℕ) (at : HasNe
       record {
         below = (placed-behind code k).alive;
         among = subst (λ (w : List (ℕ × ℕ)). AreAmong (points_at code k).alive w) (sym joins-old)
-            (whole-among (step_at code k) inside hat outside is-cut);
+            (whole-among (step_at code k) inside later_pairs outside is-cut);
       }
 
-  pub new-joins : AreJoins size (points_at code (k + 1)).alive (hat ++ outside)
+  pub new-joins : AreJoins size (points_at code (k + 1)).alive (later_pairs ++ outside)
   new-joins =
-      record { below = (placed-behind code (k + 1)).alive; among = outside-among (step_at code k) inside hat outside is-cut }
+      record { below = (placed-behind code (k + 1)).alive; among = outside-among (step_at code k) inside later_pairs outside is-cut }
 
   -- circles are one on what is joined, in any order of brackets
   pub class-respects : Respects class joins
   class-respects =
       classes-together size joins
-      (subst (λ (w : List (ℕ × ℕ)). AreBelow size w) (sym joins-old) (whole-joins (step_at code k) inside hat outside is-cut))
+      (subst (λ (w : List (ℕ × ℕ)). AreBelow size w) (sym joins-old) (whole-joins (step_at code k) inside later_pairs outside is-cut))
 
   pub class-inside : Respects class (inside ++ outside)
   class-inside = subst (λ (w : List (ℕ × ℕ)). Respects class w) joins-old class-respects
@@ -108,7 +108,8 @@ module _ (code : Code) (k : ℕ) (m : List (ℕ × ℕ)) (e u : ℕ) (at : HasNe
       → sum_by (λ x. h (class x)) (circles_left code k m e u) + sum_by (λ x. h (class x)) (closed_at code k e m)
       ≡ sum_by h (circles_with code k m e u)
   circle-sums h =
-      sum-circles (step_at code k) inside hat outside (λ x. h (class x)) is-cut (respects-mapped class h (inside ++ outside) class-inside)
+      sum-circles (step_at code k) inside later_pairs outside (λ x. h (class x)) is-cut
+      (respects-mapped class h (inside ++ outside) class-inside)
       ∙ ap (λ (w : List (ℕ × ℕ)). sum_by (λ x. h (class x)) (filter (is_least (classes_of size w)) (points_at code k).alive))
       (sym joins-old)
       ∙ sum_by-members (λ x. h (class x)) h (circles_with code k m e u) (λ z has. ap h (own-class z has))

@@ -1,4 +1,6 @@
--- The elimination of a map that is a number times the identity: it is that of an entry of the layers.
+-- The elimination of a map that is a number times the identity is that of an entry between layers: the map's matrix is the number times
+-- the identity at each outer state, and the ways that are taken off are products of matrices, since compositions are. What the law of
+-- that elimination leaves is the complex of the next scan.
 use Rattle.std.proofs.Common.{◌≡◌, ℕ, ◌*◌, ◌%◌, ◌^◌, ◌<◌, ◌∙◌, ℤ, List, ◌∷◌, length, sym, subst, ap, ap₂, arith, refl, IsTrue}
 use Rattle.std.specs.Prelude.{nat_eq, if◌then◌else◌}
 use Rattle.std.specs.List.{AllByRecursion, Contains, range_with_len, sum_by}

@@ -15,7 +15,7 @@ pub mod Objects
 pub mod Base
 pub mod Obeyed
 pub mod Changes
-pub mod OldNew
+pub mod CirclesBehind
 pub mod Untouched
 pub mod OuterEdges
 pub mod Origins

@@ -25,7 +25,7 @@ use Rattle.scan_laws.proofs.AddedCircles.{HasNext, circle-parts, own-class}
 use Rattle.scan_laws.proofs.Changes.{changes_test, changes-counts, total}
 use Rattle.scan_laws.proofs.Edges.{edge-or_zero, fits_at, outer-one}
 use Rattle.scan_laws.proofs.Labels.{bit-small, mark, place}
-use Rattle.scan_laws.proofs.OldNew.{fresh-alive, in-names, labels-count, labels-total, new-bits, new_class, old-bits, rest-arc, touched-closed, touched-fresh}
+use Rattle.scan_laws.proofs.CirclesBehind.{left-alive, in-names, labels-count, labels-total, new-bits, new_class, old-bits, rest-arc, touched-closed, touched-left}
 use Rattle.scan_laws.proofs.Parts.{circle_with, circles_left, circles_with, closed_part, left_part}
 use Rattle.scan_laws.proofs.States.{bit-joint, count-more, joint, ones-joint}
 use Rattle.scan_laws.proofs.Untouched.{IsLater, alive-slots, slots-before, stays-alive, step-before, untouched-same}
@@ -65,8 +65,8 @@ closed-alive code k m e at x has =
 
 module _ (code : Code) (k : ℕ) (m : List (ℕ × ℕ)) (e u v : ℕ) (at : HasNext code k m e) (crossing : ℕ)
     (later : IsLater code k crossing u v) (label other : ℕ) where
-  abbrev hat : List (ℕ × ℕ)
-  hat = pairing_behind code k e m
+  abbrev later_pairs : List (ℕ × ℕ)
+  later_pairs = pairing_behind code k e m
 
   abbrev slots : List ℕ
   slots = slots_of (crossings_behind code (k + 1)) crossing
@@ -92,8 +92,8 @@ module _ (code : Code) (k : ℕ) (m : List (ℕ × ℕ)) (e u v : ℕ) (at : Has
   abbrev closed : List ℕ
   closed = closed_at code k e m
 
-  abbrev fresh : List ℕ
-  fresh = circles_left code k m e u
+  abbrev left : List ℕ
+  left = circles_left code k m e u
 
   abbrev rest : ℕ
   rest = left_part code k m e u label
@@ -108,13 +108,14 @@ module _ (code : Code) (k : ℕ) (m : List (ℕ × ℕ)) (e u v : ℕ) (at : Has
   shut_behind = closed_part code k m e v other
 
   changes-same : changes_by (classes_at code k m (joint e u)) (classes_at code k m (joint e v)) alive slots label other
-      ≡ changes_by (classes_at code (k + 1) hat u) (classes_at code (k + 1) hat v) (points_at code (k + 1)).alive slots rest rest_behind
+      ≡ changes_by (classes_at code (k + 1) later_pairs u) (classes_at code (k + 1) later_pairs v) (points_at code (k + 1)).alive slots rest
+      rest_behind
   changes-same =
       let alive_slots = alive-slots code k m e u v at crossing later in
       let a = labels_by (classes_at code k m (joint e u)) alive slots label in
       let b = labels_by (classes_at code k m (joint e v)) alive slots other in
-      let c = labels_by (classes_at code (k + 1) hat u) (points_at code (k + 1)).alive slots rest in
-      let d = labels_by (classes_at code (k + 1) hat v) (points_at code (k + 1)).alive slots rest_behind in
+      let c = labels_by (classes_at code (k + 1) later_pairs u) (points_at code (k + 1)).alive slots rest in
+      let d = labels_by (classes_at code (k + 1) later_pairs v) (points_at code (k + 1)).alive slots rest_behind in
       changes-counts a b (old-bits code k m e u at label slots alive_slots) (old-bits code k m e v at other slots alive_slots)
       ∙ ap₂ (λ n s. changes_test n s (length b) (total b)) (labels-count code k m e u at label slots alive_slots)
       (labels-total code k m e u at label slots alive_slots)
@@ -126,30 +127,30 @@ module _ (code : Code) (k : ℕ) (m : List (ℕ × ℕ)) (e u v : ℕ) (at : Has
   old_keeps z = touched z || nat_eq (mark names label (first z)) (mark names_behind other (second z))
 
   abbrev new_touched : ℕ → Bool
-  new_touched = touched_by (classes_at code (k + 1) hat u) slots
+  new_touched = touched_by (classes_at code (k + 1) later_pairs u) slots
 
   abbrev new_keeps : ℕ → Bool
   new_keeps y =
       new_touched y
-      || nat_eq (mark fresh rest (new_class code k m e u at y))
+      || nat_eq (mark left rest (new_class code k m e u at y))
       (mark (circles_left code k m e v) rest_behind (new_class code k m e v at y))
 
   -- at a circle that stays, and at one that is closed
   stays : (x : ℕ) → Contains (points_at code (k + 1)).alive x → Contains alive x
   stays = stays-alive code k m e u v at crossing later
 
-  first-own : (x : ℕ) → Contains closed x ⊎ Contains fresh x → first (first x) ≡ first x
+  first-own : (x : ℕ) → Contains closed x ⊎ Contains left x → first (first x) ≡ first x
   first-own x either = own-class code k m e u at (first x) (in-names code k m e u at x either)
 
   untouched : (x : ℕ) → Contains alive x → touched (first x) ≡ false → second (first x) ≡ second x
   untouched = untouched-same code k m e u v at crossing later
 
-  fresh-keeps : (y : ℕ) → Contains fresh y → old_keeps (first y) ≡ new_keeps y
-  fresh-keeps y has =
-      let alive_y = fresh-alive code k m e u at y has in
-      let touch = touched-fresh code k m e u at label slots (alive-slots code k m e u v at crossing later) y has in
+  left-keeps : (y : ℕ) → Contains left y → old_keeps (first y) ≡ new_keeps y
+  left-keeps y has =
+      let alive_y = left-alive code k m e u at y has in
+      let touch = touched-left code k m e u at label slots (alive-slots code k m e u v at crossing later) y has in
       let before = nat_eq (mark names label (first (first y))) (mark names_behind other (second (first y))) in
-      let behind = nat_eq (mark fresh rest (new_class code k m e u at y))
+      let behind = nat_eq (mark left rest (new_class code k m e u at y))
       (mark (circles_left code k m e v) rest_behind (new_class code k m e v at y)) in
       elim (cases_Bool (touched (first y))) [
         | inl touches ↦ ap (λ b. b || before) touches ∙ sym (ap (λ b. b || behind) (sym touch ∙ touches))
@@ -167,35 +168,36 @@ module _ (code : Code) (k : ℕ) (m : List (ℕ × ℕ)) (e u v : ℕ) (at : Has
       (ap₂ nat_eq (ap (mark names label) (first-own x (inl has)))
       (ap (mark names_behind other) (untouched x (closed-alive code k m e at x has) fails)))
 
-  keeps-same : list_all old_keeps names ≡ (nat_eq shut shut_behind && list_all new_keeps fresh)
+  keeps-same : list_all old_keeps names ≡ (nat_eq shut shut_behind && list_all new_keeps left)
   keeps-same =
       let parts = circle-parts code k m e u at in
       let closed_keeps = λ (x : ℕ). nat_eq (mark names label (first x)) (mark names_behind other (second x)) in
-      let at_fresh = λ (x : ℕ). fails old_keeps (first x) in
+      let at_left = λ (x : ℕ). fails old_keeps (first x) in
       all-fails old_keeps names
       ∙ ap (λ n. nat_eq n 0)
       (sym (parts.sums (fails old_keeps))
-      ∙ ap₂ (λ n m. n + m) (sum_by-members at_fresh (fails new_keeps) fresh (λ y has. ap (λ b. cond b 0 1) (fresh-keeps y has)))
-      (sum_by-members at_fresh (fails closed_keeps) closed (λ x has. ap (λ b. cond b 0 1) (closed-keeps x has))))
-      ∙ both (sum_by (fails new_keeps) fresh) (sum_by (fails closed_keeps) closed)
+      ∙ ap₂ (λ n m. n + m) (sum_by-members at_left (fails new_keeps) left (λ y has. ap (λ b. cond b 0 1) (left-keeps y has)))
+      (sum_by-members at_left (fails closed_keeps) closed (λ x has. ap (λ b. cond b 0 1) (closed-keeps x has))))
+      ∙ both (sum_by (fails new_keeps) left) (sum_by (fails closed_keeps) closed)
       ∙ ap₂ (λ a b. a && b)
       (sym (bits-same (λ x. mark names label (first x)) (λ x. mark names_behind other (second x)) closed
       (λ x. bit-small label (place (first x) names)) (λ x. bit-small other (place (second x) names_behind))
       ∙ all-fails closed_keeps closed))
-      (sym (all-fails new_keeps fresh))
+      (sym (all-fails new_keeps left))
     where
       both : (a b : ℕ) → nat_eq (a + b) 0 ≡ (nat_eq b 0 && nat_eq a 0)
       both a b = grind (arith, nat_tests)
 
   fits-same : fits_at code k m (joint e u) (joint e v) label other (crossing + 1)
-      ≡ (nat_eq shut shut_behind && fits_at code (k + 1) hat u v rest rest_behind crossing)
+      ≡ (nat_eq shut shut_behind && fits_at code (k + 1) later_pairs u v rest rest_behind crossing)
   fits-same =
       ap (λ (xs : List ℕ). keeps_by (classes_at code k m (joint e u)) (classes_at code k m (joint e v)) alive xs label other
       && changes_by (classes_at code k m (joint e u)) (classes_at code k m (joint e v)) alive xs label other)
       (slots-before code k m e u v at crossing later)
       ∙ ap₂ (λ a b. a && b) keeps-same changes-same
-      ∙ grouped (nat_eq shut shut_behind) (list_all new_keeps fresh)
-      (changes_by (classes_at code (k + 1) hat u) (classes_at code (k + 1) hat v) (points_at code (k + 1)).alive slots rest rest_behind)
+      ∙ grouped (nat_eq shut shut_behind) (list_all new_keeps left)
+      (changes_by (classes_at code (k + 1) later_pairs u) (classes_at code (k + 1) later_pairs v) (points_at code (k + 1)).alive slots rest
+      rest_behind)
     where
       grouped : (a b c : Bool) → ((a && b) && c) ≡ (a && (b && c))
       grouped true b c = refl
@@ -204,9 +206,9 @@ module _ (code : Code) (k : ℕ) (m : List (ℕ × ℕ)) (e u v : ℕ) (at : Has
   -- the coefficients
   outer-along : (p degree : ℕ)
       → outer_coefficient p code k m degree (joint e u) (joint e v) label other
-      ≡ cond (nat_eq shut shut_behind) (outer_coefficient p code (k + 1) hat (degree + e) u v rest rest_behind) 0
+      ≡ cond (nat_eq shut shut_behind) (outer_coefficient p code (k + 1) later_pairs (degree + e) u v rest rest_behind) 0
   outer-along p degree =
-      let fits = fits_at code (k + 1) hat u v rest rest_behind crossing in
+      let fits = fits_at code (k + 1) later_pairs u v rest rest_behind crossing in
       let sign = outer_sign p (degree + e) u crossing in
       let same_sign : outer_sign p degree (joint e u) (crossing + 1) ≡ sign =
       ap (λ n. if nat_eq (n % 2) 0 then 1 else p - 1)
@@ -217,7 +219,7 @@ module _ (code : Code) (k : ℕ) (m : List (ℕ × ℕ)) (e u v : ℕ) (at : Has
       ∙ ap₂ (λ b n. cond b n 0) fits-same same_sign
       ∙ nested (nat_eq shut shut_behind) fits sign
       ∙ ap (λ n. cond (nat_eq shut shut_behind) n 0)
-      (sym (outer-one p code (k + 1) hat (degree + e) u v rest rest_behind crossing later.from later.within later.step))
+      (sym (outer-one p code (k + 1) later_pairs (degree + e) u v rest rest_behind crossing later.from later.within later.step))
     where
       grouped : (a b c : ℕ) → a + (b + c) ≡ a + b + c
       grouped a b c = omega arith
@@ -272,11 +274,11 @@ module _ (p : ℕ) (code : Code) (k : ℕ) (m : List (ℕ × ℕ)) (e u v degree
     | inl none ↦ elim (cases_eq then_so 0) [
       | inl none_too ↦ none ∙ sym (ap (λ n. cond (nat_eq c d) n 0) none_too ∙ both-none (nat_eq c d))
       | inr some ↦
-          let hat = pairing_behind code k e m in
+          let later_pairs = pairing_behind code k e m in
           let r = left_part code k m e u label in
           let s = left_part code k m e v other in
-          let found = sum_by-some (outer_at p code (k + 1) hat (degree + e) u v r s) 1 (count_behind code (k + 1)) some in
-          elim (edge-or_zero p code (k + 1) hat (degree + e) u v r s found.0) [
+          let found = sum_by-some (outer_at p code (k + 1) later_pairs (degree + e) u v r s) 1 (count_behind code (k + 1)) some in
+          elim (edge-or_zero p code (k + 1) later_pairs (degree + e) u v r s found.0) [
             | inr none_there ↦ absurd (found.3 none_there)
             | inl step ↦
                 outer-along code k m e u v at found.0 (record { from = found.1; within = found.2; step = step }) label other p degree

@@ -1,4 +1,5 @@
--- Objects under other numbers: where degrees and matrices stay, the complex stays up to names.
+-- Objects under other numbers: where degrees and matrices stay, the complex stays up to names. An elimination uses it with the numbers as
+-- they are, and a step that renumbers with others.
 use Rattle.std.proofs.Common.{◌≡◌, ℕ, inl, inr, ◌+◌, ◌*◌, ◌^◌, ◌∙◌, ℤ, pos, ◌+ℤ◌, ◌-ℤ◌, List, length, map, refl, sym, subst, ap, ap₂, arith}
 use Rattle.std.specs.List.{Contains, flat_map, range_with_len}
 use Rattle.std.proofs.Math.Path.{fun_ext}

@@ -1,4 +1,6 @@
--- An edge at a later crossing changes the joins at that crossing alone: so a circle that it does not touch is one at both states.
+-- An edge at a later crossing changes the joins at that crossing alone: so a circle that it does not touch is one at both states. The
+-- function that is 1 on this circle and 0 elsewhere is 0 at the slots of the crossing, so it respects what either state joins there, and
+-- everywhere else both join the same.
 use Rattle.std.proofs.Common.{◌≡◌, ◌≢◌, ℕ, suc, inl, inr, ◌+◌, ◌*◌, ◌^◌, ◌<◌, ◌≤◌, ◌∙◌, ◌⊎◌, List, [], ◌∷◌, ◌++◌, get_or, refl, sym, subst, ap, arith, Bool, true, false, cond}
 use Rattle.std.specs.Prelude.{nat_eq}
 use Rattle.std.specs.List.{Contains, enumerate_from, flat_map, range_with_len}

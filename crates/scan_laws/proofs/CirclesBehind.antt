@@ -1,4 +1,6 @@
--- At one state: the circle of an arc that stays alive, before one crossing more and behind it; and what a crossing behind touches.
+-- At one outer state: the circles before one crossing more are those that it closes and those behind it, each once. So an arc that stays
+-- alive has the same label before and behind. A later crossing touches no closed circle, and touches a circle before where it touches it
+-- behind; so the touched circles have as many labels on both sides, with the same sum.
 use Rattle.std.proofs.Common.{◌≡◌, ℕ, suc, inl, inr, ◌+◌, ◌<◌, ◌≤◌, ◌∙◌, ◌⊎◌, List, [], ◌∷◌, ◌++◌, get_or, length, map, refl, sym, ap, ap₂, arith, Bool, false, cond}
 use Rattle.std.specs.Prelude.{nat_eq, slice_index}
 use Rattle.std.specs.List.{Contains, filter, range_with_len, sum_by}
@@ -64,14 +66,14 @@ kept-count : (f : ℕ → ℕ) (p : ℕ → Bool) (xs : List ℕ) → length (ma
 kept-count f p xs = length-map (filter p xs) f ∙ length-filter p xs
 
 module _ (code : Code) (k : ℕ) (m : List (ℕ × ℕ)) (e u : ℕ) (at : HasNext code k m e) where
-  abbrev hat : List (ℕ × ℕ)
-  hat = pairing_behind code k e m
+  abbrev later_pairs : List (ℕ × ℕ)
+  later_pairs = pairing_behind code k e m
 
   abbrev alive_next : List ℕ
   alive_next = (points_at code (k + 1)).alive
 
   abbrev pub new_class : ℕ → ℕ
-  new_class x = slice_index (classes_at code (k + 1) hat u) x
+  new_class x = slice_index (classes_at code (k + 1) later_pairs u) x
 
   abbrev old : ℕ → ℕ
   old = circle_with code k m e u
@@ -82,65 +84,65 @@ module _ (code : Code) (k : ℕ) (m : List (ℕ × ℕ)) (e u : ℕ) (at : HasNe
   abbrev closed : List ℕ
   closed = closed_at code k e m
 
-  abbrev fresh : List ℕ
-  fresh = circles_left code k m e u
+  abbrev left : List ℕ
+  left = circles_left code k m e u
 
-  parts : AreParts names old closed fresh
+  parts : AreParts names old closed left
   parts = circle-parts code k m e u at
 
-  same-names : AreSame names (map old (closed ++ fresh))
+  same-names : AreSame names (map old (closed ++ left))
   same-names = both-same parts
 
   -- what is together behind is together before
-  old-respects : Respects old (hat ++ joined_outside code (k + 1) u)
+  old-respects : Respects old (later_pairs ++ joined_outside code (k + 1) u)
   old-respects =
       let inside = m ++ smoothing_at code k e in
       let w = joined_outside code (k + 1) u in
       let all = class-inside code k m e u at in
       let P = λ (pair : ℕ × ℕ). old pair.0 ≡ old pair.1 in
-      AllByRecursion-append P hat w
+      AllByRecursion-append P later_pairs w
       ((is-cut code k m e u at).made.only old (AllByRecursion-first P inside w all))
       (AllByRecursion-second P inside w all)
 
   old-new : (x : ℕ) → Contains alive_next x → old (new_class x) ≡ old x
   old-new x has =
-      sym (class-respected old (points_at code (k + 1)).size alive_next (hat ++ joined_outside code (k + 1) u) x
+      sym (class-respected old (points_at code (k + 1)).size alive_next (later_pairs ++ joined_outside code (k + 1) u) x
       (new-joins code k m e u at) has old-respects)
 
-  new-there : (x : ℕ) → Contains alive_next x → Contains fresh (new_class x)
+  new-there : (x : ℕ) → Contains alive_next x → Contains left (new_class x)
   new-there x has =
-      class-named (points_at code (k + 1)).size alive_next (hat ++ joined_outside code (k + 1) u) x (new-joins code k m e u at) has
+      class-named (points_at code (k + 1)).size alive_next (later_pairs ++ joined_outside code (k + 1) u) x (new-joins code k m e u at) has
 
-  pub fresh-alive : (y : ℕ) → Contains fresh y → Contains alive_next y
-  fresh-alive y has = (Contains-kept (is_least (classes_at code (k + 1) hat u)) alive_next y has).0
+  pub left-alive : (y : ℕ) → Contains left y → Contains alive_next y
+  left-alive y has = (Contains-kept (is_least (classes_at code (k + 1) later_pairs u)) alive_next y has).0
 
-  fresh-apart : (x y : ℕ) → Contains fresh x → Contains fresh y → old x ≡ old y → x ≡ y
-  fresh-apart x y has_x has_y same =
-      map-apart old (closed ++ fresh) same-names.second_once x y (Contains-append_right closed fresh x has_x)
-      (Contains-append_right closed fresh y has_y) same
+  left-apart : (x y : ℕ) → Contains left x → Contains left y → old x ≡ old y → x ≡ y
+  left-apart x y has_x has_y same =
+      map-apart old (closed ++ left) same-names.second_once x y (Contains-append_right closed left x has_x)
+      (Contains-append_right closed left y has_y) same
 
-  closed-apart : (x y : ℕ) → Contains closed x → Contains fresh y → old x ≡ old y → ⊥
-  closed-apart x y has_x has_y same = append-apart old closed fresh same-names.second_once x y has_x has_y same
+  closed-apart : (x y : ℕ) → Contains closed x → Contains left y → old x ≡ old y → ⊥
+  closed-apart x y has_x has_y same = append-apart old closed left same-names.second_once x y has_x has_y same
 
   -- and they are old circles
-  pub in-names : (x : ℕ) → Contains closed x ⊎ Contains fresh x → Contains names (old x)
+  pub in-names : (x : ℕ) → Contains closed x ⊎ Contains left x → Contains names (old x)
   in-names x either = elim either [
-    | inl has ↦ same-names.back (old x) (Contains-map old (closed ++ fresh) x (Contains-append_left closed fresh x has))
-    | inr has ↦ same-names.back (old x) (Contains-map old (closed ++ fresh) x (Contains-append_right closed fresh x has))
+    | inl has ↦ same-names.back (old x) (Contains-map old (closed ++ left) x (Contains-append_left closed left x has))
+    | inr has ↦ same-names.back (old x) (Contains-map old (closed ++ left) x (Contains-append_right closed left x has))
   ]
 
   -- labels
   module _ (label : ℕ) where
     abbrev rest : ℕ
-    rest = part names old fresh label
+    rest = part names old left label
 
-    rest-mark : (y : ℕ) → Contains fresh y → mark fresh rest y ≡ mark names label (old y)
+    rest-mark : (y : ℕ) → Contains left y → mark left rest y ≡ mark names label (old y)
     rest-mark y has =
-        let found = place-found nat_eq 0 y fresh numbers-test has in
-        bit-number (λ x. mark names label (old x)) fresh (place y fresh) (λ x. bit-small label (place (old x) names)) found.within
+        let found = place-found nat_eq 0 y left numbers-test has in
+        bit-number (λ x. mark names label (old x)) left (place y left) (λ x. bit-small label (place (old x) names)) found.within
         ∙ ap (λ x. mark names label (old x)) found.there
 
-    pub rest-arc : (x : ℕ) → Contains alive_next x → mark fresh rest (new_class x) ≡ mark names label (old x)
+    pub rest-arc : (x : ℕ) → Contains alive_next x → mark left rest (new_class x) ≡ mark names label (old x)
     rest-arc x has = rest-mark (new_class x) (new-there x has) ∙ ap (mark names label) (old-new x has)
 
     -- what a crossing behind touches, where its slots stay alive
@@ -149,9 +151,9 @@ module _ (code : Code) (k : ℕ) (m : List (ℕ × ℕ)) (e u : ℕ) (at : HasNe
       old_touched = touched_by (classes_at code k m (joint e u)) slots
 
       abbrev new_touched : ℕ → Bool
-      new_touched = touched_by (classes_at code (k + 1) hat u) slots
+      new_touched = touched_by (classes_at code (k + 1) later_pairs u) slots
 
-      slot-same : (y slot : ℕ) → Contains fresh y → slot < 4
+      slot-same : (y slot : ℕ) → Contains left y → slot < 4
           → nat_eq (old (arc_in slots slot)) (old y) ≡ nat_eq (new_class (arc_in slots slot)) y
       slot-same y slot has slot_below =
           let arc = arc_in slots slot in
@@ -163,12 +165,12 @@ module _ (code : Code) (k : ℕ) (m : List (ℕ × ℕ)) (e u : ℕ) (at : HasNe
                 ne_eqb (old arc) (old y)
                 (λ same.
                 both_ways (nat_eq (new_class arc) y) fails
-                (eq-eqb (new_class arc) y (fresh-apart (new_class arc) y (new-there arc alive) has (old-new arc alive ∙ same))))
+                (eq-eqb (new_class arc) y (left-apart (new_class arc) y (new-there arc alive) has (old-new arc alive ∙ same))))
                 ∙ sym fails
           ]
 
-      pub touched-fresh : (y : ℕ) → Contains fresh y → old_touched (old y) ≡ new_touched y
-      touched-fresh y has =
+      pub touched-left : (y : ℕ) → Contains left y → old_touched (old y) ≡ new_touched y
+      touched-left y has =
           list_any-on (λ slot. nat_eq (old (arc_in slots slot)) (old y)) (λ slot. nat_eq (new_class (arc_in slots slot)) y)
           (range_with_len 0 4) (
             slot-same y 0 has (omega arith),
@@ -195,20 +197,20 @@ module _ (code : Code) (k : ℕ) (m : List (ℕ × ℕ)) (e u : ℕ) (at : HasNe
       old_labels = labels_by (classes_at code k m (joint e u)) (points_at code k).alive slots label
 
       abbrev new_labels : List ℕ
-      new_labels = labels_by (classes_at code (k + 1) hat u) alive_next slots rest
+      new_labels = labels_by (classes_at code (k + 1) later_pairs u) alive_next slots rest
 
       -- a sum over touched circles
-      touched-sum : (f g : ℕ → ℕ) → ((y : ℕ) → Contains fresh y → f (old y) ≡ g y)
-          → sum_by (λ z. cond (old_touched z) (f z) 0) names ≡ sum_by (λ y. cond (new_touched y) (g y) 0) fresh
+      touched-sum : (f g : ℕ → ℕ) → ((y : ℕ) → Contains left y → f (old y) ≡ g y)
+          → sum_by (λ z. cond (old_touched z) (f z) 0) names ≡ sum_by (λ y. cond (new_touched y) (g y) 0) left
       touched-sum f g same =
           let h = λ (z : ℕ). cond (old_touched z) (f z) 0 in
           sym (parts.sums h)
           ∙ ap₂ (λ a b. a + b)
-          (sum_by-members (λ y. h (old y)) (λ y. cond (new_touched y) (g y) 0) fresh
-          (λ y has. ap₂ (λ (b : Bool) (n : ℕ). cond b n 0) (touched-fresh y has) (same y has)))
+          (sum_by-members (λ y. h (old y)) (λ y. cond (new_touched y) (g y) 0) left
+          (λ y has. ap₂ (λ (b : Bool) (n : ℕ). cond b n 0) (touched-left y has) (same y has)))
           (sum_by-members (λ x. h (old x)) (λ x. 0) closed (λ x has. ap (λ (b : Bool). cond b (f (old x)) 0) (touched-closed x has))
           ∙ sum_by-zeros (λ (x : ℕ). 0) closed (λ x. refl))
-          ∙ nothing_added (sum_by (λ y. cond (new_touched y) (g y) 0) fresh)
+          ∙ nothing_added (sum_by (λ y. cond (new_touched y) (g y) 0) left)
         where
           nothing_added : (n : ℕ) → n + 0 ≡ n
           nothing_added n = omega arith
@@ -217,16 +219,16 @@ module _ (code : Code) (k : ℕ) (m : List (ℕ × ℕ)) (e u : ℕ) (at : HasNe
       labels-count =
           kept-count (label_by (classes_at code k m (joint e u)) (points_at code k).alive label) old_touched names
           ∙ touched-sum (λ z. 1) (λ y. 1) (λ y has. refl)
-          ∙ sym (kept-count (label_by (classes_at code (k + 1) hat u) alive_next rest) new_touched fresh)
+          ∙ sym (kept-count (label_by (classes_at code (k + 1) later_pairs u) alive_next rest) new_touched left)
 
       pub labels-total : total old_labels ≡ total new_labels
       labels-total =
           kept-total (label_by (classes_at code k m (joint e u)) (points_at code k).alive label) old_touched names
           ∙ sum_by-members (λ z. cond (old_touched z) (mark names label (old z)) 0) (λ z. cond (old_touched z) (mark names label z) 0) names
           (λ z has. ap (λ (y : ℕ). cond (old_touched z) (mark names label y) 0) (own-class code k m e u at z has))
-          ∙ touched-sum (mark names label) (λ y. mark fresh rest (new_class y))
-          (λ y has. sym (rest-arc y (fresh-alive y has)))
-          ∙ sym (kept-total (label_by (classes_at code (k + 1) hat u) alive_next rest) new_touched fresh)
+          ∙ touched-sum (mark names label) (λ y. mark left rest (new_class y))
+          (λ y has. sym (rest-arc y (left-alive y has)))
+          ∙ sym (kept-total (label_by (classes_at code (k + 1) later_pairs u) alive_next rest) new_touched left)
 
       pub old-bits : AreBits old_labels
       old-bits =
@@ -235,5 +237,5 @@ module _ (code : Code) (k : ℕ) (m : List (ℕ × ℕ)) (e u : ℕ) (at : HasNe
 
       pub new-bits : AreBits new_labels
       new-bits =
-          bits-map (label_by (classes_at code (k + 1) hat u) alive_next rest) (filter new_touched fresh)
-          (λ y. bit-small rest (place (new_class y) fresh))
+          bits-map (label_by (classes_at code (k + 1) later_pairs u) alive_next rest) (filter new_touched left)
+          (λ y. bit-small rest (place (new_class y) left))
