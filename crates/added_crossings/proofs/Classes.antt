@@ -4,6 +4,7 @@ use Rattle.std.specs.Prelude.{nat_lt, slice_index}
 use Rattle.std.specs.List.{AllByRecursion, Contains}
 use Rattle.std.proofs.lemmas.Bool.{and_parts}
 use Rattle.std.proofs.lemmas.Bool.Decides.{nat_tests}
+use Rattle.kh_types.specs.Bits.{one_if}
 use Rattle.kh_types.specs.Classes.{classes_of, Respects, AreBelow}
 use Rattle.kh_types.proofs.ClassLemmas.{classes-finest}
 use Rattle.kh_types.proofs.JoinedClasses.{IsNamed-classes_of}
@@ -62,22 +63,20 @@ pub Respects-append : (f : ℕ → ℕ) (joins others : List (ℕ × ℕ)) → R
 Respects-append f = AllByRecursion-append (λ pair. f pair.0 ≡ f pair.1)
 
 -- the class of a point is one of the points
-abbrev one_if : Bool → ℕ
-one_if b = cond b 1 0
-
 abbrev mark : (ℕ → Bool) → ℕ → ℕ
 mark test x = one_if (test x && nat_lt 0 x)
 
+pub positive-true : (x : ℕ) → 1 ≤ x → nat_lt 0 x ≡ true
+positive-true x above = grind (arith, nat_tests)
+
 mark-one : (test : ℕ → Bool) (x : ℕ) → test x ≡ true → 1 ≤ x → mark test x ≡ 1
-mark-one test x passes above =
-    let positive : nat_lt 0 x ≡ true = grind (arith, nat_tests) in
-    ap₂ (λ b d. one_if (b && d)) passes positive
+mark-one test x passes above = ap₂ (λ b d. one_if (b && d)) passes (positive-true x above)
 
 one-true : (b : Bool) → one_if b ≡ 1 → b ≡ true
 one-true true is = refl
 one-true false is = absurd (omega (arith, is))
 
-positive-lt : (x : ℕ) → nat_lt 0 x ≡ true → 1 ≤ x
+pub positive-lt : (x : ℕ) → nat_lt 0 x ≡ true → 1 ≤ x
 positive-lt x is = grind (arith, nat_tests)
 
 mark-respects : (count : ℕ) (test : ℕ → Bool) (joins : List (ℕ × ℕ)) → AreAmong (those count test) joins

@@ -2,7 +2,7 @@
 use Rattle.std.proofs.Common.{◌≡◌, ℕ, zero, suc, inl, inr, ◌+◌, ◌-◌, ◌*◌, ◌<◌, ◌≤◌, ◌∙◌, List, [], ◌∷◌, ◌++◌, length, drop, refl, sym, ap, subst, arith, Bool, true, false, cond, ◌&&◌, ◌||◌}
 use Rattle.std.specs.Prelude.{nat_eq, nat_lt, slice_index_or}
 use Rattle.std.specs.List.{count_by, flat_map, enumerate_from, range_with_len, AllByRecursion, Contains}
-use Rattle.std.proofs.lemmas.Bool.{cases_lt, eq-eqb, false_from_ne_true, eqb-true}
+use Rattle.std.proofs.lemmas.Bool.{cases_lt, eq-eqb, false_from_ne_true, eqb-true, or_right}
 use Rattle.std.proofs.lemmas.Bool.Decides.{nat_tests}
 use Rattle.std.proofs.lemmas.List.{drop_more, get_or-drop, length-drop, get_or_default}
 use Rattle.std.proofs.lemmas.List.Sums.{sum_by-append, sum_by-cons}
@@ -134,17 +134,13 @@ ends-there code k slot below =
 positive-test : (n : ℕ) → 0 < n → nat_lt 0 n ≡ true
 positive-test n positive = grind (arith, nat_tests)
 
-or_true : (a b : Bool) → b ≡ true → (a || b) ≡ true
-or_true true b is = refl
-or_true false b is = is
-
 pub slot-near : (code : Code) (k slot : ℕ) → HasArcsTwice code.crossings → k < length code.crossings → slot < 4
     → Contains (near (step_at code k)) (arc_in (slice_index_or code.crossings k []) slot)
 slot-near code k slot twice below slot_below =
     let x = arc_in (slice_index_or code.crossings k []) slot in
     let arc = arc-there code k slot twice below slot_below in
     are-those (arc_count code.crossings + code.loops) (is_near (step_at code k)) x arc.positive (omega (arith, arc.within))
-    (or_true (is_open code k x) (nat_lt 0 (ends_at code.crossings k x))
+    (or_right (is_open code k x) (nat_lt 0 (ends_at code.crossings k x))
     (positive-test (ends_at code.crossings k x) (ends-there code k slot slot_below)))
 
 all_of_smoothing : (P : ℕ → Type 0) (is_zero : Bool) (w x y z : ℕ) → P w → P x → P y → P z

@@ -15,7 +15,7 @@ use Rattle.added_crossings.specs.Steps.{is_near, near}
 use Rattle.added_crossings.specs.Codes.{is_open, points_at, step_at, smoothing_at, outer_smoothings, pairing_behind, sheet_at, outside_at, added_at, disc_of, saddle_strips, saddle_sheet, saddle_added, AreLabelled, IsLabelled, discs_behind, AreClosed, sum_over_dots}
 use Rattle.added_crossings.proofs.Members.{filter-kept, those-are, are-those, All-contained}
 use Rattle.added_crossings.proofs.Classes.{AreAmong-wider, AreAmong-append, Respects-first, Respects-second, Respects-append}
-use Rattle.added_crossings.proofs.KeptCircles.{IsCut, near-has, next-has}
+use Rattle.added_crossings.proofs.CutJoins.{IsCut, near-has, next-has}
 use Rattle.added_crossings.proofs.Overlay.{IsLaid, LiesNear, all_of, marked-among}
 use Rattle.added_crossings.proofs.Whole.{sum-added, IsClosed-added}
 use Rattle.added_crossings.proofs.CodeSteps.{IsStep-at, slot-near, smoothing-among, outer-among, outer-split}

@@ -17,16 +17,13 @@ use Rattle.added_crossings.specs.Labels.{label_at, number_of}
 use Rattle.added_crossings.specs.Entries.{entry_sheet, entry_at, coefficient_sheet, added_surface, saddle_surface, label_before, closed_label, label_behind, ArePairedAt, AreEntriesClosed}
 use Rattle.added_crossings.proofs.CodeSteps.{outer-split}
 use Rattle.added_crossings.proofs.CodeSums.{IsCut-at, sum-crossing, sum-saddle}
-use Rattle.added_crossings.proofs.KeptCircles.{whole-among}
-use Rattle.added_crossings.proofs.Labels.{marked-labels, marked_else-labels, Respects-label, marked-number_of}
+use Rattle.added_crossings.proofs.CutJoins.{whole-among}
+use Rattle.added_crossings.proofs.Labels.{bit-below, marked-labels, marked_else-labels, Respects-label, marked-number_of}
 use Rattle.added_crossings.proofs.SaddleValues.{value-saddle}
 use Rattle.added_crossings.proofs.NumberedLabels.{marked_else-number_of, sum-by_dots, caps-first, caps-second}
 
 abbrev count_of : Code → ℕ
 count_of code = arc_count code.crossings + code.loops
-
-bit-below : (number place : ℕ) → bit number place < 2
-bit-below number place = omega arith
 
 -- a surface by its faces
 abbrev far_of : Code → ℕ → ℕ → List (ℕ × ℕ) → List (ℕ × ℕ) → List (ℕ × ℕ) → List (ℕ × ℕ) → List (ℕ × ℕ) → Surface

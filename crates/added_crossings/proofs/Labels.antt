@@ -18,6 +18,9 @@ use Rattle.added_crossings.specs.Labels.{label_at, number_of}
 use Rattle.added_crossings.proofs.Members.{filter-kept, range-within, Contains-next}
 use Rattle.added_crossings.proofs.Classes.{AreAmong-below}
 
+pub bit-below : (number place : ℕ) → bit number place < 2
+bit-below number place = omega arith
+
 -- no element comes twice
 AreApart : List ℕ → Type 0
 AreApart [] = Unit

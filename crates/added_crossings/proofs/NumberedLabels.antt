@@ -2,6 +2,7 @@
 use Rattle.std.proofs.Common.{◌≡◌, ℕ, ◌+◌, ◌-◌, ◌*◌, ◌^◌, ◌<◌, ◌∙◌, List, [], ◌∷◌, map, length, refl, sym, ap, ap₂, arith}
 use Rattle.std.specs.List.{enumerate_from}
 use Rattle.std.proofs.lemmas.List.{length-map}
+use Rattle.std.proofs.Math.Nat.{mul_comm}
 use Rattle.kh_types.specs.Bits.{bit}
 use Rattle.kh_types.specs.Products.{sum_below}
 use Rattle.kh_types.proofs.Sums.{sum_below-equal}
@@ -54,9 +55,6 @@ caps-second j label (x ∷ xs) =
 abbrev pair_twice : ℕ → ℕ × ℕ
 pair_twice x = (x, x)
 
-times_turned : (a b : ℕ) → a * b ≡ b * a
-times_turned a b = omega arith
-
 pub sum-by_dots : (first second : Surface) (xs : List ℕ)
     → sum_of_products first second (at_places xs)
     ≡ sum_below (2 ^ length xs)
@@ -69,4 +67,4 @@ sum-by_dots first second xs =
     (λ kept. value (with_faces second (marked_else kept xs)) * value (with_faces first (marked kept xs)))
     (λ label.
     ap₂ (λ (f g : List (ℕ × ℕ)). value (with_faces first f) * value (with_faces second g)) (caps-first 0 label xs) (caps-second 0 label xs)
-    ∙ times_turned (value (with_faces first (marked label xs))) (value (with_faces second (marked_else label xs))))
+    ∙ mul_comm (value (with_faces first (marked label xs))) (value (with_faces second (marked_else label xs))))

@@ -13,7 +13,7 @@ use Rattle.added_crossings.specs.Pairings.{face_with, marked_by, circle_faces}
 use Rattle.added_crossings.specs.Steps.{Step, those, before, after, is_near, near, closed_circles, added, outside}
 use Rattle.added_crossings.proofs.Members.{IsOneOf, filter-kept, those-are, are-those, All-contained}
 use Rattle.added_crossings.proofs.Classes.{class_in, AreAmong-wider, AreAmong-append, AreAmong-below, Respects-first, Respects-second, Respects-append, class-own, class-is}
-use Rattle.added_crossings.proofs.KeptCircles.{IsCut, both-open, open-alive, open-near, outside-among}
+use Rattle.added_crossings.proofs.CutJoins.{IsCut, both-open, open-alive, open-near, outside-among}
 
 -- two pairings before and after, with joins near the crossing on either side, and with faces and strips near it
 pub record IsLaid (step : Step) (joins others pairs other_pairs outer all : List (ℕ × ℕ)) : Type 0 where

@@ -5,6 +5,7 @@ use Rattle.std.specs.List.{filter, sum_by, range_with_len, Contains}
 use Rattle.std.proofs.lemmas.Bool.{cases_Bool, and_parts, eq-eqb, eqb-true, false_from_ne_true, both_ways}
 use Rattle.std.proofs.lemmas.Bool.Decides.{nat_tests}
 use Rattle.std.proofs.lemmas.List.Sums.{sum_by-cons, sum_by-append}
+use Rattle.kh_types.specs.Bits.{one_if}
 use Rattle.kh_types.specs.Code.{Code, arc_in, arc_count}
 use Rattle.kh_types.specs.Classes.{classes_of}
 use Rattle.kh_types.specs.Circles.{smoothing_of}
@@ -18,14 +19,11 @@ use Rattle.added_crossings.specs.Pairings.{ends_in, degree, IsPaired}
 use Rattle.added_crossings.specs.Steps.{Step, those, after, is_near, near, IsStep, is_mate, pair_with, pairs_at, pairs_among, new_pairing}
 use Rattle.added_crossings.specs.Codes.{ends_before, ends_at, is_open, points_at, step_at, smoothing_at, pairing_behind}
 use Rattle.added_crossings.proofs.Members.{IsOneOf, those-are, are-those}
-use Rattle.added_crossings.proofs.Classes.{class_in, AreAmong-below, class-is, together-is}
-use Rattle.added_crossings.proofs.KeptCircles.{open-near}
+use Rattle.added_crossings.proofs.Classes.{class_in, AreAmong-below, class-is, together-is, positive-lt, positive-true}
+use Rattle.added_crossings.proofs.CutJoins.{open-near}
 use Rattle.added_crossings.proofs.Slack.{free_in, HasEven, AreEven-classes}
 use Rattle.added_crossings.proofs.CodeSteps.{IsStep-at, few-ends, ends_before-more}
 use Rattle.added_crossings.proofs.CodeSums.{joins-near, AreAmong-behind}
-
-abbrev one : Bool → ℕ
-one b = cond b 1 0
 
 abbrev none_or : Bool → ℕ → ℕ
 none_or b n = cond b n 0
@@ -44,7 +42,7 @@ only-one count test g x is =
 
 -- how many pairs have a point as an end: those with a greater point of its class, and those with a lesser one
 
-split-mate : (b c d : Bool) → none_or b (one c + one d) ≡ none_or c (one b) + none_or d (one b)
+split-mate : (b c d : Bool) → none_or b (one_if c + one_if d) ≡ none_or c (one_if b) + none_or d (one_if b)
 split-mate true true true = refl
 split-mate true true false = refl
 split-mate true false true = refl
@@ -56,12 +54,12 @@ split-mate false false false = refl
 
 inner-sum : (points classes : List ℕ) (x y : ℕ)
     → sum_by (ends_in x) (pairs_at points classes y)
-    ≡ sum_by (λ z. cond (nat_eq y x) (one (is_mate classes y z)) 0 + cond (nat_eq z x) (one (is_mate classes y z)) 0) points
+    ≡ sum_by (λ z. cond (nat_eq y x) (one_if (is_mate classes y z)) 0 + cond (nat_eq z x) (one_if (is_mate classes y z)) 0) points
 inner-sum points classes x y =
     sum_by-map (ends_in x) (pair_with y) (filter (is_mate classes y) points)
     ∙ sum_by-filter (λ z. ends_in x (pair_with y z)) (is_mate classes y) points
     ∙ sum_by-alike (λ z. cond (is_mate classes y z) (ends_in x (pair_with y z)) 0)
-    (λ z. cond (nat_eq y x) (one (is_mate classes y z)) 0 + cond (nat_eq z x) (one (is_mate classes y z)) 0)
+    (λ z. cond (nat_eq y x) (one_if (is_mate classes y z)) 0 + cond (nat_eq z x) (one_if (is_mate classes y z)) 0)
     (λ z. split-mate (is_mate classes y z) (nat_eq y x) (nat_eq z x)) points
 
 pull-out : (b : Bool) (f : ℕ → ℕ) (xs : List ℕ) → sum_by (λ z. cond b (f z) 0) xs ≡ cond b (sum_by f xs) 0
@@ -70,47 +68,47 @@ pull-out false f xs = sum_by-zeros (λ z. cond false (f z) 0) xs (λ z. refl)
 
 degree-pairs : (count : ℕ) (test : ℕ → Bool) (classes : List ℕ) (x : ℕ) → IsOneOf count test x
     → degree (pairs_among (those count test) classes) x
-    ≡ sum_by (λ z. one (is_mate classes x z)) (those count test) + sum_by (λ y. one (is_mate classes y x)) (those count test)
+    ≡ sum_by (λ z. one_if (is_mate classes x z)) (those count test) + sum_by (λ y. one_if (is_mate classes y x)) (those count test)
 degree-pairs count test classes x is =
     let points = those count test in
-    let first : ℕ → ℕ → ℕ = λ y z. cond (nat_eq y x) (one (is_mate classes y z)) 0 in
-    let second : ℕ → ℕ → ℕ = λ y z. cond (nat_eq z x) (one (is_mate classes y z)) 0 in
+    let first : ℕ → ℕ → ℕ = λ y z. cond (nat_eq y x) (one_if (is_mate classes y z)) 0 in
+    let second : ℕ → ℕ → ℕ = λ y z. cond (nat_eq z x) (one_if (is_mate classes y z)) 0 in
     sum_by-flat_map (ends_in x) (pairs_at points classes) points
     ∙ sum_by-alike (λ y. sum_by (ends_in x) (pairs_at points classes y))
     (λ y. sum_by (first y) points + sum_by (second y) points)
     (λ y. inner-sum points classes x y ∙ sum_by-plus (first y) (second y) points) points
     ∙ sum_by-plus (λ y. sum_by (first y) points) (λ y. sum_by (second y) points) points
     ∙ ap₂ (λ s t. s + t)
-    (sum_by-alike (λ y. sum_by (first y) points) (λ y. cond (nat_eq y x) (sum_by (λ z. one (is_mate classes y z)) points) 0)
-    (λ y. pull-out (nat_eq y x) (λ z. one (is_mate classes y z)) points) points
-    ∙ only-one count test (λ y. sum_by (λ z. one (is_mate classes y z)) points) x is)
+    (sum_by-alike (λ y. sum_by (first y) points) (λ y. cond (nat_eq y x) (sum_by (λ z. one_if (is_mate classes y z)) points) 0)
+    (λ y. pull-out (nat_eq y x) (λ z. one_if (is_mate classes y z)) points) points
+    ∙ only-one count test (λ y. sum_by (λ z. one_if (is_mate classes y z)) points) x is)
     (sum_by-turned second points points
-    ∙ sum_by-alike (λ z. sum_by (λ y. second y z) points) (λ z. cond (nat_eq z x) (sum_by (λ y. one (is_mate classes y z)) points) 0)
-    (λ z. pull-out (nat_eq z x) (λ y. one (is_mate classes y z)) points) points
-    ∙ only-one count test (λ z. sum_by (λ y. one (is_mate classes y z)) points) x is)
+    ∙ sum_by-alike (λ z. sum_by (λ y. second y z) points) (λ z. cond (nat_eq z x) (sum_by (λ y. one_if (is_mate classes y z)) points) 0)
+    (λ z. pull-out (nat_eq z x) (λ y. one_if (is_mate classes y z)) points) points
+    ∙ only-one count test (λ z. sum_by (λ y. one_if (is_mate classes y z)) points) x is)
 
 in-class : (classes : List ℕ) (x y : ℕ)
-    → one (nat_eq (slice_index classes y) (slice_index classes x))
-    ≡ (one (is_mate classes x y) + one (is_mate classes y x)) + cond (nat_eq y x) 1 0
+    → one_if (nat_eq (slice_index classes y) (slice_index classes x))
+    ≡ (one_if (is_mate classes x y) + one_if (is_mate classes y x)) + cond (nat_eq y x) 1 0
 in-class classes x y =
     tested (slice_index classes x) (slice_index classes y) x y (λ same. ap (λ z. slice_index classes z) same)
   where
     tested : (c d x y : ℕ) → (y ≡ x → d ≡ c)
-        → one (nat_eq d c) ≡ (one (nat_lt x y && nat_eq c d) + one (nat_lt y x && nat_eq d c)) + one (nat_eq y x)
+        → one_if (nat_eq d c) ≡ (one_if (nat_lt x y && nat_eq c d) + one_if (nat_lt y x && nat_eq d c)) + one_if (nat_eq y x)
     tested c d x y same = grind (arith, nat_tests)
 
 -- with the point itself they are the points of its class
 degree-class : (count : ℕ) (test : ℕ → Bool) (classes : List ℕ) (x : ℕ) → IsOneOf count test x
-    → sum_by (λ y. one (nat_eq (slice_index classes y) (slice_index classes x))) (those count test)
+    → sum_by (λ y. one_if (nat_eq (slice_index classes y) (slice_index classes x))) (those count test)
     ≡ degree (pairs_among (those count test) classes) x + 1
 degree-class count test classes x is =
     let points = those count test in
-    let both : ℕ → ℕ = λ y. one (is_mate classes x y) + one (is_mate classes y x) in
-    sum_by-alike (λ y. one (nat_eq (slice_index classes y) (slice_index classes x))) (λ y. both y + cond (nat_eq y x) 1 0)
+    let both : ℕ → ℕ = λ y. one_if (is_mate classes x y) + one_if (is_mate classes y x) in
+    sum_by-alike (λ y. one_if (nat_eq (slice_index classes y) (slice_index classes x))) (λ y. both y + cond (nat_eq y x) 1 0)
     (in-class classes x) points
     ∙ sum_by-plus both (λ y. cond (nat_eq y x) 1 0) points
     ∙ ap₂ (λ s t. s + t)
-    (sum_by-plus (λ y. one (is_mate classes x y)) (λ y. one (is_mate classes y x)) points
+    (sum_by-plus (λ y. one_if (is_mate classes x y)) (λ y. one_if (is_mate classes y x)) points
     ∙ sym (degree-pairs count test classes x is))
     (only-one count test (λ y. 1) x is)
 
@@ -119,7 +117,7 @@ pub record HaveDegrees (step : Step) (joins : List (ℕ × ℕ)) : Type 0 where
   pub few : (x : ℕ) → x < step.count + 1 → degree joins x ≤ 2
   pub near_degree : (x : ℕ) → IsOneOf step.count (is_near step) x → 2 - degree joins x ≡ cond (step.opened_next x) 1 0
 
-range-first : (count : ℕ) (f : ℕ → ℕ) → f 0 ≡ 0 → sum_by f (range_with_len 0 (count + 1)) ≡ sum_by f (range_with_len 1 count)
+pub range-first : (count : ℕ) (f : ℕ → ℕ) → f 0 ≡ 0 → sum_by f (range_with_len 0 (count + 1)) ≡ sum_by f (range_with_len 1 count)
 range-first count f none =
     let size : count + 1 ≡ suc count = omega arith in
     ap (λ n. sum_by f (range_with_len 0 n)) size ∙ sum_by-cons f 0 (range_with_len 1 count)
@@ -128,13 +126,13 @@ range-first count f none =
 free-class : (step : Step) (joins : List (ℕ × ℕ)) (x : ℕ) → AreAmong (near step) joins → HaveDegrees step joins
     → IsOneOf step.count (is_near step) x
     → free_in (step.count + 1) (classes_of (step.count + 1) joins) (λ y. 2 - degree joins y) (class_in (step.count + 1) joins x)
-    ≡ sum_by (λ y. one (nat_eq (class_in (step.count + 1) joins y) (class_in (step.count + 1) joins x))) (after step).opened
+    ≡ sum_by (λ y. one_if (nat_eq (class_in (step.count + 1) joins y) (class_in (step.count + 1) joins x))) (after step).opened
 free-class step joins x among degrees is =
     let n = step.count + 1 in
     let class = class_in n joins in
     let below = AreAmong-below step.count (is_near step) joins among in
     let free : ℕ → ℕ = λ y. cond (nat_eq (class y) (class x)) (2 - degree joins y) 0 in
-    let counted : ℕ → ℕ = λ y. cond (step.opened_next y) (one (nat_eq (class y) (class x))) 0 in
+    let counted : ℕ → ℕ = λ y. cond (step.opened_next y) (one_if (nat_eq (class y) (class x))) 0 in
     let positive = (class-is step.count (is_near step) joins x among is).above in
     let least = (IsNamed-classes_of n joins below).least 0 (omega arith) in
     let none : free 0 ≡ 0 =
@@ -147,14 +145,14 @@ free-class step joins x among degrees is =
       | inl same ↦
           let y_is = together-is step.count (is_near step) joins x y among is (omega (arith, y_below)) (eqb-true (class y) (class x) same) in
           ap (λ b. cond b (2 - degree joins y) 0) same ∙ degrees.near_degree y y_is
-          ∙ ap (λ b. cond (step.opened_next y) (one b) 0) (sym same)
+          ∙ ap (λ b. cond (step.opened_next y) (one_if b) 0) (sym same)
       | inr other ↦
           ap (λ b. cond b (2 - degree joins y) 0) other ∙ sym (neither (step.opened_next y))
-          ∙ ap (λ b. cond (step.opened_next y) (one b) 0) (sym other)
+          ∙ ap (λ b. cond (step.opened_next y) (one_if b) 0) (sym other)
     ])
-    ∙ sym (sum_by-filter (λ y. one (nat_eq (class y) (class x))) step.opened_next (range_with_len 1 step.count))
+    ∙ sym (sum_by-filter (λ y. one_if (nat_eq (class y) (class x))) step.opened_next (range_with_len 1 step.count))
   where
-    neither : (b : Bool) → none_or b (one false) ≡ 0
+    neither : (b : Bool) → none_or b (one_if false) ≡ 0
     neither true = refl
     neither false = refl
 
@@ -182,7 +180,7 @@ degree-none points [] x among not = refl
 degree-none points (pair ∷ pairs) x among not =
     sum_by-cons (ends_in x) pair pairs
     ∙ ap₂ (λ s t. s + t)
-    (ap₂ (λ (b c : Bool). one b + one c) (other points pair.0 x among.0.0 not) (other points pair.1 x among.0.1 not))
+    (ap₂ (λ (b c : Bool). one_if b + one_if c) (other points pair.0 x among.0.0 not) (other points pair.1 x among.0.1 not))
     (degree-none points pairs x among.1 not)
   where
     other : (points : List ℕ) (y x : ℕ) → Contains points y → (Contains points x → ⊥) → nat_eq y x ≡ false
@@ -191,14 +189,14 @@ degree-none points (pair ∷ pairs) x among not =
 
 degree-smoothing : (smoothing x : ℕ) (slots : List ℕ)
     → degree (smoothing_of smoothing slots) x
-    ≡ one (nat_eq (arc_in slots 0) x)
-    + (one (nat_eq (arc_in slots 1) x) + (one (nat_eq (arc_in slots 2) x) + one (nat_eq (arc_in slots 3) x)))
+    ≡ one_if (nat_eq (arc_in slots 0) x)
+    + (one_if (nat_eq (arc_in slots 1) x) + (one_if (nat_eq (arc_in slots 2) x) + one_if (nat_eq (arc_in slots 3) x)))
 degree-smoothing smoothing x slots =
     by_case (nat_eq smoothing 0) (arc_in slots 0) (arc_in slots 1) (arc_in slots 2) (arc_in slots 3) x
   where
     two-pairs : (a b c d x : ℕ)
         → degree ((a, b) ∷ (c, d) ∷ []) x
-        ≡ (one (nat_eq a x) + one (nat_eq b x)) + ((one (nat_eq c x) + one (nat_eq d x)) + 0)
+        ≡ (one_if (nat_eq a x) + one_if (nat_eq b x)) + ((one_if (nat_eq c x) + one_if (nat_eq d x)) + 0)
     two-pairs a b c d x =
         let first : ℕ × ℕ = (a, b) in
         let second : ℕ × ℕ = (c, d) in
@@ -207,7 +205,7 @@ degree-smoothing smoothing x slots =
 
     by_case : (is_zero : Bool) (a b c d x : ℕ)
         → degree (cond is_zero ((a, b) ∷ (c, d) ∷ []) ((a, d) ∷ (b, c) ∷ [])) x
-        ≡ one (nat_eq a x) + (one (nat_eq b x) + (one (nat_eq c x) + one (nat_eq d x)))
+        ≡ one_if (nat_eq a x) + (one_if (nat_eq b x) + (one_if (nat_eq c x) + one_if (nat_eq d x)))
     by_case true a b c d x = two-pairs a b c d x ∙ omega arith
     by_case false a b c d x = two-pairs a d b c x ∙ omega arith
 
@@ -215,10 +213,10 @@ degree-ends : (code : Code) (k smoothing x : ℕ) → degree (smoothing_at code 
 degree-ends code k smoothing x =
     let crossings = code.crossings in
     let slots = slice_index_or crossings k [] in
-    let at : ℕ → ℕ = λ place. one (nat_eq (arc_at crossings place) x) in
-    let slot : (s place : ℕ) → s < 4 → 4 * k + s ≡ place → one (nat_eq (arc_in slots s) x) ≡ at place =
+    let at : ℕ → ℕ = λ place. one_if (nat_eq (arc_at crossings place) x) in
+    let slot : (s place : ℕ) → s < 4 → 4 * k + s ≡ place → one_if (nat_eq (arc_in slots s) x) ≡ at place =
     λ s place below is.
-    ap (λ a. one (nat_eq a x)) (sym (arc_at-slot crossings k s below)) ∙ ap at is in
+    ap (λ a. one_if (nat_eq a x)) (sym (arc_at-slot crossings k s below)) ∙ ap at is in
     let a = 4 * k in
     degree-smoothing smoothing x slots
     ∙ ap₂ (λ s t. s + t) (slot 0 a (omega arith) (omega arith))
@@ -245,12 +243,12 @@ degree-old : (code : Code) (k x : ℕ) (m : List (ℕ × ℕ)) → IsPaired (poi
 degree-old code k x m paired above below = elim (cases_Bool (is_open code k x)) [
   | inl open_too ↦
       paired.once x (are-those (arc_count code.crossings + code.loops) (is_open code k) x above below open_too)
-      ∙ ap one (sym open_too)
+      ∙ ap one_if (sym open_too)
   | inr not ↦
       degree-none (points_at code k).opened m x paired.among
       (λ has.
       both_ways (is_open code k x) not (those-are (arc_count code.crossings + code.loops) (is_open code k) x has).passes)
-      ∙ ap one (sym not)
+      ∙ ap one_if (sym not)
 ]
 
 HaveDegrees-at : (code : Code) (k smoothing : ℕ) (m : List (ℕ × ℕ)) → HasArcsTwice code.crossings → k < length code.crossings
@@ -266,7 +264,7 @@ HaveDegrees-at code k smoothing m twice below paired =
       few = λ x x_below. elim (cases_Bool (is_near (step_at code k) x && nat_lt 0 x)) [
         | inl both ↦
             let parts = and_parts (is_near (step_at code k) x) (nat_lt 0 x) both in
-            let above : 1 ≤ x = positive x parts.1 in
+            let above : 1 ≤ x = positive-lt x parts.1 in
             let few = few-ends crossings (k + 1) x twice above (omega (arith, below)) in
             omega (
               arith,
@@ -291,12 +289,6 @@ HaveDegrees-at code k smoothing m twice below paired =
           (ends_before-more crossings k x) (few-ends crossings (k + 1) x twice is.above (omega (arith, below)))
           (degree-old code k x m paired is.above is.below) is.passes;
     }
-  where
-    positive : (x : ℕ) → nat_lt 0 x ≡ true → 1 ≤ x
-    positive x is = grind (arith, nat_tests)
-
-    positive-true : (x : ℕ) → 1 ≤ x → nat_lt 0 x ≡ true
-    positive-true x is = grind (arith, nat_tests)
 
 pub IsPaired-behind : (code : Code) (k smoothing : ℕ) (m : List (ℕ × ℕ)) → HasArcsTwice code.crossings → k < length code.crossings
     → IsPaired (points_at code k).opened m → IsPaired (points_at code (k + 1)).opened (pairing_behind code k smoothing m)

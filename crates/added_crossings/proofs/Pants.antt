@@ -2,7 +2,7 @@
 use Rattle.std.proofs.Common.{◌≡◌, ◌≢◌, ℕ, inl, inr, ◌⊎◌, ◌+◌, ◌*◌, ◌<◌, ◌∙◌, List, [], ◌∷◌, ◌++◌, map, refl, sym, ap, ap₂, subst, arith, Bool, true, false, not, cond, ◌&&◌}
 use Rattle.std.specs.Prelude.{nat_eq, slice_index}
 use Rattle.std.specs.List.{filter, sum_by, range_with_len, Contains}
-use Rattle.std.proofs.lemmas.Bool.{cases_Bool, cases_eq, eq-eqb, eqb-true, false_from_ne_true, both_ways}
+use Rattle.std.proofs.lemmas.Bool.{cases_Bool, cases_eq, eq-eqb, eqb-true, false_from_ne_true, both_ways, ne_eqb}
 use Rattle.std.proofs.lemmas.Bool.Decides.{nat_tests}
 use Rattle.std.proofs.lemmas.List.Sums.{sum_by-cons, sum_by-append}
 use Rattle.kh_types.specs.Classes.{classes_of, is_least, Respects}
@@ -24,13 +24,10 @@ use Rattle.added_crossings.proofs.Pairs.{only-one}
 
 -- a sum over paired points is one over pairs
 
-not-eq : (x y : ℕ) → x ≢ y → nat_eq x y ≡ false
-not-eq x y other = false_from_ne_true (nat_eq x y) (λ same. other (eqb-true x y same))
-
 swapped : (x y : ℕ) → nat_eq x y ≡ nat_eq y x
 swapped x y = elim (cases_eq x y) [
   | inl same ↦ eq-eqb x y same ∙ sym (eq-eqb y x (sym same))
-  | inr other ↦ not-eq x y other ∙ sym (not-eq y x (λ same. other (sym same)))
+  | inr other ↦ ne_eqb x y other ∙ sym (ne_eqb y x (λ same. other (sym same)))
 ]
 
 one_and_one : (s : ℕ) (p q : Bool) → s * (cond p 1 0 + cond q 1 0) ≡ cond p s 0 + cond q s 0
@@ -111,9 +108,6 @@ pub record IsCoarse (count : ℕ) (alive : ℕ → Bool) (all : List (ℕ × ℕ
   pub place : Contains (those count alive) k
   pub own : class_in (count + 1) all k ≡ k
 
-contains-in : (xs ys : List ℕ) (k : ℕ) → xs ≡ ys → Contains xs k → Contains ys k
-contains-in xs ys k same has = subst (λ (zs : List ℕ). Contains zs k) same has
-
 pub other-not : (gone k : ℕ) → is_other gone k ≡ true → k ≢ gone
 other-not gone k is same = both_ways (is_other gone k) (ap (λ b. not b) (eq-eqb k gone same)) is
 
@@ -124,7 +118,7 @@ coarse-is count alive opened m all fine a kept gone k pants has =
     let coarse = classes_of (count + 1) all in
     let here = filter-kept (is_least coarse) (those count alive) k has in
     let later = filter-kept (is_other gone) (names count alive fine) k
-    (contains-in (names count alive coarse) (filter (is_other gone) (names count alive fine)) k pants.coarse has) in
+    (subst (λ (xs : List ℕ). Contains xs k) pants.coarse has) in
     record {
       name = later.has;
       stays = other-not gone k later.passes;
@@ -139,7 +133,7 @@ pub is-coarse : (count : ℕ) (alive opened : ℕ → Bool) (m all : List (ℕ �
     → ArePants count alive opened m all fine a kept gone → Contains (names count alive fine) k → k ≢ gone
     → Contains (names count alive (classes_of (count + 1) all)) k
 is-coarse count alive opened m all fine a kept gone k pants has other =
-    contains-in (filter (is_other gone) (names count alive fine)) (names count alive (classes_of (count + 1) all)) k (sym pants.coarse)
+    subst (λ (xs : List ℕ). Contains xs k) (sym pants.coarse)
     (Contains-filter (is_other gone) (names count alive fine) k (other-is gone k other) has)
 
 -- the sums over the faces

@@ -20,7 +20,7 @@ use Rattle.added_crossings.specs.Codes.{is_open, is_alive, points_at, step_at, s
 use Rattle.added_crossings.specs.Saddles.{is_touched_at, touched_at, changes_labels_at, edge_at, TwoBecomeOneAt, MergesOrSplitsAt, IsPairedAt, AreBits, opposite}
 use Rattle.added_crossings.proofs.Members.{filter-kept, those-are, are-those, Contains-cons_cases}
 use Rattle.added_crossings.proofs.Classes.{class_in, both-weaker, AreAmong-below, Respects-first, Respects-second, Respects-append, class-own, class-is}
-use Rattle.added_crossings.proofs.KeptCircles.{IsCut, near-has, whole-among}
+use Rattle.added_crossings.proofs.CutJoins.{IsCut, near-has, whole-among}
 use Rattle.added_crossings.proofs.CodeSteps.{IsStep-at, slot-near, smoothing-among}
 use Rattle.added_crossings.proofs.CodeSums.{IsCut-at, IsLaid-saddle}
 use Rattle.added_crossings.proofs.Pants.{names, pants_of, ArePants, coarse-is, is-coarse, factor-other, factor-kept, component-cases}

@@ -18,7 +18,7 @@ use Rattle.added_crossings.specs.Entries.{label_before, closed_label, label_behi
 use Rattle.added_crossings.proofs.Members.{Contains-cons_cases}
 use Rattle.added_crossings.proofs.KeptCircles.{circle-met}
 use Rattle.added_crossings.proofs.CodeSums.{IsCut-at}
-use Rattle.added_crossings.proofs.Labels.{marked-labels, map-on}
+use Rattle.added_crossings.proofs.Labels.{bit-below, marked-labels, map-on}
 
 half-bit : (number i : ℕ) → bit (number / 2) i ≡ bit number (i + 1)
 half-bit number i =
@@ -68,9 +68,6 @@ same-marked number other xs below other_below same =
     (λ i i_below.
     sym (at_bit number i xs i_below) ∙ ap (λ (faces : List (ℕ × ℕ)). (get_or faces i none).1) same ∙ at_bit other i xs i_below)
 
-pub bit-two : (number place : ℕ) → bit number place < 2
-bit-two number place = omega arith
-
 pub labels-determined : (code : Code) (k smoothing state : ℕ) (m : List (ℕ × ℕ)) (number other : ℕ) → HasArcsTwice code.crossings
     → k < length code.crossings → AreAmong (points_at code k).opened m → number < 2 ^ length (circles_before code k smoothing state m)
     → other < 2 ^ length (circles_before code k smoothing state m)
@@ -84,8 +81,8 @@ labels-determined code k smoothing state m number other twice below among n_belo
     let cut = IsCut-at code k smoothing state m twice below among in
     let f : ℕ → ℕ = label_before code k smoothing state m number in
     let g : ℕ → ℕ = label_before code k smoothing state m other in
-    let f_bits : (x : ℕ) → f x < 2 = λ x. bit-two number _ in
-    let g_bits : (x : ℕ) → g x < 2 = λ x. bit-two other _ in
+    let f_bits : (x : ℕ) → f x < 2 = λ x. bit-below number _ in
+    let g_bits : (x : ℕ) → g x < 2 = λ x. bit-below other _ in
     let same : (z : ℕ) → Contains circles z → f z ≡ g z = λ z has.
     let met = circle-met (step_at code k) joins (pairing_behind code k smoothing m) outer z cut has in
     let at_class : (h : ℕ) → label_before code k smoothing state m h z ≡ label_before code k smoothing state m h met.0 =

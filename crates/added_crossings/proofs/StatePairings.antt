@@ -22,7 +22,8 @@ use Rattle.added_crossings.specs.Codes.{is_open, is_alive, points_at, step_at, s
 use Rattle.added_crossings.specs.Saddles.{TwoBecomeOneAt, MergesOrSplitsAt, IsPairedAt, pairing_of, circle_with}
 use Rattle.added_crossings.proofs.Members.{IsOneOf, those-are, are-those}
 use Rattle.added_crossings.proofs.Classes.{class_in, AreAmong-below, Respects-first, Respects-second, class-own, class-is}
-use Rattle.added_crossings.proofs.KeptCircles.{near-has, next-has, whole-among, together-outside}
+use Rattle.added_crossings.proofs.CutJoins.{near-has, next-has, whole-among}
+use Rattle.added_crossings.proofs.KeptCircles.{together-outside}
 use Rattle.added_crossings.proofs.CodeSteps.{IsStep-at, slot-near, outer-among, outer-split}
 use Rattle.added_crossings.proofs.CodeSums.{IsCut-at}
 use Rattle.added_crossings.proofs.Pairs.{IsPaired-behind}

@@ -10,6 +10,7 @@ use Rattle.kh_types.specs.Edges.{is_other}
 use Rattle.kh_types.proofs.FilteredRanges.{filter-filter, filter-one, filter-two}
 use Rattle.kh_types.proofs.Lists.{filter-range_agree}
 use Rattle.kh_types.proofs.RangeCounts.{list_any-at, list_any-one}
+use Rattle.kh_types.proofs.JoinedClasses.{min-cases}
 use Rattle.added_crossings.proofs.Members.{IsOneOf}
 use Rattle.added_crossings.proofs.Pants.{names, other-not, other-is}
 
@@ -132,7 +133,7 @@ order-merged count alive fine coarse a b merged = ordered (slice_index fine a) (
 kept-own : (count : ℕ) (alive : ℕ → Bool) (fine coarse : List ℕ) (a b : ℕ) → AreMerged count alive fine coarse a b
     → IsOneOf count alive (kept_of fine a b) × (slice_index fine (kept_of fine a b) ≡ kept_of fine a b)
 kept-own count alive fine coarse a b merged =
-    elim (min_is (slice_index fine a) (slice_index fine b)) [
+    elim (min-cases (slice_index fine a) (slice_index fine b)) [
       | inl first ↦
           subst (λ z. IsOneOf count alive z × (slice_index fine z ≡ z)) (sym first)
           (merged.fine_named.is a merged.a_is, merged.fine_named.own a merged.a_is)
@@ -140,9 +141,6 @@ kept-own count alive fine coarse a b merged =
           subst (λ z. IsOneOf count alive z × (slice_index fine z ≡ z)) (sym second)
           (merged.fine_named.is b merged.b_is, merged.fine_named.own b merged.b_is)
     ]
-  where
-    min_is : (p q : ℕ) → (min p q ≡ p) ⊎ (min p q ≡ q)
-    min_is p q = grind (arith, nat_tests)
 
 gone-own : (count : ℕ) (alive : ℕ → Bool) (fine coarse : List ℕ) (a b : ℕ) → AreMerged count alive fine coarse a b
     → IsOneOf count alive (gone_of fine a b) × (slice_index fine (gone_of fine a b) ≡ gone_of fine a b)

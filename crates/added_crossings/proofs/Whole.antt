@@ -1,6 +1,7 @@
 -- The overlay has the number of the whole.
 use Rattle.std.proofs.Common.{◌≡◌, ℕ, inl, inr, ◌+◌, ◌*◌, ◌<◌, ◌∙◌, List, ◌++◌, refl, sym, ap, ap₂, arith, Bool, cond}
 use Rattle.std.specs.Prelude.{nat_eq, slice_index}
+use Rattle.std.proofs.lemmas.Bool.{or_cases}
 use Rattle.std.specs.List.{list_any, sum_by, Contains}
 use Rattle.std.specs.Cmp.{both_ways}
 use Rattle.std.proofs.lemmas.List.Sums.{sum_by-append}
@@ -24,7 +25,8 @@ use Rattle.added_crossings.specs.Pairings.{face_with, marked_by, circle_faces}
 use Rattle.added_crossings.specs.Steps.{Step, before, after, is_near, near, IsStep, closed_circles, added, outside}
 use Rattle.added_crossings.proofs.Members.{those-are, are-those}
 use Rattle.added_crossings.proofs.Classes.{AreAmong-below, both-weaker, Respects-first, Respects-second, Respects-append}
-use Rattle.added_crossings.proofs.KeptCircles.{IsCut, or_cases, near-has, next-has, sum-circles}
+use Rattle.added_crossings.proofs.CutJoins.{IsCut, near-has, next-has}
+use Rattle.added_crossings.proofs.KeptCircles.{sum-circles}
 use Rattle.added_crossings.proofs.Overlay.{IsLaid, LiesNear, all_of, IsPlaced-outside, IsPlaced-added, MeetAlong-discs}
 
 -- the overlay joins what the whole does

@@ -4,3 +4,4 @@ pub mod Codes
 pub mod Saddles
 pub mod Labels
 pub mod Entries
+pub mod Worked

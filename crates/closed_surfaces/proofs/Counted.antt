@@ -16,6 +16,7 @@ use Rattle.dotted_surfaces.proofs.OneCut.{place_of_face}
 use Rattle.dotted_surfaces.specs.Points.{least_points}
 use Rattle.added_crossings.specs.Steps.{Step, those, is_near, is_none_in, after, closed_circles}
 use Rattle.added_crossings.proofs.Members.{those-are, are-those}
+use Rattle.added_crossings.proofs.Pairs.{range-first}
 use Rattle.tangle_surfaces.specs.Orbits.{is_in, count_in}
 use Rattle.tangle_surfaces.specs.Pairings.{has_open, is_closed}
 use Rattle.tangle_surfaces.proofs.Counts.{counted}
@@ -27,12 +28,6 @@ on all name x = counted (is_in all name x)
 pub faces-by : (surface : Surface) (name : ℕ)
     → faces_on surface name ≡ sum_by (on (classes_of surface.size surface.joins) name) (map place_of_face surface.faces)
 faces-by surface name = sym (sum_by-map (on (classes_of surface.size surface.joins) name) place_of_face surface.faces)
-
-range-first : (count : ℕ) (f : ℕ → ℕ) → f 0 ≡ 0 → sum_by f (range_with_len 0 (count + 1)) ≡ sum_by f (range_with_len 1 count)
-range-first count f none =
-    let size : count + 1 ≡ suc count = omega arith in
-    ap (λ n. sum_by f (range_with_len 0 n)) size ∙ sum_by-cons f 0 (range_with_len 1 count)
-    ∙ ap (λ s. s + sum_by f (range_with_len 1 count)) none ∙ omega arith
 
 tested : (b p q : Bool) → (b ≡ true → p ≡ q) → cond p (counted b) 0 ≡ counted (b && q)
 tested true p q same = ap counted (same refl)

@@ -2,7 +2,7 @@
 -- other.
 use Rattle.std.proofs.Common.{◌≡◌, ◌≢◌, ℕ, ◌⊎◌, inl, inr, ◌<◌, ◌∙◌, List, [], ◌∷◌, ◌++◌, refl, sym, ap, ap₂, subst, Bool, true, false, not, ◌||◌, eq-eqb}
 use Rattle.std.specs.Prelude.{nat_eq, slice_index}
-use Rattle.std.proofs.lemmas.Bool.{cases_eq, false_from_ne_true, eqb-true}
+use Rattle.std.proofs.lemmas.Bool.{cases_eq, or_right, false_from_ne_true, eqb-true}
 use Rattle.kh_types.specs.Classes.{classes_of, Respects, AreBelow}
 use Rattle.kh_types.specs.Permutations.{AreJoined, cycles_of}
 use Rattle.kh_types.proofs.ExchangedCycles.{AreJoined-apart, AreJoined-split}
@@ -19,12 +19,8 @@ use Rattle.tangle_surfaces.proofs.CutSurfaces.{are_apart}
 neither : (x a b : ℕ) → (nat_eq x a || nat_eq x b) ≡ false → (x ≢ a) × (x ≢ b)
 neither x a b none = (
   λ same. false_true (sym none ∙ ap (λ t. t || nat_eq x b) (eq-eqb x a same)),
-  λ same. false_true (sym none ∙ last (nat_eq x a) (nat_eq x b) (eq-eqb x b same)),
+  λ same. false_true (sym none ∙ or_right (nat_eq x a) (nat_eq x b) (eq-eqb x b same)),
 )
-  where
-    last : (s t : Bool) → t ≡ true → (s || t) ≡ true
-    last true t is = refl
-    last false t is = is
 
 one_of_two : (x a b : ℕ) → x ≢ a → x ≢ b → (nat_eq x a || nat_eq x b) ≡ false
 one_of_two x a b not_a not_b =
@@ -52,7 +48,7 @@ saddle-joined n a b a_too b_too s t w a_below b_below a_too_below b_too_below a_
     let exchange = IsExchange-exchanged n f a a_too a_below a_too_below a_apart in
     let other_permutes = IsPermutation-exchanged n f f_back a a_too permutes a_below a_too_below a_apart in
     let head_a : heads a ≡ true = ap (λ c. c || nat_eq a a_too) (eq-eqb a a refl) in
-    let head_a_too : heads a_too ≡ true = second_true (nat_eq a_too a) (nat_eq a_too a_too) (eq-eqb a_too a_too refl) in
+    let head_a_too : heads a_too ≡ true = or_right (nat_eq a_too a) (nat_eq a_too a_too) (eq-eqb a_too a_too refl) in
     let f_a : f a ≡ b =
     led-inside heads inner.next outer.next a head_a ∙ led-inside (is_one a) (λ x. b) (λ x. b_too) a (eq-eqb a a refl) in
     let f_a_too : f a_too ≡ b_too =
@@ -99,7 +95,3 @@ saddle-joined n a b a_too b_too s t w a_below b_below a_too_below b_too_below a_
       | inl together ↦ inr (AreJoined-split n f f_back other a a_too permutes exchange together)
       | inr apart ↦ inl (AreJoined-apart n f f_back other a a_too permutes exchange apart)
     ]))
-  where
-    second_true : (s t : Bool) → t ≡ true → (s || t) ≡ true
-    second_true true t is = refl
-    second_true false t is = is
