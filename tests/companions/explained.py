@@ -115,22 +115,20 @@ def row_fault(copy, words, marked, line, texts):
 
 
 def wrote_in(copy, line):
-    """What a line for a shell writes in a folder, and its status."""
-    came = subprocess.run(["sh", "-c", line], cwd=copy.folder, capture_output=True, text=True, timeout=PATIENCE)
-    return came.returncode, came.stdout
+    """What a line for a shell writes in a folder."""
+    return subprocess.run(["sh", "-c", line], cwd=copy.folder, capture_output=True, text=True, timeout=PATIENCE).stdout
 
 
 def foreign_faults(copy):
-    """A line that reads a code is offered for these forms, and works; and for others where `kh-codes` reads one code."""
+    """A line that reads a code is offered for these forms, and works; for what `kh-codes` does not read its own words are offered."""
     words, line = ["check", "--field=3"], "tools/kh-codes code | ./kh check --field=3"
-    for text in said.FOREIGN + said.OTHERS:
+    for text in said.FOREIGN:
         told = run(copy, words, text.encode())[2]
-        is_offered = f"  {line}\n" in told
-        if text in said.FOREIGN:
-            right = is_offered and wrote_in(copy, line)[1].startswith("accepted ")
-        else:
-            status, wrote = wrote_in(copy, "tools/kh-codes code")
-            right = is_offered == (status == 0 and wrote.count("\n") == 1)
+        right = f"kh: tools/kh-codes reads it:\n  {line}\n" in told and wrote_in(copy, line).startswith("accepted ")
+        yield f"what is offered for {text!r}", plain_fault(told) if right else told
+    for text in said.NOT_READ:
+        told = run(copy, words, text.encode())[2]
+        right = told.endswith("kh: tools/kh-codes does not read it either, and says why:\n  tools/kh-codes code\n")
         yield f"what is offered for {text!r}", plain_fault(told) if right else told
 
 
@@ -143,7 +141,7 @@ def name_faults(copy):
         told = run(copy, words, b"3_1", name)[2]
         line = f"tools/kh-codes {shown} | ./kh -- homology"
         fault = None if f"  {line}\n" in told else told
-        if not fault and shown != "FILE" and not wrote_in(copy, line)[1].startswith("table 2\n"):
+        if not fault and shown != "FILE" and not wrote_in(copy, line).startswith("table 2\n"):
             fault = f"no table comes of {line}"
         yield f"a file with the name {name!r}", fault
 
