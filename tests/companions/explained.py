@@ -1,7 +1,5 @@
 """Tries what `./kh` says of refusals and limits, around the program: rows with carets, codes of other programs, inputs that are drawn at
-random; and where less is known, from a pipe or without Python.
-
-`companions/spoken.py` runs these.
+random; and where less is known, from a pipe or without Python. `companions/spoken.py` runs these.
 """
 import os
 import random
@@ -16,6 +14,7 @@ import drawn.inputs
 import plain.answers
 import plain.codes
 from companions import scripts
+from plain.codes import LIMIT, REFUSED
 from rows import said
 from rows.texts import CHECK, HOMOLOGY, JONES, TREFOIL, curls
 from shared.places import TOP
@@ -27,12 +26,12 @@ import pointing
 import refusals
 
 FILE, COLUMNS = "code", 100
-REFUSED, LIMIT = 1, 6
-SEED, DRAWN = "said", 300
+DRAWN = 300
 WRONG, WRONG_LINE = b"PD[X[1,1,2,2]!]", "refused text at 13\n"
 WRONG_SAID = "kh: no code has the sign !\n  PD[X[1,1,2,2]!]\n               ^\n"
 SCAN = "kh: ./kh-scan answers without this limit\n"
-MOVES = 'kh: docs/FORMATS.md lists when a move can not be made ("Answers"), and what moves do ("Scripts")\n'
+MOVES = 'kh: docs/FORMATS.md, "Answers", lists when a move can not be made, and "Scripts" what each move does\n'
+PAGE = re.compile(r'((?:docs|examples)/[\w-]+\.md)(?:, "([^"]+)")?')
 AT_A_CROSSING = re.compile(r"(?:under pass|over pass|two-arc component|arc range) at crossing (\d+)(?: slot (\d))?")
 
 
@@ -236,7 +235,7 @@ def unproved_faults(copy):
 
 def drawn_fault(number):
     """What is wrong with what is said of an input that is drawn at random, if it is refused."""
-    draw = random.Random(f"{SEED} {number}")
+    draw = random.Random(f"said {number}")
     task = draw.choice(("check", "check", "edit", "schedule", "union", "verify"))
     given = drawn.inputs.some_input(draw, task)
     came = plain.answers.answer([task], given)
@@ -277,6 +276,17 @@ def drawn_faults():
             yield f"what is said of the drawn input {number}", drawn_fault(number)
 
 
+def page_faults():
+    """The pages and headings are there that are named."""
+    for name in ("kh-help", "explain.py", "refusals.py"):
+        with open(os.path.join(TOP, "tools", name), encoding="utf-8") as file:
+            named = set(PAGE.findall(file.read().replace('\\"', '"')))
+        for page, heading in sorted(named):
+            with open(os.path.join(TOP, page), encoding="utf-8") as file:
+                is_there = not heading or re.search(f"^##+ {re.escape(heading)}$", file.read(), re.M)
+            yield f"{page} {heading}, which {name} names", None if is_there else "it is not there"
+
+
 def faults(program):
     """The name of each test, and what is wrong, if anything is."""
     with tempfile.TemporaryDirectory() as folder:
@@ -287,3 +297,4 @@ def faults(program):
             yield from tests(copy)
         yield from unproved_faults(copy)
     yield from drawn_faults()
+    yield from page_faults()

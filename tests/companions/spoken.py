@@ -61,12 +61,12 @@ LONG = [["--help"], ["-h"], ["help"], ["homology", "--help"], ["--version"], ["v
 # What the program ends with, and how the lines that are said begin.
 STATUSES = [
     (0, []),
-    (1, ['kh: docs/FORMATS.md, "What is accepted"', "kh: where the input is a file", "kh: tools/kh-codes reads", "  tools/kh-codes FILE |"]),
+    (1, ['kh: docs/FORMATS.md, "What is accepted"', "kh: where the input is a file", "kh: tools/kh-codes", "  tools/kh-codes FILE |"]),
     (3, ["kh: standard input can not be read"]),
     (4, ["kh: standard output did not take the whole answer"]),
     (5, ["kh: out of memory"]),
     (6, ["kh: homology, reduced, schedule, certify and verify alone have a limit", "  convert, draw,", "  are those of all commands"]),
-    (7, ["kh: docs/FORMATS.md lists when a move can not be made"]),
+    (7, ['kh: docs/FORMATS.md, "Answers", lists when a move can not be made']),
     (8, []),
 ]
 PROGRAM = "#!/bin/sh\necho answer\nexit %d\n"
