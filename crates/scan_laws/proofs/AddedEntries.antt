@@ -15,7 +15,6 @@ use Rattle.kh_types.proofs.ListSums.{sum_by-alike}
 use Rattle.kh_types.proofs.Residues.{same-equal, same-mul}
 use Rattle.kh_types.proofs.Sums.{sum_below-add, sum_below-equal, sum_below-scaled, sum_below-zeros}
 use Rattle.cube_squares.proofs.Pairs.{IsStep}
-use Rattle.dotted_surfaces.specs.Points.{discs}
 use Rattle.dotted_surfaces.specs.Surfaces.{value}
 use Rattle.dotted_maps.specs.declared.term.Term.{Term}
 use Rattle.dotted_maps.specs.Maps.{coefficient_in, matrix_of}
@@ -24,13 +23,13 @@ use Rattle.added_crossings.specs.Codes.{discs_behind, pairing_behind, points_at}
 use Rattle.added_crossings.specs.Entries.{added_surface, saddle_surface}
 use Rattle.closed_surfaces.specs.Made.{joined_outside}
 use Rattle.cell_complexes.specs.Layers.{Layer, Layers, layer_coefficient, layer_of}
-use Rattle.scan_laws.specs.Scans.{Object, Scan, dot_sets, pairs_of}
+use Rattle.scan_laws.specs.Scans.{Scan, dot_sets, pairs_of}
 use Rattle.scan_laws.specs.Complexes.{layers_of}
 use Rattle.scan_laws.specs.Adding.{Origin, added_coefficient, new_coefficient, saddle_coefficient, sign_at}
 use Rattle.scan_laws.proofs.AddedCells.{IsAdded, IsOld, named, new-of, origin_at, rest_at}
 use Rattle.scan_laws.proofs.Coefficients.{between-states, inside-state, nowhere}
 use Rattle.scan_laws.proofs.Edges.{fits_at, outer-none, outer-one}
-use Rattle.scan_laws.proofs.Matrices.{below-same, matrix-sets}
+use Rattle.scan_laws.proofs.Matrices.{matrix_by, sets_by, two-objects, below-same, matrix-sets}
 use Rattle.scan_laws.proofs.Objects.{colour, object-led}
 use Rattle.scan_laws.proofs.Obeyed.{inner-law, saddle-law}
 use Rattle.scan_laws.proofs.Parts.{entry_left}
@@ -124,13 +123,10 @@ module _ (p : ℕ) (code : Code) (plus minus : ℕ) (scan next : Scan) (added : 
       let terms = next.terms X Y in
       let E = entry_at x e y f u label other in
       let sets : dot_sets code next X Y ≡ sets_at x e y f =
-      ap₂ (λ (k : ℕ) (a : Object). 2 ^ length (discs (points_at code k) a.pairs (next.object Y).pairs)) added.more.done first.object_is
-      ∙ ap (λ (a : Object). 2 ^ length (discs points m a.pairs)) second.object_is in
+      two-objects (sets_by code) added.more.done first.object_is second.object_is in
       same-equal p (next_entry x e u label y f u other) (matrix_of p points m n (joined_outside code (scan.done + 1) u) terms s r)
       (inside-state next_layers (name x e u label) (name y f u other) refl
-      ∙ ap₂ (λ (k : ℕ) (a : Object). matrix_of p (points_at code k) a.pairs (next.object Y).pairs (joined_outside code k u) terms s r)
-      added.more.done first.object_is
-      ∙ ap (λ (a : Object). matrix_of p points m a.pairs (joined_outside code (scan.done + 1) u) terms s r) second.object_is)
+      ∙ two-objects (matrix_by p code u terms s r) added.more.done first.object_is second.object_is)
       ∙ matrix-sets p points m n (joined_outside code (scan.done + 1) u) terms s r
       (subst (λ (k : ℕ). AllByRecursion (λ (term : Term). term.dots < k) terms) sets (added.more.dots X Y first.has second.has))
       ∙ below-same p (sets_at x e y f) (λ kept. coefficient_in terms kept * E kept) (λ kept. new_coefficient p code scan w v kept * E kept)

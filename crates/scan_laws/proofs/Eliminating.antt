@@ -1,7 +1,7 @@
 -- The elimination of a map that is a number times the identity is that of an entry between layers: the map's matrix is the number times
 -- the identity at each outer state, and the ways that are taken off are products of matrices, since compositions are. What the law of
 -- that elimination leaves is the complex of the next scan.
-use Rattle.std.proofs.Common.{◌≡◌, ℕ, ◌*◌, ◌%◌, ◌^◌, ◌<◌, ◌∙◌, ℤ, List, ◌∷◌, length, sym, subst, ap, ap₂, arith, refl, IsTrue}
+use Rattle.std.proofs.Common.{◌≡◌, ℕ, ◌*◌, ◌%◌, ◌^◌, ◌<◌, ◌∙◌, ℤ, List, ◌∷◌, length, sym, subst, ap, arith, refl, IsTrue}
 use Rattle.std.specs.Prelude.{nat_eq, if◌then◌else◌}
 use Rattle.std.specs.List.{AllByRecursion, Contains, range_with_len, sum_by}
 use Rattle.std.proofs.Math.Nat.{zero-mod, mod-eq_of_lt}
@@ -28,10 +28,10 @@ use Rattle.cell_complexes.specs.Layers.{IsTimesIdentity, Layer, Layers, cells_of
 use Rattle.cell_complexes.proofs.LayerCells.{complex-layers, dimension-layers}
 use Rattle.cell_complexes.proofs.Listings.{listed-same}
 use Rattle.cell_complexes.proofs.Members.{Contains-later}
-use Rattle.scan_laws.specs.Scans.{IsScanOf, Object, Scan, circle_count_at, dot_sets, pairs_of}
+use Rattle.scan_laws.specs.Scans.{IsScanOf, Scan, circle_count_at, dot_sets, pairs_of}
 use Rattle.scan_laws.specs.Complexes.{complex_of, inner_at, layers_of}
 use Rattle.scan_laws.specs.Eliminating.{IsEliminating}
-use Rattle.scan_laws.proofs.Matrices.{below-same, matrix-below, matrix-less, matrix-sets, sum_by-below}
+use Rattle.scan_laws.proofs.Matrices.{matrix_by, sets_by, two-objects, below-same, matrix-below, matrix-less, matrix-sets, sum_by-below}
 use Rattle.scan_laws.proofs.Objects.{object-pairing, objects-glued, objects-inside}
 use Rattle.scan_laws.proofs.Points.{placed-behind}
 use Rattle.scan_laws.proofs.Renumbered.{alike-renumbered}
@@ -118,13 +118,9 @@ module _ (p : ℕ) (code : Code) (plus minus : ℕ) (scan next : Scan) (field : 
       times-identity i j
 
   -- the next complex is what is left
-  abbrev sets_by : ℕ → Object → Object → ℕ
-  sets_by k a b = 2 ^ length (discs (points_at code k) a.pairs b.pairs)
-
   sets-next : (x y : ℕ) → Contains next.numbers x → Contains next.numbers y → dot_sets code next x y ≡ dot_sets code scan x y
   sets-next x y has_x has_y =
-      ap₂ (λ (k : ℕ) (o : Object). sets_by k o (next.object y)) less.done (less.object x has_x)
-      ∙ ap (sets_by scan.done (scan.object x)) (less.object y has_y)
+      two-objects (sets_by code) less.done (less.object x has_x) (less.object y has_y)
 
   inner-next : (x y state label other : ℕ) → Contains next.numbers x → Contains next.numbers y
       → left.inner x y state label other ≡ inner_at p code next x y state label other
@@ -153,10 +149,8 @@ module _ (p : ℕ) (code : Code) (plus minus : ℕ) (scan next : Scan) (field : 
       (range_with_len 0 count)
       ∙ sum_by-times (λ middle. second middle * first middle) inv (range_with_len 0 count)
       ∙ ap (λ z. inv * z) (sum_by-below (λ middle. second middle * first middle) count) in
-      let matrix_by = λ (k : ℕ) (a b : Object). matrix_of p (points_at code k) a.pairs b.pairs (joined_outside code k state)
-      (next.terms x y) other label in
-      sym (ap₂ (λ (k : ℕ) (o : Object). matrix_by k o (next.object y)) less.done (less.object x has_x)
-      ∙ ap (matrix_by scan.done (scan.object x)) (less.object y has_y)
+      sym (two-objects (matrix_by p code state (next.terms x y) other label) less.done (less.object x has_x)
+      (less.object y has_y)
       ∙ matrix-less p points m h n w (scan.terms x y) (next.terms x y) (scan.terms x less.head) (scan.terms less.tail y) inv other label
       positive
       (record {

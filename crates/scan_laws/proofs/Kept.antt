@@ -1,15 +1,13 @@
 -- Each step of a scan of an accepted code keeps that it is one, that its complex is one, and its dimensions. So what the last scan
 -- counts are the dimensions of the cube.
-use Rattle.std.proofs.Common.{◌≡◌, ℕ, inl, inr, ◌^◌, ◌<◌, ◌∙◌, ℤ, List, [], ◌∷◌, length, sym, subst, ap, ap₂, arith, IsTrue}
+use Rattle.std.proofs.Common.{◌≡◌, ℕ, inl, inr, ◌<◌, ◌∙◌, ℤ, List, [], ◌∷◌, sym, subst, ap, arith, IsTrue}
 use Rattle.std.specs.List.{AllByRecursion, Contains}
 use Rattle.std.proofs.lemmas.Bool.{cases_eq}
 use Rattle.kh_types.specs.Acceptance.{accepted}
 use Rattle.kh_types.specs.Code.{Code}
 use Rattle.kh_types.specs.Residues.{HasInverses}
 use Rattle.kh_types.proofs.Residues.{same-equal}
-use Rattle.dotted_surfaces.specs.Points.{discs}
 use Rattle.dotted_maps.specs.declared.term.Term.{Term}
-use Rattle.dotted_maps.specs.Maps.{matrix_of}
 use Rattle.dotted_maps.proofs.MapProducts.{matrix-same}
 use Rattle.added_crossings.specs.Codes.{points_at}
 use Rattle.closed_surfaces.specs.Made.{joined_outside}
@@ -20,7 +18,7 @@ use Rattle.cell_complexes.specs.Layers.{Layer, cells_of, layer_coefficient, laye
 use Rattle.cell_complexes.proofs.AlikeCells.{dimension-alike}
 use Rattle.cell_complexes.proofs.AlikeComplexes.{complex-alike}
 use Rattle.cell_complexes.proofs.Matched.{AreListed-matched}
-use Rattle.scan_laws.specs.Scans.{IsScanOf, Object, Scan, dot_sets, first_scan, pairs_of}
+use Rattle.scan_laws.specs.Scans.{IsScanOf, Scan, dot_sets, first_scan, pairs_of}
 use Rattle.scan_laws.specs.Complexes.{complex_of, inner_at, layers_of}
 use Rattle.scan_laws.specs.Adding.{IsAdding}
 use Rattle.scan_laws.specs.Eliminating.{IsEliminating}
@@ -31,7 +29,7 @@ use Rattle.scan_laws.proofs.Base.{alike-first}
 use Rattle.scan_laws.proofs.Coefficients.{between-states, inside-state, nowhere}
 use Rattle.scan_laws.proofs.Edges.{outer-below}
 use Rattle.scan_laws.proofs.Eliminating.{alike-left, left, left-complex, left-dimension}
-use Rattle.scan_laws.proofs.Matrices.{matrix-below}
+use Rattle.scan_laws.proofs.Matrices.{matrix_by, sets_by, two-objects, matrix-below}
 use Rattle.scan_laws.proofs.Renumbered.{alike-renumbered, renumbered}
 use Rattle.scan_laws.proofs.ScansOf.{scan-adding, scan-eliminating, scan-first, scan-renumbering}
 
@@ -100,12 +98,10 @@ module _ (p : ℕ) (code : Code) (plus minus : ℕ) (field : HasInverses p) (is 
         let points = points_at code scan.done in
         let there_x = other.matched.there x has_x in
         let there_y = other.matched.there y has_y in
-        let sets_by = λ (k : ℕ) (a b : Object). 2 ^ length (discs (points_at code k) a.pairs b.pairs) in
+        let first = other.object x has_x in
+        let second = other.object y has_y in
         let sets : dot_sets code next X Y ≡ dot_sets code scan x y =
-        ap₂ (λ (k : ℕ) (a : Object). sets_by k a (next.object Y)) other.done (other.object x has_x)
-        ∙ ap (sets_by scan.done (scan.object x)) (other.object y has_y) in
-        let matrix_by = λ (k : ℕ) (a b : Object). matrix_of p (points_at code k) a.pairs b.pairs (joined_outside code k state)
-        (next.terms X Y) label_behind label in
+        two-objects (sets_by code) other.done first second in
         matrix-same p points (pairs_of scan x) (pairs_of scan y) (joined_outside code scan.done state) (scan.terms x y) (next.terms X Y)
         label_behind label
         (record {
@@ -114,8 +110,7 @@ module _ (p : ℕ) (code : Code) (plus minus : ℕ) (field : HasInverses p) (is 
               (other.dots X Y there_x there_y);
           coefficients = λ kept below. sym (other.terms x y kept has_x has_y below);
         })
-        ∙ sym (ap₂ (λ (k : ℕ) (a : Object). matrix_by k a (next.object Y)) other.done (other.object x has_x)
-        ∙ ap (matrix_by scan.done (scan.object x)) (other.object y has_y))
+        ∙ sym (two-objects (matrix_by p code state (next.terms X Y) label_behind label) other.done first second)
 
     keeps-renumbering : IsRenumbering p code scan next → Keeps p code plus minus (complex_of p code plus minus scan) next
     keeps-renumbering other =

@@ -1,9 +1,10 @@
 -- Behind all crossings: no arc is open and the loops alone are alive, so that objects have no pairs and each loop is a circle.
-use Rattle.std.proofs.Common.{◌≡◌, ℕ, zero, suc, inl, inr, ◌+◌, ◌*◌, ◌<◌, ◌≤◌, ◌∙◌, List, [], ◌∷◌, ◌++◌, length, get_or, refl, sym, subst, ap, ap₂, arith, Bool, true, false, cond, IsTrue}
+use Rattle.std.proofs.Common.{◌≡◌, ℕ, inl, inr, ◌+◌, ◌*◌, ◌<◌, ◌≤◌, ◌∙◌, List, [], ◌∷◌, ◌++◌, length, get_or, refl, sym, subst, ap, ap₂, arith, Bool, true, false, cond, IsTrue}
 use Rattle.std.specs.Prelude.{nat_eq, nat_lt}
 use Rattle.std.specs.List.{Contains, filter, range_with_len}
 use Rattle.std.proofs.lemmas.Bool.{cases_lt, eq-eqb, eqb-true, false_from_ne_true}
 use Rattle.std.proofs.lemmas.List.{drop_all, length-drop}
+use Rattle.std.proofs.lemmas.List.Elements.{filter-append}
 use Rattle.std.proofs.lemmas.List.FromFn.{get_or-range_with_len, length-range_with_len}
 use Rattle.kh_types.specs.Acceptance.{accepted}
 use Rattle.kh_types.specs.Circles.{smoothings_of}
@@ -15,6 +16,7 @@ use Rattle.kh_types.proofs.AcceptedLemmas.{HasArcsTwice-accepted}
 use Rattle.kh_types.proofs.DartPairs.{IsDart-at}
 use Rattle.kh_types.proofs.FilteredRanges.{filter-none}
 use Rattle.kh_types.proofs.Lists.{filter-range_all}
+use Rattle.kh_types.proofs.Ranges.{range-append}
 use Rattle.kh_types.proofs.ListSums.{sum_by-map, sum_by-none}
 use Rattle.dotted_surfaces.specs.Points.{AreAmong}
 use Rattle.added_crossings.specs.Codes.{ends_before, is_alive, is_open, points_at}
@@ -26,20 +28,9 @@ use Rattle.scan_laws.proofs.Objects.{object-among}
 filter-past : (p : ℕ → Bool) (a m l : ℕ) → ((x : ℕ) → a ≤ x → x < a + m → p x ≡ false)
     → ((x : ℕ) → a + m ≤ x → x < a + m + l → p x ≡ true)
     → filter p (range_with_len a (m + l)) ≡ range_with_len (a + m) l
-filter-past p a zero l fails passes =
-    let e : a ≡ a + 0 = omega arith in
-    ap (λ n. filter p (range_with_len a n)) (let f : 0 + l ≡ l = omega arith in f)
-    ∙ filter-range_all p a l (λ x from below. passes x (omega (arith, from)) (omega (arith, below)))
-    ∙ ap (λ b. range_with_len b l) e
-filter-past p a (suc m) l fails passes =
-    let e : suc m + l ≡ suc (m + l) = omega arith in
-    let f : a + 1 + m ≡ a + suc m = omega arith in
-    ap (λ n. filter p (range_with_len a n)) e
-    ∙ ap (λ b. cond b (a ∷ filter p (range_with_len (a + 1) (m + l))) (filter p (range_with_len (a + 1) (m + l))))
-    (fails a (omega arith) (omega arith))
-    ∙ filter-past p (a + 1) m l (λ x from below. fails x (omega (arith, from)) (omega (arith, below)))
-    (λ x from below. passes x (omega (arith, from)) (omega (arith, below)))
-    ∙ ap (λ b. range_with_len b l) f
+filter-past p a m l fails passes =
+    ap (filter p) (range-append a m l) ∙ filter-append p (range_with_len a m) (range_with_len (a + m) l)
+    ∙ ap₂ (λ (xs ys : List ℕ). xs ++ ys) (filter-none p a m fails) (filter-range_all p (a + m) l passes)
 
 -- all ends are done
 ends-arc : (crossings : List (List ℕ)) (x : ℕ) → HasArcsTwice crossings → 1 ≤ x → x ≤ arc_count crossings

@@ -1,5 +1,5 @@
 -- Matrices of maps whose coefficients are given modulo p.
-use Rattle.std.proofs.Common.{◌≡◌, ℕ, zero, suc, ◌+◌, ◌-◌, ◌*◌, ◌%◌, ◌^◌, ◌<◌, ◌∙◌, List, ◌++◌, length, refl, sym, ap, arith, cond, Bool, true, false}
+use Rattle.std.proofs.Common.{◌≡◌, ℕ, zero, suc, ◌+◌, ◌-◌, ◌*◌, ◌%◌, ◌^◌, ◌<◌, ◌∙◌, List, ◌++◌, length, refl, sym, ap, ap₂, arith, cond, Bool, true, false}
 use Rattle.std.specs.Prelude.{nat_eq}
 use Rattle.std.specs.List.{range_with_len, sum_by}
 use Rattle.std.proofs.Math.Nat.{mod-eq_of_lt, mod-mod}
@@ -17,9 +17,24 @@ use Rattle.dotted_surfaces.proofs.TwoSides.{AllByRecursion-map}
 use Rattle.dotted_maps.specs.Terms.{entry}
 use Rattle.dotted_maps.specs.declared.term.Term.{Term}
 use Rattle.dotted_maps.specs.Maps.{AreDotted, AreOneMap, coefficient_in, composed_in, composition, matrix_of, scaled}
+use Rattle.added_crossings.specs.Codes.{points_at}
+use Rattle.closed_surfaces.specs.Made.{joined_outside}
+use Rattle.scan_laws.specs.Scans.{Object}
+use Rattle.kh_types.specs.Code.{Code}
 use Rattle.dotted_maps.proofs.Bilinear.{sum-terms}
 use Rattle.dotted_maps.proofs.Composed.{AreComposed}
 use Rattle.dotted_maps.proofs.MapProducts.{IsComposition-made, matrix-added, matrix-same}
+
+-- what depends on how many crossings are done and on two objects: dot sets, and matrices at an outer state
+pub two-objects : {A : Type 0} (f : ℕ → Object → Object → A) {k l : ℕ} {a b c d : Object} → k ≡ l → a ≡ c → b ≡ d → f k a b ≡ f l c d
+two-objects f {k} {l} {a} {b} {c} {d} done first second = ap₂ (λ (n : ℕ) (o : Object). f n o b) done first ∙ ap (f l c) second
+
+abbrev pub sets_by : Code → ℕ → Object → Object → ℕ
+sets_by code k a b = 2 ^ length (discs (points_at code k) a.pairs b.pairs)
+
+abbrev pub matrix_by : ℕ → Code → ℕ → List Term → ℕ → ℕ → ℕ → Object → Object → ℕ
+matrix_by p code state terms row column k a b =
+    matrix_of p (points_at code k) a.pairs b.pairs (joined_outside code k state) terms row column
 
 pub below-same : (p n : ℕ) (f g : ℕ → ℕ) → ((k : ℕ) → k < n → Same p (f k) (g k)) → Same p (sum_below n f) (sum_below n g)
 below-same p zero f g same = refl

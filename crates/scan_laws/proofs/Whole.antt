@@ -1,5 +1,5 @@
 -- The theorem of the scan: what the end of a scan counts are the dimensions of the definition, and its table is theirs.
-use Rattle.std.proofs.Common.{◌≡◌, ℕ, ◌∙◌, ℤ, List, [], ◌∷◌, ◌++◌, length, map, refl, sym, subst, ap, IsTrue}
+use Rattle.std.proofs.Common.{◌≡◌, ℕ, zero, suc, ◌∙◌, ℤ, List, [], ◌∷◌, ◌++◌, get_or, length, map, refl, sym, subst, ap, IsTrue}
 use Rattle.std.proofs.Math.Path.{fun_ext}
 use Rattle.std.specs.List.{filter, flat_map}
 use Rattle.kh_types.specs.Acceptance.{accepted}
@@ -9,9 +9,10 @@ use Rattle.kh_types.specs.Residues.{HasInverses}
 use Rattle.kh_types.specs.Table.{Row, dimension, from_minus, is_shown, rows_at, table}
 use Rattle.kh_types.specs.declared.limits.TheConstants.{EXPONENT}
 use Rattle.cell_complexes.specs.Cubes.{IsReordered, cube_of, listed_by}
+use Rattle.cell_complexes.proofs.NoDoubles.{once-range}
 use Rattle.cell_complexes.proofs.AnyOrder.{accepted-reordered}
 use Rattle.cell_complexes.proofs.Orders.{AreComplex-cube, complex-reordered, dimension-reordered}
-use Rattle.scan_laws.specs.Scans.{Scan, first_scan}
+use Rattle.scan_laws.specs.Scans.{Scan, first_object, first_scan, listed_scan}
 use Rattle.scan_laws.specs.Steps.{AreSteps, IsEndOfScan, IsReached, IsScanStep, last_of}
 use Rattle.scan_laws.specs.Counts.{counted, counted_rows_at, counted_table}
 use Rattle.scan_laws.proofs.End.{dimension-last}
@@ -68,3 +69,28 @@ pub reached-step : (p : ℕ) (code : Code) (scan next : Scan) → IsReached p co
 reached-step p code scan next reached step =
     let more = steps-one p code first_scan reached.later scan next reached.steps reached.last step in
     record { later = reached.later ++ (next ∷ []); steps = more.0; last = more.1 }
+
+-- the first scan with its object in a list
+pub reached-lists : (p : ℕ) (code : Code) → IsReached p code (listed_scan 0 (0 ∷ []) (first_object ∷ []) [])
+reached-lists p code =
+    reached-step p code first_scan (listed_scan 0 (0 ∷ []) (first_object ∷ []) []) (reached-first p code)
+    (IsScanStep.renumbered (record {
+      done = refl;
+      number = λ x. x;
+      old = λ x. x;
+      matched = record {
+        first_once = once-range 0 1;
+        second_once = once-range 0 1;
+        there = λ x has. has;
+        back_there = λ y has. has;
+        to_back = λ y has. refl;
+        back_to = λ x has. refl;
+      };
+      object = λ x has. at x;
+      dots = λ x y has_x has_y. tt;
+      terms = λ x y kept has_x has_y below. refl;
+    }))
+  where
+    at : (x : ℕ) → get_or (first_object ∷ []) x first_object ≡ first_object
+    at zero = refl
+    at (suc x) = refl

@@ -1,6 +1,6 @@
 //! What a scan counts at its end are the dimensions of the definition.
 
-ghost use Rattle.std.specs.Prelude.{◌≡◌, ◌≢◌, ℕ, ℤ, List, length, IsTrue, ◌<◌};
+ghost use Rattle.std.specs.Prelude.{◌≡◌, ◌≢◌, ℕ, ℤ, List, [], ◌∷◌, length, IsTrue, ◌<◌};
 ghost use Rattle.std.specs.List.{Contains};
 ghost use Rattle.kh_types.specs.Acceptance.{accepted};
 ghost use Rattle.kh_types.specs.Code.{Code};
@@ -11,7 +11,7 @@ ghost use Rattle.cell_complexes.specs.Alike.{AreAlike};
 ghost use Rattle.cell_complexes.specs.Cells.{AreComplex, dimension_at};
 ghost use Rattle.cell_complexes.specs.Cubes.{cube_of, IsReordered};
 ghost use Rattle.cell_complexes.specs.Layers.{layer_of};
-ghost use Rattle.scan_laws.specs.Scans.{Scan, first_scan, IsScanOf};
+ghost use Rattle.scan_laws.specs.Scans.{Scan, first_object, first_scan, listed_scan, IsScanOf};
 ghost use Rattle.scan_laws.specs.Complexes.{complex_of};
 ghost use Rattle.scan_laws.specs.Adding.{IsAdding};
 ghost use Rattle.scan_laws.specs.Eliminating.{IsEliminating, IsNumber};
@@ -36,11 +36,13 @@ pub fn scans_count_dimensions()
         → (scan : Scan) × IsEndOfScan p code crossings scan }
 {}
 
-/// What a program keeps that scans a code: the first scan is reached, and each step leads from one
-/// that is to another. One that is reached is a scan of the code; where it is a last one it counts
-/// the code's table; and from each there are steps to a last one.
+/// What a program keeps that scans a code: the first scan is reached, also as lists, and each step
+/// leads from one that is to another. One that is reached is a scan of the code; where it is a last
+/// one it counts the code's table; and from each there are steps to a last one.
 pub fn reached_scans()
     ensures first { (p : ℕ) (code : Code) → IsReached p code first_scan }
+    ensures lists { (p : ℕ) (code : Code)
+        → IsReached p code (listed_scan 0 (0 ∷ []) (first_object ∷ []) []) }
     ensures step { (p : ℕ) (code : Code) (scan next : Scan)
         → IsReached p code scan → IsScanStep p code scan next → IsReached p code next }
     ensures of { (p : ℕ) (code : Code) (scan : Scan)

@@ -1,11 +1,12 @@
 use Rattle.scan_laws.proofs.Ending.{scan-ends}
-use Rattle.scan_laws.proofs.Whole.{in-own-order, reached-first, reached-stands, reached-step, table-same, whole-theorem}
+use Rattle.scan_laws.proofs.Whole.{in-own-order, reached-first, reached-lists, reached-stands, reached-step, table-same, whole-theorem}
 use Rattle.scan_laws.proofs.laws.reached_scans.Goals as goal
 
 pub returns : goal.returns
 returns c =
     record {
       first = reached-first;
+      lists = reached-lists;
       step = reached-step;
       of = λ p code scan field is reached. (reached-stands p code 0 0 scan field is reached).of;
       table = λ p code scan field is reached last.
