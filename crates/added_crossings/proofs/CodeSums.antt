@@ -1,4 +1,8 @@
 -- A crossing and a saddle of a code as surfaces laid over one another.
+--
+-- Old pairing and smoothing join arcs near the crossing, and a state joins what is alive behind it: a cut, on either side (`IsCut-at`).
+-- With one smoothing for two pairings the surface between the pairings is laid so (`IsLaid-both`), and with both smoothings for one pairing
+-- the saddle (`IsLaid-saddle`). The sums over the dots are two instances of one lemma (`sum-added`).
 use Rattle.std.proofs.Common.{◌≡◌, ℕ, ◌+◌, ◌<◌, ◌∙◌, List, [], ◌++◌, length, map, sym, ap, ap₂, subst, arith, append_assoc}
 use Rattle.std.specs.List.{AllByRecursion, Contains}
 use Rattle.std.proofs.lemmas.Bool.{or_left}

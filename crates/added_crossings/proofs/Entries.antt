@@ -1,8 +1,12 @@
 -- Entries behind a crossing, by numbers.
-use Rattle.std.proofs.Common.{◌≡◌, ℕ, ◌+◌, ◌-◌, ◌*◌, ◌^◌, ◌<◌, ◌∙◌, List, [], ◌∷◌, ◌++◌, map, length, sym, ap, ap₂, subst, arith, append_assoc}
+--
+-- The bits of a number are a function of arcs that has one value on each circle, so an entry is the number of `sheet_at`, and its sum over
+-- dots is there (`sum-crossing`). In that sum the labels are turned back into numbers: those of the closed circles and those of the circles
+-- behind; and the sets of dots are the numbers below a power of two (`sum-by_dots`). The saddle's sum is turned likewise.
+use Rattle.std.proofs.Common.{◌≡◌, ℕ, ◌+◌, ◌-◌, ◌*◌, ◌^◌, ◌<◌, ◌∙◌, List, [], ◌∷◌, ◌++◌, map, length, sym, ap, ap₂, subst, append_assoc}
 use Rattle.kh_types.specs.Bits.{bit}
 use Rattle.kh_types.specs.Classes.{Respects}
-use Rattle.kh_types.specs.Code.{Code, arc_count}
+use Rattle.kh_types.specs.Code.{Code}
 use Rattle.kh_types.specs.Products.{sum_below}
 use Rattle.kh_types.proofs.Sums.{sum_below-equal}
 use Rattle.dotted_surfaces.specs.Surfaces.{Surface, IsClosed, value}
@@ -15,15 +19,12 @@ use Rattle.added_crossings.specs.Codes.{is_open, is_alive, points_at, step_at, s
 use Rattle.added_crossings.specs.Saddles.{edge_at, MergesOrSplitsAt, IsPairedAt, opposite}
 use Rattle.added_crossings.specs.Labels.{label_at, number_of}
 use Rattle.added_crossings.specs.Entries.{entry_sheet, entry_at, coefficient_sheet, added_surface, saddle_surface, label_before, closed_label, label_behind, ArePairedAt, AreEntriesClosed}
-use Rattle.added_crossings.proofs.CodeSteps.{outer-split}
+use Rattle.added_crossings.proofs.CodeSteps.{outer-split, count_of}
 use Rattle.added_crossings.proofs.CodeSums.{IsCut-at, sum-crossing, sum-saddle}
 use Rattle.added_crossings.proofs.CutJoins.{whole-among}
 use Rattle.added_crossings.proofs.Labels.{bit-below, marked-labels, marked_else-labels, Respects-label, marked-number_of}
 use Rattle.added_crossings.proofs.SaddleValues.{value-saddle}
 use Rattle.added_crossings.proofs.NumberedLabels.{marked_else-number_of, sum-by_dots, caps-first, caps-second}
-
-abbrev count_of : Code → ℕ
-count_of code = arc_count code.crossings + code.loops
 
 -- a surface by its faces
 abbrev far_of : Code → ℕ → ℕ → List (ℕ × ℕ) → List (ℕ × ℕ) → List (ℕ × ℕ) → List (ℕ × ℕ) → List (ℕ × ℕ) → Surface

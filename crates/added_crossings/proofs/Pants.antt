@@ -1,4 +1,8 @@
 -- The surface of one pairing in which two circles become one: cylinders, and a pair of pants.
+--
+-- In the Euler count the disc of each pair and the half strips at its two ends cancel (`sum-paired`). What is left of a component is its
+-- circles and the saddle's strip. A circle that stays has two faces, before and after: a cylinder (`factor-other`). The component of the
+-- change has three faces and two half strips more: a pair of pants (`factor-kept`). No other number is a component (`component-cases`).
 use Rattle.std.proofs.Common.{◌≡◌, ◌≢◌, ℕ, inl, inr, ◌⊎◌, ◌+◌, ◌*◌, ◌<◌, ◌∙◌, List, [], ◌∷◌, ◌++◌, map, refl, sym, ap, ap₂, subst, arith, Bool, true, false, not, cond, ◌&&◌}
 use Rattle.std.specs.Prelude.{nat_eq, slice_index}
 use Rattle.std.specs.List.{filter, sum_by, range_with_len, Contains}

@@ -19,6 +19,7 @@ use Rattle.added_crossings.proofs.Members.{Contains-cons_cases}
 use Rattle.added_crossings.proofs.KeptCircles.{circle-met}
 use Rattle.added_crossings.proofs.CodeSums.{IsCut-at}
 use Rattle.added_crossings.proofs.Labels.{bit-below, marked-labels, map-on}
+use Rattle.added_crossings.specs.Steps.{pair_with}
 
 half-bit : (number i : ℕ) → bit (number / 2) i ≡ bit number (i + 1)
 half-bit number i =
@@ -38,9 +39,6 @@ first x y r s x_below y_below same = omega (arith, x_below, y_below, same)
 
 rest : (x y r s : ℕ) → x < 2 → y < 2 → x + 2 * r ≡ y + 2 * s → r ≡ s
 rest x y r s x_below y_below same = omega (arith, x_below, y_below, same)
-
-abbrev face_of : ℕ → ℕ → ℕ × ℕ
-face_of x y = (x, y)
 
 same-number_of : (f g : ℕ → ℕ) (xs : List ℕ) (x : ℕ) → ((y : ℕ) → f y < 2) → ((y : ℕ) → g y < 2) → number_of f xs ≡ number_of g xs
     → Contains xs x → f x ≡ g x
@@ -95,5 +93,5 @@ labels-determined code k smoothing state m number other twice below among n_belo
     ∙ sym (at_class other) in
     same-marked number other circles n_below o_below
     (marked-labels count (is_alive code k) (joins ++ outer) number
-    ∙ map-on (face_with f) (face_with g) circles (λ z has. ap (λ (b : ℕ). face_of z b) (same z has))
+    ∙ map-on (face_with f) (face_with g) circles (λ z has. ap (λ (b : ℕ). pair_with z b) (same z has))
     ∙ sym (marked-labels count (is_alive code k) (joins ++ outer) other))

@@ -1,4 +1,9 @@
 -- Where two classes of some points become one, two circles do.
+--
+-- Fine and coarse classes are each named by their least points. Of the two fine classes that become one the lesser name is kept and the
+-- greater is gone. Every other class has its old name (`others-merged`), so the coarse names are the fine ones without the one that is gone
+-- (`names-merged`). The four arcs of a crossing are on the two fine classes: these are touched before (`touched-first`), and the one that
+-- is kept after (`touched-second`).
 use Rattle.std.proofs.Common.{◌≡◌, ◌≢◌, ℕ, inl, inr, ◌⊎◌, ◌<◌, ◌≤◌, ◌∙◌, List, [], ◌∷◌, refl, sym, ap, ap₂, subst, arith, Bool, true, not, ◌&&◌}
 use Rattle.std.specs.Prelude.{nat_eq, slice_index, min, max}
 use Rattle.std.specs.List.{filter, list_any, range_with_len}

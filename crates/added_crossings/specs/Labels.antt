@@ -1,6 +1,6 @@
 -- Labels as numbers, whose bits stand at the places of circles in their list, and as functions of arcs.
-use Rattle.std.specs.Prelude.{ℕ, ◌+◌, ◌-◌, ◌*◌, List, [], ◌∷◌, map, nat_eq, slice_index}
-use Rattle.std.specs.List.{enumerate_from, position_or_len}
+use Rattle.std.specs.Prelude.{ℕ, ◌+◌, ◌*◌, List, [], ◌∷◌, nat_eq, slice_index}
+use Rattle.std.specs.List.{position_or_len}
 use Rattle.kh_types.specs.Bits.{bit}
 use Rattle.kh_types.specs.Classes.{classes_of}
 use Rattle.dotted_surfaces.specs.Points.{least_points}

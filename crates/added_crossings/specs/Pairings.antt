@@ -1,6 +1,6 @@
 -- Pairings of points, and faces with marks.
-use Rattle.std.specs.Prelude.{◌≡◌, ℕ, ◌+◌, List, [], ◌++◌, map, nat_eq, if◌then◌else◌}
-use Rattle.std.specs.List.{filter, sum_by, AllByRecursion, Contains}
+use Rattle.std.specs.Prelude.{◌≡◌, ℕ, ◌+◌, List, ◌++◌, map, nat_eq, if◌then◌else◌}
+use Rattle.std.specs.List.{sum_by, Contains}
 use Rattle.dotted_surfaces.specs.Points.{Points, AreAmong, circles}
 
 -- a face at some points, with the marks that each point has

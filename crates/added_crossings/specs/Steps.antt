@@ -1,5 +1,5 @@
 -- One crossing more: which arcs are open before and after it, the pairings after it, and the surface that it adds.
-use Rattle.std.specs.Prelude.{◌≡◌, ℕ, ◌+◌, ◌<◌, ◌≤◌, List, ◌++◌, map, nat_eq, nat_lt, slice_index, Bool, not, ◌&&◌, ◌||◌}
+use Rattle.std.specs.Prelude.{◌≡◌, ℕ, ◌+◌, List, ◌++◌, map, nat_eq, nat_lt, slice_index, Bool, not, ◌&&◌, ◌||◌}
 use Rattle.std.specs.List.{filter, flat_map, list_any, range_with_len, Contains}
 use Rattle.kh_types.specs.Classes.{classes_of, Respects}
 use Rattle.dotted_surfaces.specs.Surfaces.{Surface}
@@ -33,11 +33,6 @@ is_near step x = step.opened x || step.at_crossing x
 
 abbrev pub near : Step → List ℕ
 near step = those step.count (is_near step)
-
--- what is alive before is alive after or near the crossing, and what is both is open after
-pub record IsStep (step : Step) : Type 0 where
-  pub alive : (x : ℕ) → 0 < x → x ≤ step.count → step.alive x ≡ (step.alive_next x || is_near step x)
-  pub opened : (x : ℕ) → 0 < x → x ≤ step.count → step.opened_next x ≡ (step.alive_next x && is_near step x)
 
 -- the pairs of points of which each is joined with a greater one
 abbrev pub is_mate : List ℕ → ℕ → ℕ → Bool

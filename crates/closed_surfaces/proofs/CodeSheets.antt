@@ -19,14 +19,13 @@ use Rattle.added_crossings.specs.Pairings.{marked_by, circle_faces}
 use Rattle.added_crossings.specs.Codes.{ends_before, is_open, is_alive, points_at, outer_smoothings, sheet_at, outside_at}
 use Rattle.added_crossings.specs.Entries.{entry_sheet}
 use Rattle.dotted_surfaces.specs.Sheets.{marked, marked_else}
-use Rattle.added_crossings.proofs.CodeSteps.{outer-among}
+use Rattle.added_crossings.proofs.CodeSteps.{outer-among, count_of}
 use Rattle.added_crossings.proofs.Members.{those-are, are-those}
 use Rattle.tangle_surfaces.specs.CutCodes.{ends_there, starts_there}
 use Rattle.tangle_surfaces.proofs.CutCodes.{ends-starts}
 use Rattle.tangle_surfaces.proofs.CutSurfaces.{IsSurface-cut}
 use Rattle.tangle_surfaces.proofs.LeadLemmas.{IsSurface-three}
 use Rattle.closed_surfaces.specs.Led.{IsLedAt}
-use Rattle.closed_surfaces.proofs.LedPairings.{count_of}
 use Rattle.closed_surfaces.proofs.OpenTests.{open-is}
 use Rattle.closed_surfaces.proofs.SheetClosed.{IsSheet, sheet-closed}
 

@@ -3,7 +3,6 @@ use Rattle.std.specs.Prelude.{ℕ, List}
 use Rattle.kh_types.specs.Code.{Code}
 use Rattle.added_crossings.specs.Pairings.{IsPaired}
 use Rattle.added_crossings.specs.Codes.{points_at}
-use Rattle.dotted_surfaces.specs.Points.{Points}
 use Rattle.tangle_surfaces.specs.CutCodes.{ends_there, starts_there}
 use Rattle.tangle_surfaces.specs.Surfaces.{Lead}
 
