@@ -46,7 +46,7 @@ next-alive step x step_is is = record {
   passes = step_is.alive x is.above (omega (arith, is.below)) ∙ or_left (step.alive_next x) (is_near step x) is.passes;
 }
 
-pub open-both : (step : Step) (x : ℕ) → IsStep step → IsOneOf step.count step.opened_next x
+open-both : (step : Step) (x : ℕ) → IsStep step → IsOneOf step.count step.opened_next x
     → (step.alive_next x ≡ true) × (is_near step x ≡ true)
 open-both step x step_is is =
     and_parts (step.alive_next x) (is_near step x)

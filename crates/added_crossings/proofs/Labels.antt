@@ -134,7 +134,7 @@ later-bit l rest i below =
     ap (λ p. (l + 2 * rest) / p % 2) power ∙ ap (λ q. q % 2) (sym (div-div-eq-div-mul (l + 2 * rest) 2 (2 ^ i)))
     ∙ ap (λ q. q / 2 ^ i % 2) half
 
-pub numbered : (label : ℕ → ℕ) (xs : List ℕ) (j number : ℕ) → ((x : ℕ) → label x < 2)
+numbered : (label : ℕ → ℕ) (xs : List ℕ) (j number : ℕ) → ((x : ℕ) → label x < 2)
     → ((i : ℕ) → bit number (j + i) ≡ bit (number_of label xs) i)
     → map (at_place (bit number)) (enumerate_from j xs) ≡ marked_by label xs
 numbered label [] j number bits same = refl

@@ -52,7 +52,7 @@ less-true : (x y : ℕ) → x < y → nat_lt x y ≡ true
 less-true x y is = grind (arith, nat_tests)
 
 -- and each such pair is one
-pub has-pair : (points classes : List ℕ) (x y : ℕ) → Contains points x → Contains points y → x < y
+has-pair : (points classes : List ℕ) (x y : ℕ) → Contains points x → Contains points y → x < y
     → slice_index classes x ≡ slice_index classes y → Contains (pairs_among points classes) (x, y)
 has-pair points classes x y has y_has rises same =
     Contains-flat_map (pairs_at points classes) points x (x, y) has

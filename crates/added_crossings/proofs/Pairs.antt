@@ -144,7 +144,8 @@ free-class step joins x among degrees is =
     ∙ sum_by-range_alike free counted 1 step.count
     (λ y above y_below. elim (cases_Bool (nat_eq (class y) (class x))) [
       | inl same ↦
-          let y_is = together-is step.count (is_near step) joins x y among is (omega (arith, y_below)) (eqb-true (class y) (class x) same) in
+          let y_is = together-is step.count (is_near step) joins x y among is (omega (arith, y_below))
+          (eqb-true (class y) (class x) same) in
           ap (λ b. cond b (2 - degree joins y) 0) same ∙ degrees.near_degree y y_is
           ∙ ap (λ b. cond (step.opened_next y) (one_if b) 0) (sym same)
       | inr other ↦
@@ -161,7 +162,7 @@ even-one : (count degree : ℕ) → count ≡ degree + 1 → HasEven count → d
 even-one count degree is (inl none) = omega (arith, is, none)
 even-one count degree is (inr two) = omega (arith, is, two)
 
-pub degree-new : (step : Step) (joins : List (ℕ × ℕ)) (x : ℕ) → IsStep step → AreAmong (near step) joins
+degree-new : (step : Step) (joins : List (ℕ × ℕ)) (x : ℕ) → IsStep step → AreAmong (near step) joins
     → HaveDegrees step joins → Contains (after step).opened x → degree (new_pairing step joins) x ≡ 1
 degree-new step joins x step_is among degrees has =
     let n = step.count + 1 in
@@ -175,7 +176,7 @@ degree-new step joins x step_is among degrees has =
 
 -- the degrees at a crossing of a code
 
-pub degree-none : (points : List ℕ) (pairs : List (ℕ × ℕ)) (x : ℕ) → AreAmong points pairs → (Contains points x → ⊥)
+degree-none : (points : List ℕ) (pairs : List (ℕ × ℕ)) (x : ℕ) → AreAmong points pairs → (Contains points x → ⊥)
     → degree pairs x ≡ 0
 degree-none points [] x among not = refl
 degree-none points (pair ∷ pairs) x among not =

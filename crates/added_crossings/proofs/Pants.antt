@@ -67,7 +67,7 @@ sum-paired count test f pairs paired =
     paired.among)
 
 -- of a sum over names only one counts
-pub only-one-name : (count : ℕ) (test q : ℕ → Bool) (g : ℕ → ℕ) (x : ℕ) → Contains (filter q (those count test)) x
+only-one-name : (count : ℕ) (test q : ℕ → Bool) (g : ℕ → ℕ) (x : ℕ) → Contains (filter q (those count test)) x
     → sum_by (λ y. cond (nat_eq y x) (g y) 0) (filter q (those count test)) ≡ g x
 only-one-name count test q g x has =
     let kept = filter-kept q (those count test) x has in
@@ -332,7 +332,8 @@ factor-kept count alive opened m all fine a kept gone first second pants has =
     closed faces lowers discs kept is_faces is_lowers = grind (arith, nat_tests)
 
 -- any other number is no component
-pub component-cases : (count : ℕ) (alive opened : ℕ → Bool) (m all : List (ℕ × ℕ)) (fine : List ℕ) (a kept gone k : ℕ) (first second : ℕ → ℕ)
+pub component-cases : (count : ℕ) (alive opened : ℕ → Bool) (m all : List (ℕ × ℕ)) (fine : List ℕ) (a kept gone k : ℕ)
+    (first second : ℕ → ℕ)
     → ArePants count alive opened m all fine a kept gone
     → Contains (names count alive (classes_of (count + 1) all)) k
     ⊎ (factor (pants_of count alive opened m all fine a first second) k ≡ 1)

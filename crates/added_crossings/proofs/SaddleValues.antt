@@ -22,13 +22,13 @@ use Rattle.dotted_surfaces.proofs.Renamed.{value-reordered}
 use Rattle.dotted_surfaces.specs.Points.{AreAmong}
 use Rattle.added_crossings.specs.Pairings.{marked_by}
 use Rattle.added_crossings.specs.Steps.{those, near}
-use Rattle.added_crossings.specs.Codes.{is_open, is_alive, points_at, step_at, smoothing_at, outer_smoothings, pairing_behind, circles_before, circle_before, arc_there, disc_of, saddle_strips, saddle_sheet}
+use Rattle.added_crossings.specs.Codes.{is_open, is_alive, points_at, step_at, smoothing_at, outer_smoothings, circles_before, circle_before, arc_there, disc_of, saddle_strips, saddle_sheet}
 use Rattle.added_crossings.specs.Saddles.{is_touched_at, touched_at, changes_labels_at, edge_at, TwoBecomeOneAt, MergesOrSplitsAt, IsPairedAt, AreBits, opposite}
 use Rattle.added_crossings.proofs.Members.{filter-kept, those-are, are-those, Contains-cons_cases}
 use Rattle.added_crossings.proofs.Classes.{class_in, both-weaker, AreAmong-below, Respects-first, Respects-second, Respects-append, class-own, class-is}
-use Rattle.added_crossings.proofs.CutJoins.{IsCut, near-has}
+use Rattle.added_crossings.proofs.CutJoins.{near-has}
 use Rattle.added_crossings.proofs.CodeSteps.{IsStep-at, slot-near, smoothing-among, count_of}
-use Rattle.added_crossings.proofs.CodeSums.{IsCut-at, IsLaid-saddle}
+use Rattle.added_crossings.proofs.CodeSums.{IsLaid-saddle}
 use Rattle.added_crossings.proofs.Pants.{names, pants_of, ArePants, coarse-is, is-coarse, factor-other, factor-kept, component-cases}
 use Rattle.added_crossings.proofs.EdgeProducts.{IsEdgeProduct, value-edge, cylinder-weight, merge-weight, split-weight}
 use Rattle.added_crossings.proofs.CodeJoins.{joins_with, joins-alive}
@@ -77,10 +77,6 @@ splitting code k state m =
           (Respects-append f s (t ++ w) (Respects-second f m s first)
           (Respects-append f t w other (Respects-second f (m ++ s) w respects)));
     }
-
-cut-at : (code : Code) (k state smoothing : ℕ) (m : List (ℕ × ℕ)) → IsPairedAt code k m
-    → IsCut (step_at code k) (m ++ smoothing_at code k smoothing) (pairing_behind code k smoothing m) (outer_smoothings code state (k + 1))
-cut-at code k state smoothing m at = IsCut-at code k smoothing state m at.twice at.crossing at.paired.among
 
 both-among : (code : Code) (k state : ℕ) (m : List (ℕ × ℕ)) → IsPairedAt code k m
     → AreAmong (points_at code k).alive (joins_both code k state m)
@@ -347,7 +343,7 @@ turned-value code k state m first second classes others =
       raises = IsPermutation-refl [];
     }
 
-pub value-merges : (code : Code) (k state : ℕ) (m : List (ℕ × ℕ)) (label other_label : ℕ → ℕ) (kept gone : ℕ) → IsPairedAt code k m
+value-merges : (code : Code) (k state : ℕ) (m : List (ℕ × ℕ)) (label other_label : ℕ → ℕ) (kept gone : ℕ) → IsPairedAt code k m
     → AreBits label other_label → TwoBecomeOneAt code k state m 0 1 kept gone
     → value (saddle_sheet code k state m label (opposite other_label)) ≡ edge_at code k state m label other_label
 value-merges code k state m label other_label kept gone at bits becomes =
@@ -363,7 +359,7 @@ value-merges code k state m label other_label kept gone at bits becomes =
     (changes_labels_at code k state m label other_label) kept
     (edge-merges code k state m label other_label kept gone at bits becomes)
 
-pub value-splits : (code : Code) (k state : ℕ) (m : List (ℕ × ℕ)) (label other_label : ℕ → ℕ) (kept gone : ℕ) → IsPairedAt code k m
+value-splits : (code : Code) (k state : ℕ) (m : List (ℕ × ℕ)) (label other_label : ℕ → ℕ) (kept gone : ℕ) → IsPairedAt code k m
     → AreBits label other_label → TwoBecomeOneAt code k state m 1 0 kept gone
     → value (saddle_sheet code k state m label (opposite other_label)) ≡ edge_at code k state m label other_label
 value-splits code k state m label other_label kept gone at bits becomes =

@@ -33,7 +33,8 @@ at_one : (n : ℕ) (classes : List ℕ) (a k : ℕ) → a < n
     ≡ cond (nat_eq (slice_index classes a) k) 1 0
 at_one n classes a k below =
     let f : ℕ → ℕ = λ x. cond (nat_eq (slice_index classes x) k) (cond (nat_eq a x) 1 0) 0 in
-    sum_by-single f 0 n a (omega arith) (omega (arith, below)) (λ x above x_below other. other_zero (nat_eq (slice_index classes x) k) a x other)
+    sum_by-single f 0 n a (omega arith) (omega (arith, below))
+    (λ x above x_below other. other_zero (nat_eq (slice_index classes x) k) a x other)
     ∙ ap (λ b. cond (nat_eq (slice_index classes a) k) (cond b 1 0) 0) (eq-eqb a a refl)
   where
     other_zero : (b : Bool) (a x : ℕ) → x ≢ a → zero_or b (one_if (nat_eq a x)) ≡ 0

@@ -26,7 +26,7 @@ half-bit number i =
     let power : 2 ^ (i + 1) ≡ 2 * 2 ^ i = ap (λ n. 2 ^ n) (let e : i + 1 ≡ suc i = omega arith in e) ∙ pow-suc 2 i ∙ omega arith in
     ap (λ q. q % 2) (div-div-eq-div-mul number 2 (2 ^ i)) ∙ ap (λ p. number / p % 2) (sym power)
 
-pub same-bits : (n number other : ℕ) → number < 2 ^ n → other < 2 ^ n → ((i : ℕ) → i < n → bit number i ≡ bit other i) → number ≡ other
+same-bits : (n number other : ℕ) → number < 2 ^ n → other < 2 ^ n → ((i : ℕ) → i < n → bit number i ≡ bit other i) → number ≡ other
 same-bits zero number other below other_below same = omega (arith, below, other_below)
 same-bits (suc n) number other below other_below same =
     let power : 2 ^ suc n ≡ 2 * 2 ^ n = pow-suc 2 n ∙ omega arith in
@@ -58,7 +58,7 @@ at_bit number i xs below =
     (get_or-map (λ (at : ℕ × ℕ). face_with (λ z. bit number at.0) at.1) (enumerate_from 0 xs) i none none (omega (arith, below, size)))
     ∙ ap (λ (at : ℕ × ℕ). bit number at.0) (get_or-enumerate_from 0 xs i none below) ∙ ap (λ (k : ℕ). bit number k) place
 
-pub same-marked : (number other : ℕ) (xs : List ℕ) → number < 2 ^ length xs → other < 2 ^ length xs → marked number xs ≡ marked other xs
+same-marked : (number other : ℕ) (xs : List ℕ) → number < 2 ^ length xs → other < 2 ^ length xs → marked number xs ≡ marked other xs
     → number ≡ other
 same-marked number other xs below other_below same =
     let none : ℕ × ℕ = (0, 0) in

@@ -70,14 +70,14 @@ coarse-a count alive fine coarse a b merged =
     least-either p q (slice_index fine c) c either (merged.fine_named.least c c_is)
     (omega (arith, at_p, merged.coarse_named.least p p_is)) (omega (arith, at_q, merged.coarse_named.least q q_is))
 
-pub coarse-either : (count : ℕ) (alive : ℕ → Bool) (fine coarse : List ℕ) (a b x : ℕ) → AreMerged count alive fine coarse a b
+coarse-either : (count : ℕ) (alive : ℕ → Bool) (fine coarse : List ℕ) (a b x : ℕ) → AreMerged count alive fine coarse a b
     → IsOneOf count alive x → IsEither fine a b (slice_index fine x) → slice_index coarse x ≡ kept_of fine a b
 coarse-either count alive fine coarse a b x merged is (inl same) =
     merged.keeps x a is merged.a_is same ∙ coarse-a count alive fine coarse a b merged
 coarse-either count alive fine coarse a b x merged is (inr same) =
     merged.keeps x b is merged.b_is same ∙ sym merged.joined ∙ coarse-a count alive fine coarse a b merged
 
-pub coarse-neither : (count : ℕ) (alive : ℕ → Bool) (fine coarse : List ℕ) (a b x : ℕ) → AreMerged count alive fine coarse a b
+coarse-neither : (count : ℕ) (alive : ℕ → Bool) (fine coarse : List ℕ) (a b x : ℕ) → AreMerged count alive fine coarse a b
     → IsOneOf count alive x → (IsEither fine a b (slice_index fine x) → ⊥) → slice_index coarse x ≡ slice_index fine x
 coarse-neither count alive fine coarse a b x merged is not =
     let c = slice_index coarse x in

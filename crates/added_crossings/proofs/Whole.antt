@@ -224,7 +224,7 @@ alike-whole step joins others pairs other_pairs outer all faces lowers label oth
       };
     }
 
-pub value-whole : (step : Step) (joins others pairs other_pairs outer all faces : List (ℕ × ℕ)) (lowers : List ℕ)
+value-whole : (step : Step) (joins others pairs other_pairs outer all faces : List (ℕ × ℕ)) (lowers : List ℕ)
     (label other_label : ℕ → ℕ) → IsLaid step joins others pairs other_pairs outer all → LiesNear step faces lowers
     → AreLabels joins others outer label other_label
     → value (overlay_of step joins others pairs other_pairs outer faces lowers label other_label)
@@ -237,7 +237,7 @@ value-whole step joins others pairs other_pairs outer all faces lowers label oth
     factor-alike over k whole k
     (alike-whole step joins others pairs other_pairs outer all faces lowers label other_label k laid lies labels))
 
-pub IsClosed-whole : (step : Step) (joins others pairs other_pairs outer all faces : List (ℕ × ℕ)) (lowers : List ℕ)
+IsClosed-whole : (step : Step) (joins others pairs other_pairs outer all faces : List (ℕ × ℕ)) (lowers : List ℕ)
     (label other_label : ℕ → ℕ) → IsLaid step joins others pairs other_pairs outer all → LiesNear step faces lowers
     → AreLabels joins others outer label other_label
     → IsClosed (overlay_of step joins others pairs other_pairs outer faces lowers label other_label)

@@ -37,7 +37,7 @@ open-has_alive code k x has =
     let is = those-are (count_of code) (is_open code k) x has in
     are-those (count_of code) (is_alive code k) x is.above is.below (open-alive (ends_before code.crossings k x) is.passes)
 
-pub IsSheet-at : (code : Code) (choice k state : ℕ) (m n : List (ℕ × ℕ)) → IsTrue (accepted code) → IsColoured code.crossings choice
+IsSheet-at : (code : Code) (choice k state : ℕ) (m n : List (ℕ × ℕ)) → IsTrue (accepted code) → IsColoured code.crossings choice
     → k ≤ length code.crossings → IsLedAt code choice k m → IsLedAt code choice k n
     → IsSheet (count_of code) (ends_there code.crossings choice k) (starts_there code.crossings choice k) (is_open code k)
     (is_alive code k) m n (outer_smoothings code state k)
@@ -120,7 +120,8 @@ entry-closed code choice k state m n dots label other is coloured enough first s
     let points = points_at code k in
     let w = outer_smoothings code state k in
     sheet-closed (count_of code) (ends_there code.crossings choice k) (starts_there code.crossings choice k) (is_open code k)
-    (is_alive code k) m n w (marked dots (discs points m n) ++ (marked label (circles points m w) ++ marked_else other (circles points n w)))
+    (is_alive code k) m n w (marked dots (discs points m n) ++
+    (marked label (circles points m w) ++ marked_else other (circles points n w)))
     (IsSheet-at code choice k state m n is coloured enough first second)
     (places-three (marked dots (discs points m n)) (marked label (circles points m w)) (marked_else other (circles points n w))
     (discs points m n) (circles points m w) (circles points n w) (places-marked dots (discs points m n))

@@ -77,7 +77,8 @@ IsNear-at code choice k first second m l twice coloured within m_led l_led = rec
 pub smoothing-below : (code : Code) (k smoothing : ℕ) → HasArcsTwice code.crossings → k < length code.crossings
     → AreBelow (count_of code + 1) (smoothing_at code k smoothing)
 smoothing-below code k smoothing twice within =
-    AreAmong-below (count_of code) (is_near (step_at code k)) (smoothing_at code k smoothing) (smoothing-among code k smoothing twice within)
+    AreAmong-below (count_of code) (is_near (step_at code k)) (smoothing_at code k smoothing)
+    (smoothing-among code k smoothing twice within)
 
 euler : (d p q g strips c discs other_c half ends opened new_open : ℕ) → (d + (p + q)) + 2 * g ≡ strips + 2 → p ≡ c + discs
     → q ≡ other_c + half → half ≡ ends → new_open ≡ 2 * ends → opened ≡ 2 * strips
