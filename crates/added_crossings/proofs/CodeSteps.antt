@@ -1,12 +1,17 @@
 -- The steps of a code, each of whose arcs has two ends.
-use Rattle.std.proofs.Common.{◌≡◌, ℕ, zero, suc, inl, inr, ◌+◌, ◌-◌, ◌*◌, ◌<◌, ◌≤◌, ◌∙◌, List, [], ◌∷◌, ◌++◌, length, drop, refl, sym, ap, subst, arith, Bool, true, false, cond, ◌&&◌, ◌||◌}
+--
+-- An arc stands twice among all darts, so at any first crossings it has at most two ends (`few-ends`), and one crossing more adds those at
+-- that crossing (`ends_before-more`). Open, alive and near are tests of these numbers: so what is alive before is alive after or near, and
+-- what is both is open (`IsStep-at`). An arc at the crossing is near it (`slot-near`), and one at a crossing behind is alive
+-- (`later-alive`).
+use Rattle.std.proofs.Common.{◌≡◌, ℕ, zero, suc, inl, inr, ◌+◌, ◌-◌, ◌*◌, ◌<◌, ◌≤◌, ◌∙◌, List, [], ◌∷◌, ◌++◌, length, drop, sym, ap, subst, arith, Bool, true, false, cond, ◌&&◌, ◌||◌}
 use Rattle.std.specs.Prelude.{nat_eq, nat_lt, slice_index_or}
 use Rattle.std.specs.List.{count_by, flat_map, enumerate_from, range_with_len, AllByRecursion, Contains}
 use Rattle.std.proofs.lemmas.Bool.{cases_lt, eq-eqb, false_from_ne_true, eqb-true, or_right}
 use Rattle.std.proofs.lemmas.Bool.Decides.{nat_tests}
 use Rattle.std.proofs.lemmas.List.{drop_more, get_or-drop, length-drop, get_or_default}
 use Rattle.std.proofs.lemmas.List.Sums.{sum_by-append, sum_by-cons}
-use Rattle.kh_types.specs.Bits.{bit}
+use Rattle.kh_types.specs.Bits.{bit, one_if}
 use Rattle.kh_types.specs.Code.{Code, arc_in, arc_count, IsArc}
 use Rattle.kh_types.specs.Darts.{dart_at, dart_count, arc_of, times, HasArcsTwice}
 use Rattle.kh_types.specs.Circles.{smoothing_of}
@@ -17,9 +22,14 @@ use Rattle.kh_types.proofs.Lists.{AllByRecursion-append}
 use Rattle.kh_types.proofs.DartPairs.{IsDart-at}
 use Rattle.kh_types.proofs.JoinedSlots.{arc_at-slot}
 use Rattle.dotted_surfaces.specs.Points.{AreAmong}
-use Rattle.added_crossings.specs.Steps.{is_near, near, IsStep}
+use Rattle.added_crossings.specs.Steps.{is_near, near}
 use Rattle.added_crossings.specs.Codes.{ends_among, ends_before, ends_at, is_open, is_alive, points_at, step_at, smoothing_at, outer_smoothings}
 use Rattle.added_crossings.proofs.Members.{are-those, All-contained}
+use Rattle.added_crossings.proofs.CutJoins.{IsStep}
+
+-- how many arcs and loops there are
+abbrev pub count_of : Code → ℕ
+count_of code = arc_count code.crossings + code.loops
 
 -- how the ends are counted
 
@@ -103,9 +113,6 @@ arc-there code k slot twice below slot_below =
     subst (λ x. IsArc code.crossings x) (arc_at-slot code.crossings k slot slot_below)
     (twice.slots (dart_at (4 * k + slot)) (IsDart-at code.crossings (4 * k + slot) (omega (arith, below, slot_below))))
 
-abbrev count_if : Bool → ℕ
-count_if b = cond b 1 0
-
 counted-once : (p : ℕ → Bool) (a n x : ℕ) → a ≤ x → x < a + n → p x ≡ true → 0 < count_by p (range_with_len a n)
 counted-once p a zero x above below is = absurd (omega (arith, above, below))
 counted-once p a (suc n) x above below is = elim (cases_lt a x) [
@@ -120,7 +127,7 @@ counted-once p a (suc n) x above below is = elim (cases_lt a x) [
       omega (
         arith,
         sum_by-cons (λ y. cond (p y) 1 0) a (range_with_len (a + 1) n),
-        ap (λ (b : Bool). count_if b) (ap p same ∙ is),
+        ap (λ (b : Bool). one_if b) (ap p same ∙ is),
       )
 ]
 

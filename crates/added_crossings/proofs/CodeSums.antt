@@ -1,4 +1,8 @@
 -- A crossing and a saddle of a code as surfaces laid over one another.
+--
+-- Old pairing and smoothing join arcs near the crossing, and a state joins what is alive behind it: a cut, on either side (`IsCut-at`).
+-- With one smoothing for two pairings the surface between the pairings is laid so (`IsLaid-both`), and with both smoothings for one pairing
+-- the saddle (`IsLaid-saddle`). The sums over the dots are two instances of one lemma (`sum-added`).
 use Rattle.std.proofs.Common.{◌≡◌, ℕ, ◌+◌, ◌<◌, ◌∙◌, List, [], ◌++◌, length, map, sym, ap, ap₂, subst, arith, append_assoc}
 use Rattle.std.specs.List.{AllByRecursion, Contains}
 use Rattle.std.proofs.lemmas.Bool.{or_left}
@@ -21,7 +25,7 @@ use Rattle.added_crossings.proofs.Whole.{sum-added, IsClosed-added}
 use Rattle.added_crossings.proofs.CodeSteps.{IsStep-at, slot-near, smoothing-among, outer-among, outer-split}
 use Rattle.added_crossings.proofs.NewPairing.{IsNewPairing-made}
 
-pub opened-near : (code : Code) (k x : ℕ) → Contains (points_at code k).opened x → Contains (near (step_at code k)) x
+opened-near : (code : Code) (k x : ℕ) → Contains (points_at code k).opened x → Contains (near (step_at code k)) x
 opened-near code k x has =
     let is = those-are (arc_count code.crossings + code.loops) (is_open code k) x has in
     are-those (arc_count code.crossings + code.loops) (is_near (step_at code k)) x is.above is.below
@@ -93,7 +97,7 @@ both-back f m n s w respects =
     (Respects-append f n (s ++ w) (Respects-first f n s second)
     (Respects-append f s w (Respects-second f m s first) (Respects-second f (n ++ s) w later)))
 
-pub IsLaid-both : (code : Code) (k state smoothing : ℕ) (m n : List (ℕ × ℕ)) → HasArcsTwice code.crossings
+IsLaid-both : (code : Code) (k state smoothing : ℕ) (m n : List (ℕ × ℕ)) → HasArcsTwice code.crossings
     → k < length code.crossings → AreAmong (points_at code k).opened m → AreAmong (points_at code k).opened n
     → IsLaid (step_at code k) (m ++ smoothing_at code k smoothing) (n ++ smoothing_at code k smoothing)
     (pairing_behind code k smoothing m) (pairing_behind code k smoothing n) (outer_smoothings code state (k + 1))
@@ -102,8 +106,10 @@ IsLaid-both code k state smoothing m n twice below first second =
     let s = smoothing_at code k smoothing in
     let w = outer_smoothings code state (k + 1) in
     let alive = (points_at code k).alive in
-    let m_alive = wider code k m twice below (AreAmong-wider (points_at code k).opened (near (step_at code k)) m (opened-near code k) first) in
-    let n_alive = wider code k n twice below (AreAmong-wider (points_at code k).opened (near (step_at code k)) n (opened-near code k) second) in
+    let m_alive = wider code k m twice below
+    (AreAmong-wider (points_at code k).opened (near (step_at code k)) m (opened-near code k) first) in
+    let n_alive = wider code k n twice below
+    (AreAmong-wider (points_at code k).opened (near (step_at code k)) n (opened-near code k) second) in
     record {
       first = IsCut-at code k smoothing state m twice below first;
       second = IsCut-at code k smoothing state n twice below second;
@@ -139,7 +145,8 @@ same-sheet code k state m n dots label other_label below =
     let w = outer_smoothings code state (k + 1) in
     ap₂ (λ (first second : List (ℕ × ℕ)). by_joins code k m n dots label other_label (s ++ w) first second) (append_assoc m s w)
     (append_assoc n s w)
-    ∙ ap (λ (all : List (ℕ × ℕ)). by_joins code k m n dots label other_label all (m ++ all) (n ++ all)) (sym (outer-split code state k below))
+    ∙ ap (λ (all : List (ℕ × ℕ)). by_joins code k m n dots label other_label all (m ++ all) (n ++ all))
+    (sym (outer-split code state k below))
 
 label-split : (code : Code) (k state : ℕ) (m : List (ℕ × ℕ)) (label : ℕ → ℕ) → k < length code.crossings
     → Respects label (m ++ outer_smoothings code state k)
@@ -227,7 +234,8 @@ IsLaid-saddle code k state m twice below among =
     let t = smoothing_at code k 1 in
     let w = outer_smoothings code state (k + 1) in
     let alive = (points_at code k).alive in
-    let m_alive = wider code k m twice below (AreAmong-wider (points_at code k).opened (near (step_at code k)) m (opened-near code k) among) in
+    let m_alive = wider code k m twice below
+    (AreAmong-wider (points_at code k).opened (near (step_at code k)) m (opened-near code k) among) in
     record {
       first = IsCut-at code k 0 state m twice below among;
       second = IsCut-at code k 1 state m twice below among;

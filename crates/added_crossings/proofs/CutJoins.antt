@@ -1,21 +1,17 @@
 -- Near a crossing and outside it: which arcs are open, near or alive, and between which of them joins lie.
-use Rattle.std.proofs.Common.{◌≡◌, ◌↔◌, ℕ, inl, inr, ◌⊎◌, ◌+◌, ◌<◌, ◌≤◌, ◌∙◌, List, [], ◌∷◌, ◌++◌, length, refl, sym, ap, ap₂, subst, arith, Bool, true, false, not, cond, ◌&&◌, ◌||◌}
-use Rattle.std.specs.Prelude.{nat_eq}
-use Rattle.std.specs.List.{filter, list_any, sum_by, range_with_len, Contains}
-use Rattle.std.proofs.lemmas.Bool.{cases_Bool, and_parts, both_ways, eq-eqb, eqb-true, or_left, or_right, not-false}
-use Rattle.std.proofs.lemmas.List.Elements.{Contains-append_cases, Contains-append_left, Contains-append_right}
-use Rattle.std.proofs.lemmas.List.Sums.{sum_by-cons}
-use Rattle.kh_types.proofs.Lists.{Contains-filter}
-use Rattle.kh_types.specs.Classes.{classes_of, is_least, Respects, AreBelow}
-use Rattle.kh_types.proofs.ClassLemmas.{classes-together, classes-finest}
-use Rattle.kh_types.proofs.ListSums.{sum_by-filter, sum_by-plus, sum_by-range_alike}
-use Rattle.dotted_surfaces.proofs.Components.{list_any-contained, list_any-some}
-use Rattle.dotted_surfaces.specs.Points.{AreAmong, least_points, circles}
-use Rattle.added_crossings.specs.Steps.{Step, those, before, after, is_near, near, IsStep, is_none_in, closed_circles, IsNewPairing}
-use Rattle.added_crossings.proofs.Matched.{IsMatched, sum-matched}
-use Rattle.added_crossings.proofs.Members.{IsOneOf, filter-kept, those-are, are-those}
-use Rattle.added_crossings.proofs.Classes.{class_in, both-weaker, AreAmong-wider, AreAmong-append, AreAmong-below, Respects-alike, Respects-first, Respects-second, Respects-append, class-below, class-own, class-is}
-use Rattle.added_crossings.proofs.Picked.{pick, HaveOneValue, pick-has, pick-none}
+use Rattle.std.proofs.Common.{◌≡◌, ℕ, ◌+◌, ◌<◌, ◌≤◌, ◌∙◌, List, ◌++◌, sym, ap₂, arith, Bool, true, ◌&&◌, ◌||◌}
+use Rattle.std.specs.List.{Contains}
+use Rattle.std.proofs.lemmas.Bool.{and_parts, or_left, or_right}
+use Rattle.kh_types.specs.Classes.{AreBelow}
+use Rattle.dotted_surfaces.specs.Points.{AreAmong}
+use Rattle.added_crossings.specs.Steps.{Step, those, before, after, is_near, near, IsNewPairing}
+use Rattle.added_crossings.proofs.Members.{IsOneOf, those-are, are-those}
+use Rattle.added_crossings.proofs.Classes.{class_in, AreAmong-wider, AreAmong-append, AreAmong-below}
+
+-- what is alive before is alive after or near the crossing, and what is both is open after
+pub record IsStep (step : Step) : Type 0 where
+  pub alive : (x : ℕ) → 0 < x → x ≤ step.count → step.alive x ≡ (step.alive_next x || is_near step x)
+  pub opened : (x : ℕ) → 0 < x → x ≤ step.count → step.opened_next x ≡ (step.alive_next x && is_near step x)
 
 -- near the crossing some joins, which make pairs of open arcs, and other joins outside
 pub record IsCut (step : Step) (joins pairs outer : List (ℕ × ℕ)) : Type 0 where
@@ -50,7 +46,7 @@ next-alive step x step_is is = record {
   passes = step_is.alive x is.above (omega (arith, is.below)) ∙ or_left (step.alive_next x) (is_near step x) is.passes;
 }
 
-pub open-both : (step : Step) (x : ℕ) → IsStep step → IsOneOf step.count step.opened_next x
+open-both : (step : Step) (x : ℕ) → IsStep step → IsOneOf step.count step.opened_next x
     → (step.alive_next x ≡ true) × (is_near step x ≡ true)
 open-both step x step_is is =
     and_parts (step.alive_next x) (is_near step x)

@@ -3,6 +3,7 @@ use Rattle.std.proofs.Common.{◌≡◌, ◌≢◌, ℕ, zero, suc, inl, inr, �
 use Rattle.std.specs.Prelude.{nat_eq}
 use Rattle.std.specs.List.{list_all, Contains}
 use Rattle.std.proofs.lemmas.Bool.{cases_Bool, cases_eq, and_parts, or_parts}
+use Rattle.kh_types.specs.Bits.{one_if}
 use Rattle.kh_types.specs.Differential.{is_merge, is_split}
 use Rattle.dotted_surfaces.specs.Surfaces.{weight, product_below}
 use Rattle.dotted_surfaces.proofs.Products.{product_below-ones, product_below-without, without}
@@ -46,9 +47,6 @@ pub record IsEdgeProduct (n : ℕ) (f : ℕ → ℕ) (names circles : List ℕ) 
   pub back : (k : ℕ) → Contains circles k → touched k ≡ false → Contains names k
   pub not_kept : (k : ℕ) → Contains circles k → touched k ≡ false → k ≢ kept
 
-abbrev pub one_when : Bool → ℕ
-one_when b = cond b 1 0
-
 either_true : (a b : Bool) → a ≡ false → (a || b) ≡ true → b ≡ true
 either_true true b fails either = absurd (cc)
 either_true false b fails either = either
@@ -64,26 +62,26 @@ value-edge n f names circles touched agree changes kept is =
           let parts = or_parts (touched found.at) (agree found.at) found.fails in
           let name = is.back found.at found.has parts.0 in
           product-zero n found.at f (is.below found.at name)
-          (is.other found.at name (is.not_kept found.at found.has parts.0) ∙ ap one_when parts.1)
-          ∙ sym (ap (λ b. one_when (b && changes)) breaks)
+          (is.other found.at name (is.not_kept found.at found.has parts.0) ∙ ap one_if parts.1)
+          ∙ sym (ap (λ b. one_if (b && changes)) breaks)
       | inl keeps_all ↦ elim (cases_Bool changes) [
         | inr not ↦
-            product-zero n kept f is.kept_below (is.at_kept ∙ ap one_when not)
-            ∙ sym (ap₂ (λ b d. one_when (b && d)) keeps_all not)
+            product-zero n kept f is.kept_below (is.at_kept ∙ ap one_if not)
+            ∙ sym (ap₂ (λ b d. one_if (b && d)) keeps_all not)
         | inl does ↦
             product_below-ones n f
             (λ k below. elim (is.cases k) [
               | inr one ↦ one
               | inl name ↦ elim (cases_eq k kept) [
-                | inl same ↦ ap f same ∙ is.at_kept ∙ ap one_when does
+                | inl same ↦ ap f same ∙ is.at_kept ∙ ap one_if does
                 | inr other ↦
                     is.other k name other
-                    ∙ ap one_when
+                    ∙ ap one_if
                     (either_true (touched k) (agree k) (is.untouched k name other)
                     (all-true (λ c. touched c || agree c) circles k keeps_all (is.forward k name other)))
               ]
             ])
-            ∙ sym (ap₂ (λ b d. one_when (b && d)) keeps_all does)
+            ∙ sym (ap₂ (λ b d. one_if (b && d)) keeps_all does)
       ]
     ]
 

@@ -1,8 +1,12 @@
 -- Entries behind a crossing, by numbers.
-use Rattle.std.proofs.Common.{◌≡◌, ℕ, ◌+◌, ◌-◌, ◌*◌, ◌^◌, ◌<◌, ◌∙◌, List, [], ◌∷◌, ◌++◌, map, length, sym, ap, ap₂, subst, arith, append_assoc}
+--
+-- The bits of a number are a function of arcs that has one value on each circle, so an entry is the number of `sheet_at`, and its sum over
+-- dots is there (`sum-crossing`). In that sum the labels are turned back into numbers: those of the closed circles and those of the circles
+-- behind; and the sets of dots are the numbers below a power of two (`sum-by_dots`). The saddle's sum is turned likewise.
+use Rattle.std.proofs.Common.{◌≡◌, ℕ, ◌+◌, ◌-◌, ◌*◌, ◌^◌, ◌<◌, ◌∙◌, List, [], ◌∷◌, ◌++◌, map, length, sym, ap, ap₂, subst, append_assoc}
 use Rattle.kh_types.specs.Bits.{bit}
 use Rattle.kh_types.specs.Classes.{Respects}
-use Rattle.kh_types.specs.Code.{Code, arc_count}
+use Rattle.kh_types.specs.Code.{Code}
 use Rattle.kh_types.specs.Products.{sum_below}
 use Rattle.kh_types.proofs.Sums.{sum_below-equal}
 use Rattle.dotted_surfaces.specs.Surfaces.{Surface, IsClosed, value}
@@ -15,15 +19,12 @@ use Rattle.added_crossings.specs.Codes.{is_open, is_alive, points_at, step_at, s
 use Rattle.added_crossings.specs.Saddles.{edge_at, MergesOrSplitsAt, IsPairedAt, opposite}
 use Rattle.added_crossings.specs.Labels.{label_at, number_of}
 use Rattle.added_crossings.specs.Entries.{entry_sheet, entry_at, coefficient_sheet, added_surface, saddle_surface, label_before, closed_label, label_behind, ArePairedAt, AreEntriesClosed}
-use Rattle.added_crossings.proofs.CodeSteps.{outer-split}
+use Rattle.added_crossings.proofs.CodeSteps.{outer-split, count_of}
 use Rattle.added_crossings.proofs.CodeSums.{IsCut-at, sum-crossing, sum-saddle}
 use Rattle.added_crossings.proofs.CutJoins.{whole-among}
 use Rattle.added_crossings.proofs.Labels.{bit-below, marked-labels, marked_else-labels, Respects-label, marked-number_of}
 use Rattle.added_crossings.proofs.SaddleValues.{value-saddle}
 use Rattle.added_crossings.proofs.NumberedLabels.{marked_else-number_of, sum-by_dots, caps-first, caps-second}
-
-abbrev count_of : Code → ℕ
-count_of code = arc_count code.crossings + code.loops
 
 -- a surface by its faces
 abbrev far_of : Code → ℕ → ℕ → List (ℕ × ℕ) → List (ℕ × ℕ) → List (ℕ × ℕ) → List (ℕ × ℕ) → List (ℕ × ℕ) → Surface
@@ -51,14 +52,16 @@ same-entry code k state m n dots label other =
     let count = count_of code in
     let w = outer_smoothings code state k in
     let points = points_at code k in
-    ap (λ (faces : List (ℕ × ℕ)). far_of code k state m n faces (marked label (circles points m w)) (marked_else other (circles points n w)))
+    ap (λ (faces : List (ℕ × ℕ)). far_of code k state m n faces (marked label (circles points m w))
+    (marked_else other (circles points n w)))
     (marked-labels count (is_open code k) (m ++ n) dots)
     ∙ ap₂ (λ (first second : List (ℕ × ℕ)).
     far_of code k state m n (marked_by (label_at points.size points.opened (m ++ n) dots) (discs points m n)) first second)
     (marked-labels count (is_alive code k) (m ++ w) label) (marked_else-labels count (is_alive code k) (n ++ w) other)
 
 -- the parts, with labels as numbers
-same-far : (code : Code) (k state first second : ℕ) (m n : List (ℕ × ℕ)) (f g : ℕ → ℕ) (kept : ℕ) → ((x : ℕ) → f x < 2) → ((x : ℕ) → g x < 2)
+same-far : (code : Code) (k state first second : ℕ) (m n : List (ℕ × ℕ)) (f g : ℕ → ℕ) (kept : ℕ) → ((x : ℕ) → f x < 2)
+    → ((x : ℕ) → g x < 2)
     → with_faces (outside_at code k state (pairing_behind code k first m) (pairing_behind code k second n) f (opposite g))
     (marked kept (discs_behind code k first second m n))
     ≡ entry_sheet code (k + 1) state (pairing_behind code k first m) (pairing_behind code k second n) kept
@@ -95,7 +98,7 @@ label-respects code k state smoothing number m n at =
     (whole-among (step_at code k) (m ++ smoothing_at code k smoothing) (pairing_behind code k smoothing m)
     (outer_smoothings code state (k + 1)) (IsCut-at code k smoothing state m at.twice at.crossing at.first))
 
-pub turned-pair : (code : Code) (k : ℕ) (m n : List (ℕ × ℕ)) → ArePairedAt code k m n → ArePairedAt code k n m
+turned-pair : (code : Code) (k : ℕ) (m n : List (ℕ × ℕ)) → ArePairedAt code k m n → ArePairedAt code k n m
 turned-pair code k m n at = record { twice = at.twice; crossing = at.crossing; first = at.second; second = at.first }
 
 opposite-respects : (f : ℕ → ℕ) (pairs : List (ℕ × ℕ)) → Respects f pairs → Respects (opposite f) pairs
@@ -123,8 +126,10 @@ entries-add_up code k state m n dots label other at closed =
     let d : ℕ → ℕ = label_at points.size points.opened (m ++ n) dots in
     let f_old : ℕ → ℕ = label_at points.size points.alive (m ++ outer_smoothings code state k) label in
     let g_old : ℕ → ℕ = label_at points.size points.alive (n ++ outer_smoothings code state k) other in
-    let f_same : f_old ≡ f = ap (λ (js : List (ℕ × ℕ)). label_at points.size points.alive js label) (split-joins code k state m at.crossing) in
-    let g_same : g_old ≡ g = ap (λ (js : List (ℕ × ℕ)). label_at points.size points.alive js other) (split-joins code k state n at.crossing) in
+    let f_same : f_old ≡ f = ap (λ (js : List (ℕ × ℕ)). label_at points.size points.alive js label)
+    (split-joins code k state m at.crossing) in
+    let g_same : g_old ≡ g = ap (λ (js : List (ℕ × ℕ)). label_at points.size points.alive js other)
+    (split-joins code k state n at.crossing) in
     let f_bits : (x : ℕ) → f x < 2 = λ x. bit-below label _ in
     let g_bits : (x : ℕ) → g x < 2 = λ x. bit-below other _ in
     let discs_new = discs_behind code k e e m n in
@@ -171,7 +176,8 @@ entries-add_up code k state m n dots label other at closed =
     ap₂ (λ (first second : Surface). value first * value second) (close_same kept)
     (same-far code k state e e m n f g kept f_bits g_bits))
 
-pub saddle-adds_up : (code : Code) (k state : ℕ) (m : List (ℕ × ℕ)) (label other : ℕ) → IsPairedAt code k m → MergesOrSplitsAt code k state m
+pub saddle-adds_up : (code : Code) (k state : ℕ) (m : List (ℕ × ℕ)) (label other : ℕ) → IsPairedAt code k m
+    → MergesOrSplitsAt code k state m
     → AreEntriesClosed
     (entry_sheet code (k + 1) state (pairing_behind code k 0 m) (pairing_behind code k 1 m) 0 (label_behind code k 0 state m label)
     (label_behind code k 1 state m other))

@@ -2,27 +2,26 @@
 --
 -- The new circles and the old ones are matched one to one by the class of all joins, and back by `led`. So sums of what has one value on
 -- each circle are the same over both (`sum-circles`), and with ones there are as many (`count-circles`).
-use Rattle.std.proofs.Common.{◌≡◌, ◌↔◌, ℕ, inl, inr, ◌⊎◌, ◌+◌, ◌<◌, ◌≤◌, ◌∙◌, List, [], ◌∷◌, ◌++◌, length, refl, sym, ap, ap₂, subst, arith, Bool, true, false, not, cond, ◌&&◌, ◌||◌}
+use Rattle.std.proofs.Common.{◌≡◌, ◌↔◌, ℕ, inl, inr, ◌⊎◌, ◌+◌, ◌<◌, ◌≤◌, ◌∙◌, List, [], ◌∷◌, ◌++◌, length, refl, sym, ap, ap₂, arith, Bool, true, false, not, cond, ◌&&◌, ◌||◌}
 use Rattle.std.specs.Prelude.{nat_eq}
-use Rattle.std.specs.List.{filter, list_any, sum_by, range_with_len, Contains}
-use Rattle.std.proofs.lemmas.Bool.{cases_Bool, and_parts, both_ways, eq-eqb, eqb-true, or_left, or_right, or_cases, not-true, not-false}
+use Rattle.std.specs.List.{filter, sum_by, range_with_len, Contains}
+use Rattle.std.proofs.lemmas.Bool.{and_parts, both_ways, eq-eqb, eqb-true}
 use Rattle.std.proofs.lemmas.List.Elements.{Contains-append_cases, Contains-append_left, Contains-append_right}
 use Rattle.std.proofs.lemmas.List.Sums.{sum_by-cons}
 use Rattle.kh_types.proofs.Lists.{Contains-filter}
-use Rattle.kh_types.specs.Classes.{classes_of, is_least, Respects, AreBelow}
-use Rattle.kh_types.proofs.ClassLemmas.{classes-together, classes-finest}
+use Rattle.kh_types.specs.Classes.{classes_of, is_least, Respects}
+use Rattle.kh_types.proofs.ClassLemmas.{classes-finest}
 use Rattle.kh_types.proofs.ListSums.{sum_by-filter, sum_by-plus, sum_by-range_alike}
-use Rattle.dotted_surfaces.proofs.Components.{list_any-contained, list_any-some}
-use Rattle.dotted_surfaces.specs.Points.{AreAmong, least_points, circles}
-use Rattle.added_crossings.specs.Steps.{Step, those, before, after, is_near, near, IsStep, is_none_in, closed_circles, IsNewPairing}
+use Rattle.dotted_surfaces.proofs.Components.{list_any-contained}
+use Rattle.dotted_surfaces.specs.Points.{least_points, circles}
+use Rattle.added_crossings.specs.Steps.{Step, before, after, is_near, near, closed_circles}
 use Rattle.added_crossings.proofs.Matched.{IsMatched, sum-matched}
 use Rattle.added_crossings.proofs.Members.{IsOneOf, filter-kept, those-are, are-those}
-use Rattle.added_crossings.proofs.Classes.{class_in, both-weaker, AreAmong-wider, AreAmong-append, AreAmong-below, Respects-alike, Respects-first, Respects-second, Respects-append, class-below, class-own, class-is}
-use Rattle.added_crossings.proofs.Picked.{pick, HaveOneValue, pick-has, pick-none}
+use Rattle.added_crossings.proofs.Classes.{class-below, class-own, class-is}
 pub use Rattle.added_crossings.proofs.CutJoins.{IsCut, near-has, next-has, outside-among, whole-among, whole-joins}
-use Rattle.added_crossings.proofs.CutJoins.{IsCut, near_class, outer_class, whole_class, near-alive, next-alive, open-both, both-open, in-those, open-alive, open-near, near-has, next-has, outside-among, whole-among, near-joins, outside-joins, whole-joins}
-use Rattle.added_crossings.proofs.CarriedClasses.{carried, retracted, carried-open, carried-none, retracted-near, retracted-outside, retracted-same, outside-same, near-same, whole-respects}
-use Rattle.added_crossings.proofs.LedCircles.{none_in, stays, closes, is_new, is_old, Stays, Closes, new-cases, new-apart, led, led-leads, new-alive}
+use Rattle.added_crossings.proofs.CutJoins.{IsCut, near_class, outer_class, whole_class, both-open, in-those, near-has, next-has, outside-among, whole-among, whole-joins, IsStep}
+use Rattle.added_crossings.proofs.CarriedClasses.{retracted-outside, retracted-same, outside-same, whole-respects}
+use Rattle.added_crossings.proofs.LedCircles.{none_in, is_new, is_old, Stays, Closes, new-cases, new-apart, led, led-leads, new-alive}
 
 record IsOld (step : Step) (joins outer : List (ℕ × ℕ)) (z : ℕ) : Type 0 where
   alive : step.alive z ≡ true

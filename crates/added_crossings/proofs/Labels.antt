@@ -1,4 +1,8 @@
 -- Labels as numbers and as functions.
+--
+-- The circles in their list are apart, so the place of a circle is where it stands: marks by the bits of a number are marks by the function
+-- that reads the bit at the place of an arc's circle (`marked-labels`). The other way round, the values of a function of 0 and 1 at some
+-- circles are the bits of a number (`marked-number_of`).
 use Rattle.std.proofs.Common.{◌≡◌, ◌≢◌, ℕ, zero, suc, ◌+◌, ◌-◌, ◌*◌, ◌/◌, ◌%◌, ◌^◌, ◌<◌, ◌∙◌, List, [], ◌∷◌, map, length, refl, sym, ap, ap₂, subst, arith, Bool, true, false, not, cond, ◌&&◌}
 use Rattle.std.specs.Prelude.{nat_eq, slice_index}
 use Rattle.std.specs.List.{filter, enumerate_from, position_or_len, range_with_len, Contains}
@@ -11,7 +15,7 @@ use Rattle.kh_types.proofs.FilteredRanges.{filter-filter}
 use Rattle.dotted_surfaces.proofs.Components.{AllByRecursion-weaker}
 use Rattle.dotted_surfaces.specs.Points.{AreAmong, least_points}
 use Rattle.added_crossings.specs.Pairings.{marked_by}
-use Rattle.added_crossings.specs.Steps.{those}
+use Rattle.added_crossings.specs.Steps.{those, pair_with}
 use Rattle.added_crossings.specs.Saddles.{opposite}
 use Rattle.dotted_surfaces.specs.Sheets.{marked, marked_else}
 use Rattle.added_crossings.specs.Labels.{label_at, number_of}
@@ -52,9 +56,6 @@ map-on {X} f g (x ∷ xs) alike =
     ap₂ (λ (y : X) (ys : List X). y ∷ ys) (alike x (0, omega arith, refl)) (map-on f g xs (λ y has. alike y (Contains-next x y xs has)))
 
 -- what stands at the places of elements, by the elements
-abbrev paired_with : ℕ → ℕ → ℕ × ℕ
-paired_with x y = (x, y)
-
 abbrev at_place : (ℕ → ℕ) → ℕ × ℕ → ℕ × ℕ
 at_place h at = (at.1, h at.0)
 
@@ -72,7 +73,7 @@ by-places h j (x ∷ xs) apart =
     let first : position_or_len (nat_eq x) (x ∷ xs) ≡ 0 =
     ap (λ b. cond (not b) (1 + position_or_len (nat_eq x) xs) 0) (eq-eqb x x refl) in
     let here : j ≡ j + position_or_len (nat_eq x) (x ∷ xs) = omega (arith, first) in
-    ap₂ (λ (y : ℕ × ℕ) (ys : List (ℕ × ℕ)). y ∷ ys) (ap (λ (i : ℕ). paired_with x (h i)) here)
+    ap₂ (λ (y : ℕ × ℕ) (ys : List (ℕ × ℕ)). y ∷ ys) (ap (λ (i : ℕ). pair_with x (h i)) here)
     (by-places h (j + 1) xs apart.1
     ∙ map-on (at_element h (j + 1) xs) (at_element h j (x ∷ xs)) xs
     (λ y has.
@@ -80,7 +81,7 @@ by-places h j (x ∷ xs) apart =
     ap (λ b. cond (not b) (1 + position_or_len (nat_eq y) xs) 0)
     (false_from_ne_true (nat_eq y x) (λ same. apart.0 y has (eqb-true y x same))) in
     let place : j + 1 + position_or_len (nat_eq y) xs ≡ j + position_or_len (nat_eq y) (x ∷ xs) = omega (arith, later) in
-    ap (λ (i : ℕ). paired_with y (h i)) place))
+    ap (λ (i : ℕ). pair_with y (h i)) place))
 
 names-own : (count : ℕ) (test : ℕ → Bool) (joins : List (ℕ × ℕ)) (x : ℕ)
     → Contains (least_points (count + 1) (those count test) joins) x → slice_index (classes_of (count + 1) joins) x ≡ x
@@ -97,7 +98,7 @@ by-labels h count test joins xs is =
     (λ x has.
     let own = names-own count test joins x (subst (λ (zs : List ℕ). Contains zs x) is has) in
     let place : 0 + position_or_len (nat_eq x) xs ≡ position_or_len (nat_eq x) xs = omega arith in
-    ap (λ (i : ℕ). paired_with x (h i)) (place ∙ ap (λ (c : ℕ). position_or_len (nat_eq c) xs) (sym own)))
+    ap (λ (i : ℕ). pair_with x (h i)) (place ∙ ap (λ (c : ℕ). position_or_len (nat_eq c) xs) (sym own)))
 
 pub marked-labels : (count : ℕ) (test : ℕ → Bool) (joins : List (ℕ × ℕ)) (number : ℕ)
     → marked number (least_points (count + 1) (those count test) joins)
@@ -133,14 +134,14 @@ later-bit l rest i below =
     ap (λ p. (l + 2 * rest) / p % 2) power ∙ ap (λ q. q % 2) (sym (div-div-eq-div-mul (l + 2 * rest) 2 (2 ^ i)))
     ∙ ap (λ q. q / 2 ^ i % 2) half
 
-pub numbered : (label : ℕ → ℕ) (xs : List ℕ) (j number : ℕ) → ((x : ℕ) → label x < 2)
+numbered : (label : ℕ → ℕ) (xs : List ℕ) (j number : ℕ) → ((x : ℕ) → label x < 2)
     → ((i : ℕ) → bit number (j + i) ≡ bit (number_of label xs) i)
     → map (at_place (bit number)) (enumerate_from j xs) ≡ marked_by label xs
 numbered label [] j number bits same = refl
 numbered label (x ∷ xs) j number bits same =
     let here : bit number j ≡ label x =
     ap (λ (i : ℕ). bit number i) (let e : j ≡ j + 0 = omega arith in e) ∙ same 0 ∙ first-bit (label x) (number_of label xs) (bits x) in
-    ap₂ (λ (y : ℕ × ℕ) (ys : List (ℕ × ℕ)). y ∷ ys) (ap (λ (b : ℕ). paired_with x b) here)
+    ap₂ (λ (y : ℕ × ℕ) (ys : List (ℕ × ℕ)). y ∷ ys) (ap (λ (b : ℕ). pair_with x b) here)
     (numbered label xs (j + 1) number bits
     (λ i.
     ap (λ (k : ℕ). bit number k) (let e : j + 1 + i ≡ j + (i + 1) = omega arith in e) ∙ same (i + 1)

@@ -5,25 +5,17 @@
 -- one circle of all are one (`new-apart`). Back from a point of a circle of all leads `led`: to its class outside where it is there; where
 -- it is not, it is near the crossing, and leads to its class there, if that is closed, or to the class outside of an open arc in it
 -- (`led-leads`).
-use Rattle.std.proofs.Common.{◌≡◌, ◌↔◌, ℕ, inl, inr, ◌⊎◌, ◌+◌, ◌<◌, ◌≤◌, ◌∙◌, List, [], ◌∷◌, ◌++◌, length, refl, sym, ap, ap₂, subst, arith, Bool, true, false, not, cond, ◌&&◌, ◌||◌}
+use Rattle.std.proofs.Common.{◌≡◌, ℕ, inl, inr, ◌⊎◌, ◌+◌, ◌<◌, ◌≤◌, ◌∙◌, List, ◌++◌, sym, ap, ap₂, subst, arith, Bool, true, false, cond, ◌&&◌, ◌||◌}
 use Rattle.std.specs.Prelude.{nat_eq}
-use Rattle.std.specs.List.{filter, list_any, sum_by, range_with_len, Contains}
-use Rattle.std.proofs.lemmas.Bool.{cases_Bool, and_parts, both_ways, eq-eqb, eqb-true, or_left, or_right, or_cases, not-true, not-false}
-use Rattle.std.proofs.lemmas.List.Elements.{Contains-append_cases, Contains-append_left, Contains-append_right}
-use Rattle.std.proofs.lemmas.List.Sums.{sum_by-cons}
-use Rattle.kh_types.proofs.Lists.{Contains-filter}
-use Rattle.kh_types.specs.Classes.{classes_of, is_least, Respects, AreBelow}
-use Rattle.kh_types.proofs.ClassLemmas.{classes-together, classes-finest}
-use Rattle.kh_types.proofs.ListSums.{sum_by-filter, sum_by-plus, sum_by-range_alike}
-use Rattle.dotted_surfaces.proofs.Components.{list_any-contained, list_any-some}
-use Rattle.dotted_surfaces.specs.Points.{AreAmong, least_points, circles}
-use Rattle.added_crossings.specs.Steps.{Step, those, before, after, is_near, near, IsStep, is_none_in, closed_circles, IsNewPairing}
-use Rattle.added_crossings.proofs.Matched.{IsMatched, sum-matched}
-use Rattle.added_crossings.proofs.Members.{IsOneOf, filter-kept, those-are, are-those}
-use Rattle.added_crossings.proofs.Classes.{class_in, both-weaker, AreAmong-wider, AreAmong-append, AreAmong-below, Respects-alike, Respects-first, Respects-second, Respects-append, class-below, class-own, class-is}
-use Rattle.added_crossings.proofs.Picked.{pick, HaveOneValue, pick-has, pick-none}
-use Rattle.added_crossings.proofs.CutJoins.{IsCut, near_class, outer_class, whole_class, near-alive, next-alive, open-both, both-open, in-those, open-alive, open-near, near-has, next-has, outside-among, whole-among, near-joins, outside-joins, whole-joins}
-use Rattle.added_crossings.proofs.CarriedClasses.{carried, retracted, carried-open, carried-none, retracted-near, retracted-outside, retracted-same, outside-same, near-same, whole-respects}
+use Rattle.std.specs.List.{list_any, Contains}
+use Rattle.std.proofs.lemmas.Bool.{cases_Bool, and_parts, eq-eqb, eqb-true, or_left, or_right, or_cases, not-false}
+use Rattle.kh_types.specs.Classes.{classes_of, is_least}
+use Rattle.dotted_surfaces.proofs.Components.{list_any-some}
+use Rattle.added_crossings.specs.Steps.{Step, after, is_near, is_none_in}
+use Rattle.added_crossings.proofs.Members.{IsOneOf, those-are}
+use Rattle.added_crossings.proofs.Classes.{class-own, class-is}
+use Rattle.added_crossings.proofs.CutJoins.{IsCut, near_class, outer_class, whole_class, near-alive, next-alive, in-those, open-alive, outside-among, near-joins, outside-joins, IsStep}
+use Rattle.added_crossings.proofs.CarriedClasses.{carried, retracted, carried-open, carried-none, retracted-near, retracted-outside, outside-same, near-same, whole-respects}
 
 -- the circles outside, the closed ones, and those of all
 abbrev pub none_in : Step → List (ℕ × ℕ) → ℕ → Bool

@@ -47,7 +47,7 @@ range-within a n x (k, below, is) =
     let at : a + k ≡ x = sym (get_or-range_with_len a n k x within) ∙ is in
     record { above = omega (arith, at); below = omega (arith, at, within) }
 
-pub within-range : (a n x : ℕ) → a ≤ x → x < a + n → Contains (range_with_len a n) x
+within-range : (a n x : ℕ) → a ≤ x → x < a + n → Contains (range_with_len a n) x
 within-range a n x above below =
     let size = length-range_with_len a n in
     (x - a, omega (arith, above, below, size), get_or-range_with_len a n (x - a) x (omega (arith, above, below)) ∙ omega (arith, above))

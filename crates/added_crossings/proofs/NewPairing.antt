@@ -10,9 +10,10 @@ use Rattle.kh_types.proofs.Lists.{AllByRecursion-append, Contains-filter, Contai
 use Rattle.dotted_surfaces.proofs.Components.{AllByRecursion-at, AllByRecursion-weaker}
 use Rattle.dotted_surfaces.proofs.TwoSides.{AllByRecursion-map}
 use Rattle.dotted_surfaces.specs.Points.{AreAmong}
-use Rattle.added_crossings.specs.Steps.{Step, after, is_near, near, IsStep, is_mate, pair_with, pairs_at, pairs_among, new_pairing, IsNewPairing}
+use Rattle.added_crossings.specs.Steps.{Step, after, is_near, near, is_mate, pair_with, pairs_at, pairs_among, new_pairing, IsNewPairing}
 use Rattle.added_crossings.proofs.Members.{filter-kept, those-are, All-contained, Contains-next}
 use Rattle.added_crossings.proofs.Classes.{AreAmong-below}
+use Rattle.added_crossings.proofs.CutJoins.{IsStep}
 
 AllByRecursion-flat_map : {X Y : Type 0} (P : Y → Type 0) (f : X → List Y) (xs : List X)
     → ((x : X) → Contains xs x → AllByRecursion P (f x)) → AllByRecursion P (flat_map f xs)
@@ -51,7 +52,7 @@ less-true : (x y : ℕ) → x < y → nat_lt x y ≡ true
 less-true x y is = grind (arith, nat_tests)
 
 -- and each such pair is one
-pub has-pair : (points classes : List ℕ) (x y : ℕ) → Contains points x → Contains points y → x < y
+has-pair : (points classes : List ℕ) (x y : ℕ) → Contains points x → Contains points y → x < y
     → slice_index classes x ≡ slice_index classes y → Contains (pairs_among points classes) (x, y)
 has-pair points classes x y has y_has rises same =
     Contains-flat_map (pairs_at points classes) points x (x, y) has

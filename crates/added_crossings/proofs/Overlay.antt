@@ -1,4 +1,8 @@
 -- The surface outside, laid over that which a crossing adds.
+--
+-- The one has the places that are alive after the crossing, the other those near it; a place of both is open after the crossing. On either
+-- side such an arc is in the component of a disc of the new pairings: so the two meet along these discs (`MeetAlong-discs`), and all that
+-- they are made of lies at their places.
 use Rattle.std.proofs.Common.{ℕ, ◌+◌, ◌<◌, List, [], ◌++◌, refl, sym, arith, Bool}
 use Rattle.std.specs.List.{AllByRecursion, Contains}
 use Rattle.std.proofs.lemmas.Bool.{eq-eqb}

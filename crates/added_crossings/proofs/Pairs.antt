@@ -1,4 +1,8 @@
 -- The new pairing of a pairing is one.
+--
+-- The new pairs at an open arc are as many as the other open arcs of its class. Near the crossing an arc that is open after it is an end of
+-- one of the joins, and any other arc of two (`HaveDegrees-at`). So, by the ends that are free (`Slack`), a class with one open arc has
+-- two, and each open arc is an end of exactly one new pair (`IsPaired-behind`).
 use Rattle.std.proofs.Common.{◌≡◌, ◌≢◌, ℕ, suc, inl, inr, ◌+◌, ◌-◌, ◌*◌, ◌<◌, ◌≤◌, ◌∙◌, List, [], ◌∷◌, ◌++◌, length, refl, sym, ap, ap₂, subst, arith, Bool, true, false, cond, ◌&&◌, ◌||◌}
 use Rattle.std.specs.Prelude.{nat_eq, nat_lt, slice_index, slice_index_or}
 use Rattle.std.specs.List.{filter, sum_by, range_with_len, Contains}
@@ -16,17 +20,14 @@ use Rattle.kh_types.proofs.JoinedSlots.{arc_at-slot}
 use Rattle.kh_types.proofs.ListSums.{sum_by-map, sum_by-filter, sum_by-flat_map, sum_by-plus, sum_by-single, sum_by-zeros, sum_by-alike, sum_by-turned, sum_by-range_alike}
 use Rattle.dotted_surfaces.specs.Points.{AreAmong}
 use Rattle.added_crossings.specs.Pairings.{ends_in, degree, IsPaired}
-use Rattle.added_crossings.specs.Steps.{Step, those, after, is_near, near, IsStep, is_mate, pair_with, pairs_at, pairs_among, new_pairing}
+use Rattle.added_crossings.specs.Steps.{Step, those, after, is_near, near, is_mate, pair_with, pairs_at, pairs_among, new_pairing}
 use Rattle.added_crossings.specs.Codes.{ends_before, ends_at, is_open, points_at, step_at, smoothing_at, pairing_behind}
 use Rattle.added_crossings.proofs.Members.{IsOneOf, those-are, are-those}
 use Rattle.added_crossings.proofs.Classes.{class_in, AreAmong-below, class-is, together-is, positive-lt, positive-true}
-use Rattle.added_crossings.proofs.CutJoins.{open-near}
-use Rattle.added_crossings.proofs.Slack.{free_in, HasEven, AreEven-classes}
+use Rattle.added_crossings.proofs.CutJoins.{open-near, IsStep}
+use Rattle.added_crossings.proofs.Slack.{zero_or, free_in, HasEven, AreEven-classes}
 use Rattle.added_crossings.proofs.CodeSteps.{IsStep-at, few-ends, ends_before-more}
 use Rattle.added_crossings.proofs.CodeSums.{joins-near, AreAmong-behind}
-
-abbrev none_or : Bool → ℕ → ℕ
-none_or b n = cond b n 0
 
 -- of a sum over points only one counts
 pub only-one : (count : ℕ) (test : ℕ → Bool) (g : ℕ → ℕ) (x : ℕ) → IsOneOf count test x
@@ -37,12 +38,12 @@ only-one count test g x is =
     (λ y above below other. zero (test y) y x (g y) other)
     ∙ ap₂ (λ b d. cond b (cond d (g x) 0) 0) is.passes (eq-eqb x x refl)
   where
-    zero : (b : Bool) (y x s : ℕ) → y ≢ x → none_or b (none_or (nat_eq y x) s) ≡ 0
+    zero : (b : Bool) (y x s : ℕ) → y ≢ x → zero_or b (zero_or (nat_eq y x) s) ≡ 0
     zero b y x s other = grind (arith, nat_tests)
 
 -- how many pairs have a point as an end: those with a greater point of its class, and those with a lesser one
 
-split-mate : (b c d : Bool) → none_or b (one_if c + one_if d) ≡ none_or c (one_if b) + none_or d (one_if b)
+split-mate : (b c d : Bool) → zero_or b (one_if c + one_if d) ≡ zero_or c (one_if b) + zero_or d (one_if b)
 split-mate true true true = refl
 split-mate true true false = refl
 split-mate true false true = refl
@@ -143,7 +144,8 @@ free-class step joins x among degrees is =
     ∙ sum_by-range_alike free counted 1 step.count
     (λ y above y_below. elim (cases_Bool (nat_eq (class y) (class x))) [
       | inl same ↦
-          let y_is = together-is step.count (is_near step) joins x y among is (omega (arith, y_below)) (eqb-true (class y) (class x) same) in
+          let y_is = together-is step.count (is_near step) joins x y among is (omega (arith, y_below))
+          (eqb-true (class y) (class x) same) in
           ap (λ b. cond b (2 - degree joins y) 0) same ∙ degrees.near_degree y y_is
           ∙ ap (λ b. cond (step.opened_next y) (one_if b) 0) (sym same)
       | inr other ↦
@@ -152,7 +154,7 @@ free-class step joins x among degrees is =
     ])
     ∙ sym (sum_by-filter (λ y. one_if (nat_eq (class y) (class x))) step.opened_next (range_with_len 1 step.count))
   where
-    neither : (b : Bool) → none_or b (one_if false) ≡ 0
+    neither : (b : Bool) → zero_or b (one_if false) ≡ 0
     neither true = refl
     neither false = refl
 
@@ -160,7 +162,7 @@ even-one : (count degree : ℕ) → count ≡ degree + 1 → HasEven count → d
 even-one count degree is (inl none) = omega (arith, is, none)
 even-one count degree is (inr two) = omega (arith, is, two)
 
-pub degree-new : (step : Step) (joins : List (ℕ × ℕ)) (x : ℕ) → IsStep step → AreAmong (near step) joins
+degree-new : (step : Step) (joins : List (ℕ × ℕ)) (x : ℕ) → IsStep step → AreAmong (near step) joins
     → HaveDegrees step joins → Contains (after step).opened x → degree (new_pairing step joins) x ≡ 1
 degree-new step joins x step_is among degrees has =
     let n = step.count + 1 in
@@ -174,7 +176,7 @@ degree-new step joins x step_is among degrees has =
 
 -- the degrees at a crossing of a code
 
-pub degree-none : (points : List ℕ) (pairs : List (ℕ × ℕ)) (x : ℕ) → AreAmong points pairs → (Contains points x → ⊥)
+degree-none : (points : List ℕ) (pairs : List (ℕ × ℕ)) (x : ℕ) → AreAmong points pairs → (Contains points x → ⊥)
     → degree pairs x ≡ 0
 degree-none points [] x among not = refl
 degree-none points (pair ∷ pairs) x among not =

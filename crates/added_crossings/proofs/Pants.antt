@@ -1,4 +1,8 @@
 -- The surface of one pairing in which two circles become one: cylinders, and a pair of pants.
+--
+-- In the Euler count the disc of each pair and the half strips at its two ends cancel (`sum-paired`). What is left of a component is its
+-- circles and the saddle's strip. A circle that stays has two faces, before and after: a cylinder (`factor-other`). The component of the
+-- change has three faces and two half strips more: a pair of pants (`factor-kept`). No other number is a component (`component-cases`).
 use Rattle.std.proofs.Common.{◌≡◌, ◌≢◌, ℕ, inl, inr, ◌⊎◌, ◌+◌, ◌*◌, ◌<◌, ◌∙◌, List, [], ◌∷◌, ◌++◌, map, refl, sym, ap, ap₂, subst, arith, Bool, true, false, not, cond, ◌&&◌}
 use Rattle.std.specs.Prelude.{nat_eq, slice_index}
 use Rattle.std.specs.List.{filter, sum_by, range_with_len, Contains}
@@ -63,7 +67,7 @@ sum-paired count test f pairs paired =
     paired.among)
 
 -- of a sum over names only one counts
-pub only-one-name : (count : ℕ) (test q : ℕ → Bool) (g : ℕ → ℕ) (x : ℕ) → Contains (filter q (those count test)) x
+only-one-name : (count : ℕ) (test q : ℕ → Bool) (g : ℕ → ℕ) (x : ℕ) → Contains (filter q (those count test)) x
     → sum_by (λ y. cond (nat_eq y x) (g y) 0) (filter q (those count test)) ≡ g x
 only-one-name count test q g x has =
     let kept = filter-kept q (those count test) x has in
@@ -328,7 +332,8 @@ factor-kept count alive opened m all fine a kept gone first second pants has =
     closed faces lowers discs kept is_faces is_lowers = grind (arith, nat_tests)
 
 -- any other number is no component
-pub component-cases : (count : ℕ) (alive opened : ℕ → Bool) (m all : List (ℕ × ℕ)) (fine : List ℕ) (a kept gone k : ℕ) (first second : ℕ → ℕ)
+pub component-cases : (count : ℕ) (alive opened : ℕ → Bool) (m all : List (ℕ × ℕ)) (fine : List ℕ) (a kept gone k : ℕ)
+    (first second : ℕ → ℕ)
     → ArePants count alive opened m all fine a kept gone
     → Contains (names count alive (classes_of (count + 1) all)) k
     ⊎ (factor (pants_of count alive opened m all fine a first second) k ≡ 1)

@@ -1,10 +1,16 @@
 -- The number of a saddle's surface is the coefficient of its edge.
+--
+-- Where two circles become one, the components of the surface are the circles behind; where one becomes two, they are the circles before.
+-- Either way the surface is one of `Pants`, with both sides in their order or exchanged. Its number is a product over components: of
+-- cylinders, which say that labels stay, and of the pair of pants, which is a row of the merge table or of the split table
+-- (`EdgeProducts`).
 use Rattle.std.proofs.Common.{◌≡◌, ◌≢◌, ℕ, inl, inr, ◌+◌, ◌<◌, ◌∙◌, List, [], ◌∷◌, ◌++◌, map, refl, sym, ap, ap₂, subst, arith, Bool, false, ◌||◌}
 use Rattle.std.specs.Prelude.{nat_eq, slice_index, slice_index_or}
 use Rattle.std.specs.List.{filter, range_with_len, Contains}
 use Rattle.std.proofs.lemmas.Bool.{cases_eq, eq-eqb, both_ways, false_from_ne_true}
 use Rattle.std.proofs.lemmas.List.Sorted.{IsPermutation-refl, IsPermutation-append_right, IsPermutation-append_comm}
-use Rattle.kh_types.specs.Code.{Code, arc_in, arc_count}
+use Rattle.kh_types.specs.Bits.{one_if}
+use Rattle.kh_types.specs.Code.{Code, arc_in}
 use Rattle.kh_types.specs.Classes.{classes_of, is_least, Respects}
 use Rattle.kh_types.specs.Differential.{is_merge, is_split}
 use Rattle.kh_types.proofs.ClassLemmas.{classes-together, classes-finest}
@@ -16,21 +22,16 @@ use Rattle.dotted_surfaces.proofs.Renamed.{value-reordered}
 use Rattle.dotted_surfaces.specs.Points.{AreAmong}
 use Rattle.added_crossings.specs.Pairings.{marked_by}
 use Rattle.added_crossings.specs.Steps.{those, near}
-use Rattle.added_crossings.specs.Codes.{is_open, is_alive, points_at, step_at, smoothing_at, outer_smoothings, pairing_behind, circles_before, circle_before, arc_there, disc_of, saddle_strips, saddle_sheet}
+use Rattle.added_crossings.specs.Codes.{is_open, is_alive, points_at, step_at, smoothing_at, outer_smoothings, circles_before, circle_before, arc_there, disc_of, saddle_strips, saddle_sheet}
 use Rattle.added_crossings.specs.Saddles.{is_touched_at, touched_at, changes_labels_at, edge_at, TwoBecomeOneAt, MergesOrSplitsAt, IsPairedAt, AreBits, opposite}
 use Rattle.added_crossings.proofs.Members.{filter-kept, those-are, are-those, Contains-cons_cases}
 use Rattle.added_crossings.proofs.Classes.{class_in, both-weaker, AreAmong-below, Respects-first, Respects-second, Respects-append, class-own, class-is}
-use Rattle.added_crossings.proofs.CutJoins.{IsCut, near-has, whole-among}
-use Rattle.added_crossings.proofs.CodeSteps.{IsStep-at, slot-near, smoothing-among}
-use Rattle.added_crossings.proofs.CodeSums.{IsCut-at, IsLaid-saddle}
+use Rattle.added_crossings.proofs.CutJoins.{near-has}
+use Rattle.added_crossings.proofs.CodeSteps.{IsStep-at, slot-near, smoothing-among, count_of}
+use Rattle.added_crossings.proofs.CodeSums.{IsLaid-saddle}
 use Rattle.added_crossings.proofs.Pants.{names, pants_of, ArePants, coarse-is, is-coarse, factor-other, factor-kept, component-cases}
-use Rattle.added_crossings.proofs.EdgeProducts.{IsEdgeProduct, value-edge, one_when, cylinder-weight, merge-weight, split-weight}
-
-abbrev count_of : Code → ℕ
-count_of code = arc_count code.crossings + code.loops
-
-abbrev joins_with : Code → ℕ → ℕ → List (ℕ × ℕ) → ℕ → List (ℕ × ℕ)
-joins_with code k state m smoothing = (m ++ smoothing_at code k smoothing) ++ outer_smoothings code state (k + 1)
+use Rattle.added_crossings.proofs.EdgeProducts.{IsEdgeProduct, value-edge, cylinder-weight, merge-weight, split-weight}
+use Rattle.added_crossings.proofs.CodeJoins.{joins_with, joins-alive}
 
 abbrev joins_both : Code → ℕ → ℕ → List (ℕ × ℕ) → List (ℕ × ℕ)
 joins_both code k state m = m ++ (smoothing_at code k 0 ++ (smoothing_at code k 1 ++ outer_smoothings code state (k + 1)))
@@ -77,16 +78,6 @@ splitting code k state m =
           (Respects-append f t w other (Respects-second f (m ++ s) w respects)));
     }
 
-cut-at : (code : Code) (k state smoothing : ℕ) (m : List (ℕ × ℕ)) → IsPairedAt code k m
-    → IsCut (step_at code k) (m ++ smoothing_at code k smoothing) (pairing_behind code k smoothing m) (outer_smoothings code state (k + 1))
-cut-at code k state smoothing m at = IsCut-at code k smoothing state m at.twice at.crossing at.paired.among
-
-with-among : (code : Code) (k state smoothing : ℕ) (m : List (ℕ × ℕ)) → IsPairedAt code k m
-    → AreAmong (points_at code k).alive (joins_with code k state m smoothing)
-with-among code k state smoothing m at =
-    whole-among (step_at code k) (m ++ smoothing_at code k smoothing) (pairing_behind code k smoothing m)
-    (outer_smoothings code state (k + 1)) (cut-at code k state smoothing m at)
-
 both-among : (code : Code) (k state : ℕ) (m : List (ℕ × ℕ)) → IsPairedAt code k m
     → AreAmong (points_at code k).alive (joins_both code k state m)
 both-among code k state m at = (IsLaid-saddle code k state m at.twice at.crossing at.paired.among).among
@@ -121,14 +112,14 @@ smoothing-respects code k state m first second kept gone f at becomes respects =
     let x_has = alive pair.0 has.0 in
     let y_has = alive pair.1 has.1 in
     classes-finest f n (joins_with code k state m second) respects
-    (AreAmong-below (count_of code) (is_alive code k) (joins_with code k state m second) (with-among code k state second m at))
+    (AreAmong-below (count_of code) (is_alive code k) (joins_with code k state m second) (joins-alive code k state second m at))
     pair.0 pair.1 (below pair.0 x_has) (below pair.1 y_has)
     (stay-together code k state m first second kept gone pair.0 pair.1 becomes x_has y_has same))
     (smoothing-among code k first at.twice at.crossing)
     (Respects-second class m s
     (Respects-first class (m ++ s) w
     (classes-together n (joins_with code k state m first)
-    (AreAmong-below (count_of code) (is_alive code k) (joins_with code k state m first) (with-among code k state first m at)))))
+    (AreAmong-below (count_of code) (is_alive code k) (joins_with code k state m first) (joins-alive code k state first m at)))))
 
 -- so the components are the circles of the second
 coarse-same : (code : Code) (k state : ℕ) (m : List (ℕ × ℕ)) (first second kept gone : ℕ) → IsPairedAt code k m
@@ -136,7 +127,7 @@ coarse-same : (code : Code) (k state : ℕ) (m : List (ℕ × ℕ)) (first secon
     → classes_of (count_of code + 1) (joins_with code k state m second) ≡ classes_of (count_of code + 1) (joins_both code k state m)
 coarse-same code k state m first second kept gone at both becomes =
     classes_of-same (count_of code + 1) (joins_with code k state m second) (joins_both code k state m)
-    (AreAmong-below (count_of code) (is_alive code k) (joins_with code k state m second) (with-among code k state second m at))
+    (AreAmong-below (count_of code) (is_alive code k) (joins_with code k state m second) (joins-alive code k state second m at))
     (AreAmong-below (count_of code) (is_alive code k) (joins_both code k state m) (both-among code k state m at))
     (λ f respects. both.back f respects (smoothing-respects code k state m first second kept gone f at becomes respects))
     (λ f respects. both.onward f respects)
@@ -164,7 +155,7 @@ circle-name code k state smoothing m x at has =
     let count = count_of code in
     let n = count + 1 in
     let joins = joins_with code k state m smoothing in
-    let among = with-among code k state smoothing m at in
+    let among = joins-alive code k state smoothing m at in
     let is = those-are count (is_alive code k) x has in
     let class_is = class-is count (is_alive code k) joins x among is in
     Contains-filter (is_least (classes_of n joins)) (points_at code k).alive (class_in n joins x)
@@ -258,7 +249,7 @@ edge-merges code k state m label other_label kept gone at bits becomes =
           ∙ cylinder-weight (label c) (other_label c) (bits.first_bit c) (bits.second_bit c);
       at_kept = factor-kept count alive opened m all fine a kept gone label second pants kept_name
           ∙ merge-weight (label kept) (label gone) (other_label kept) (bits.first_bit kept) (bits.first_bit gone) (bits.second_bit kept)
-          ∙ ap₂ (λ (xs ys : List ℕ). one_when (is_merge (map label xs) (map other_label ys) || is_split (map label xs) (map other_label ys)))
+          ∙ ap₂ (λ (xs ys : List ℕ). one_if (is_merge (map label xs) (map other_label ys) || is_split (map label xs) (map other_label ys)))
           (sym becomes.touched_first) (sym becomes.touched_second);
       kept_below = below-name count alive fine kept pants.kept_in;
       below = λ c has. below-name count alive (classes_of (count + 1) all) c has;
@@ -308,7 +299,7 @@ edge-splits code k state m label other_label kept gone at bits becomes =
       at_kept = factor-kept count alive opened m all fine a kept gone first label pants kept_name
           ∙ split-weight (label kept) (other_label kept) (other_label gone) (bits.first_bit kept) (bits.second_bit kept)
           (bits.second_bit gone)
-          ∙ ap₂ (λ (xs ys : List ℕ). one_when (is_merge (map label xs) (map other_label ys) || is_split (map label xs) (map other_label ys)))
+          ∙ ap₂ (λ (xs ys : List ℕ). one_if (is_merge (map label xs) (map other_label ys) || is_split (map label xs) (map other_label ys)))
           (sym becomes.touched_second) (sym becomes.touched_first);
       kept_below = below-name count alive fine kept pants.kept_in;
       below = λ c has. below-name count alive (classes_of (count + 1) all) c has;
@@ -352,7 +343,7 @@ turned-value code k state m first second classes others =
       raises = IsPermutation-refl [];
     }
 
-pub value-merges : (code : Code) (k state : ℕ) (m : List (ℕ × ℕ)) (label other_label : ℕ → ℕ) (kept gone : ℕ) → IsPairedAt code k m
+value-merges : (code : Code) (k state : ℕ) (m : List (ℕ × ℕ)) (label other_label : ℕ → ℕ) (kept gone : ℕ) → IsPairedAt code k m
     → AreBits label other_label → TwoBecomeOneAt code k state m 0 1 kept gone
     → value (saddle_sheet code k state m label (opposite other_label)) ≡ edge_at code k state m label other_label
 value-merges code k state m label other_label kept gone at bits becomes =
@@ -368,7 +359,7 @@ value-merges code k state m label other_label kept gone at bits becomes =
     (changes_labels_at code k state m label other_label) kept
     (edge-merges code k state m label other_label kept gone at bits becomes)
 
-pub value-splits : (code : Code) (k state : ℕ) (m : List (ℕ × ℕ)) (label other_label : ℕ → ℕ) (kept gone : ℕ) → IsPairedAt code k m
+value-splits : (code : Code) (k state : ℕ) (m : List (ℕ × ℕ)) (label other_label : ℕ → ℕ) (kept gone : ℕ) → IsPairedAt code k m
     → AreBits label other_label → TwoBecomeOneAt code k state m 1 0 kept gone
     → value (saddle_sheet code k state m label (opposite other_label)) ≡ edge_at code k state m label other_label
 value-splits code k state m label other_label kept gone at bits becomes =

@@ -1,5 +1,7 @@
--- Where each point is an end of two pairs at most, a class has two ends free or none: each point has as many ends free as pairs are
--- missing to two.
+-- Where each point is an end of two pairs at most, a class has two ends free or none.
+--
+-- Each point has as many ends free as pairs are missing to two. Without pairs each class is one point, with two ends free. A pair takes an
+-- end of each of its points: two classes with two ends free each become one with two, and a class that is joined with itself has none left.
 use Rattle.std.proofs.Common.{◌≡◌, ◌≢◌, ℕ, inl, inr, ◌⊎◌, ◌+◌, ◌-◌, ◌<◌, ◌≤◌, ◌∙◌, List, [], ◌∷◌, length, refl, sym, ap, ap₂, subst, arith, Bool, true, false, cond}
 use Rattle.std.specs.Prelude.{nat_eq, slice_index, min}
 use Rattle.std.specs.List.{fold, sum_by, range_with_len}
@@ -7,6 +9,7 @@ use Rattle.std.proofs.Math.Path.{fun_ext}
 use Rattle.std.proofs.lemmas.Bool.{cases_eq, eq-eqb, eqb-true, false_from_ne_true}
 use Rattle.std.proofs.lemmas.Bool.Decides.{nat_tests}
 use Rattle.std.proofs.lemmas.List.Sums.{sum_by-cons}
+use Rattle.kh_types.specs.Bits.{one_if}
 use Rattle.kh_types.specs.Classes.{merged, joined, classes_of, AreBelow}
 use Rattle.kh_types.proofs.ClassLemmas.{slice_index-joined, length-joined}
 use Rattle.kh_types.proofs.JoinedClasses.{joined-together, slice_index-range}
@@ -22,10 +25,7 @@ free_in n classes free k = sum_by (λ x. cond (nat_eq (slice_index classes x) k)
 abbrev left_free : (ℕ → ℕ) → ℕ × ℕ → ℕ → ℕ
 left_free free pair x = free x - ends_in x pair
 
-abbrev if_one : Bool → ℕ
-if_one b = cond b 1 0
-
-abbrev zero_or : Bool → ℕ → ℕ
+abbrev pub zero_or : Bool → ℕ → ℕ
 zero_or b n = cond b n 0
 
 at_one : (n : ℕ) (classes : List ℕ) (a k : ℕ) → a < n
@@ -33,10 +33,11 @@ at_one : (n : ℕ) (classes : List ℕ) (a k : ℕ) → a < n
     ≡ cond (nat_eq (slice_index classes a) k) 1 0
 at_one n classes a k below =
     let f : ℕ → ℕ = λ x. cond (nat_eq (slice_index classes x) k) (cond (nat_eq a x) 1 0) 0 in
-    sum_by-single f 0 n a (omega arith) (omega (arith, below)) (λ x above x_below other. other_zero (nat_eq (slice_index classes x) k) a x other)
+    sum_by-single f 0 n a (omega arith) (omega (arith, below))
+    (λ x above x_below other. other_zero (nat_eq (slice_index classes x) k) a x other)
     ∙ ap (λ b. cond (nat_eq (slice_index classes a) k) (cond b 1 0) 0) (eq-eqb a a refl)
   where
-    other_zero : (b : Bool) (a x : ℕ) → x ≢ a → zero_or b (if_one (nat_eq a x)) ≡ 0
+    other_zero : (b : Bool) (a x : ℕ) → x ≢ a → zero_or b (one_if (nat_eq a x)) ≡ 0
     other_zero b a x other = grind (arith, nat_tests)
 
 split_term : (b : Bool) (free first second : ℕ) → first + second ≤ free

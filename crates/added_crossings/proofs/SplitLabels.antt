@@ -19,13 +19,14 @@ use Rattle.added_crossings.proofs.Members.{Contains-cons_cases}
 use Rattle.added_crossings.proofs.KeptCircles.{circle-met}
 use Rattle.added_crossings.proofs.CodeSums.{IsCut-at}
 use Rattle.added_crossings.proofs.Labels.{bit-below, marked-labels, map-on}
+use Rattle.added_crossings.specs.Steps.{pair_with}
 
 half-bit : (number i : ℕ) → bit (number / 2) i ≡ bit number (i + 1)
 half-bit number i =
     let power : 2 ^ (i + 1) ≡ 2 * 2 ^ i = ap (λ n. 2 ^ n) (let e : i + 1 ≡ suc i = omega arith in e) ∙ pow-suc 2 i ∙ omega arith in
     ap (λ q. q % 2) (div-div-eq-div-mul number 2 (2 ^ i)) ∙ ap (λ p. number / p % 2) (sym power)
 
-pub same-bits : (n number other : ℕ) → number < 2 ^ n → other < 2 ^ n → ((i : ℕ) → i < n → bit number i ≡ bit other i) → number ≡ other
+same-bits : (n number other : ℕ) → number < 2 ^ n → other < 2 ^ n → ((i : ℕ) → i < n → bit number i ≡ bit other i) → number ≡ other
 same-bits zero number other below other_below same = omega (arith, below, other_below)
 same-bits (suc n) number other below other_below same =
     let power : 2 ^ suc n ≡ 2 * 2 ^ n = pow-suc 2 n ∙ omega arith in
@@ -38,9 +39,6 @@ first x y r s x_below y_below same = omega (arith, x_below, y_below, same)
 
 rest : (x y r s : ℕ) → x < 2 → y < 2 → x + 2 * r ≡ y + 2 * s → r ≡ s
 rest x y r s x_below y_below same = omega (arith, x_below, y_below, same)
-
-abbrev face_of : ℕ → ℕ → ℕ × ℕ
-face_of x y = (x, y)
 
 same-number_of : (f g : ℕ → ℕ) (xs : List ℕ) (x : ℕ) → ((y : ℕ) → f y < 2) → ((y : ℕ) → g y < 2) → number_of f xs ≡ number_of g xs
     → Contains xs x → f x ≡ g x
@@ -60,7 +58,7 @@ at_bit number i xs below =
     (get_or-map (λ (at : ℕ × ℕ). face_with (λ z. bit number at.0) at.1) (enumerate_from 0 xs) i none none (omega (arith, below, size)))
     ∙ ap (λ (at : ℕ × ℕ). bit number at.0) (get_or-enumerate_from 0 xs i none below) ∙ ap (λ (k : ℕ). bit number k) place
 
-pub same-marked : (number other : ℕ) (xs : List ℕ) → number < 2 ^ length xs → other < 2 ^ length xs → marked number xs ≡ marked other xs
+same-marked : (number other : ℕ) (xs : List ℕ) → number < 2 ^ length xs → other < 2 ^ length xs → marked number xs ≡ marked other xs
     → number ≡ other
 same-marked number other xs below other_below same =
     let none : ℕ × ℕ = (0, 0) in
@@ -95,5 +93,5 @@ labels-determined code k smoothing state m number other twice below among n_belo
     ∙ sym (at_class other) in
     same-marked number other circles n_below o_below
     (marked-labels count (is_alive code k) (joins ++ outer) number
-    ∙ map-on (face_with f) (face_with g) circles (λ z has. ap (λ (b : ℕ). face_of z b) (same z has))
+    ∙ map-on (face_with f) (face_with g) circles (λ z has. ap (λ (b : ℕ). pair_with z b) (same z has))
     ∙ sym (marked-labels count (is_alive code k) (joins ++ outer) other))

@@ -1,12 +1,17 @@
 -- The pairings that states make, their circles, and that their edges merge or split circles.
+--
+-- By induction on the crossings a state's pairing is one of the open arcs, and what is alive is together in it and in what the state joins
+-- behind, where it is in the whole state (`made`): one crossing more changes neither (`together-outside`). In an accepted code the classes
+-- of two neighbouring states differ by a join at two slots of the crossing, one way or the other; so do those of the pairing
+-- (`are-merged`), which makes the record of names and touched circles (`become-one`).
 use Rattle.std.proofs.Common.{◌≡◌, ◌≢◌, ◌↔◌, ℕ, zero, suc, inl, inr, ◌⊎◌, ◌+◌, ◌-◌, ◌^◌, ◌<◌, ◌≤◌, ◌∙◌, List, [], ◌∷◌, ◌++◌, length, drop, refl, sym, ap, ap₂, subst, arith, append_assoc, Bool}
-use Rattle.std.specs.Prelude.{IsTrue, slice_index, slice_index_or}
+use Rattle.std.specs.Prelude.{IsTrue, slice_index}
 use Rattle.std.specs.List.{flat_map, enumerate_from, Contains}
 use Rattle.std.proofs.lemmas.Bool.{both_ways}
 use Rattle.std.proofs.lemmas.Bool.Decides.{nat_tests}
 use Rattle.kh_types.specs.Acceptance.{accepted}
 use Rattle.kh_types.specs.Bits.{bit}
-use Rattle.kh_types.specs.Code.{Code, arc_in, arc_count}
+use Rattle.kh_types.specs.Code.{Code}
 use Rattle.kh_types.specs.Circles.{smoothing_of, smoothings_of, circles_of}
 use Rattle.kh_types.specs.Classes.{merged, classes_of, Respects}
 use Rattle.kh_types.specs.Darts.{HasArcsTwice}
@@ -16,21 +21,18 @@ use Rattle.kh_types.proofs.ClassLemmas.{classes-together, slice_index-joined, me
 use Rattle.kh_types.proofs.EdgeBits.{bit-set_there, bit-set_other}
 use Rattle.kh_types.proofs.EdgeCircles.{joins_or_parts}
 use Rattle.kh_types.proofs.JoinedClasses.{IsNamed-classes_of}
-use Rattle.dotted_surfaces.specs.Points.{AreAmong}
 use Rattle.added_crossings.specs.Pairings.{IsPaired}
 use Rattle.added_crossings.specs.Codes.{is_open, is_alive, points_at, step_at, smoothing_at, outer_smoothings, pairing_behind, circle_before}
 use Rattle.added_crossings.specs.Saddles.{TwoBecomeOneAt, MergesOrSplitsAt, IsPairedAt, pairing_of, circle_with}
 use Rattle.added_crossings.proofs.Members.{IsOneOf, those-are, are-those}
 use Rattle.added_crossings.proofs.Classes.{class_in, AreAmong-below, Respects-first, Respects-second, class-own, class-is}
-use Rattle.added_crossings.proofs.CutJoins.{near-has, next-has, whole-among}
+use Rattle.added_crossings.proofs.CutJoins.{near-has, next-has}
 use Rattle.added_crossings.proofs.KeptCircles.{together-outside}
-use Rattle.added_crossings.proofs.CodeSteps.{IsStep-at, slot-near, outer-among, outer-split}
+use Rattle.added_crossings.proofs.CodeSteps.{IsStep-at, slot-near, outer-among, outer-split, count_of}
 use Rattle.added_crossings.proofs.CodeSums.{IsCut-at}
 use Rattle.added_crossings.proofs.Pairs.{IsPaired-behind}
 use Rattle.added_crossings.proofs.TwoCircles.{AreNamed, IsEither, AreMerged, kept_of, gone_of, AreSlots, one-merged, others-merged, order-merged, names-merged, touched-first, touched-second}
-
-abbrev count_of : Code → ℕ
-count_of code = arc_count code.crossings + code.loops
+use Rattle.added_crossings.proofs.CodeJoins.{joins_with, classes_with, arc_of_slot, joins-alive}
 
 -- what is alive behind the first k crossings is together there where it is in the whole state
 pub record IsMade (code : Code) (state k : ℕ) (m : List (ℕ × ℕ)) : Type 0 where
@@ -151,21 +153,6 @@ are-merged count alive fine coarse whole behind a b size a_is b_is fine_named co
     }
 
 -- at a crossing
-
-abbrev pub joins_with : Code → ℕ → ℕ → List (ℕ × ℕ) → ℕ → List (ℕ × ℕ)
-joins_with code k state m smoothing = (m ++ smoothing_at code k smoothing) ++ outer_smoothings code state (k + 1)
-
-abbrev pub classes_with : Code → ℕ → ℕ → List (ℕ × ℕ) → ℕ → List ℕ
-classes_with code k state m smoothing = classes_of (count_of code + 1) (joins_with code k state m smoothing)
-
-abbrev pub arc_of_slot : Code → ℕ → ℕ → ℕ
-arc_of_slot code k slot = arc_in (slice_index_or code.crossings k []) slot
-
-pub joins-alive : (code : Code) (k state smoothing : ℕ) (m : List (ℕ × ℕ)) → IsPairedAt code k m
-    → AreAmong (points_at code k).alive (joins_with code k state m smoothing)
-joins-alive code k state smoothing m at =
-    whole-among (step_at code k) (m ++ smoothing_at code k smoothing) (pairing_behind code k smoothing m)
-    (outer_smoothings code state (k + 1)) (IsCut-at code k smoothing state m at.twice at.crossing at.paired.among)
 
 pub named-with : (code : Code) (k state smoothing : ℕ) (m : List (ℕ × ℕ)) → IsPairedAt code k m
     → AreNamed (count_of code) (is_alive code k) (classes_with code k state m smoothing)

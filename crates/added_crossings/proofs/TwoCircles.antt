@@ -1,4 +1,9 @@
 -- Where two classes of some points become one, two circles do.
+--
+-- Fine and coarse classes are each named by their least points. Of the two fine classes that become one the lesser name is kept and the
+-- greater is gone. Every other class has its old name (`others-merged`), so the coarse names are the fine ones without the one that is gone
+-- (`names-merged`). The four arcs of a crossing are on the two fine classes: these are touched before (`touched-first`), and the one that
+-- is kept after (`touched-second`).
 use Rattle.std.proofs.Common.{◌≡◌, ◌≢◌, ℕ, inl, inr, ◌⊎◌, ◌<◌, ◌≤◌, ◌∙◌, List, [], ◌∷◌, refl, sym, ap, ap₂, subst, arith, Bool, true, not, ◌&&◌}
 use Rattle.std.specs.Prelude.{nat_eq, slice_index, min, max}
 use Rattle.std.specs.List.{filter, list_any, range_with_len}
@@ -65,14 +70,14 @@ coarse-a count alive fine coarse a b merged =
     least-either p q (slice_index fine c) c either (merged.fine_named.least c c_is)
     (omega (arith, at_p, merged.coarse_named.least p p_is)) (omega (arith, at_q, merged.coarse_named.least q q_is))
 
-pub coarse-either : (count : ℕ) (alive : ℕ → Bool) (fine coarse : List ℕ) (a b x : ℕ) → AreMerged count alive fine coarse a b
+coarse-either : (count : ℕ) (alive : ℕ → Bool) (fine coarse : List ℕ) (a b x : ℕ) → AreMerged count alive fine coarse a b
     → IsOneOf count alive x → IsEither fine a b (slice_index fine x) → slice_index coarse x ≡ kept_of fine a b
 coarse-either count alive fine coarse a b x merged is (inl same) =
     merged.keeps x a is merged.a_is same ∙ coarse-a count alive fine coarse a b merged
 coarse-either count alive fine coarse a b x merged is (inr same) =
     merged.keeps x b is merged.b_is same ∙ sym merged.joined ∙ coarse-a count alive fine coarse a b merged
 
-pub coarse-neither : (count : ℕ) (alive : ℕ → Bool) (fine coarse : List ℕ) (a b x : ℕ) → AreMerged count alive fine coarse a b
+coarse-neither : (count : ℕ) (alive : ℕ → Bool) (fine coarse : List ℕ) (a b x : ℕ) → AreMerged count alive fine coarse a b
     → IsOneOf count alive x → (IsEither fine a b (slice_index fine x) → ⊥) → slice_index coarse x ≡ slice_index fine x
 coarse-neither count alive fine coarse a b x merged is not =
     let c = slice_index coarse x in

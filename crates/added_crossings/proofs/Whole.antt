@@ -1,4 +1,9 @@
 -- The overlay has the number of the whole.
+--
+-- New pairs join what the joins near the crossing do, so the joins of the overlay and those of the whole have the same classes. Hence the
+-- two are compared component by component: circles outside and closed circles are the circles of the whole, on both sides (`sum-circles`);
+-- the half strips that raise the one part and lower the other cancel; all else is in both. The numbers are the same (`value-whole`), and
+-- the law of overlays gives the sum over the dots (`sum-added`).
 use Rattle.std.proofs.Common.{◌≡◌, ℕ, inl, inr, ◌+◌, ◌*◌, ◌<◌, ◌∙◌, List, ◌++◌, refl, sym, ap, ap₂, arith, Bool, cond}
 use Rattle.std.specs.Prelude.{nat_eq, slice_index}
 use Rattle.std.proofs.lemmas.Bool.{or_cases}
@@ -22,10 +27,10 @@ use Rattle.dotted_surfaces.proofs.OneCut.{place_of_face, marks_of_face, one_face
 use Rattle.dotted_surfaces.proofs.Overlaid.{AreLaid, sum-laid, IsClosed-laid}
 use Rattle.dotted_surfaces.specs.Points.{discs, circles}
 use Rattle.added_crossings.specs.Pairings.{face_with, marked_by, circle_faces}
-use Rattle.added_crossings.specs.Steps.{Step, before, after, is_near, near, IsStep, closed_circles, added, outside}
+use Rattle.added_crossings.specs.Steps.{Step, before, after, is_near, near, closed_circles, added, outside}
 use Rattle.added_crossings.proofs.Members.{those-are, are-those}
 use Rattle.added_crossings.proofs.Classes.{AreAmong-below, both-weaker, Respects-first, Respects-second, Respects-append}
-use Rattle.added_crossings.proofs.CutJoins.{IsCut, near-has, next-has}
+use Rattle.added_crossings.proofs.CutJoins.{IsCut, near-has, next-has, IsStep}
 use Rattle.added_crossings.proofs.KeptCircles.{sum-circles}
 use Rattle.added_crossings.proofs.Overlay.{IsLaid, LiesNear, all_of, IsPlaced-outside, IsPlaced-added, MeetAlong-discs}
 
@@ -219,7 +224,7 @@ alike-whole step joins others pairs other_pairs outer all faces lowers label oth
       };
     }
 
-pub value-whole : (step : Step) (joins others pairs other_pairs outer all faces : List (ℕ × ℕ)) (lowers : List ℕ)
+value-whole : (step : Step) (joins others pairs other_pairs outer all faces : List (ℕ × ℕ)) (lowers : List ℕ)
     (label other_label : ℕ → ℕ) → IsLaid step joins others pairs other_pairs outer all → LiesNear step faces lowers
     → AreLabels joins others outer label other_label
     → value (overlay_of step joins others pairs other_pairs outer faces lowers label other_label)
@@ -232,7 +237,7 @@ value-whole step joins others pairs other_pairs outer all faces lowers label oth
     factor-alike over k whole k
     (alike-whole step joins others pairs other_pairs outer all faces lowers label other_label k laid lies labels))
 
-pub IsClosed-whole : (step : Step) (joins others pairs other_pairs outer all faces : List (ℕ × ℕ)) (lowers : List ℕ)
+IsClosed-whole : (step : Step) (joins others pairs other_pairs outer all faces : List (ℕ × ℕ)) (lowers : List ℕ)
     (label other_label : ℕ → ℕ) → IsLaid step joins others pairs other_pairs outer all → LiesNear step faces lowers
     → AreLabels joins others outer label other_label
     → IsClosed (overlay_of step joins others pairs other_pairs outer faces lowers label other_label)

@@ -1,4 +1,5 @@
--- The steps of a code: its crossings in the order of the list.
+-- The steps of a code, whose crossings are added in the order of the list: the arcs that are open behind the first k of them, the pairings
+-- and circles there, and the surfaces with one crossing more.
 use Rattle.std.specs.Prelude.{map, ℕ, ◌+◌, ◌*◌, ◌<◌, List, length, [], ◌∷◌, ◌++◌, drop, nat_eq, nat_lt, Bool, slice_index, slice_index_or}
 use Rattle.std.specs.List.{count_by, filter, flat_map, enumerate_from, range_with_len}
 use Rattle.kh_types.specs.Bits.{bit}
@@ -15,23 +16,27 @@ use Rattle.added_crossings.specs.Pairings.{marked_by, circle_faces}
 use Rattle.dotted_surfaces.specs.Sheets.{sheet}
 use Rattle.added_crossings.specs.Steps.{Step, new_pairing, closed_circles, added, outside}
 
--- how many ends of an arc are at some darts, at the first k crossings, and at the crossing behind these
+-- how many ends of an arc are among some darts, each given by its place
 abbrev pub ends_among : List (List ℕ) → ℕ → List ℕ → ℕ
 ends_among crossings x places = count_by (λ place. nat_eq (arc_at crossings place) x) places
 
+-- how many are at the first k crossings
 abbrev pub ends_before : List (List ℕ) → ℕ → ℕ → ℕ
 ends_before crossings k x = ends_among crossings x (range_with_len 0 (4 * k))
 
+-- and how many at the crossing behind these
 abbrev pub ends_at : List (List ℕ) → ℕ → ℕ → ℕ
 ends_at crossings k x = ends_among crossings x (range_with_len (4 * k) 4)
 
--- behind the first k crossings an arc is open where one of its ends is at them, and alive where one is at most; so are the loops
+-- behind the first k crossings an arc is open where one of its ends is at them
 abbrev pub is_open : Code → ℕ → ℕ → Bool
 is_open code k x = nat_eq (ends_before code.crossings k x) 1
 
+-- and it is alive where at most one is: a loop, which has no end, stays alive
 abbrev pub is_alive : Code → ℕ → ℕ → Bool
 is_alive code k x = nat_lt (ends_before code.crossings k x) 2
 
+-- the points there: arcs and loops, by their numbers
 abbrev pub points_at : Code → ℕ → Points
 points_at code k = record {
   size = arc_count code.crossings + code.loops + 1;
@@ -54,39 +59,43 @@ step_at code k = record {
 abbrev pub smoothing_at : Code → ℕ → ℕ → List (ℕ × ℕ)
 smoothing_at code k smoothing = smoothing_of smoothing (slice_index_or code.crossings k [])
 
--- what the smoothings of a state join at the crossings behind the first k
+-- what the smoothings of a state join at all crossings behind the first k: the bits of the state at the first k do not count
 abbrev pub outer_smoothings : Code → ℕ → ℕ → List (ℕ × ℕ)
 outer_smoothings code state k =
     flat_map (λ at. smoothing_of (bit state at.0) at.1) (enumerate_from k (drop k code.crossings))
 
--- the pairing behind one crossing more
+-- the pairing of the open arcs behind one crossing more, where the crossing has a smoothing
 abbrev pub pairing_behind : Code → ℕ → ℕ → List (ℕ × ℕ) → List (ℕ × ℕ)
 pairing_behind code k smoothing m = new_pairing (step_at code k) (m ++ smoothing_at code k smoothing)
 
--- the circles of a pairing, a smoothing of the crossing and what a state joins behind it, and the circle of an arc
+-- the circles of a pairing, a smoothing of the crossing and what a state joins behind it, by their least arcs
 abbrev pub circles_before : Code → ℕ → ℕ → ℕ → List (ℕ × ℕ) → List ℕ
 circles_before code k smoothing state m =
     circles (points_at code k) (m ++ smoothing_at code k smoothing) (outer_smoothings code state (k + 1))
 
+-- and the circle of an arc among them
 abbrev pub circle_before : Code → ℕ → ℕ → ℕ → List (ℕ × ℕ) → ℕ → ℕ
 circle_before code k smoothing state m x =
     slice_index
     (classes_of (points_at code k).size ((m ++ smoothing_at code k smoothing) ++ outer_smoothings code state (k + 1))) x
 
--- the circles of the new pairing, and those that are closed
+-- the circles of the new pairing and what the state joins behind
 abbrev pub circles_behind : Code → ℕ → ℕ → ℕ → List (ℕ × ℕ) → List ℕ
 circles_behind code k smoothing state m =
     circles (points_at code (k + 1)) (pairing_behind code k smoothing m) (outer_smoothings code state (k + 1))
 
+-- and the circle of an arc among these
 abbrev pub circle_behind : Code → ℕ → ℕ → ℕ → List (ℕ × ℕ) → ℕ → ℕ
 circle_behind code k smoothing state m x =
     slice_index
     (classes_of (points_at code (k + 1)).size (pairing_behind code k smoothing m ++ outer_smoothings code state (k + 1))) x
 
+-- the circles of a pairing and a smoothing of the crossing that the crossing closes
 abbrev pub closed_at : Code → ℕ → ℕ → List (ℕ × ℕ) → List ℕ
 closed_at code k smoothing m = closed_circles (step_at code k) (m ++ smoothing_at code k smoothing)
 
--- the surface between two pairings at a state, its discs, and the circles of both pairings, having marks
+-- the surface between two pairings at a state: with a face on each of their discs, marked by dots, and on each circle of either pairing,
+-- marked by labels
 abbrev pub sheet_at : Code → ℕ → ℕ → List (ℕ × ℕ) → List (ℕ × ℕ) → (ℕ → ℕ) → (ℕ → ℕ) → (ℕ → ℕ) → Surface
 sheet_at code k state m n dots label other_label =
     let points = points_at code k in
@@ -108,7 +117,7 @@ added_at code k smoothing m n dots label other_label =
 abbrev pub arc_there : Code → ℕ → ℕ
 arc_there code k = arc_in (slice_index_or code.crossings k []) 0
 
--- a disc for a pair, without marks
+-- a disc for a pair, at its first end, without marks
 abbrev pub disc_of : ℕ × ℕ → ℕ × ℕ
 disc_of pair = (pair.0, 0)
 
@@ -132,7 +141,7 @@ saddle_sheet code k state m label other_label =
       raises = [];
     }
 
--- the same near the crossing alone
+-- the part of it that the crossing adds, without the discs of the new pairings
 abbrev pub saddle_added : Code → ℕ → List (ℕ × ℕ) → (ℕ → ℕ) → (ℕ → ℕ) → Surface
 saddle_added code k m label other_label =
     let s = smoothing_at code k 0 in
@@ -161,11 +170,12 @@ abbrev pub discs_behind : Code → ℕ → ℕ → ℕ → List (ℕ × ℕ) →
 discs_behind code k smoothing other m n =
     discs (points_at code (k + 1)) (pairing_behind code k smoothing m) (pairing_behind code k other n)
 
--- two surfaces are closed, with discs at some circles, which are marked on the second alone
+-- two surfaces are closed once there are discs at some circles, which are marked on the second alone
 pub record AreClosed (first second : Surface) (circles : List ℕ) : Type 0 where
   pub first_closed : IsClosed (with_faces first (first_caps (at_places circles) 0))
   pub second_closed : IsClosed (with_faces second (second_caps (at_places circles) 0))
 
--- the sum over all sets of dots on the discs: dots mark the first surface where they are, and the second where they are not
+-- the sum over all sets of dots on the discs at some circles, of the products of two numbers: a disc on the first surface is marked where
+-- it has a dot, that on the second one where it has none (neck-cutting, after Bar-Natan 2005)
 abbrev pub sum_over_dots : Surface → Surface → List ℕ → ℕ
 sum_over_dots first second circles = sum_of_products first second (at_places circles)

@@ -17,6 +17,7 @@ is_touched_at code k smoothing state m circle =
     (λ slot. nat_eq (circle_before code k smoothing state m (arc_in (slice_index_or code.crossings k []) slot)) circle)
     (range_with_len 0 4)
 
+-- the circles that the crossing touches, by their least arcs
 abbrev pub touched_at : Code → ℕ → ℕ → ℕ → List (ℕ × ℕ) → List ℕ
 touched_at code k smoothing state m =
     filter (is_touched_at code k smoothing state m) (circles_before code k smoothing state m)
@@ -34,7 +35,8 @@ changes_labels_at code k state m label other_label =
     let others = map other_label (touched_at code k 1 state m) in
     is_merge labels others || is_split labels others
 
--- the coefficient along the edge, without its sign
+-- the coefficient along the edge from the 0-smoothing of the crossing to its 1-smoothing, without its sign (Bar-Natan 2002): for a pairing
+-- in place of the crossings before
 abbrev pub edge_at : Code → ℕ → ℕ → List (ℕ × ℕ) → (ℕ → ℕ) → (ℕ → ℕ) → ℕ
 edge_at code k state m label other_label =
     if keeps_labels_at code k state m label other_label && changes_labels_at code k state m label other_label then 1 else 0
@@ -72,7 +74,7 @@ pub record AreBits (label other_label : ℕ → ℕ) : Type 0 where
 abbrev pub opposite : (ℕ → ℕ) → ℕ → ℕ
 opposite label x = 1 - label x
 
--- the pairing that a state makes of the open arcs behind the first k crossings
+-- the pairing that a state makes of the open arcs behind the first k crossings: one crossing after another is added with its smoothing
 abbrev pub pairing_of : Code → ℕ → ℕ → List (ℕ × ℕ)
 pairing_of code state zero = []
 pairing_of code state (suc k) = pairing_behind code k (bit state k) (pairing_of code state k)

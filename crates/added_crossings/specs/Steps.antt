@@ -1,5 +1,5 @@
 -- One crossing more: which arcs are open before and after it, the pairings after it, and the surface that it adds.
-use Rattle.std.specs.Prelude.{◌≡◌, ℕ, ◌+◌, ◌<◌, ◌≤◌, List, ◌++◌, map, nat_eq, nat_lt, slice_index, Bool, not, ◌&&◌, ◌||◌}
+use Rattle.std.specs.Prelude.{◌≡◌, ℕ, ◌+◌, List, ◌++◌, map, nat_eq, nat_lt, slice_index, Bool, not, ◌&&◌, ◌||◌}
 use Rattle.std.specs.List.{filter, flat_map, list_any, range_with_len, Contains}
 use Rattle.kh_types.specs.Classes.{classes_of, Respects}
 use Rattle.dotted_surfaces.specs.Surfaces.{Surface}
@@ -7,8 +7,8 @@ use Rattle.dotted_surfaces.specs.Points.{Points, AreAmong, least_points}
 use Rattle.added_crossings.specs.Pairings.{marked_by, circle_faces}
 use Rattle.dotted_surfaces.specs.Sheets.{sheet}
 
--- arcs and loops are the numbers 1 to a count; tests say which of them are open and which are alive, before a crossing and after it,
--- and which arcs are at the crossing
+-- one crossing more: arcs and loops are the numbers 1 to a count; tests say which of them are open and which are alive, before the
+-- crossing and after it, and which arcs are at the crossing
 pub record Step : Type 0 where
   pub count : ℕ
   pub opened : ℕ → Bool
@@ -21,38 +21,38 @@ pub record Step : Type 0 where
 abbrev pub those : ℕ → (ℕ → Bool) → List ℕ
 those count test = filter test (range_with_len 1 count)
 
+-- the points before the crossing: what is open, and what is alive
 abbrev pub before : Step → Points
 before step = record { size = step.count + 1; opened = those step.count step.opened; alive = those step.count step.alive }
 
+-- the points after it
 abbrev pub after : Step → Points
 after step = record { size = step.count + 1; opened = those step.count step.opened_next; alive = those step.count step.alive_next }
 
--- the arcs near the crossing: those at it, and those that were open
+-- an arc is near the crossing where it is at it, or was open
 abbrev pub is_near : Step → ℕ → Bool
 is_near step x = step.opened x || step.at_crossing x
 
 abbrev pub near : Step → List ℕ
 near step = those step.count (is_near step)
 
--- what is alive before is alive after or near the crossing, and what is both is open after
-pub record IsStep (step : Step) : Type 0 where
-  pub alive : (x : ℕ) → 0 < x → x ≤ step.count → step.alive x ≡ (step.alive_next x || is_near step x)
-  pub opened : (x : ℕ) → 0 < x → x ≤ step.count → step.opened_next x ≡ (step.alive_next x && is_near step x)
-
--- the pairs of points of which each is joined with a greater one
+-- a point is the mate of a lesser one where both are in one class
 abbrev pub is_mate : List ℕ → ℕ → ℕ → Bool
 is_mate classes x y = nat_lt x y && nat_eq (slice_index classes x) (slice_index classes y)
 
 abbrev pub pair_with : ℕ → ℕ → ℕ × ℕ
 pair_with x y = (x, y)
 
+-- a point with each of its mates
 abbrev pub pairs_at : List ℕ → List ℕ → ℕ → List (ℕ × ℕ)
 pairs_at points classes x = map (pair_with x) (filter (is_mate classes x) points)
 
+-- all such pairs of some points
 abbrev pub pairs_among : List ℕ → List ℕ → List (ℕ × ℕ)
 pairs_among points classes = flat_map (pairs_at points classes) points
 
--- the pairing of the arcs that are open after the crossing, where the old pairing and the smoothing make some joins
+-- the new pairing, where the old one and the smoothing of the crossing make some joins: the pairs of arcs that are open after the crossing
+-- and in one class (Bar-Natan 2007; this project's form)
 abbrev pub new_pairing : Step → List (ℕ × ℕ) → List (ℕ × ℕ)
 new_pairing step joins = pairs_among (after step).opened (classes_of (step.count + 1) joins)
 
@@ -60,7 +60,7 @@ new_pairing step joins = pairs_among (after step).opened (classes_of (step.count
 abbrev pub is_none_in : List ℕ → List ℕ → ℕ → Bool
 is_none_in points classes class = not (list_any (λ x. nat_eq (slice_index classes x) class) points)
 
--- the circles that the crossing closes: classes near it without an open arc
+-- the circles that the crossing closes: classes near it without an arc that is open after it, by their least arcs (Bar-Natan 2007)
 abbrev pub closed_circles : Step → List (ℕ × ℕ) → List ℕ
 closed_circles step joins =
     filter (is_none_in (after step).opened (classes_of (step.count + 1) joins))

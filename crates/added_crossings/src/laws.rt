@@ -1,5 +1,5 @@
-//! One crossing more: the number of two pairings is a sum over the dots on the discs of the two new
-//! pairings.
+//! One crossing more: what becomes of pairings and circles, and how the number of a surface is a sum
+//! over the dots on the discs of the new pairings.
 
 ghost use Rattle.std.specs.Prelude.{◌≡◌, ◌↔◌, ℕ, ◌+◌, ◌*◌, ◌^◌, ◌<◌, ◌≤◌, List, ◌++◌, length, Bool, IsTrue};
 ghost use Rattle.std.specs.List.{sum_by, Contains};
@@ -58,9 +58,8 @@ pub fn saddles_add_up()
         → IsClosed (saddle_sheet code k state m label other_label) }
 {}
 
-/// The number of the saddle's surface is the coefficient of the cube's edge at the crossing, without its
-/// sign, where two circles become one or one becomes two; and so the coefficient is the sum over the
-/// dots.
+/// Where two circles become one, or one becomes two, the number of the saddle's surface is the
+/// coefficient of the cube's edge at the crossing, without its sign; so that is the sum over the dots.
 pub fn saddles_are_edges()
     ensures number { (code : Code) (k state : ℕ) (m : List (ℕ × ℕ)) (label other_label : ℕ → ℕ) → IsPairedAt code k m
         → AreBits label other_label → MergesOrSplitsAt code k state m
@@ -87,9 +86,9 @@ pub fn pairings_stay_pairings()
         → IsNewPairing (step_at code k) (m ++ smoothing_at code k smoothing) (pairing_behind code k smoothing m) }
 {}
 
-/// The circles of a pairing and of what a state joins behind are those of the new pairing, and the
-/// closed circles: each of these is on one of the old circles, no two of them on one, and there are as
-/// many; and so sums over them are the same. Arcs that stay alive are together where they were.
+/// The circles of a pairing at a state are those of the new pairing and the closed ones: as many, each
+/// on an old circle, no two on one; so sums over them are the same. Arcs that stay alive are together
+/// where they were.
 pub fn circles_stay_circles()
     ensures count { (code : Code) (k smoothing state : ℕ) (m : List (ℕ × ℕ)) → HasArcsTwice code.crossings
         → k < length code.crossings → AreAmong (points_at code k).opened m
@@ -116,9 +115,9 @@ pub fn circles_stay_circles()
         ≡ sum_by f (circles_before code k smoothing state m) }
 {}
 
-/// The pairing that a state makes of the open arcs is one; what is alive is together, in it and in what
-/// the state joins behind, where it is in the whole state; and in an accepted code the edge at the next
-/// crossing merges or splits its circles, so that the saddle's number is the coefficient.
+/// A state makes a pairing of the open arcs, whose circles are those of the whole state. In an
+/// accepted code the edge at the next crossing merges or splits them: the saddle's number is the
+/// edge's coefficient.
 pub fn states_make_pairings()
     ensures paired { (code : Code) (state k : ℕ) → HasArcsTwice code.crossings → k ≤ length code.crossings
         → IsPaired (points_at code k).opened (pairing_of code state k) }
@@ -152,9 +151,9 @@ pub fn labels_are_functions()
         → number_of label circles < 2 ^ length circles }
 {}
 
-/// T and T' by numbers: an entry behind the first k crossings, and the coefficient of an edge at the next
-/// one, are sums over the dot sets on the discs of the new pairings: of the dot set's coefficient, with
-/// the labels of the closed circles, times its entry behind one crossing more, with the other labels.
+/// An entry behind the first k crossings, and the coefficient of an edge at the next one, are sums
+/// over the dot sets on the new discs: of what the crossing adds, with the labels of the closed
+/// circles, times the dot set's entry behind one crossing more, with the other labels.
 pub fn entries_add_up()
     ensures terms { (code : Code) (k state : ℕ) (m n : List (ℕ × ℕ)) (dots label other : ℕ) → ArePairedAt code k m n
         → AreEntriesClosed
@@ -183,9 +182,8 @@ pub fn entries_add_up()
         (label_behind code k 0 state m label) (label_behind code k 1 state m other)) }
 {}
 
-/// The labels of the circles before a crossing are those of the closed circles and of the circles
-/// behind: these are labels, and they determine them. There are as many, since there are as many
-/// circles.
+/// The labels of the circles before a crossing are split into those of the closed circles and those of
+/// the circles behind: both are labels, and together they determine them.
 pub fn labels_split()
     ensures below { (code : Code) (k smoothing state number : ℕ) (m : List (ℕ × ℕ))
         → (closed_label code k smoothing state m number < 2 ^ length (closed_at code k smoothing m))

@@ -19,14 +19,13 @@ use Rattle.added_crossings.specs.Pairings.{marked_by, circle_faces}
 use Rattle.added_crossings.specs.Codes.{ends_before, is_open, is_alive, points_at, outer_smoothings, sheet_at, outside_at}
 use Rattle.added_crossings.specs.Entries.{entry_sheet}
 use Rattle.dotted_surfaces.specs.Sheets.{marked, marked_else}
-use Rattle.added_crossings.proofs.CodeSteps.{outer-among}
+use Rattle.added_crossings.proofs.CodeSteps.{outer-among, count_of}
 use Rattle.added_crossings.proofs.Members.{those-are, are-those}
 use Rattle.tangle_surfaces.specs.CutCodes.{ends_there, starts_there}
 use Rattle.tangle_surfaces.proofs.CutCodes.{ends-starts}
 use Rattle.tangle_surfaces.proofs.CutSurfaces.{IsSurface-cut}
 use Rattle.tangle_surfaces.proofs.LeadLemmas.{IsSurface-three}
 use Rattle.closed_surfaces.specs.Led.{IsLedAt}
-use Rattle.closed_surfaces.proofs.LedPairings.{count_of}
 use Rattle.closed_surfaces.proofs.OpenTests.{open-is}
 use Rattle.closed_surfaces.proofs.SheetClosed.{IsSheet, sheet-closed}
 
@@ -38,7 +37,7 @@ open-has_alive code k x has =
     let is = those-are (count_of code) (is_open code k) x has in
     are-those (count_of code) (is_alive code k) x is.above is.below (open-alive (ends_before code.crossings k x) is.passes)
 
-pub IsSheet-at : (code : Code) (choice k state : ℕ) (m n : List (ℕ × ℕ)) → IsTrue (accepted code) → IsColoured code.crossings choice
+IsSheet-at : (code : Code) (choice k state : ℕ) (m n : List (ℕ × ℕ)) → IsTrue (accepted code) → IsColoured code.crossings choice
     → k ≤ length code.crossings → IsLedAt code choice k m → IsLedAt code choice k n
     → IsSheet (count_of code) (ends_there code.crossings choice k) (starts_there code.crossings choice k) (is_open code k)
     (is_alive code k) m n (outer_smoothings code state k)
@@ -121,7 +120,8 @@ entry-closed code choice k state m n dots label other is coloured enough first s
     let points = points_at code k in
     let w = outer_smoothings code state k in
     sheet-closed (count_of code) (ends_there code.crossings choice k) (starts_there code.crossings choice k) (is_open code k)
-    (is_alive code k) m n w (marked dots (discs points m n) ++ (marked label (circles points m w) ++ marked_else other (circles points n w)))
+    (is_alive code k) m n w (marked dots (discs points m n) ++
+    (marked label (circles points m w) ++ marked_else other (circles points n w)))
     (IsSheet-at code choice k state m n is coloured enough first second)
     (places-three (marked dots (discs points m n)) (marked label (circles points m w)) (marked_else other (circles points n w))
     (discs points m n) (circles points m w) (circles points n w) (places-marked dots (discs points m n))

@@ -1,10 +1,9 @@
 -- Sums over points of a component are counts of what passes tests there.
-use Rattle.std.proofs.Common.{◌≡◌, ℕ, suc, ◌+◌, ◌<◌, ◌≤◌, ◌∙◌, List, map, refl, sym, ap, ap₂, arith, Bool, true, false, not, cond, ◌&&◌}
+use Rattle.std.proofs.Common.{◌≡◌, ℕ, ◌+◌, ◌<◌, ◌≤◌, ◌∙◌, List, map, refl, sym, ap, ap₂, arith, Bool, true, false, not, cond, ◌&&◌}
 use Rattle.std.specs.Prelude.{nat_eq, slice_index}
 use Rattle.std.specs.List.{filter, list_any, sum_by, range_with_len}
 use Rattle.std.specs.Cmp.{both_ways}
 use Rattle.std.proofs.lemmas.Bool.{and_parts, eqb-true, eq-eqb, false_from_ne_true}
-use Rattle.std.proofs.lemmas.List.Sums.{sum_by-cons}
 use Rattle.kh_types.specs.Classes.{classes_of, is_least, AreBelow}
 use Rattle.kh_types.proofs.FilteredRanges.{filter-filter}
 use Rattle.kh_types.proofs.JoinedClasses.{IsNamed-classes_of}

@@ -1,4 +1,9 @@
 -- What a crossing adds between two pairings is closed.
+--
+-- The pairings m and l, and the smoothing with the new pairing of l in place of all that lies outside, make a surface with a genus (Euler's
+-- formula for permutations). Its circles on the side of m are those that the crossing closes and the discs of the two new pairings; on the
+-- side of l the closed ones and the discs of the new pairing of l with itself, which are half of the new open arcs (`Halves`). That is the
+-- Euler count of what the crossing adds.
 use Rattle.std.proofs.Common.{◌≡◌, ℕ, ◌+◌, ◌*◌, ◌<◌, ◌∙◌, List, ◌++◌, length, map, sym, ap, arith, Bool, true, ◌&&◌, append_assoc}
 use Rattle.std.specs.Prelude.{slice_index}
 use Rattle.std.specs.List.{sum_by}
@@ -14,7 +19,7 @@ use Rattle.dotted_surfaces.specs.Points.{discs}
 use Rattle.added_crossings.specs.Steps.{is_near}
 use Rattle.added_crossings.specs.Codes.{points_at, step_at, smoothing_at, pairing_behind}
 use Rattle.added_crossings.proofs.Classes.{AreAmong-below}
-use Rattle.added_crossings.proofs.CodeSteps.{smoothing-among}
+use Rattle.added_crossings.proofs.CodeSteps.{smoothing-among, count_of}
 use Rattle.added_crossings.proofs.CodeSums.{joins-near}
 use Rattle.tangle_surfaces.specs.Orbits.{count_in, parts_in}
 use Rattle.tangle_surfaces.specs.Surfaces.{Lead, components, is_disc, strips_in}
@@ -30,7 +35,7 @@ use Rattle.tangle_surfaces.proofs.SurfaceGenus.{HasGenus-surface, open-counted}
 use Rattle.closed_surfaces.specs.Led.{IsLedAt}
 use Rattle.closed_surfaces.proofs.Counted.{on, on-those, on-least}
 use Rattle.closed_surfaces.proofs.Halves.{discs-half, open-twice}
-use Rattle.closed_surfaces.proofs.LedPairings.{count_of, open_at, JoinOpen-behind, led-next}
+use Rattle.closed_surfaces.proofs.LedPairings.{open_at, JoinOpen-behind, led-next}
 use Rattle.closed_surfaces.proofs.NearClosed.{IsNear, near_sheet, near_places, HasEuler, near-closed}
 use Rattle.closed_surfaces.proofs.OpenTests.{open-is, open-positive}
 
@@ -72,7 +77,8 @@ IsNear-at code choice k first second m l twice coloured within m_led l_led = rec
 pub smoothing-below : (code : Code) (k smoothing : ℕ) → HasArcsTwice code.crossings → k < length code.crossings
     → AreBelow (count_of code + 1) (smoothing_at code k smoothing)
 smoothing-below code k smoothing twice within =
-    AreAmong-below (count_of code) (is_near (step_at code k)) (smoothing_at code k smoothing) (smoothing-among code k smoothing twice within)
+    AreAmong-below (count_of code) (is_near (step_at code k)) (smoothing_at code k smoothing)
+    (smoothing-among code k smoothing twice within)
 
 euler : (d p q g strips c discs other_c half ends opened new_open : ℕ) → (d + (p + q)) + 2 * g ≡ strips + 2 → p ≡ c + discs
     → q ≡ other_c + half → half ≡ ends → new_open ≡ 2 * ends → opened ≡ 2 * strips

@@ -47,7 +47,8 @@ parts-closed code choice k state smoothing m n dots label other_label is coloure
       second_closed = crossing-closed code choice k smoothing m n
           (second_caps (at_places hats) 0 ++ (marked_by dots inside ++ (marked_by label closed ++ marked_by other_label other_closed)))
           twice coloured within first second
-          (places-four (second_caps (at_places hats) 0) (marked_by dots inside) (marked_by label closed) (marked_by other_label other_closed)
+          (places-four (second_caps (at_places hats) 0) (marked_by dots inside) (marked_by label closed)
+          (marked_by other_label other_closed)
           hats inside closed other_closed (places-second hats) (places-marked_by dots inside) (places-marked_by label closed)
           (places-marked_by other_label other_closed));
     }
@@ -70,7 +71,8 @@ term-closed code choice k smoothing m n dots closed other_closed kept is coloure
 pub entries-closed : (code : Code) (choice k state smoothing : ℕ) (m n : List (ℕ × ℕ)) (dots label other closed other_closed : ℕ)
     → IsTrue (accepted code) → IsColoured code.crossings choice → k < length code.crossings → IsLedAt code choice k m
     → IsLedAt code choice k n
-    → AreEntriesClosed (entry_sheet code (k + 1) state (pairing_behind code k smoothing m) (pairing_behind code k smoothing n) 0 label other)
+    → AreEntriesClosed (entry_sheet code (k + 1) state (pairing_behind code k smoothing m)
+    (pairing_behind code k smoothing n) 0 label other)
     (added_surface code k smoothing m n dots closed other_closed 0)
 entries-closed code choice k state smoothing m n dots label other closed other_closed is coloured within first second =
     let twice = HasArcsTwice-accepted code is in

@@ -1,5 +1,8 @@
--- Pairs that lead from ends to starts, in each class of whatever is coarser: half the open points are ends, and each is on a disc of its
--- own, of the pairs and the pairs again.
+-- Pairs that lead from ends to starts, in each class of whatever is coarser.
+--
+-- Leading is one to one and stays in the class, so there are as many starts as ends, and half the open points are ends (`open-twice`). The
+-- discs of the pairs with themselves have two points each, an end and the start to which it leads: so they are as many as the ends
+-- (`discs-half`).
 use Rattle.std.proofs.Common.{◌≡◌, ℕ, inl, inr, ◌+◌, ◌*◌, ◌<◌, ◌∙◌, List, ◌++◌, refl, sym, ap, ap₂, subst, arith, Bool, true, false, ◌&&◌, ◌||◌, cond, eq-eqb}
 use Rattle.std.specs.Prelude.{nat_eq, slice_index}
 use Rattle.std.proofs.lemmas.Bool.{cases_Bool, and_parts, eqb-true}

@@ -1,8 +1,13 @@
 -- At a pairing that leads from ends to starts the edge at the next crossing merges or splits circles.
+--
+-- The two smoothings of the crossing lead its ends to its starts in both ways, and the pairing with the crossings behind leads the starts
+-- back to the ends (`Lead-around`). So the classes with one smoothing come from those with the other by joining two, one way or the other
+-- (`saddle-joined`). The colour of the crossing says at which slots its ends are; in either case the classes of the slots 0 and 2 are those
+-- two (`led-merged`), which is what the record of names and touched circles asks (`become-one`).
 use Rattle.std.proofs.Common.{◌≡◌, ℕ, ◌⊎◌, inl, inr, ◌+◌, ◌*◌, ◌%◌, ◌<◌, ◌∙◌, List, ◌++◌, length, IsTrue, sym, ap, subst, arith, Bool}
 use Rattle.std.specs.Prelude.{slice_index}
 use Rattle.kh_types.specs.Acceptance.{accepted}
-use Rattle.kh_types.specs.Classes.{classes_of, Respects, AreBelow}
+use Rattle.kh_types.specs.Classes.{classes_of, AreBelow}
 use Rattle.kh_types.specs.Code.{Code}
 use Rattle.kh_types.specs.Colours.{IsColoured}
 use Rattle.kh_types.specs.CircleSteps.{arc_at}
@@ -15,14 +20,15 @@ use Rattle.added_crossings.specs.Codes.{is_alive, smoothing_at, outer_smoothings
 use Rattle.added_crossings.specs.Saddles.{MergesOrSplitsAt, IsPairedAt}
 use Rattle.added_crossings.proofs.Classes.{AreAmong-below, Respects-first, Respects-second, Respects-append}
 use Rattle.added_crossings.proofs.Members.{IsOneOf}
-use Rattle.added_crossings.proofs.StatePairings.{are-merged, joins_with, classes_with, arc_of_slot, joins-alive, named-with, slot-alive, smoothing-joined, slots-zero, slots-one, become-one}
+use Rattle.added_crossings.proofs.StatePairings.{are-merged, named-with, slot-alive, smoothing-joined, slots-zero, slots-one, become-one}
 use Rattle.added_crossings.proofs.TwoCircles.{AreMerged, IsEither, kept_of, gone_of}
 use Rattle.tangle_surfaces.specs.Saddles.{JoinTwo}
 use Rattle.tangle_surfaces.proofs.CutSteps.{IsNext, IsPairAt, IsPairAt-turned, IsPairAt-slots, pair-below, pair-apart, bit-cases}
 use Rattle.tangle_surfaces.proofs.OrbitLemmas.{AreBelow-append}
+use Rattle.added_crossings.proofs.CodeSteps.{count_of}
+use Rattle.added_crossings.proofs.CodeJoins.{joins_with, classes_with, arc_of_slot, joins-alive}
 use Rattle.closed_surfaces.specs.Led.{IsLedAt}
 use Rattle.closed_surfaces.proofs.CrossingClosed.{smoothing-below}
-use Rattle.closed_surfaces.proofs.LedPairings.{count_of}
 use Rattle.closed_surfaces.proofs.OuterLead.{Lead-around}
 use Rattle.closed_surfaces.proofs.SaddleJoined.{saddle-joined}
 
@@ -215,22 +221,14 @@ led-merged code choice k state m is coloured within led at =
           elim (edge-at_slots code choice k state (4 * k + 1) (4 * k + 3) (4 * k + 0) (4 * k + 2) (arc 1) (arc 0) (arc 3) (arc 2) m is next
           ends starts led at e1 e0 e3 e2 a1 a3 (zero-turned code k) (one-turned code k)) [
             | inl merged ↦
-                let respects = zero-joined code k state m at in
+                let respects = smoothing-joined code k state 0 m at in
                 inl (merged-moved count test zeros ones (arc 1) (arc 3) (arc 0) (arc 2) merged a0 a2 respects.0 respects.1.0)
             | inr split ↦
-                let respects = one-joined code k state m at in
+                let respects = smoothing-joined code k state 1 m at in
                 inr (merged-turned count test ones zeros (arc 2) (arc 0)
                 (merged-moved count test ones zeros (arc 1) (arc 3) (arc 2) (arc 0) split a2 a0 (sym respects.1.0) respects.0))
           ]
     ]
-  where
-    zero-joined : (code : Code) (k state : ℕ) (m : List (ℕ × ℕ)) → IsPairedAt code k m
-        → Respects (λ x. slice_index (classes_with code k state m 0) x) (smoothing_at code k 0)
-    zero-joined code k state m at = smoothing-joined code k state 0 m at
-
-    one-joined : (code : Code) (k state : ℕ) (m : List (ℕ × ℕ)) → IsPairedAt code k m
-        → Respects (λ x. slice_index (classes_with code k state m 1) x) (smoothing_at code k 1)
-    one-joined code k state m at = smoothing-joined code k state 1 m at
 
 pub led-edges : (code : Code) (choice k state : ℕ) (m : List (ℕ × ℕ)) → IsTrue (accepted code) → IsColoured code.crossings choice
     → k < length code.crossings → IsLedAt code choice k m → MergesOrSplitsAt code k state m

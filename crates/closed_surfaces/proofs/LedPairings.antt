@@ -1,7 +1,7 @@
 -- With one crossing more a pairing that leads from ends to starts has become one.
 use Rattle.std.proofs.Common.{◌≡◌, ℕ, ◌+◌, ◌<◌, ◌∙◌, List, ◌++◌, length, sym, arith, Bool, true}
 use Rattle.std.specs.List.{Contains}
-use Rattle.kh_types.specs.Code.{Code, arc_count}
+use Rattle.kh_types.specs.Code.{Code}
 use Rattle.kh_types.specs.Classes.{classes_of}
 use Rattle.kh_types.specs.Colours.{IsColoured}
 use Rattle.kh_types.specs.Darts.{HasArcsTwice}
@@ -11,7 +11,7 @@ use Rattle.dotted_surfaces.specs.Points.{AreAmong}
 use Rattle.added_crossings.specs.Steps.{after}
 use Rattle.added_crossings.proofs.Classes.{AreAmong-below}
 use Rattle.added_crossings.proofs.CodeSums.{joins-near}
-use Rattle.added_crossings.proofs.CodeSteps.{IsStep-at}
+use Rattle.added_crossings.proofs.CodeSteps.{IsStep-at, count_of}
 use Rattle.added_crossings.proofs.Members.{those-are, are-those}
 use Rattle.added_crossings.proofs.NewPairing.{IsPair, pairs-are, IsNewPairing-made}
 use Rattle.added_crossings.proofs.Pairs.{IsPaired-behind}
@@ -21,9 +21,6 @@ use Rattle.tangle_surfaces.proofs.CutSteps.{Lead-more}
 use Rattle.tangle_surfaces.proofs.LeadLemmas.{either}
 use Rattle.closed_surfaces.specs.Led.{IsLedAt}
 use Rattle.closed_surfaces.proofs.OpenTests.{open-is, open-positive}
-
-abbrev pub count_of : Code → ℕ
-count_of code = arc_count code.crossings + code.loops
 
 -- the arcs that are open, by their colours
 abbrev pub open_at : Code → ℕ → ℕ → ℕ → Bool

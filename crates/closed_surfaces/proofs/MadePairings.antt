@@ -16,11 +16,12 @@ use Rattle.added_crossings.specs.Saddles.{pairing_of}
 use Rattle.added_crossings.proofs.StatePairings.{made}
 use Rattle.dotted_maps.specs.Terms.{AreGlued}
 use Rattle.tangle_surfaces.proofs.CutEnds.{Lead-first}
+use Rattle.added_crossings.proofs.CodeSteps.{count_of}
 use Rattle.closed_surfaces.specs.Led.{IsLedAt}
 use Rattle.closed_surfaces.specs.Made.{HaveSurfaces, joined_outside}
 use Rattle.closed_surfaces.proofs.CodeSheets.{glued-at, glued-inside}
 use Rattle.closed_surfaces.proofs.CrossingParts.{term-closed}
-use Rattle.closed_surfaces.proofs.LedPairings.{count_of, led-next}
+use Rattle.closed_surfaces.proofs.LedPairings.{led-next}
 use Rattle.closed_surfaces.proofs.SaddleClosed.{saddle_term-closed}
 
 pub led-made : (code : Code) (choice state k : ℕ) → HasArcsTwice code.crossings → IsColoured code.crossings choice

@@ -1,9 +1,14 @@
 -- A pairing and the crossings behind the next one lead from the starts of the next crossing back to its ends.
+--
+-- The smoothings behind lead from every arc but those that end inside alone to every arc but those that start there alone. They leave alone
+-- what is inside with both ends (`inside-alone`), so the rest of them leads from what ends outside to what starts outside (`Lead-outer`).
+-- With the pairing, which leads from what ends inside to what starts there, that is all but the ends and the starts at the next crossing
+-- (`Lead-around`).
 use Rattle.std.proofs.Common.{◌≡◌, ℕ, inl, inr, ◌+◌, ◌<◌, ◌≤◌, ◌∙◌, List, [], ◌++◌, length, IsTrue, refl, sym, ap, ap₂, subst, arith, Bool, true, false, not, ◌&&◌, ◌||◌, eq-eqb}
 use Rattle.std.specs.Prelude.{nat_eq, nat_lt}
 use Rattle.std.specs.List.{Contains}
 use Rattle.std.proofs.Math.Path.{fun_ext}
-use Rattle.std.proofs.lemmas.Bool.{cases_Bool, eqb-true, false_from_ne_true}
+use Rattle.std.proofs.lemmas.Bool.{cases_Bool, eqb-true, false_from_ne_true, not-false}
 use Rattle.kh_types.specs.Acceptance.{accepted}
 use Rattle.kh_types.specs.Code.{Code}
 use Rattle.kh_types.specs.Classes.{Respects}
@@ -11,7 +16,7 @@ use Rattle.kh_types.specs.Colours.{IsColoured}
 use Rattle.kh_types.proofs.AcceptedLemmas.{HasArcsTwice-accepted}
 use Rattle.dotted_surfaces.proofs.Components.{AllByRecursion-weaker}
 use Rattle.added_crossings.specs.Codes.{ends_before, is_alive, points_at, outer_smoothings}
-use Rattle.added_crossings.proofs.CodeSteps.{outer-among}
+use Rattle.added_crossings.proofs.CodeSteps.{outer-among, count_of}
 use Rattle.added_crossings.proofs.Members.{those-are}
 use Rattle.tangle_surfaces.specs.CutCodes.{is_inside, ends_there, starts_there}
 use Rattle.tangle_surfaces.specs.Surfaces.{Lead, other_than}
@@ -22,7 +27,6 @@ use Rattle.tangle_surfaces.proofs.CutSurfaces.{is_either}
 use Rattle.tangle_surfaces.proofs.LeadLemmas.{AreApart, either, Lead-append, Lead-none}
 use Rattle.tangle_surfaces.proofs.Paths.{false_true}
 use Rattle.closed_surfaces.specs.Led.{IsLedAt}
-use Rattle.closed_surfaces.proofs.LedPairings.{count_of}
 use Rattle.closed_surfaces.proofs.OpenTests.{ends-counted}
 
 -- what leads from all but ends to all but starts, and leaves what is inside with both, leads from what is outside with its end to what is
@@ -36,10 +40,6 @@ in-both : (i o : Bool) → not (i && not o) ≡ true → not i ≡ false → o �
 in-both true true leads in_end = refl
 in-both true false leads in_end = absurd (false_true leads)
 in-both false o leads in_end = absurd (false_true (sym in_end))
-
-in-end : (i : Bool) → not i ≡ false → i ≡ true
-in-end true is = refl
-in-end false is = sym is
 
 no-both : (i : Bool) → i ≡ true → not i ≡ true → ⊥
 no-both true is out = false_true out
@@ -68,8 +68,8 @@ Lead-behind n inner outer pairs lead alone =
             | inr none ↦
                 let y_end = in-both (outer y) (inner y) (lead.next_to x below (from x out)) none in
                 let same : y ≡ x =
-                sym (lead.back_next y y_below (true-from (inner y) (outer y) (in-end (outer y) none)))
-                ∙ ap lead.back (alone y y_below y_end (in-end (outer y) none))
+                sym (lead.back_next y y_below (true-from (inner y) (outer y) (not-false (outer y) none)))
+                ∙ ap lead.back (alone y y_below y_end (not-false (outer y) none))
                 ∙ lead.back_next x below (from x out) in
                 absurd (no-both (inner x) (ap inner (sym same) ∙ y_end) out)
           ];
@@ -81,7 +81,7 @@ Lead-behind n inner outer pairs lead alone =
             | inl is ↦ is
             | inr none ↦
                 let x_start = in-both (inner x) (outer x) (lead.back_from y below (to y out)) none in
-                let same : y ≡ x = sym (lead.next_back y below (to y out)) ∙ alone x x_below (in-end (inner x) none) x_start in
+                let same : y ≡ x = sym (lead.next_back y below (to y out)) ∙ alone x x_below (not-false (inner x) none) x_start in
                 absurd (no-both (outer y) (ap outer same ∙ x_start) out)
           ];
       back_next = λ x below out. lead.back_next x below (from x out);
@@ -90,7 +90,7 @@ Lead-behind n inner outer pairs lead alone =
       only = λ g keeps.
           lead.only g (λ x below leads. elim (cases_Bool (not (inner x))) [
             | inl out ↦ keeps x below out
-            | inr none ↦ ap g (sym (alone x below (in-end (inner x) none) (in-both (inner x) (outer x) leads none)))
+            | inr none ↦ ap g (sym (alone x below (not-false (inner x) none) (in-both (inner x) (outer x) leads none)))
           ]);
     }
   where

@@ -1,4 +1,8 @@
 -- What a saddle adds at one pairing is closed.
+--
+-- On each component the two smoothings have two circles together, or three where the crossing is on it: those that the crossing closes with
+-- either smoothing, the discs of both new pairings, and those of the one with itself, which are half of the new open arcs (`saddle-code`,
+-- `Halves`). With a disc for each pair, which are half of the old open arcs, and the saddle's strip, the count is that of a sphere.
 use Rattle.std.proofs.Common.{◌≡◌, ℕ, ◌+◌, ◌*◌, ◌<◌, ◌∙◌, List, [], ◌∷◌, ◌++◌, length, map, IsTrue, refl, ap, arith, true, ◌&&◌}
 use Rattle.std.specs.Prelude.{nat_eq, slice_index}
 use Rattle.std.specs.List.{sum_by}
@@ -29,13 +33,14 @@ use Rattle.tangle_surfaces.proofs.Counts.{counted}
 use Rattle.tangle_surfaces.proofs.CutCodes.{ends-starts}
 use Rattle.tangle_surfaces.proofs.OrbitLemmas.{Respects-append, Respects-first, Respects-second, AreBelow-append}
 use Rattle.tangle_surfaces.proofs.SaddleCodes.{saddle-code}
+use Rattle.added_crossings.proofs.CodeSteps.{count_of}
 use Rattle.closed_surfaces.specs.Led.{IsLedAt}
 use Rattle.closed_surfaces.proofs.CodeSheets.{places-marked_by, outside-closed, entry-closed}
 use Rattle.closed_surfaces.proofs.Counted.{on}
 use Rattle.closed_surfaces.proofs.CrossingClosed.{new-respects, IsNear-at, smoothing-below}
 use Rattle.closed_surfaces.proofs.CrossingParts.{places-four, places-second}
 use Rattle.closed_surfaces.proofs.Halves.{discs-half, open-twice}
-use Rattle.closed_surfaces.proofs.LedPairings.{count_of, open_at, JoinOpen-behind, led-next}
+use Rattle.closed_surfaces.proofs.LedPairings.{open_at, JoinOpen-behind, led-next}
 use Rattle.closed_surfaces.proofs.NearClosed.{near_sheet, near_places, HasEuler, near-closed}
 
 abbrev pub first_end : ℕ × ℕ → ℕ

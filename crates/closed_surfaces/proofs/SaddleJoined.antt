@@ -1,6 +1,6 @@
 -- The two smoothings of a crossing, with whatever leads back from their starts to their ends: two classes become one, one way or the
 -- other.
-use Rattle.std.proofs.Common.{◌≡◌, ◌≢◌, ℕ, ◌⊎◌, inl, inr, ◌<◌, ◌∙◌, List, [], ◌∷◌, ◌++◌, refl, sym, ap, ap₂, subst, Bool, true, false, not, ◌||◌, eq-eqb}
+use Rattle.std.proofs.Common.{◌≡◌, ◌≢◌, ℕ, ◌⊎◌, inl, inr, ◌<◌, ◌∙◌, List, [], ◌∷◌, ◌++◌, refl, sym, ap, ap₂, subst, true, false, not, ◌||◌, eq-eqb}
 use Rattle.std.specs.Prelude.{nat_eq, slice_index}
 use Rattle.std.proofs.lemmas.Bool.{cases_eq, or_right, false_from_ne_true, eqb-true}
 use Rattle.kh_types.specs.Classes.{classes_of, Respects, AreBelow}

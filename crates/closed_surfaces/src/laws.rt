@@ -1,4 +1,5 @@
-//! What the scan's laws ask of accepted codes.
+//! Every surface that a scan of an accepted code meets is closed, and what the laws of adding a
+//! crossing give then, without a premise on surfaces.
 
 ghost use Rattle.std.specs.Prelude.{◌≡◌, ℕ, ◌+◌, ◌*◌, ◌^◌, ◌<◌, ◌≤◌, List, ◌++◌, length, IsTrue};
 ghost use Rattle.kh_types.specs.Acceptance.{accepted};
@@ -17,7 +18,8 @@ ghost use Rattle.added_crossings.specs.Saddles.{edge_at, MergesOrSplitsAt, AreBi
 ghost use Rattle.closed_surfaces.specs.Made.{HaveSurfaces};
 ghost use Rattle.closed_surfaces.specs.Led.{IsLedAt};
 
-/// With one crossing more a pairing that leads from ends to starts has become one.
+/// A pairing that leads from ends to starts has become another one behind one crossing more, with
+/// either smoothing.
 pub fn pairings_stay_led()
     ensures { (code : Code) (choice k smoothing : ℕ) (m : List (ℕ × ℕ)) → HasArcsTwice code.crossings
         → IsColoured code.crossings choice → k < length code.crossings → IsLedAt code choice k m
@@ -60,7 +62,7 @@ pub fn added_crossings_are_closed()
         → IsLedAt code choice k n → IsClosed (added_surface code k smoothing m n dots closed other_closed kept) }
 {}
 
-/// And so are both parts of a saddle at a pairing.
+/// So are both parts of the saddle at a pairing that leads from ends to starts.
 pub fn added_saddles_are_closed()
     ensures parts { (code : Code) (choice k state : ℕ) (m : List (ℕ × ℕ)) (label other_label : ℕ → ℕ)
         → IsTrue (accepted code) → IsColoured code.crossings choice → k < length code.crossings → IsLedAt code choice k m
@@ -75,9 +77,9 @@ pub fn added_saddles_are_closed()
         → IsClosed (saddle_surface code k m closed other_closed kept) }
 {}
 
-/// An accepted code has two colours, and each pairing that a state makes leads from ends to starts. So
-/// the surfaces of an accepted code are closed: of two such pairings and what a state joins outside, of three, of two and what the next
-/// crossing adds, and of the saddle at the next crossing.
+/// An accepted code has two colours, and each pairing that a state makes leads from ends to starts.
+/// So its surfaces are closed: of two such pairings at a state, of three, of two and what the next
+/// crossing adds, and of the saddle there.
 pub fn made_pairings_have_surfaces()
     ensures coloured { (code : Code) → IsTrue (accepted code) → (choice : ℕ) × IsColoured code.crossings choice }
     ensures led { (code : Code) (choice state k : ℕ) → HasArcsTwice code.crossings → IsColoured code.crossings choice
@@ -93,7 +95,7 @@ pub fn edges_merge_or_split()
 {}
 
 /// So an entry behind the first k crossings is the sum over the dot sets on the discs of the new
-/// pairings: by labels of arcs, and by numbers.
+/// pairings: with labels as functions of arcs, and with labels as numbers.
 pub fn led_crossings_add_up()
     ensures labels { (code : Code) (choice k state : ℕ) (m n : List (ℕ × ℕ)) (dots label other_label : ℕ → ℕ)
         → IsTrue (accepted code) → IsColoured code.crossings choice → k < length code.crossings → IsLedAt code choice k m
@@ -114,8 +116,8 @@ pub fn led_crossings_add_up()
         (label_behind code k (bit state k) state m label) (label_behind code k (bit state k) state n other)) }
 {}
 
-/// And the coefficient of an edge at the next crossing is the saddle's number, and the sum over the dot
-/// sets.
+/// The coefficient of an edge at the next crossing is the saddle's number, and it is the sum over the
+/// dot sets.
 pub fn led_saddles_add_up()
     ensures number { (code : Code) (choice k state : ℕ) (m : List (ℕ × ℕ)) (label other_label : ℕ → ℕ) → IsTrue (accepted code)
         → IsColoured code.crossings choice → k < length code.crossings → IsLedAt code choice k m → AreBits label other_label
