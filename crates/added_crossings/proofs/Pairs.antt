@@ -19,7 +19,7 @@ use Rattle.kh_types.proofs.JoinedClasses.{IsNamed-classes_of}
 use Rattle.kh_types.proofs.JoinedSlots.{arc_at-slot}
 use Rattle.kh_types.proofs.ListSums.{sum_by-map, sum_by-filter, sum_by-flat_map, sum_by-plus, sum_by-single, sum_by-zeros, sum_by-alike, sum_by-turned, sum_by-range_alike}
 use Rattle.dotted_surfaces.specs.Points.{AreAmong}
-use Rattle.added_crossings.specs.Pairings.{ends_in, degree, IsPaired}
+use Rattle.added_crossings.specs.Pairings.{ends_in, end_count, IsPaired}
 use Rattle.added_crossings.specs.Steps.{Step, those, after, is_near, near, is_mate, pair_with, pairs_at, pairs_among, new_pairing}
 use Rattle.added_crossings.specs.Codes.{ends_before, ends_at, is_open, points_at, step_at, smoothing_at, pairing_behind}
 use Rattle.added_crossings.proofs.Members.{IsOneOf, those-are, are-those}
@@ -67,10 +67,10 @@ pull-out : (b : Bool) (f : ℕ → ℕ) (xs : List ℕ) → sum_by (λ z. cond b
 pull-out true f xs = refl
 pull-out false f xs = sum_by-zeros (λ z. cond false (f z) 0) xs (λ z. refl)
 
-degree-pairs : (count : ℕ) (test : ℕ → Bool) (classes : List ℕ) (x : ℕ) → IsOneOf count test x
-    → degree (pairs_among (those count test) classes) x
+end_count-pairs : (count : ℕ) (test : ℕ → Bool) (classes : List ℕ) (x : ℕ) → IsOneOf count test x
+    → end_count (pairs_among (those count test) classes) x
     ≡ sum_by (λ z. one_if (is_mate classes x z)) (those count test) + sum_by (λ y. one_if (is_mate classes y x)) (those count test)
-degree-pairs count test classes x is =
+end_count-pairs count test classes x is =
     let points = those count test in
     let first : ℕ → ℕ → ℕ = λ y z. cond (nat_eq y x) (one_if (is_mate classes y z)) 0 in
     let second : ℕ → ℕ → ℕ = λ y z. cond (nat_eq z x) (one_if (is_mate classes y z)) 0 in
@@ -99,10 +99,10 @@ in-class classes x y =
     tested c d x y same = grind (arith, nat_tests)
 
 -- with the point itself they are the points of its class
-degree-class : (count : ℕ) (test : ℕ → Bool) (classes : List ℕ) (x : ℕ) → IsOneOf count test x
+end_count-class : (count : ℕ) (test : ℕ → Bool) (classes : List ℕ) (x : ℕ) → IsOneOf count test x
     → sum_by (λ y. one_if (nat_eq (slice_index classes y) (slice_index classes x))) (those count test)
-    ≡ degree (pairs_among (those count test) classes) x + 1
-degree-class count test classes x is =
+    ≡ end_count (pairs_among (those count test) classes) x + 1
+end_count-class count test classes x is =
     let points = those count test in
     let both : ℕ → ℕ = λ y. one_if (is_mate classes x y) + one_if (is_mate classes y x) in
     sum_by-alike (λ y. one_if (nat_eq (slice_index classes y) (slice_index classes x))) (λ y. both y + cond (nat_eq y x) 1 0)
@@ -110,13 +110,13 @@ degree-class count test classes x is =
     ∙ sum_by-plus both (λ y. cond (nat_eq y x) 1 0) points
     ∙ ap₂ (λ s t. s + t)
     (sum_by-plus (λ y. one_if (is_mate classes x y)) (λ y. one_if (is_mate classes y x)) points
-    ∙ sym (degree-pairs count test classes x is))
+    ∙ sym (end_count-pairs count test classes x is))
     (only-one count test (λ y. 1) x is)
 
 -- near the crossing an open arc is an end of one of the joins, and another arc of two
 pub record HaveDegrees (step : Step) (joins : List (ℕ × ℕ)) : Type 0 where
-  pub few : (x : ℕ) → x < step.count + 1 → degree joins x ≤ 2
-  pub near_degree : (x : ℕ) → IsOneOf step.count (is_near step) x → 2 - degree joins x ≡ cond (step.opened_next x) 1 0
+  pub few : (x : ℕ) → x < step.count + 1 → end_count joins x ≤ 2
+  pub near_degree : (x : ℕ) → IsOneOf step.count (is_near step) x → 2 - end_count joins x ≡ cond (step.opened_next x) 1 0
 
 pub range-first : (count : ℕ) (f : ℕ → ℕ) → f 0 ≡ 0 → sum_by f (range_with_len 0 (count + 1)) ≡ sum_by f (range_with_len 1 count)
 range-first count f none =
@@ -126,18 +126,18 @@ range-first count f none =
 
 free-class : (step : Step) (joins : List (ℕ × ℕ)) (x : ℕ) → AreAmong (near step) joins → HaveDegrees step joins
     → IsOneOf step.count (is_near step) x
-    → free_in (step.count + 1) (classes_of (step.count + 1) joins) (λ y. 2 - degree joins y) (class_in (step.count + 1) joins x)
+    → free_in (step.count + 1) (classes_of (step.count + 1) joins) (λ y. 2 - end_count joins y) (class_in (step.count + 1) joins x)
     ≡ sum_by (λ y. one_if (nat_eq (class_in (step.count + 1) joins y) (class_in (step.count + 1) joins x))) (after step).opened
 free-class step joins x among degrees is =
     let n = step.count + 1 in
     let class = class_in n joins in
     let below = AreAmong-below step.count (is_near step) joins among in
-    let free : ℕ → ℕ = λ y. cond (nat_eq (class y) (class x)) (2 - degree joins y) 0 in
+    let free : ℕ → ℕ = λ y. cond (nat_eq (class y) (class x)) (2 - end_count joins y) 0 in
     let counted : ℕ → ℕ = λ y. cond (step.opened_next y) (one_if (nat_eq (class y) (class x))) 0 in
     let positive = (class-is step.count (is_near step) joins x among is).above in
     let least = (IsNamed-classes_of n joins below).least 0 (omega arith) in
     let none : free 0 ≡ 0 =
-    ap (λ b. cond b (2 - degree joins 0) 0)
+    ap (λ b. cond b (2 - end_count joins 0) 0)
     (false_from_ne_true (nat_eq (class 0) (class x))
     (λ same. omega (arith, eqb-true (class 0) (class x) same, positive, least))) in
     range-first step.count free none
@@ -146,10 +146,10 @@ free-class step joins x among degrees is =
       | inl same ↦
           let y_is = together-is step.count (is_near step) joins x y among is (omega (arith, y_below))
           (eqb-true (class y) (class x) same) in
-          ap (λ b. cond b (2 - degree joins y) 0) same ∙ degrees.near_degree y y_is
+          ap (λ b. cond b (2 - end_count joins y) 0) same ∙ degrees.near_degree y y_is
           ∙ ap (λ b. cond (step.opened_next y) (one_if b) 0) (sym same)
       | inr other ↦
-          ap (λ b. cond b (2 - degree joins y) 0) other ∙ sym (neither (step.opened_next y))
+          ap (λ b. cond b (2 - end_count joins y) 0) other ∙ sym (neither (step.opened_next y))
           ∙ ap (λ b. cond (step.opened_next y) (one_if b) 0) (sym other)
     ])
     ∙ sym (sum_by-filter (λ y. one_if (nat_eq (class y) (class x))) step.opened_next (range_with_len 1 step.count))
@@ -158,46 +158,46 @@ free-class step joins x among degrees is =
     neither true = refl
     neither false = refl
 
-even-one : (count degree : ℕ) → count ≡ degree + 1 → HasEven count → degree ≡ 1
-even-one count degree is (inl none) = omega (arith, is, none)
-even-one count degree is (inr two) = omega (arith, is, two)
+even-one : (count end_count : ℕ) → count ≡ end_count + 1 → HasEven count → end_count ≡ 1
+even-one count end_count is (inl none) = omega (arith, is, none)
+even-one count end_count is (inr two) = omega (arith, is, two)
 
-degree-new : (step : Step) (joins : List (ℕ × ℕ)) (x : ℕ) → IsStep step → AreAmong (near step) joins
-    → HaveDegrees step joins → Contains (after step).opened x → degree (new_pairing step joins) x ≡ 1
-degree-new step joins x step_is among degrees has =
+end_count-new : (step : Step) (joins : List (ℕ × ℕ)) (x : ℕ) → IsStep step → AreAmong (near step) joins
+    → HaveDegrees step joins → Contains (after step).opened x → end_count (new_pairing step joins) x ≡ 1
+end_count-new step joins x step_is among degrees has =
     let n = step.count + 1 in
     let classes = classes_of n joins in
     let x_open = those-are step.count step.opened_next x has in
     let x_near = those-are step.count (is_near step) x (open-near step x step_is has) in
-    let free = free_in n classes (λ y. 2 - degree joins y) (class_in n joins x) in
-    even-one free (degree (new_pairing step joins) x)
-    (free-class step joins x among degrees x_near ∙ degree-class step.count step.opened_next classes x x_open)
+    let free = free_in n classes (λ y. 2 - end_count joins y) (class_in n joins x) in
+    even-one free (end_count (new_pairing step joins) x)
+    (free-class step joins x among degrees x_near ∙ end_count-class step.count step.opened_next classes x x_open)
     (AreEven-classes n joins (AreAmong-below step.count (is_near step) joins among) degrees.few x (omega (arith, x_open.below)))
 
 -- the degrees at a crossing of a code
 
-degree-none : (points : List ℕ) (pairs : List (ℕ × ℕ)) (x : ℕ) → AreAmong points pairs → (Contains points x → ⊥)
-    → degree pairs x ≡ 0
-degree-none points [] x among not = refl
-degree-none points (pair ∷ pairs) x among not =
+end_count-none : (points : List ℕ) (pairs : List (ℕ × ℕ)) (x : ℕ) → AreAmong points pairs → (Contains points x → ⊥)
+    → end_count pairs x ≡ 0
+end_count-none points [] x among not = refl
+end_count-none points (pair ∷ pairs) x among not =
     sum_by-cons (ends_in x) pair pairs
     ∙ ap₂ (λ s t. s + t)
     (ap₂ (λ (b c : Bool). one_if b + one_if c) (other points pair.0 x among.0.0 not) (other points pair.1 x among.0.1 not))
-    (degree-none points pairs x among.1 not)
+    (end_count-none points pairs x among.1 not)
   where
     other : (points : List ℕ) (y x : ℕ) → Contains points y → (Contains points x → ⊥) → nat_eq y x ≡ false
     other points y x has not =
         false_from_ne_true (nat_eq y x) (λ same. not (subst (λ z. Contains points z) (eqb-true y x same) has))
 
-degree-smoothing : (smoothing x : ℕ) (slots : List ℕ)
-    → degree (smoothing_of smoothing slots) x
+end_count-smoothing : (smoothing x : ℕ) (slots : List ℕ)
+    → end_count (smoothing_of smoothing slots) x
     ≡ one_if (nat_eq (arc_in slots 0) x)
     + (one_if (nat_eq (arc_in slots 1) x) + (one_if (nat_eq (arc_in slots 2) x) + one_if (nat_eq (arc_in slots 3) x)))
-degree-smoothing smoothing x slots =
+end_count-smoothing smoothing x slots =
     by_case (nat_eq smoothing 0) (arc_in slots 0) (arc_in slots 1) (arc_in slots 2) (arc_in slots 3) x
   where
     two-pairs : (a b c d x : ℕ)
-        → degree ((a, b) ∷ (c, d) ∷ []) x
+        → end_count ((a, b) ∷ (c, d) ∷ []) x
         ≡ (one_if (nat_eq a x) + one_if (nat_eq b x)) + ((one_if (nat_eq c x) + one_if (nat_eq d x)) + 0)
     two-pairs a b c d x =
         let first : ℕ × ℕ = (a, b) in
@@ -206,13 +206,13 @@ degree-smoothing smoothing x slots =
         sum_by-cons (ends_in x) first tail ∙ ap (λ s. ends_in x first + s) (sum_by-cons (ends_in x) second [])
 
     by_case : (is_zero : Bool) (a b c d x : ℕ)
-        → degree (cond is_zero ((a, b) ∷ (c, d) ∷ []) ((a, d) ∷ (b, c) ∷ [])) x
+        → end_count (cond is_zero ((a, b) ∷ (c, d) ∷ []) ((a, d) ∷ (b, c) ∷ [])) x
         ≡ one_if (nat_eq a x) + (one_if (nat_eq b x) + (one_if (nat_eq c x) + one_if (nat_eq d x)))
     by_case true a b c d x = two-pairs a b c d x ∙ omega arith
     by_case false a b c d x = two-pairs a d b c x ∙ omega arith
 
-degree-ends : (code : Code) (k smoothing x : ℕ) → degree (smoothing_at code k smoothing) x ≡ ends_at code.crossings k x
-degree-ends code k smoothing x =
+end_count-ends : (code : Code) (k smoothing x : ℕ) → end_count (smoothing_at code k smoothing) x ≡ ends_at code.crossings k x
+end_count-ends code k smoothing x =
     let crossings = code.crossings in
     let slots = slice_index_or crossings k [] in
     let at : ℕ → ℕ = λ place. one_if (nat_eq (arc_at crossings place) x) in
@@ -220,7 +220,7 @@ degree-ends code k smoothing x =
     λ s place below is.
     ap (λ a. one_if (nat_eq a x)) (sym (arc_at-slot crossings k s below)) ∙ ap at is in
     let a = 4 * k in
-    degree-smoothing smoothing x slots
+    end_count-smoothing smoothing x slots
     ∙ ap₂ (λ s t. s + t) (slot 0 a (omega arith) (omega arith))
     (ap₂ (λ s t. s + t) (slot 1 (a + 1) (omega arith) (omega arith))
     (ap₂ (λ s t. s + t) (slot 2 (a + 1 + 1) (omega arith) (omega arith)) (slot 3 (a + 1 + 1 + 1) (omega arith) (omega arith))))
@@ -240,14 +240,14 @@ free-test : (m e d next : ℕ) → next ≡ e + d → next ≤ 2 → m ≡ cond 
     → 2 - (m + d) ≡ cond (nat_eq next 1) 1 0
 free-test m e d next is few is_m near = grind (arith, nat_tests)
 
-degree-old : (code : Code) (k x : ℕ) (m : List (ℕ × ℕ)) → IsPaired (points_at code k).opened m → 1 ≤ x
-    → x < 1 + (arc_count code.crossings + code.loops) → degree m x ≡ cond (is_open code k x) 1 0
-degree-old code k x m paired above below = elim (cases_Bool (is_open code k x)) [
+end_count-old : (code : Code) (k x : ℕ) (m : List (ℕ × ℕ)) → IsPaired (points_at code k).opened m → 1 ≤ x
+    → x < 1 + (arc_count code.crossings + code.loops) → end_count m x ≡ cond (is_open code k x) 1 0
+end_count-old code k x m paired above below = elim (cases_Bool (is_open code k x)) [
   | inl open_too ↦
       paired.once x (are-those (arc_count code.crossings + code.loops) (is_open code k) x above below open_too)
       ∙ ap one_if (sym open_too)
   | inr not ↦
-      degree-none (points_at code k).opened m x paired.among
+      end_count-none (points_at code k).opened m x paired.among
       (λ has.
       both_ways (is_open code k x) not (those-are (arc_count code.crossings + code.loops) (is_open code k) x has).passes)
       ∙ ap one_if (sym not)
@@ -260,8 +260,8 @@ HaveDegrees-at code k smoothing m twice below paired =
     let crossings = code.crossings in
     let s = smoothing_at code k smoothing in
     let joins = m ++ s in
-    let sum : (x : ℕ) → degree joins x ≡ degree m x + ends_at crossings k x =
-    λ x. sum_by-append (ends_in x) m s ∙ ap (λ d. degree m x + d) (degree-ends code k smoothing x) in
+    let sum : (x : ℕ) → end_count joins x ≡ end_count m x + ends_at crossings k x =
+    λ x. sum_by-append (ends_in x) m s ∙ ap (λ d. end_count m x + d) (end_count-ends code k smoothing x) in
     record {
       few = λ x x_below. elim (cases_Bool (is_near (step_at code k) x && nat_lt 0 x)) [
         | inl both ↦
@@ -271,14 +271,14 @@ HaveDegrees-at code k smoothing m twice below paired =
             omega (
               arith,
               sum x,
-              near-test (degree m x) (ends_before crossings k x) (ends_at crossings k x) (ends_before crossings (k + 1) x)
-                  (ends_before-more crossings k x) few (degree-old code k x m paired above (omega (arith, x_below))) parts.0,
+              near-test (end_count m x) (ends_before crossings k x) (ends_at crossings k x) (ends_before crossings (k + 1) x)
+                  (ends_before-more crossings k x) few (end_count-old code k x m paired above (omega (arith, x_below))) parts.0,
               few,
             )
         | inr neither ↦
             omega (
               arith,
-              degree-none (near (step_at code k)) joins x (joins-near code k smoothing m twice below paired.among)
+              end_count-none (near (step_at code k)) joins x (joins-near code k smoothing m twice below paired.among)
                   (λ has.
                   let is = those-are count (is_near (step_at code k)) x has in
                   both_ways (is_near (step_at code k) x && nat_lt 0 x) neither
@@ -287,9 +287,9 @@ HaveDegrees-at code k smoothing m twice below paired =
       ];
       near_degree = λ x is.
           ap (λ d. 2 - d) (sum x)
-          ∙ free-test (degree m x) (ends_before crossings k x) (ends_at crossings k x) (ends_before crossings (k + 1) x)
+          ∙ free-test (end_count m x) (ends_before crossings k x) (ends_at crossings k x) (ends_before crossings (k + 1) x)
           (ends_before-more crossings k x) (few-ends crossings (k + 1) x twice is.above (omega (arith, below)))
-          (degree-old code k x m paired is.above is.below) is.passes;
+          (end_count-old code k x m paired is.above is.below) is.passes;
     }
 
 pub IsPaired-behind : (code : Code) (k smoothing : ℕ) (m : List (ℕ × ℕ)) → HasArcsTwice code.crossings → k < length code.crossings
@@ -297,6 +297,6 @@ pub IsPaired-behind : (code : Code) (k smoothing : ℕ) (m : List (ℕ × ℕ)) 
 IsPaired-behind code k smoothing m twice below paired = record {
   among = AreAmong-behind code k smoothing m twice below paired.among;
   once = λ x has.
-      degree-new (step_at code k) (m ++ smoothing_at code k smoothing) x (IsStep-at code k twice below)
+      end_count-new (step_at code k) (m ++ smoothing_at code k smoothing) x (IsStep-at code k twice below)
       (joins-near code k smoothing m twice below paired.among) (HaveDegrees-at code k smoothing m twice below paired) has;
 }

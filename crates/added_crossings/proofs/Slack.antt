@@ -15,7 +15,7 @@ use Rattle.kh_types.proofs.ClassLemmas.{slice_index-joined, length-joined}
 use Rattle.kh_types.proofs.JoinedClasses.{joined-together, slice_index-range}
 use Rattle.kh_types.proofs.ListSums.{sum_by-plus, sum_by-single, sum_by-range_alike}
 use Rattle.std.proofs.lemmas.List.FromFn.{length-range_with_len}
-use Rattle.added_crossings.specs.Pairings.{ends_in, degree}
+use Rattle.added_crossings.specs.Pairings.{ends_in, end_count}
 
 -- what the points of a class have free
 abbrev pub free_in : ℕ → List ℕ → (ℕ → ℕ) → ℕ → ℕ
@@ -177,18 +177,18 @@ same_free : (f : ℕ) → f ≡ f - 0
 same_free f = omega arith
 
 AreEven-fold : (n : ℕ) (classes : List ℕ) (free : ℕ → ℕ) (pairs : List (ℕ × ℕ)) → length classes ≡ n → AreBelow n pairs
-    → ((x : ℕ) → x < n → degree pairs x ≤ free x) → AreEven n classes free
-    → AreEven n (fold joined classes pairs) (λ x. free x - degree pairs x)
+    → ((x : ℕ) → x < n → end_count pairs x ≤ free x) → AreEven n classes free
+    → AreEven n (fold joined classes pairs) (λ x. free x - end_count pairs x)
 AreEven-fold n classes free [] size below few even =
     subst (λ (g : ℕ → ℕ). AreEven n classes g) (fun_ext (λ x. same_free (free x))) even
 AreEven-fold n classes free (pair ∷ pairs) size below few even =
-    let more : (x : ℕ) → degree (pair ∷ pairs) x ≡ ends_in x pair + degree pairs x = λ x. sum_by-cons (ends_in x) pair pairs in
+    let more : (x : ℕ) → end_count (pair ∷ pairs) x ≡ ends_in x pair + end_count pairs x = λ x. sum_by-cons (ends_in x) pair pairs in
     subst (λ (g : ℕ → ℕ). AreEven n (fold joined (joined classes pair) pairs) g)
-    (fun_ext (λ x. less_twice (free x) (ends_in x pair) (degree pairs x) (degree (pair ∷ pairs) x) (more x)))
+    (fun_ext (λ x. less_twice (free x) (ends_in x pair) (end_count pairs x) (end_count (pair ∷ pairs) x) (more x)))
     (AreEven-fold n (joined classes pair) (left_free free pair) pairs (length-joined classes pair ∙ size) below.1
-    (λ x x_below. fewer (free x) (ends_in x pair) (degree pairs x) (degree (pair ∷ pairs) x) (more x) (few x x_below))
+    (λ x x_below. fewer (free x) (ends_in x pair) (end_count pairs x) (end_count (pair ∷ pairs) x) (more x) (few x x_below))
     (AreEven-joined n classes free pair size below.0.0 below.0.1
-    (λ x x_below. few_now (free x) (ends_in x pair) (degree pairs x) (degree (pair ∷ pairs) x) (more x) (few x x_below)) even))
+    (λ x x_below. few_now (free x) (ends_in x pair) (end_count pairs x) (end_count (pair ∷ pairs) x) (more x) (few x x_below)) even))
   where
     less_twice : (f e d all : ℕ) → all ≡ e + d → f - e - d ≡ f - all
     less_twice f e d all is = omega (arith, is)
@@ -213,7 +213,7 @@ alone n x x_below =
     ∙ eqb-true (slice_index (range_with_len 0 n) z) (slice_index (range_with_len 0 n) x) same ∙ at x x_below))))
     ∙ ap (λ b. cond b 2 0) (eq-eqb (slice_index (range_with_len 0 n) x) (slice_index (range_with_len 0 n) x) refl))
 
-pub AreEven-classes : (n : ℕ) (pairs : List (ℕ × ℕ)) → AreBelow n pairs → ((x : ℕ) → x < n → degree pairs x ≤ 2)
-    → AreEven n (classes_of n pairs) (λ x. 2 - degree pairs x)
+pub AreEven-classes : (n : ℕ) (pairs : List (ℕ × ℕ)) → AreBelow n pairs → ((x : ℕ) → x < n → end_count pairs x ≤ 2)
+    → AreEven n (classes_of n pairs) (λ x. 2 - end_count pairs x)
 AreEven-classes n pairs below few =
     AreEven-fold n (range_with_len 0 n) (λ x. 2) pairs (length-range_with_len 0 n) below few (alone n)

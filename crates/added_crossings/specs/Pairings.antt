@@ -21,10 +21,10 @@ abbrev pub ends_in : ℕ → ℕ × ℕ → ℕ
 ends_in x pair = (if nat_eq pair.0 x then 1 else 0) + (if nat_eq pair.1 x then 1 else 0)
 
 -- how many ends of all pairs a point is
-abbrev pub degree : List (ℕ × ℕ) → ℕ → ℕ
-degree pairs x = sum_by (ends_in x) pairs
+abbrev pub end_count : List (ℕ × ℕ) → ℕ → ℕ
+end_count pairs x = sum_by (ends_in x) pairs
 
 -- pairs are a pairing of some points: their ends are such points, and each of the points is one end of one pair, and no other end
 pub record IsPaired (points : List ℕ) (pairs : List (ℕ × ℕ)) : Type 0 where
   pub among : AreAmong points pairs
-  pub once : (x : ℕ) → Contains points x → degree pairs x ≡ 1
+  pub once : (x : ℕ) → Contains points x → end_count pairs x ≡ 1

@@ -11,7 +11,7 @@ use Rattle.kh_types.specs.Code.{Code, arc_count, arcs_and_loops}
 use Rattle.kh_types.proofs.ListSums.{sum_by-alike}
 use Rattle.dotted_surfaces.specs.Points.{AreAmong, IsPairing, ends_of}
 use Rattle.added_crossings.specs.Codes.{is_open, points_at}
-use Rattle.added_crossings.specs.Pairings.{IsPaired, degree, ends_in}
+use Rattle.added_crossings.specs.Pairings.{IsPaired, end_count, ends_in}
 use Rattle.cell_complexes.specs.Alike.{HasNoDoubles}
 use Rattle.cell_complexes.proofs.NoDoubles.{once-range}
 use Rattle.scan_laws.proofs.AddedCircles.{once-filter}
@@ -29,8 +29,8 @@ permuted (x ∷ xs) ys same =
     IsPermutation-trans (x ∷ xs) (x ∷ left) ys (IsPermutation-cons x xs left rest)
     (IsPermutation-sym ys (x ∷ left) (IsPermutation-remove ys has.0 x has.1 (sym has.2)))
 
--- ends are counted by degrees
-ends-counted : (z : ℕ) (m : List (ℕ × ℕ)) → counted z (ends_of m) ≡ degree m z
+-- the ends of a pairing are counted by its pairs
+ends-counted : (z : ℕ) (m : List (ℕ × ℕ)) → counted z (ends_of m) ≡ end_count m z
 ends-counted z [] = refl
 ends-counted z (pair ∷ m) =
     omega (
