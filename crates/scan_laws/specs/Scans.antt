@@ -15,7 +15,8 @@ pub record Object : Type 0 where
   pub degree : ℕ
   pub shift : ℤ
 
--- a scan: how many crossings are done; the objects that are left, by their numbers; and the terms of the map from one to another
+-- a scan: how many crossings are done; the objects that are left, by their numbers; and the terms of the map from one to another. What
+-- stands at other numbers is read by nothing
 pub record Scan : Type 0 where
   pub done : ℕ
   pub numbers : List ℕ
@@ -61,7 +62,7 @@ dot_sets code scan x y = 2 ^ length (discs (points_at code scan.done) (pairs_of 
 abbrev pub HasDots : Code → Scan → ℕ → ℕ → Type 0
 HasDots code scan x y = AllByRecursion (λ term. term.dots < dot_sets code scan x y) (scan.terms x y)
 
--- a scan of a code: it is somewhere in the list of crossings, no object stands there twice, maps are sums of dotted discs, and each
+-- a scan of a code: it is somewhere in the list of crossings, no number stands there twice, maps are sums of dotted discs, and each
 -- object is a pairing that some state makes of the arcs that are open
 pub record IsScanOf (code : Code) (scan : Scan) : Type 0 where
   pub within : scan.done ≤ length code.crossings

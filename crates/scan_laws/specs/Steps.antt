@@ -10,7 +10,8 @@ use Rattle.scan_laws.specs.Scans.{HasDots, Scan, dot_sets, first_scan}
 use Rattle.scan_laws.specs.Adding.{IsAdding}
 use Rattle.scan_laws.specs.Eliminating.{IsEliminating}
 
--- a scan is another under other numbers: it has the same objects, and modulo p the same coefficients
+-- a scan is another under other numbers, or with its terms written in another way: it has the same objects, and modulo p the same
+-- coefficients
 pub record IsRenumbering (p : ℕ) (code : Code) (scan next : Scan) : Type 0 where
   pub done : next.done ≡ scan.done
   pub number : ℕ → ℕ

@@ -21,6 +21,8 @@ ghost use Rattle.scan_laws.specs.Counts.{counted, counted_table};
 /// The theorem of the scan: where a scan of an accepted code ends, in whatever order it takes the
 /// crossings and whatever it eliminates, its objects count the dimensions of the code, and so its
 /// table; `small` says so of the four fields of the program. And in every order there is an end.
+/// (Tables list quantum degrees up to `EXPONENT` alone, which serves all codes within the limits;
+/// `dimensions` speaks of all.)
 pub fn scans_count_dimensions()
     ensures dimensions { (p : ℕ) (code : Code) (crossings : List (List ℕ)) (scan : Scan)
         → HasInverses p → IsTrue (accepted code) → IsEndOfScan p code crossings scan
@@ -38,7 +40,8 @@ pub fn scans_count_dimensions()
 
 /// What a program keeps that scans a code: the first scan is reached, also as lists, and each step
 /// leads from one that is to another. One that is reached is a scan of the code; where it is a last
-/// one it counts the code's table; and from each there are steps to a last one.
+/// one it counts the code's dimensions and its table; and from each there are steps to a last one.
+/// The premise on p holds over the four fields of the program.
 pub fn reached_scans()
     ensures first { (p : ℕ) (code : Code) → IsReached p code first_scan }
     ensures lists { (p : ℕ) (code : Code)
@@ -47,9 +50,13 @@ pub fn reached_scans()
         → IsReached p code scan → IsScanStep p code scan next → IsReached p code next }
     ensures of { (p : ℕ) (code : Code) (scan : Scan)
         → HasInverses p → IsTrue (accepted code) → IsReached p code scan → IsScanOf code scan }
+    ensures dimensions { (p : ℕ) (code : Code) (scan : Scan)
+        → HasInverses p → IsTrue (accepted code) → IsReached p code scan → IsLast p code scan
+        → (i j : ℤ) → counted code scan i j ≡ dimension p code i j }
     ensures table { (p : ℕ) (code : Code) (scan : Scan)
         → HasInverses p → IsTrue (accepted code) → IsReached p code scan → IsLast p code scan
         → counted_table p code scan ≡ table p code }
+    ensures fields { (p : ℕ) → IsSmallPrime p → HasInverses p }
     ensures ends { (p : ℕ) (code : Code) (scan : Scan)
         → HasInverses p → IsTrue (accepted code) → IsReached p code scan
         → (last : Scan) × LeadsTo p code scan last × IsLast p code last }
