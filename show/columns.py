@@ -2,10 +2,12 @@
 
 They serve where curls lie in each other too deeply for the curves of `mesh.py` and `elastic.py`.
 """
+import math
+
 from layout import events_of, levels_of, places_of
 
-# The room between columns and between levels, and the radius of corners.
-BROAD, HIGH, ROUND = 1.2, 2.6, 0.6
+# The room between columns and between levels, the half of a crossing of columns far apart, and the radius of corners.
+BROAD, HIGH, HALF, ROUND = 1.2, 3.2, 0.9, 0.6
 
 
 class Columns:
@@ -33,10 +35,11 @@ class Columns:
                 self.joined.update({one: other, other: one})
 
     def arm(self, end):
-        """The points from a crossing to an end of a stretch: at half a right angle, then level."""
-        (middle, y), (x, _), quarter = self.middles[self.darts[end][0]], self.places[end], HIGH / 4
-        height = y - quarter if end[1] else y + quarter
-        return [(middle, y), (middle + (quarter if x > middle else -quarter), height), (x, height)]
+        """The points from a crossing to an end of a stretch: at half a right angle, then level where that is far."""
+        (middle, y), (x, _) = self.middles[self.darts[end][0]], self.places[end]
+        far = x - middle
+        steps = [(far, abs(far))] if abs(far) < 1.5 * BROAD else [(math.copysign(HALF, far), HALF), (far, HALF)]
+        return [(middle, y), *((middle + across, y - up if end[1] else y + up) for across, up in steps)]
 
     def trail(self, end):
         """The points along an arc from the crossing at this end, and the end at which it comes to a crossing."""

@@ -3,17 +3,15 @@
 A place is a list of numbers: the x of all points, then their y. Only points of one face keep away from each other, since other strands
 stand between all others. No step lets a strand go through another one.
 """
-import math
+import functools
 
 from descent import descended
+from energies import WALL, add_bend, add_length, add_near, add_square, add_walls
 
-# How much of the energy is in the bends, in the lengths, in what is near, and in crossings that are no right angles.
-BEND, LENGTH, NEAR, SQUARE = 8.0, 1.0, 18.0, 14.0
-# The part of NEAR that counts in the outer face.
-OUTSIDE = 0.5
-# What keeps the energy of a strand that turns back from being endless.
-FOLD = 0.02
-STEPS = 250
+# How much points keep away from each other, and the part of that which counts in the outer face.
+NEAR, OUTSIDE = 18.0, 0.5
+# How stiff the threads are, first so that they come apart, then so that they are smooth; and how many steps there are for each.
+STAGES = ((0.1, 80), (8.0, 250))
 
 
 def bends_of(piece):
@@ -65,100 +63,45 @@ def is_around(middle, ring, xs, ys):
     return len(right) == 1 and all(turn(middle, ring[(right[0] + at) % 4], ring[(right[0] + at + 2) % 4], xs, ys) > 0 for at in (1, 2))
 
 
-def add_near(pairs, scale, xs, ys, across, down):
-    """The energy of points that are near, which adds its slope."""
-    energy = 0.0
-    for one, other, weight in pairs:
-        x, y = xs[one] - xs[other], ys[one] - ys[other]
-        square = x * x + y * y
-        part = scale * weight / square
-        energy += part
-        part *= -2 / square
-        across[one] += part * x
-        across[other] -= part * x
-        down[one] += part * y
-        down[other] -= part * y
-    return energy
+class Threads:
+    """The strands of a piece: what bends, what is near, and what may not be crossed."""
 
+    def __init__(self, piece):
+        self.count, self.chains = piece.count, [it for it in piece.chains.values() if it <= it[::-1]]
+        self.bends, self.crosses, self.pairs, self.sides = bends_of(piece), crosses_of(piece), near_pairs(piece), side_pairs(piece)
+        self.scale = NEAR / (len(self.chains[0]) - 1) ** 2
+        self.steps = [step for chain in piece.chains.values() for step in zip(chain, chain[1:])]
+        self.beside = [[] for _ in range(piece.count)]
+        for one, other in self.steps:
+            self.beside[one].append(other)
+        self.corners = []
+        for middle, *ring in self.crosses:
+            for one, other in zip(ring, ring[1:] + ring[:1]):
+                self.corners += [(one, middle, other), (other, middle, one)]
 
-def add_square(crosses, xs, ys, across, down):
-    """The energy of crossings that are no right angles, which adds its slope."""
-    energy = 0.0
-    for _, a, b, c, d in crosses:
-        ux, uy, vx, vy = xs[a] - xs[c], ys[a] - ys[c], xs[b] - xs[d], ys[b] - ys[d]
-        product, one, other = ux * vx + uy * vy, ux * ux + uy * uy, vx * vx + vy * vy
-        part = SQUARE * product * product / (one * other)
-        energy += part
-        scale = 2 * SQUARE * product / (one * other)
-        for first, last, x, y in (
-            (a, c, scale * vx - 2 * part * ux / one, scale * vy - 2 * part * uy / one),
-            (b, d, scale * ux - 2 * part * vx / other, scale * uy - 2 * part * vy / other),
-        ):
-            across[first] += x
-            across[last] -= x
-            down[first] += y
-            down[last] -= y
-    return energy
+    def energy(self, stiff, place):
+        """The energy of a place and its slope."""
+        xs, ys, across, down = place[: self.count], place[self.count :], [0.0] * self.count, [0.0] * self.count
+        longest = max((xs[a] - xs[b]) * (xs[a] - xs[b]) + (ys[a] - ys[b]) * (ys[a] - ys[b]) for a, b in self.steps)
+        energy, close = add_near(self.pairs, self.scale, WALL * WALL + longest / 4, xs, ys, across, down)
+        energy += add_walls(self.corners, close, self.beside, xs, ys, across, down)
+        energy += add_bend(self.bends, stiff, xs, ys, across, down)
+        energy += add_square(self.crosses, xs, ys, across, down)
+        energy += add_length(self.chains, xs, ys, across, down)
+        return energy, across + down
 
-
-def add_length(chains, xs, ys, across, down):
-    """The energy of the lengths of arcs, the least where their points are evenly spaced, which adds its slope."""
-    energy = 0.0
-    for chain in chains:
-        steps = [(one, other, xs[one] - xs[other], ys[one] - ys[other]) for one, other in zip(chain, chain[1:])]
-        length = math.sqrt(len(steps) * math.fsum(x * x + y * y for _, _, x, y in steps))
-        energy += LENGTH * length
-        scale = LENGTH * len(steps) / length
-        for one, other, x, y in steps:
-            across[one] += scale * x
-            across[other] -= scale * x
-            down[one] += scale * y
-            down[other] -= scale * y
-    return energy
-
-
-def add_bend(bends, xs, ys, across, down):
-    """The energy of bends, nearly the square of the curvature along the strands, which adds its slope."""
-    energy = 0.0
-    for a, b, c in bends:
-        ux, uy, vx, vy = xs[b] - xs[a], ys[b] - ys[a], xs[c] - xs[b], ys[c] - ys[b]
-        one, other = math.sqrt(ux * ux + uy * uy), math.sqrt(vx * vx + vy * vy)
-        # (the square of the tangent of half the angle, by half the length of both sides)
-        cosine, both = (ux * vx + uy * vy) / (one * other), one + other
-        straight = 1 + FOLD + cosine
-        part = 4 * BEND * (1 - cosine) / (straight * both)
-        energy += part
-        scale, part = -4 * BEND * (2 + FOLD) / (straight * straight * both * one * other), part / both
-        inner, outer = scale * cosine * other / one + part / one, scale * cosine * one / other + part / other
-        x, y = scale * vx - inner * ux, scale * vy - inner * uy
-        far_x, far_y = scale * ux - outer * vx, scale * uy - outer * vy
-        across[a] -= x
-        across[b] += x - far_x
-        across[c] += far_x
-        down[a] -= y
-        down[b] += y - far_y
-        down[c] += far_y
-    return energy
+    def is_plane(self, place):
+        """Whether strands meet at crossings alone, and there in their order."""
+        xs, ys = place[: self.count], place[self.count :]
+        for a, b, c, d in self.sides:
+            if (turn(a, b, c, xs, ys) > 0) != (turn(a, b, d, xs, ys) > 0) and (turn(c, d, a, xs, ys) > 0) != (turn(c, d, b, xs, ys) > 0):
+                return False
+        return all(is_around(middle, ring, xs, ys) for middle, *ring in self.crosses)
 
 
 def bent(piece, xs, ys):
-    """Where the points of a piece stand when its strands have come to rest, from places at which no strands cross but at crossings."""
-    chains = [it for it in piece.chains.values() if it <= it[::-1]]
-    bends, crosses, pairs, sides = bends_of(piece), crosses_of(piece), near_pairs(piece), side_pairs(piece)
-    count, scale = piece.count, NEAR / (len(chains[0]) - 1) ** 2
-
-    def energy(place):
-        xs, ys, across, down = place[:count], place[count:], [0.0] * count, [0.0] * count
-        value = add_bend(bends, xs, ys, across, down) + add_near(pairs, scale, xs, ys, across, down)
-        value += add_square(crosses, xs, ys, across, down) + add_length(chains, xs, ys, across, down)
-        return value, across + down
-
-    def is_plane(place):
-        xs, ys = place[:count], place[count:]
-        for a, b, c, d in sides:
-            if (turn(a, b, c, xs, ys) > 0) != (turn(a, b, d, xs, ys) > 0) and (turn(c, d, a, xs, ys) > 0) != (turn(c, d, b, xs, ys) > 0):
-                return False
-        return all(is_around(it[0], it[1:], xs, ys) for it in crosses)
-
-    place = descended(energy, is_plane, xs + ys, STEPS)
-    return place[:count], place[count:]
+    """Where the points of a piece stand when its strands have come to rest, from places at which they meet at crossings alone."""
+    threads, place = Threads(piece), xs + ys
+    for stiff, steps in STAGES:
+        place = descended(functools.partial(threads.energy, stiff), threads.is_plane, place, steps)
+    return place[: piece.count], place[piece.count :]

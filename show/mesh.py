@@ -15,11 +15,11 @@ ARC = 6.0
 # How much it matters that triangles have the size of ideal ones, beside their angles, and how much those of the outer face matter.
 SIZE, OUTSIDE = 0.3, 0.01
 # The height that triangles have when they need no more room, how many steps come then, and how many there are at most.
-ENOUGH, LAST, MOST = 0.1, 60, 500
+ENOUGH, LAST, MOST = 0.1, 40, 250
 # How far the ring of fixed points is, beside the square root of the area of all ideal triangles.
 RING = 1.5
 # How often points are moved amid their neighbours before it is given up.
-TRIES = 12
+TRIES = 30
 
 
 class Piece(NamedTuple):

@@ -13,8 +13,10 @@ from plane import components_of, pieces_of
 
 # The radius of a loop, the room between pieces, and how wide a row of them becomes.
 RADIUS, ROOM, WIDEST = 1.9, 1.5, 48.0
-# How near strands come at least, and how much larger a piece may become for that.
-NEAREST, LARGEST = 0.65, 2.5
+# How near strands come at least, what is beside a crossing, and how much larger a piece may become for that.
+NEAREST, BESIDE, LARGEST = 0.65, 1.3, 2.5
+# Two points of one arc are near where the way between them is so much longer, for each step of the way.
+FOLDED = 0.1
 # How a circle's quarter is drawn as a cubic curve.
 QUARTER = 0.5523
 # The mean square of distances between points and mirrored ones up to which left and right are alike.
@@ -98,15 +100,24 @@ def curves_of(plane, piece, points):
     return arcs
 
 
-def clearance(piece, points):
-    """How near two strands come that are at one face, but for what is beside a crossing of both."""
-    found = [math.inf]
-    for face in piece.faces:
-        for at, one in enumerate(face):
-            for before, other in enumerate(face[:at]):
-                if 3 <= at - before <= len(face) - 3 and one != other:
-                    found.append(distance(points[one], points[other]))
-    return min(found)
+def clearance(plane, arcs):
+    """How near two strands come, or a strand to itself, but for what is beside a crossing of both; at most as near as they may."""
+    squares, points = {}, []
+    for dart, curve in arcs.items():
+        if dart < plane.partner[dart]:
+            ends = [(dart[0], curve[0]), (plane.partner[dart][0], curve[-1])]
+            for at, point in enumerate(sampled(curve, 4)):
+                points.append((dart, at, point, {crossing for crossing, end in ends if distance(point, end) < BESIDE}))
+    least = NEAREST
+    for number, (dart, at, (x, y), beside) in enumerate(points):
+        across, down = int(x // NEAREST), int(y // NEAREST)
+        for square in ((across + right, down + low) for right in (-1, 0, 1) for low in (-1, 0, 1)):
+            for other in squares.get(square, ()):
+                its_dart, its_at, point, its_beside = points[other]
+                if not beside & its_beside and (its_dart != dart or distance((x, y), point) < FOLDED * (at - its_at)):
+                    least = min(least, distance((x, y), point))
+        squares.setdefault((across, down), []).append(number)
+    return least
 
 
 def bounds(points):
@@ -160,12 +171,13 @@ def piece_shape(plane, crossings, slices):
     between = between_for(len(crossings))
     piece = piece_of(plane, crossings, between)
     begun = spread(piece, between)
-    points = [(x, -y) for x, y in zip(*bent(piece, *begun))] if begun else []
-    scale = max(1.0, NEAREST / clearance(piece, points)) if begun else math.inf
-    if scale > LARGEST:
-        return {dart: curve for dart, curve in column_curves(slices).items() if dart in piece.chains}
-    marks = [*range(len(crossings)), *sorted({chain[1 + between // 2] for chain in piece.chains.values()})]
-    return curves_of(plane, piece, [(scale * x, scale * y) for x, y in upright(points, marks)])
+    if begun:
+        marks = [*range(len(crossings)), *sorted({chain[1 + between // 2] for chain in piece.chains.values()})]
+        arcs = curves_of(plane, piece, upright([(x, -y) for x, y in zip(*bent(piece, *begun))], marks))
+        near = clearance(plane, arcs)
+        if near * LARGEST > NEAREST:
+            return {dart: moved(curve, 0, 0, NEAREST / near) for dart, curve in arcs.items()}
+    return {dart: curve for dart, curve in column_curves(slices).items() if dart in piece.chains}
 
 
 def circle(radius):

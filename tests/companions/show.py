@@ -1,35 +1,23 @@
 """Tries the scripts of `show/` on stored outputs of `kh`: those of `tests/data`, and drawings made by `plain.drawing`.
 
-`tests/program` runs these behind its rows. No program is run for them but those of `show/`.
+`tests/program` runs these behind its rows, and then those of `pictures`. No program is run for them but those of this repository.
 """
 import itertools
-import math
 import os
 import re
 import subprocess
-import sys
 import tempfile
-from importlib.machinery import SourceFileLoader
-from importlib.util import module_from_spec, spec_from_loader
+import xml.etree.ElementTree
 
 import plain.diagrams
 import plain.drawing
+from companions import pictures
 from rows.link import REDUCED_TREFOIL
 from rows.texts import TREFOIL, TREFOIL_OVER_THREE, TREFOIL_TABLE
 from shared.places import DATA, TOP
 from shared.running import PATIENCE
 
 
-def script(name):
-    """A script of `show/` as a module."""
-    sys.path.insert(0, os.path.join(TOP, "show"))
-    loader = SourceFileLoader(f"show_{name}", os.path.join(TOP, "show", name))
-    module = module_from_spec(spec_from_loader(loader.name, loader))
-    loader.exec_module(module)
-    return module
-
-
-DRAWING = script("drawing")
 TWO_FIELDS = TREFOIL_TABLE + TREFOIL_OVER_THREE
 TWO_GRIDS = """\
 over 2 elements              over 3 elements
@@ -43,7 +31,7 @@ j\\i | -3  -2  -1   0 |  χ    j\\i | -3  -2  -1   0 |  χ
 * not the same over all these fields: torsion
 """
 REDUCED_GRID = """\
-over 2 elements, reduced at 1
+over 2 elements, reduced at mark 1
 j\\i | -3  -2  -1   0 |  χ
 ----+----------------+---
  -2 |              1 |  1
@@ -70,6 +58,8 @@ POLYNOMIALS = "field 2\nq^-9 t^-3 + q^-7 t^-3 + q^-7 t^-2 + q^-5 t^-2 + q^-3 + q
 POLYNOMIALS += "field 3\nq^-9 t^-3 + q^-5 t^-2 + q^-3 + q^-1\n"
 AS_OTHERS_WRITE = "field 3\nq^(-3) + 1/q + 1/(q^5*t^2)+q^{-9}t^{-3}\n"
 
+NINE = "PD[" + ", ".join(f"X[{arc}, {arc}, {arc + 1}, {arc + 1}]" for arc in range(1, 18, 2)) + "]"
+
 # A script, its words, its input, its status, what it writes: all of it, or what the one line on standard error has.
 ROWS = [
     ("two fields", "table", [], TWO_FIELDS, 0, TWO_GRIDS),
@@ -92,6 +82,7 @@ ROWS = [
     ("open strands", "drawing", [], "open 1: /\\\n", 1, "2 strands open"),
     ("other cells", "drawing", [], "open 1: /\\ |\n", 1, "line 1 is no slice below 0 strands"),
     ("a place too far", "drawing", [], "open 1: /\\\nleft 2: | \\-\n", 1, "line 2 is no slice below 2 strands"),
+    ("nine crossings", "states", [], plain.drawing.drawing(plain.diagrams.read(NINE)), 1, "has 9 crossings, and the cube is drawn up to 8"),
 ]
 
 
@@ -201,54 +192,10 @@ def drawn_passes(text):
 
 def drawn_fault(code):
     """The drawing in the terminal has the passes of the code, component by component, as long as each component is taken alone."""
-    wrote = "\n".join(DRAWING.lines_of(DRAWING.read_drawing(plain.drawing.drawing(code))))
+    wrote = "\n".join(pictures.DRAWING.lines_of(pictures.DRAWING.read_drawing(plain.drawing.drawing(code))))
     found = sorted(map(least_turn, drawn_passes(wrote)))
     wanted = sorted([*map(least_turn, passes_of(code)), *[[]] * code.loops])
     return None if found == wanted else f"{plain.diagrams.printed(code)}: {found} and not {wanted}"
-
-
-def points_of(path):
-    """Points on a path, not far from one another."""
-    points, words = [], re.findall(r"[MLC][^MLCZ]*|Z", path)
-    for word in words:
-        numbers = list(map(float, word[1:].split()))
-        ends = list(zip(numbers[::2], numbers[1::2])) or points[:1]
-        if word[0] == "M":
-            points += ends
-            continue
-        a, d = points[-1], ends[-1]
-        b, c = ends[:2] if word[0] == "C" else (a, d)
-        steps = 2 + int(math.dist(a, d) / 2)
-        for at in (it / steps for it in range(1, steps + 1)):
-            u, v, w, z = (1 - at) ** 3, 3 * (1 - at) ** 2 * at, 3 * (1 - at) * at**2, at**3
-            points.append((u * a[0] + v * b[0] + w * c[0] + z * d[0], u * a[1] + v * b[1] + w * c[1] + z * d[1]))
-    return points
-
-
-def close(strand, other):
-    """The points of two strands that are in one square of a grid or in squares side by side."""
-    squares = {}
-    for x, y in other:
-        squares.setdefault((x // 5, y // 5), []).append((x, y))
-    for x, y in strand:
-        for across in (-1, 0, 1):
-            for down in (-1, 0, 1):
-                yield from (((x, y), it) for it in squares.get((x // 5 + across, y // 5 + down), []))
-
-
-def picture_fault(code):
-    """The picture has a strand for each under pass and for each closed curve over all others, strands that keep their distance, and
-    as many colours as there are components, up to eight.
-    """
-    wrote = DRAWING.svg_of(DRAWING.read_drawing(plain.drawing.drawing(code)))
-    paths = re.findall(r'stroke="(#\w+)" d="([^"]*)"', wrote)
-    over_all = code.loops + sum(all(over for _, over in passes) for passes in passes_of(code))
-    closed = sum(path.endswith("Z") for _, path in paths)
-    counts = (len(paths) - closed, closed, len({colour for colour, _ in paths}))
-    wanted = (len(code.crossings), over_all, min(8, len(plain.diagrams.components(code)) + code.loops))
-    strands = [points_of(path) for _, path in paths]
-    near = sum(math.dist(p, q) < 4.5 for one, strand in enumerate(strands) for other in strands[:one] for p, q in close(strand, other))
-    return None if counts == wanted and not near else f"{plain.diagrams.printed(code)}: {counts} and not {wanted}, {near} points too near"
 
 
 def diagrams():
@@ -273,7 +220,7 @@ def named_circles(code, state):
 def states_fault(code):
     """The picture of the cube has each state with the number of its circles, classes of arcs and loops. Without the code the states may
     have the crossings in another order; with it the picture names the circles too."""
-    drawing, caption = plain.drawing.drawing(code), r">([01]+|the one state): (\d+) circle"
+    drawing, caption = plain.drawing.drawing(code), r">([01]+|the one state)</tspan>: (\d+) circle"
     states = list(itertools.product((0, 1), repeat=len(code.crossings)))
     wanted = {"".join(map(str, state)) or "the one state": named_circles(code, state) for state in states}
     status, wrote, errors = run("states", [], drawing)
@@ -288,23 +235,62 @@ def states_fault(code):
     named = {text: [list(map(int, it.split(","))) for it in re.findall(r"{([\d,]+)}", names)] for text, _, names in texts}
     counts = {text: int(count) for text, count, _ in texts}
     right = (status, errors, named) == (0, "", wanted) and counts == {text: len(circles) for text, circles in wanted.items()}
+    right = right and wrote.count('<path class="circle ') == sum(counts.values())
     return None if right else f"{named} and not {wanted}, {errors}"
 
 
-def numbers_fault(code):
-    """The picture with numbers has each arc and each crossing once, and none for the drawing of another code."""
-    drawing = plain.drawing.drawing(code)
-    with tempfile.TemporaryDirectory() as folder:
-        path = os.path.join(folder, "code")
-        with open(path, "w", encoding="utf-8") as file:
-            file.write(plain.diagrams.printed(code) + "\n")
-        status, wrote, errors = run("drawing", ["--svg", "--numbers", path], drawing)
-        other = run("drawing", ["--svg", "--numbers", path], plain.drawing.drawing(plain.diagrams.read("PD[X[1,1,2,2]]")))
-    found = [int(it) for it in re.findall(r">(\d+)</text>", wrote)]
-    wanted = sorted([*range(1, len(code.crossings) + 1), *plain.diagrams.arcs_of(code)])
-    if (status, errors, sorted(found)) != (0, "", wanted):
-        return f"{sorted(found)} and not {wanted}, {errors}"
-    return None if other[0] == 1 and "is not one of this planar diagram" in other[2] else f"{other}"
+def words_fault(words, given, status, wanted):
+    """What is wrong with words of `show/drawing` on a trefoil, if anything is; CODE stands for a file with this code."""
+    with tempfile.NamedTemporaryFile("w", encoding="utf-8") as file:
+        file.write(given + "\n")
+        file.flush()
+        came = run("drawing", [it.replace("CODE", file.name) for it in words], plain.drawing.drawing(plain.diagrams.read(TREFOIL)))
+    return None if came[0] == status and wanted in (came[2] if status else came[1]) and bool(came[2]) == bool(status) else f"{came}"
+
+
+# Words, a code, the status, and what is written, or said where that is not 0.
+WORDS = [
+    ("numbers", ["--svg", "--numbers", "CODE"], TREFOIL, 0, ">6</text>"),
+    ("a code", ["--svg", "--code", "CODE"], TREFOIL, 0, 'class="arrow ink"'),
+    ("colours", ["--svg", "--colours"], TREFOIL, 0, 'class="strand colour0"'),
+    ("a mark", ["--svg", "--code", "CODE", "--mark", "6"], TREFOIL, 0, "A dot marks arc 6."),
+    ("another code", ["--svg", "--numbers", "CODE"], "PD[X[1,1,2,2]]", 1, "is not one of this planar diagram"),
+    ("a mirror image", ["--svg", "--code", "CODE"], "PD[X[1,5,2,4], X[3,1,4,6], X[5,3,6,2]]", 1, "is not one of this planar diagram"),
+    ("no code", ["--svg", "--numbers", "CODE"], "GaussCode[]", 1, "has no planar diagram"),
+    ("no such mark", ["--svg", "--code", "CODE", "--mark", "7"], TREFOIL, 1, "the diagram has neither an arc 7 nor a loop 7"),
+    ("a mark without a code", ["--svg", "--mark", "1"], TREFOIL, 2, "--code CODE"),
+    ("colours in the terminal", ["--colours"], TREFOIL, 2, "only a picture has"),
+]
+
+
+def table_picture_fault(text, wanted):
+    """The picture of tables has these texts, from the top to the bottom of each grid, and says the dimensions too."""
+    status, wrote, errors = run("table", ["--svg"], text)
+    root = xml.etree.ElementTree.fromstring(wrote or "<svg/>")
+    found = [it.text for it in root.iter("{http://www.w3.org/2000/svg}text")]
+    told = root.findtext("{http://www.w3.org/2000/svg}desc") or ""
+    return None if (status, errors, found) == (0, "", wanted) and "1 at j -8 and i -3" in told else f"{found}, {told}, {errors}"
+
+
+REDUCED_TEXTS = [
+    *("over 2 elements, reduced at mark 1", "j \\ i", "-3", "-2", "-1", "0", "χ"),
+    *("1", "-2", "1", "-4", "0", "1", "-6", "1", "1", "-8", "-1"),
+]
+
+
+def scripts():
+    """All scripts that are run by hand, but for those of `tests/`, and `tools/kh-help`, which `./kh` runs."""
+    for folder in ("show", "tools", "tabulate", "reference", "bench"):
+        for name in sorted(os.listdir(os.path.join(TOP, folder))):
+            path = os.path.join(TOP, folder, name)
+            if os.path.isfile(path) and os.access(path, os.X_OK) and name != "kh-help":
+                yield os.path.join(folder, name)
+
+
+def help_fault(name):
+    """A script says with --help what it does, and does nothing else."""
+    came = subprocess.run([os.path.join(TOP, name), "--help"], capture_output=True, text=True, stdin=subprocess.DEVNULL, timeout=PATIENCE)
+    return None if (came.returncode, came.stderr) == (0, "") and len(came.stdout) > 100 else f"{came.returncode}, {came.stderr}"
 
 
 def pictures_fault():
@@ -317,13 +303,15 @@ def faults(program=None):
     """The name of each test, and what is wrong, if anything is."""
     for what, name, words, given, status, wanted in ROWS:
         yield f"show/{name}: {what}", row_fault(name, words, given, status, wanted)
+    for what, words, code, status, wanted in WORDS:
+        yield f"show/drawing: {what}", words_fault(words, code, status, wanted)
+    yield "show/table: a reduced table as a picture", table_picture_fault(REDUCED_TREFOIL, REDUCED_TEXTS)
     yield "show/polynomial: all stored tables and back", round_fault()
     for number, code in enumerate(diagrams()):
         yield f"show/drawing: diagram {number} in the terminal", drawn_fault(code)
-    for number, code in enumerate(diagrams()[:42:6]):
-        yield f"show/drawing: diagram {number} as a picture", picture_fault(code)
     for number, code in enumerate(diagrams()[:4]):
         yield f"show/states: diagram {number}", states_fault(code)
-    for number, code in enumerate(diagrams()[1:6]):
-        yield f"show/drawing: diagram {number + 1} with numbers", numbers_fault(code)
+    yield from pictures.faults()
     yield "show/pictures: the pictures of the pages", pictures_fault()
+    for name in scripts():
+        yield f"{name} --help", help_fault(name)
