@@ -42,5 +42,5 @@ def parts(program, word=""):
 
 
 def timed_parts(program, word=""):
-    """The parts that measure time, and are to run alone."""
+    """The parts that measure time, and are to run alone. (What a drawn refusal takes is held to hundreds of times what it usually is.)"""
     return logs.timed_parts(program, word)
