@@ -22,6 +22,7 @@ from collections import Counter
 
 from plain.cube import with_path
 from shared.places import DATA
+from shared.stored_links import blocks_of
 from bench.braids import planar_diagram
 
 HEAD = """\
@@ -95,11 +96,9 @@ def table_of(other, strands, letters):
 
 def compare_tables(other):
     """Stops where a block of `tables.txt` is not what the other program and this script find."""
-    with open(os.path.join(DATA, "tables.txt"), encoding="utf-8") as file:
-        for block in file.read().split("\n\n")[1:]:
-            name, text, *lines = block.strip().splitlines()
-            if lines != lines_of(other, text):
-                sys.exit(f"{name} is not what the other program finds")
+    for name, text, *lines in blocks_of("tables.txt"):
+        if lines != lines_of(other, text):
+            sys.exit(f"{name} is not what the other program finds")
 
 
 def shifted(polynomial, sign, exponent):
