@@ -127,6 +127,5 @@ def faults(program=None):
     yield from word_faults()
     with tempfile.TemporaryDirectory() as folder:
         copy = scripts.Copy(folder)
-        os.makedirs(os.path.join(folder, "tools"))
         shutil.copy(HELP, os.path.join(folder, "tools"))
         yield from status_faults(copy)
