@@ -8,11 +8,13 @@ import shutil
 import subprocess
 import tempfile
 
+from companions import building
 from shared.places import TOP
 from shared.running import PATIENCE
 
 CANNOT_RUN = 70
-COMMANDS = "cat chmod cp dirname env find flock grep head mkdir mktemp mv nproc readlink rm sed sh sleep tail touch tr wc".split()
+COMMANDS = "cat chmod cp dirname env flock mkdir mktemp find python3 readlink rm seq sh sleep tail".split()
+TOOLS = ("kit.py", "lanes.py", "proving.py", "build-times.txt")
 
 # What stands in for `rt`: it writes its words down, "proves" two crates, "builds" a program that says its words, and "tries" one.
 TOOLCHAIN = """\
@@ -31,8 +33,9 @@ class Copy:
 
     def __init__(self, folder):
         self.folder, self.told = folder, os.path.join(folder, "told")
-        for name in ("kh", "build"):
-            shutil.copy(os.path.join(TOP, name), folder)
+        os.mkdir(os.path.join(folder, "tools"))
+        for path in ("kh", "build", *(os.path.join("tools", name) for name in TOOLS)):
+            shutil.copy(os.path.join(TOP, path), os.path.join(folder, path))
         for name in ("kh_types", "kh_main"):
             os.makedirs(os.path.join(folder, "crates", name, "src"))
             self.write(os.path.join("crates", name, "src", "lib.rt"), "")
@@ -51,10 +54,10 @@ class Copy:
         with open(path, "w", encoding="utf-8") as file:
             file.write(text)
 
-    def start(self, name, *words, toolchain=True, refused=""):
+    def start(self, name, *words, toolchain=True, refused="", more={}):
         path, pipe = os.path.join(self.folder, "commands"), subprocess.PIPE
         path = f"{self.folder}/bin:{path}" if toolchain else path
-        settings = {"PATH": path, "TMPDIR": self.folder, "TOLD": self.told, "REFUSED": refused}
+        settings = {"PATH": path, "TMPDIR": self.folder, "TOLD": self.told, "REFUSED": refused, **more}
         command = [os.path.join(self.folder, name), *words]
         return subprocess.Popen(command, env=settings, stdin=subprocess.DEVNULL, stdout=pipe, stderr=pipe, text=True)
 
@@ -127,3 +130,4 @@ def faults():
         with tempfile.TemporaryDirectory() as folder:
             came, wanted = case(Copy(folder))
         yield f"./kh and ./build {case.__name__.replace('_', ' ')}", None if came == wanted else f"{came} and not {wanted}"
+    yield from building.faults(Copy)

@@ -132,7 +132,6 @@ def faults(program):
     yield from word_faults()
     with tempfile.TemporaryDirectory() as folder:
         copy = scripts.Copy(folder)
-        os.makedirs(os.path.join(folder, "tools"))
         shutil.copy(HELP, os.path.join(folder, "tools"))
         yield from status_faults(copy)
     yield from explained.faults(program)

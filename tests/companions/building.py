@@ -1,0 +1,262 @@
+"""Tries how `./build` proves crates side by side: `tools/lanes.py` on steps of made-up lengths, and the script itself with a toolchain
+whose steps write down when they begin and end (`shared/rtlib.py`).
+
+`scripts` runs these behind its own cases, in which `rt` is of another form.
+"""
+import os
+import random
+import re
+import shutil
+import signal
+import sys
+import tempfile
+import time
+
+from shared.places import TOP
+from shared.running import PATIENCE
+
+TOOLS = os.path.join(TOP, "tools")
+# What each crate stands on, the lowest first, and the seconds that it takes by the file of times. The program does not stand on the last.
+BELOW = {"kh_types": "", "long": "kh_types", "short": "kh_types", "top": "long", "kh_main": "top short", "laws": "kh_types"}
+SECONDS = {"kh_types": 240, "long": 180, "short": 60, "top": 120, "kh_main": 60, "laws": 900}
+PROVED = [*BELOW][:-1]
+sys.path.append(TOOLS)
+import lanes
+
+LEFT = r"build: (\w+) proved \((\d) of (\d)\)(?:, (?:less than a minute|a minute|\d+ minutes) left)?"
+SIGNALS = (signal.SIGHUP, signal.SIGINT, signal.SIGTERM)
+
+
+class Kit:
+    """The copy of the repository that `scripts` tries, with these crates, and with a toolchain that is taken as a module."""
+
+    def __init__(self, copy):
+        self.copy = copy
+        shutil.copy(os.path.join(TOP, "tests", "shared", "rtlib.py"), os.path.join(copy.folder, "bin"))
+        for name in BELOW:
+            copy.write(os.path.join("crates", name, "src", "lib.rt"), "")
+        copy.write("crates.txt", "".join(f"{name}: {below}\n" for name, below in BELOW.items()))
+        copy.write(os.path.join("tools", "build-times.txt"), "# times\n" + "".join(f"{it} {SECONDS[it]} 1000\n" for it in SECONDS))
+
+    def start(self, *words, refused="", takes="0.05"):
+        return self.copy.start("build", *words, refused=refused, more={"TAKES": takes})
+
+    def build(self, *words, **settings):
+        """The status, and the lines of standard error."""
+        started = self.start(*words, **settings)
+        wrote, errors = started.communicate(timeout=PATIENCE)
+        return started.returncode, (wrote + errors).splitlines()
+
+    def told(self):
+        """What the steps have written so far: a list of begin or end, a crate, its jobs and its process."""
+        if not os.path.exists(self.copy.told):
+            return []
+        with open(self.copy.told, encoding="utf-8") as file:
+            rows = [line.split() for line in file if line.startswith(("begin ", "end "))]
+        return [(what, name, int(jobs), int(process)) for what, name, jobs, process in rows]
+
+    def begun(self):
+        return [name for what, name, *_ in self.told() if what == "begin"]
+
+    def times(self):
+        with open(os.path.join(self.copy.folder, "tools", "build-times.txt"), encoding="utf-8") as file:
+            return [line.split()[0] for line in file if not line.startswith("#")]
+
+
+def wait_for(is_so):
+    """Whether something comes to be so."""
+    end = time.monotonic() + PATIENCE
+    while not is_so():
+        if time.monotonic() > end:
+            return False
+        time.sleep(0.02)
+    return True
+
+
+def is_gone(process):
+    """Whether a process has ended, though perhaps nobody has asked for its status."""
+    try:
+        with open(f"/proc/{process}/stat", encoding="utf-8") as file:
+            return file.read().rsplit(")", 1)[1].split()[0] == "Z"
+    except OSError:
+        return True
+
+
+def order_fault(told, processors):
+    """What is wrong with the order of begins and ends, if anything is."""
+    running, ended = {}, set()
+    for what, name, jobs, _ in told:
+        if what == "end":
+            ended.add(name)
+            del running[name]
+            continue
+        running[name] = jobs
+        if not ended.issuperset(BELOW[name].split()):
+            return f"{name} began before what it stands on had ended: {told}"
+        if sum(running.values()) > processors:
+            return f"more jobs than processors: {told}"
+    return None if ended == {*PROVED} else f"proved were {sorted(ended)}"
+
+
+def each_behind_those_below(kit):
+    status, lines = kit.build()
+    fault = order_fault(kit.told(), 2)
+    told = [re.fullmatch(LEFT, line) for line in lines[1:-1]]
+    numbers = [it and it.group(2, 3) for it in told]
+    return (status, fault, numbers), (0, None, [(str(at), "5") for at in range(1, 6)])
+
+
+def the_longest_chain_first(kit):
+    kit.build()
+    begun = kit.begun()
+    return (begun[:2], begun.index("long") < begun.index("short")), (["kh_types", "long"], True)
+
+
+def a_crate_that_is_refused(kit):
+    status, lines = kit.build(refused="top")
+    at = lines.index("41") if "41" in lines else 0
+    shown = lines[at:] == [*map(str, range(41, 101)), "build: top is not proved"]
+    return (status, shown, "kh_main" in kit.begun()), (70, True, False)
+
+
+def the_rest_behind_a_refusal(kit):
+    kit.build(refused="top")
+    ended = {name for what, name, *_ in kit.told() if what == "end"}
+    before = len(kit.told())
+    status, _ = kit.build()
+    return (status, ended.isdisjoint(name for _, name, *_ in kit.told()[before:])), (0, True)
+
+
+def started_under(kit, number, handler, takes):
+    """A build that has begun its first steps, with a signal as this handler of its caller leaves it."""
+    before, steps = signal.signal(number, handler), len(kit.told())
+    try:
+        started = kit.start(takes=takes)
+    finally:
+        signal.signal(number, before)
+    wait_for(lambda: len(kit.told()) > steps)
+    return started
+
+
+def interrupted(kit):
+    ended = []
+    for number in SIGNALS:
+        started = started_under(kit, number, signal.SIG_DFL, "1000")
+        started.send_signal(number)
+        started.communicate(timeout=PATIENCE)
+        ended.append((started.returncode, wait_for(lambda: all(is_gone(process) for *_, process in kit.told()))))
+    return ended, [(70, True)] * len(SIGNALS)
+
+
+def not_interrupted(kit):
+    """A signal that the caller passes over, as under nohup, is passed over."""
+    started = started_under(kit, signal.SIGHUP, signal.SIG_IGN, "0.05")
+    started.send_signal(signal.SIGHUP)
+    started.communicate(timeout=PATIENCE)
+    return started.returncode, 0
+
+
+def two_at_once(kit):
+    both = [kit.start(), kit.start()]
+    said = [it.communicate(timeout=PATIENCE)[1] for it in both]
+    done = ["build: done" in it for it in said]
+    return ([it.returncode for it in both], sorted(kit.begun()), sorted(done)), ([0, 0], sorted(PROVED), [False, True])
+
+
+def nothing_to_do(kit):
+    kit.build()
+    return (kit.build(), len(kit.begun())), ((0, []), len(PROVED))
+
+
+def nothing_to_prove(kit):
+    """A source that the program does not stand on is newer: the program becomes newer still."""
+    kit.build()
+    program, source = (os.path.join(kit.copy.folder, "crates", *it) for it in (("kh_main", "out", "kh_main"), ("laws", "src", "lib.rt")))
+    os.utime(program, (1, 1))
+    status, _ = kit.build()
+    return (status, len(kit.begun()), os.stat(program).st_mtime >= os.stat(source).st_mtime), (0, len(PROVED), True)
+
+
+def the_file_of_times(kit):
+    kit.build("--times")
+    names = kit.times()
+    return (sorted(names), [*names] == [*SECONDS]), (sorted(SECONDS), True)
+
+
+def random_steps(chance):
+    """Some steps, each on a few of those before it, the lowest first."""
+    count, steps = chance.randrange(1, 30), []
+    for at in range(count):
+        below = frozenset(f"{it}" for it in range(at) if chance.random() < 2 / count)
+        steps.append(lanes.Step(f"{at}", below, chance.uniform(1, 300), chance.uniform(1, 4)))
+    return steps
+
+
+def lanes_fault(steps, processors, memory):
+    """What is wrong with the way in which the steps are run, if anything is."""
+    run, now, ended = lanes.Lanes(steps, processors, memory), 0.0, set()
+    foreseen, chain = run.last_end(0), lanes.chains(steps)
+    while run.waiting or run.running:
+        choice = run.choice(now)
+        if choice:
+            name, jobs = choice
+            if chain[name] < max(chain[it] for it in run.ready() if run.most_jobs(it)) or not ended >= run.steps[name].below:
+                return f"{name} is not the next"
+            run.start(name, jobs, now)
+            held = sum(run.steps[it].holds(jobs) for it, (jobs, _) in run.running.items())
+            if run.idle() < 0 or (held > memory and len(run.running) > 1):
+                return f"at {now} there run {run.running}"
+            continue
+        name = min(run.running, key=lambda it: run.running[it][1])
+        now = run.running[name][1]
+        run.end(name)
+        ended.add(name)
+    least = max(sum(it.seconds for it in steps) / processors, max(chain.values()) * min(lanes.PARTS.values()))
+    if len(ended) < len(steps) or not least * 0.999 <= now <= foreseen * 1.1:
+        return f"{len(ended)} of {len(steps)} ended in {now}, where {foreseen} was foreseen and {least} is the least"
+    return None
+
+
+def lanes_faults():
+    chance = random.Random("lanes")
+    for _ in range(40):
+        steps, processors, memory = random_steps(chance), chance.choice((1, 2, 3, 4, 16)), chance.choice((0.5, 6, 20))
+        fault = lanes_fault(steps, processors, memory)
+        yield f"lanes: {len(steps)} steps, {processors} processors, {memory} of memory", fault
+
+
+def kh_meanwhile(kit):
+    """Until it is built the unproved answer comes, and it is said why."""
+    before = kit.copy.start("kh", "homology").communicate(timeout=PATIENCE)[1]
+    started = kit.start(takes="1000")
+    wait_for(kit.told)
+    meanwhile = kit.copy.start("kh", "homology")
+    wrote, errors = meanwhile.communicate(timeout=PATIENCE)
+    started.terminate()
+    started.communicate(timeout=PATIENCE)
+    said = "is at work" in before, "is at work" in errors
+    return (meanwhile.returncode, wrote, *said), (6, "tried try --seconds 600 -- homology\n", False, True)
+
+
+TRIED = (
+    each_behind_those_below,
+    the_longest_chain_first,
+    a_crate_that_is_refused,
+    the_rest_behind_a_refusal,
+    interrupted,
+    not_interrupted,
+    two_at_once,
+    nothing_to_do,
+    nothing_to_prove,
+    the_file_of_times,
+    kh_meanwhile,
+)
+
+
+def faults(new_copy):
+    """The name of each case, and what is wrong with it, if anything is; given what makes a copy of the repository in a folder."""
+    yield from lanes_faults()
+    for case in TRIED:
+        with tempfile.TemporaryDirectory() as folder:
+            came, wanted = case(Kit(new_copy(folder)))
+        yield f"./build, {case.__name__.replace('_', ' ')}", None if came == wanted else f"{came} and not {wanted}"

@@ -1,0 +1,87 @@
+"""Stands in for the module that `rt` is made of, where `companions.building` tries `./build`: each step says when it begins and ends.
+
+It gives two processors, where the machine has two, and 8 GB of memory. The crate that the environment names under REFUSED is refused.
+"""
+import os
+import subprocess
+
+GROUPS, QUOTAS, LIMIT = [], [("quota", ("period", ""))], 60
+NUMBERS = {"quota": 2, "period": 1, "/proc/meminfo": 8_000_000}
+STEP = """
+echo "begin $0 $1 $$" >>"$TOLD"
+[ "$0" != "$REFUSED" ] || { seq 100; exit 1; }
+sleep "$TAKES"
+mkdir -p out/rlib && printf '#!/bin/sh\\n' >"out/$0" && chmod +x "out/$0"
+echo "end $0 $1 $$" >>"$TOLD"
+"""
+
+
+def number_in(file, pattern):
+    return NUMBERS[file]
+
+
+def text_of(file):
+    return "stamp" if os.path.exists(file) else None
+
+
+def sum_of(file):
+    return ""
+
+
+def with_one_job(words, status, out):
+    return None
+
+
+def lock(crates):
+    pass
+
+
+def guarded():
+    """The words before a command that ends, with all that it starts, when this process ends."""
+    ends, guarded.held = os.pipe()
+    guard = subprocess.Popen(["sh", "-c", "read _; kill -9 0"], stdin=ends, preexec_fn=os.setpgrp)
+    return ["python3", "-c", f"import os, sys; os.setpgid(0, {guard.pid}); os.execvp(sys.argv[1], sys.argv[1:])"]
+
+
+def crates_below(folder):
+    top = os.path.dirname(os.path.dirname(folder))
+    with open(os.path.join(top, "crates.txt"), encoding="utf-8") as file:
+        below = dict(line.rstrip().split(":") for line in file)
+    found = {}
+
+    def add(name):
+        if name not in found:
+            deps = [add(it) for it in below[name].split()]
+            found[name] = Crate(os.path.join(top, "crates", name), deps)
+        return found[name]
+
+    add(os.path.basename(folder))
+    return [*found.values()]
+
+
+class Crate:
+    def __init__(self, folder, deps):
+        self.folder, self.name, self.deps, self.said = folder, os.path.basename(folder), deps, {}
+        self.is_program = self.name == "kh_main"
+
+    def stream(self, name):
+        return None
+
+    def stamp(self):
+        return "stamp"
+
+    def is_built(self):
+        return os.path.exists(f"{self.folder}/out/rlib")
+
+    def has_kept(self):
+        return self.is_built()
+
+    def build_rlib(self, flags, anew):
+        return self.call("sh", "-c", STEP, self.name, flags[1])
+
+    def run(self, flags, words, **how):
+        status = self.build_rlib(flags, False)
+        if not status:
+            with open(f"{self.folder}/out/{self.name}.stamp", "w", encoding="utf-8"):
+                return 0
+        return status

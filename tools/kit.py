@@ -1,0 +1,124 @@
+"""The Rattle toolchain as `./build` uses it: what its command `rt` is made of, taken as a module, so that crates are proved side by side.
+
+One call of `rt lib` keeps every other out of the crates below its own until it ends, so two calls that stand on one crate run in turn;
+`rt all check` gives each crate one processor, also the last of a chain, and `rt run` then checks the program once more for its code.
+To import this is an `ImportError` where the toolchain on the path keeps `rt` in another form.
+"""
+import contextlib
+import importlib.util
+import os
+import shutil
+import subprocess
+import sys
+import threading
+
+ASKED = "Crate GROUPS LIMIT QUOTAS crates_below guarded lock number_in sum_of text_of with_one_job".split()
+reading = threading.local()
+
+
+def rt_library():
+    """What `rt` is made of."""
+    path = os.path.join(os.path.dirname(os.path.realpath(shutil.which("rt"))), "rtlib.py")
+    if not os.path.isfile(path):
+        raise ImportError(f"there is no {path}")
+    spec = importlib.util.spec_from_file_location("rtlib", path)
+    made = sys.modules["rtlib"] = importlib.util.module_from_spec(spec)
+    spec.loader.exec_module(made)
+    lacking = [name for name in ASKED if not hasattr(made, name)]
+    if lacking:
+        raise ImportError(f"{path} has no {lacking[0]}")
+    return made
+
+
+rtlib = rt_library()
+
+
+@contextlib.contextmanager
+def each_read_once():
+    """Within it this thread reads the files of a crate once to see what has changed, and not once for each way that leads down to it."""
+    before = getattr(reading, "sums", None)
+    reading.sums = {} if before is None else before
+    try:
+        yield reading.sums
+    finally:
+        reading.sums = before
+
+
+class Crate(rtlib.Crate):
+    """A crate as `rt` has it, which keeps the processor time and the memory of its step."""
+
+    seconds, memory, is_proved = 0.0, 0, False
+
+    def __init__(self, *given, **named):
+        super().__init__(*given, **named)
+        words = self.stream("args") if self.is_program else None
+        if words is not None:
+            self.said = {**self.said, "args": words.decode().splitlines()}
+
+    def stamp(self):
+        """A sum of all that the crate is made from, with what it stands on."""
+        with each_read_once() as sums:
+            if self.name not in sums:
+                sums[self.name] = super().stamp()
+            return sums[self.name]
+
+    def is_done(self):
+        """Whether its library, or the program, is that of its sources."""
+        program = f"{self.folder}/out/{self.name}"
+        if self.is_program:
+            return rtlib.text_of(f"{program}.stamp") == self.stamp() + rtlib.sum_of(program)
+        return self.is_built()
+
+    def call(self, *words):
+        """Runs a command of the toolchain, once more with one job where it was killed with several, and returns its status."""
+        self.out.flush()
+        how = {"cwd": self.folder, "stdin": subprocess.DEVNULL, "stdout": self.out, "stderr": subprocess.STDOUT}
+        started = subprocess.Popen([*rtlib.guarded(), *words], **how)
+        _, ended, used = os.wait4(started.pid, 0)
+        started.returncode = -os.WTERMSIG(ended) if os.WIFSIGNALED(ended) else os.WEXITSTATUS(ended)
+        self.seconds += used.ru_utime + used.ru_stime
+        self.memory = max(self.memory, 1024 * used.ru_maxrss)
+        again = rtlib.with_one_job(list(words), started.returncode, self.out)
+        return self.call(*again) if again else started.returncode
+
+    def step(self, jobs):
+        """Proves the crate and builds its library, or the program, which has to write what the file stdout has: 0 where all is well."""
+        os.makedirs(f"{self.folder}/out", exist_ok=True)
+        flags = ["--jobs", str(jobs)]
+        if not self.is_program:
+            return self.build_rlib(flags, anew=False)
+        how = {"input": self.stream("stdin") or b"", "stdout": subprocess.PIPE, "stderr": self.out, "timeout": rtlib.LIMIT}
+        return self.run(flags, self.said.get("args", []), **how)
+
+
+rtlib.Crate = Crate
+
+
+def unfinished(folder):
+    """The crates that are not proved as they stand, of a crate and those below it, the lowest first. Until this process ends no `rt` works
+    in any of them, and when it ends, however it does, so do the commands that it has started."""
+    rtlib.guarded()  # (the first call handles a signal, which only the first thread may)
+    crates = rtlib.crates_below(folder)
+    rtlib.lock(crates)
+    with each_read_once():
+        return [it for it in crates if not it.is_done()]
+
+
+def processors():
+    """How many processors there are to use: those that this process may run on, or fewer by the quota of its control group."""
+    found = len(os.sched_getaffinity(0))
+    for file, period in rtlib.QUOTAS:
+        quota, period = rtlib.number_in(file, r"^(\d+)"), rtlib.number_in(*period)
+        if quota and period:
+            found = min(found, max(quota // period, 1))
+    return found
+
+
+def free_memory():
+    """How many bytes of memory are free, under the limit of the control group too."""
+    found = [1024 * rtlib.number_in("/proc/meminfo", r"MemAvailable:\s+(\d+)")]
+    for limit, held in rtlib.GROUPS:
+        limit, held = rtlib.number_in(limit, r"(\d+)"), rtlib.number_in(*held)
+        if limit and held is not None:
+            found.append(limit - held)
+    return min(found)
