@@ -8,8 +8,8 @@ letter stands beside its inverse, round the closure too, and each letter or its 
 program: a letter adds to a sum of planar pairings of the strands' ends, each with a coefficient, the two smoothings of its crossing, and
 a circle that closes counts 2. The gate does not run it.
 """
+import argparse
 import random
-import sys
 
 LIMIT = 4_194_304
 STRANDS = range(3, 8)
@@ -68,4 +68,6 @@ def main(words):
 
 
 if __name__ == "__main__":
-    main(*map(int, sys.argv[1:2] or ["200"]))
+    reader = argparse.ArgumentParser(description=__doc__, formatter_class=argparse.RawDescriptionHelpFormatter)
+    reader.add_argument("words", nargs="?", type=int, default=200)
+    main(reader.parse_args().words)
