@@ -218,8 +218,7 @@ def shape_of(plane, slices):
     return Shape(curves, loops, width, max(0.0, top - ROOM))
 
 
-def scaled(shape, scale, margin):
-    """A shape in other lengths, in the middle of a page with this margin."""
-    arcs = {dart: moved(curve, margin / scale, margin / scale, scale) for dart, curve in shape.arcs.items()}
-    loops = [moved(curve, margin / scale, margin / scale, scale) for curve in shape.loops]
-    return Shape(arcs, loops, scale * shape.width + 2 * margin, scale * shape.height + 2 * margin)
+def scaled(shape, scale):
+    """A shape in other lengths."""
+    arcs = {dart: moved(curve, 0, 0, scale) for dart, curve in shape.arcs.items()}
+    return Shape(arcs, [moved(curve, 0, 0, scale) for curve in shape.loops], scale * shape.width, scale * shape.height)
