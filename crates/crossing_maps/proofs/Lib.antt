@@ -1,0 +1,12 @@
+pub mod MorePairs
+pub mod PairedUp
+pub mod AllArcs
+pub mod SplitArcs
+pub mod SiteArcs
+pub mod CountLemmas
+pub mod Values
+pub mod SpreadTerms
+pub mod SeamTerms
+pub mod Placed
+pub mod NewLemmas
+pub mod SeamPlaces

@@ -1,0 +1,172 @@
+-- What the seam of an added surface makes of terms is the terms of the new map.
+use Rattle.std.proofs.Common.{◌≡◌, ℕ, zero, suc, ◌+◌, ◌-◌, ◌*◌, ◌/◌, ◌%◌, ◌^◌, ◌<◌, ◌≤◌, ◌∙◌, List, [], ◌∷◌, ◌++◌, length, map, refl, sym, subst, ap, ap₂, arith, Bool, true, false, cond}
+use Rattle.std.specs.Prelude.{nat_eq, slice_index}
+use Rattle.std.specs.List.{count_by, enumerate_from, range_with_len, AllByRecursion, Contains}
+use Rattle.std.proofs.Math.Nat.{pow-suc, zero-div}
+use Rattle.std.proofs.lemmas.List.{append-nil, length-map}
+use Rattle.std.proofs.lemmas.List.Elements.{All-from_recursion}
+use Rattle.std.proofs.lemmas.List.Sums.{sum_by-cons}
+use Rattle.kh_types.specs.Bits.{bit}
+use Rattle.kh_types.specs.Classes.{classes_of}
+use Rattle.kh_types.specs.Code.{Code, arc_count}
+use Rattle.dotted_surfaces.specs.Points.{discs, least_points}
+use Rattle.dotted_surfaces.specs.Sheets.{marked}
+use Rattle.dotted_surfaces.specs.Surfaces.{value}
+use Rattle.dotted_surfaces.proofs.Components.{AllByRecursion-weaker}
+use Rattle.dotted_surfaces.proofs.TwoSides.{AllByRecursion-map}
+use Rattle.dotted_maps.specs.declared.term.Term.{Term}
+use Rattle.dotted_maps.specs.Maps.{coefficient_in, scaled}
+use Rattle.dotted_maps.specs.Parts.{product_over}
+use Rattle.dotted_maps.proofs.ChoiceCounts.{choices-below}
+use Rattle.dotted_maps.proofs.LeastPoints.{AreJoins, least-contained}
+use Rattle.added_crossings.specs.Codes.{arc_there, disc_of, discs_behind, points_at, saddle_strips, step_at}
+use Rattle.added_crossings.specs.Entries.{coefficient_sheet, saddle_surface}
+use Rattle.added_crossings.specs.Steps.{near}
+use Rattle.added_crossings.proofs.CodeSteps.{slot-near}
+use Rattle.added_crossings.proofs.CodeSums.{opened-near}
+use Rattle.added_crossings.proofs.Members.{All-contained}
+use Rattle.tangle_maps.specs.declared.pairing.TheConstants.{POINTS}
+use Rattle.tangle_maps.specs.declared.seam.Seam.{Seam}
+use Rattle.tangle_maps.specs.Seams.{seam_behind, seam_listed, seam_terms}
+use Rattle.tangle_maps.specs.Sums.{AreReduced, HaveDotsBelow, IsSum, has_dots, term_of}
+use Rattle.crossing_maps.specs.AddedSeams.{ArePairs, IsSeamAt, all_dots, joins_there, places_there}
+use Rattle.crossing_maps.specs.Counts.{load_at, on}
+use Rattle.crossing_maps.specs.NewTerms.{all_terms, first_end, new_map, saddle_map, sets_behind, term_with}
+use Rattle.crossing_maps.proofs.Placed.{joins-there, near-distinct, value-sized, within-there}
+use Rattle.crossing_maps.proofs.SeamTerms.{coefficient-chosen, terms-same}
+use Rattle.crossing_maps.proofs.SpreadTerms.{HaveCoefficients, IsSum-spread}
+use Rattle.crossing_maps.proofs.Values.{factor_at, places-named, sets_at}
+
+abbrev all_terms_of : Term
+all_terms_of = term_of all_dots 1
+
+-- dots of chosen sets
+terms-below : (c limit count : ℕ) (sets : List ℕ) → count ≡ limit → AllByRecursion (λ s. s < count) sets
+    → HaveDotsBelow limit (map (term_with c) sets)
+terms-below c limit count [] same all = tt
+terms-below c limit count (s ∷ sets) same all = (omega (arith, same, all.0), terms-below c limit count sets same all.1)
+
+pub coefficients-made : (code : Code) (k first second : ℕ) (m n : List (ℕ × ℕ)) (ds lowers : List ℕ) (label other : ℕ) (seam : Seam)
+    (term : Term) → ArePairs code k m n → AllByRecursion (λ x. Contains (near (step_at code k)) x) ds
+    → AllByRecursion (λ x. Contains (near (step_at code k)) x) lowers → IsSeamAt code k first second m n ds lowers label other seam
+    → HaveCoefficients (sets_behind code k first second m n)
+    (λ kept. term.coefficient * value (coefficient_sheet code k first second m n (marked term.dots ds) lowers label other kept))
+    (seam_behind seam (all_terms_of ∷ []) term)
+coefficients-made code k first second m n ds lowers label other seam term are all_ds all_lowers is =
+    let joins = joins_there code k first second m n in
+    let around = near (step_at code k) in
+    let class : ℕ → ℕ = slice_index (classes_of POINTS joins) in
+    let at = places_there code k first second m n ds lowers in
+    let names = least_points POINTS around joins in
+    let here = on class at in
+    let joined = joins-there code k first second m n are in
+    let within = within-there code k first second m n ds lowers are all_ds all_lowers in
+    let wide : AreJoins POINTS around joins =
+    record {
+      below = AllByRecursion-weaker (λ x. x < arc_count code.crossings + code.loops + 1) (λ x. x < POINTS) around
+          (λ x below. omega (arith, below, are.place.fits)) joined.below;
+      among = joined.among;
+    } in
+    let sets = sets_at names here term.dots label other in
+    let unit = product_over (factor_at here term.dots label other) names in
+    let same : seam_behind seam (all_terms_of ∷ []) term ≡ map (term_with (term.coefficient * 1 * unit)) sets =
+    append-nil (seam_terms seam term all_terms_of)
+    ∙ terms-same names here label other seam term is.added is.room (places-named POINTS around joins at.rims wide within.rims) in
+    record {
+      each = λ kept below.
+          ap (λ ts. coefficient_in ts kept) same ∙ coefficient-chosen (term.coefficient * 1 * unit) kept sets
+          ∙ grouped term.coefficient unit (count_by (nat_eq kept) sets)
+          ∙ ap (λ v. term.coefficient * v)
+          (sym (value-sized (arc_count code.crossings + code.loops + 1) around joins at kept term.dots label other are.place.fits joined
+          (near-distinct code k) within below));
+      dots = subst (HaveDotsBelow (sets_behind code k first second m n)) (sym same)
+          (terms-below (term.coefficient * 1 * unit) (sets_behind code k first second m n) (2 ^ length here.rims) sets
+          (ap (λ i. 2 ^ i) (length-map at.rims class))
+          (choices-below names here.rims (λ i. 1 - load_at here term.dots label other i)));
+    }
+  where
+    grouped : (a b c : ℕ) → a * 1 * b * c ≡ a * (b * c)
+    grouped a b c = omega arith
+
+some-sets : (n : ℕ) → 0 < 2 ^ n
+some-sets zero = omega arith
+some-sets (suc n) = omega (arith, pow-suc 2 n, some-sets n)
+
+-- all terms of a map
+pub map_made : (p f : ℕ) (code : Code) (k smoothing : ℕ) (m n : List (ℕ × ℕ)) (label other : ℕ) (seam : Seam) (terms old new : List Term)
+    → ArePairs code k m n
+    → IsSeamAt code k smoothing smoothing m n (discs (points_at code k) m n) (points_at code k).opened label other seam
+    → IsSum p old (scaled f (seam_listed seam terms (all_terms_of ∷ []))) new
+    → IsSum p old (scaled f (new_map code k smoothing m n label other terms)) new
+map_made p f code k smoothing m n label other seam terms old new are is sum =
+    let points = points_at code k in
+    let Near : ℕ → Type 0 = λ x. Contains (near (step_at code k)) x in
+    let lowers : AllByRecursion Near points.opened = All-contained Near points.opened (λ x has. opened-near code k x has) in
+    let faces : AllByRecursion Near (discs points m n) =
+    AllByRecursion-weaker (λ x. Contains points.opened x) Near (discs points m n) (λ x has. opened-near code k x has)
+    (least-contained points.size points.opened (m ++ n)) in
+    IsSum-spread p f (sets_behind code k smoothing smoothing m n)
+    (λ term kept. term.coefficient
+    * value (coefficient_sheet code k smoothing smoothing m n (marked term.dots (discs points m n)) points.opened label other kept))
+    (seam_behind seam (all_terms_of ∷ [])) terms old new (some-sets (length (discs_behind code k smoothing smoothing m n)))
+    (λ term. coefficients-made code k smoothing smoothing m n (discs points m n) points.opened label other seam term are faces lowers is) sum
+
+-- one term alone is reduced
+AreReduced-one : (p dots : ℕ) → 1 < p → AreReduced p (term_of dots 1 ∷ [])
+AreReduced-one p dots above = record {
+  some = All-from_recursion (λ term. 0 < term.coefficient) (term_of dots 1 ∷ []) (omega arith, tt);
+  below = All-from_recursion (λ term. term.coefficient < p) (term_of dots 1 ∷ []) (omega (arith, above), tt);
+  once = λ d. few (has_dots d (term_of dots 1)) (count_by (has_dots d) (term_of dots 1 ∷ []))
+      (sum_by-cons (λ (t : Term). cond (has_dots d t) 1 0) (term_of dots 1) []);
+}
+  where
+    few : (b : Bool) (n : ℕ) → n ≡ cond b 1 0 + 0 → n ≤ 1
+    few true n is = omega (arith, is)
+    few false n is = omega (arith, is)
+
+pub AreReduced_one : (p dots : ℕ) (term : Term) → 1 < p → term ≡ term_of dots 1 → AreReduced p (term ∷ [])
+AreReduced_one p dots term above is = subst (λ t. AreReduced p (t ∷ [])) (sym is) (AreReduced-one p dots above)
+
+-- the saddle's faces have no marks
+
+unmarked : (j : ℕ) (m : List (ℕ × ℕ))
+    → map (λ (at : ℕ × ℕ). (at.1, bit 0 at.0)) (enumerate_from j (map first_end m)) ≡ map disc_of m
+unmarked j [] = refl
+unmarked j (pair ∷ m) = ap₂ (λ (b : ℕ) (xs : List (ℕ × ℕ)). (pair.0, b) ∷ xs) (none (2 ^ j)) (unmarked (j + 1) m)
+  where
+    none : (x : ℕ) → 0 / x % 2 ≡ 0
+    none x = ap (λ z. z % 2) (zero-div x)
+
+terms-alike : (f g : ℕ → ℕ) (xs : List ℕ) → ((x : ℕ) → f x ≡ g x) → map (λ x. term_of x (f x)) xs ≡ map (λ x. term_of x (g x)) xs
+terms-alike f g [] alike = refl
+terms-alike f g (x ∷ xs) alike = ap₂ (λ (c : ℕ) (ts : List Term). term_of x c ∷ ts) (alike x) (terms-alike f g xs alike)
+
+pub saddle_made : (p f : ℕ) (code : Code) (k : ℕ) (m : List (ℕ × ℕ)) (label other : ℕ) (seam : Seam) (old new : List Term)
+    → ArePairs code k m m → IsSeamAt code k 0 1 m m (map first_end m) (saddle_strips code k) label other seam
+    → IsSum p old (scaled f (seam_listed seam (term_of 0 1 ∷ []) (all_terms_of ∷ []))) new
+    → IsSum p old (scaled f (saddle_map code k m label other)) new
+saddle_made p f code k m label other seam old new are is sum =
+    let points = points_at code k in
+    let ds = map first_end m in
+    let strips = saddle_strips code k in
+    let Near : ℕ → Type 0 = λ x. Contains (near (step_at code k)) x in
+    let here : Near (arc_there code k) = slot-near code k 0 are.place.twice are.place.crossing (omega arith) in
+    let lowers : AllByRecursion Near strips = (here, (here, All-contained Near points.opened (λ x has. opened-near code k x has))) in
+    let faces : AllByRecursion Near ds =
+    AllByRecursion-map Near first_end m
+    (AllByRecursion-weaker (λ pair. Contains points.opened pair.0 × Contains points.opened pair.1) (λ pair. Near pair.0) m
+    (λ pair has. opened-near code k pair.0 has.0) are.first) in
+    let count = sets_behind code k 0 1 m m in
+    let worth : Term → ℕ → ℕ =
+    λ term kept. term.coefficient * value (coefficient_sheet code k 0 1 m m (marked term.dots ds) strips label other kept) in
+    subst (λ ts. IsSum p old (scaled f ts) new)
+    (append-nil (all_terms count (worth (term_of 0 1)))
+    ∙ terms-alike (worth (term_of 0 1)) (λ kept. value (saddle_surface code k m label other kept)) (range_with_len 0 count)
+    (λ kept. one_time (value (coefficient_sheet code k 0 1 m m (marked 0 ds) strips label other kept))
+    ∙ ap (λ faces. value (coefficient_sheet code k 0 1 m m faces strips label other kept)) (unmarked 0 m)))
+    (IsSum-spread p f count worth (seam_behind seam (all_terms_of ∷ [])) (term_of 0 1 ∷ []) old new
+    (some-sets (length (discs_behind code k 0 1 m m)))
+    (λ term. coefficients-made code k 0 1 m m ds strips label other seam term are faces lowers is) sum)
+  where
+    one_time : (x : ℕ) → 1 * x ≡ x
+    one_time x = omega arith

@@ -1,0 +1,146 @@
+-- The arcs near a crossing and behind it, from the arcs that are open before it.
+use Rattle.std.proofs.Common.{◌≡◌, ◌≢◌, ℕ, inl, inr, ◌+◌, ◌*◌, ◌<◌, ◌≤◌, ◌∙◌, List, [], ◌∷◌, ◌++◌, refl, sym, ap, ap₂, arith, Bool, false, cond, ◌||◌}
+use Rattle.std.specs.Prelude.{nat_eq, nat_lt, slice_index_or}
+use Rattle.std.specs.List.{count_by, filter, list_any, range_with_len}
+use Rattle.std.proofs.lemmas.Bool.{cases_Bool, both_ways, eq-eqb, eqb-true, false_from_ne_true}
+use Rattle.std.proofs.lemmas.Bool.Decides.{nat_tests}
+use Rattle.kh_types.specs.Code.{Code, arc_count, arc_in}
+use Rattle.kh_types.specs.CircleSteps.{arc_at}
+use Rattle.kh_types.proofs.JoinedSlots.{arc_at-slot}
+use Rattle.kh_types.proofs.Ranges.{filter-range_more}
+use Rattle.dotted_surfaces.proofs.Components.{list_any-contained, list_any-some}
+use Rattle.added_crossings.specs.Steps.{is_near, near, those}
+use Rattle.added_crossings.specs.Codes.{ends_at, ends_before, is_open, points_at, step_at}
+use Rattle.added_crossings.proofs.Members.{are-those, those-are}
+use Rattle.added_crossings.proofs.CodeSteps.{ends_before-more, few-ends, slot-near}
+use Rattle.tangle_maps.specs.declared.pairing.TheConstants.{POINTS}
+use Rattle.crossing_maps.specs.Sites.{IsPlace, ends_of, is_near_by, is_next_by}
+use Rattle.crossing_maps.proofs.SplitArcs.{filter-within}
+
+pub passed_more : (p : ℕ → Bool) (k : ℕ) (b : Bool) (old new : List ℕ) → b ≡ p k → old ≡ filter p (range_with_len 0 k)
+    → new ≡ old ++ cond b (k ∷ []) [] → new ≡ filter p (range_with_len 0 (k + 1))
+passed_more p k b old new tells are made =
+    made ∙ ap₂ (λ (xs : List ℕ) (c : Bool). xs ++ cond c (k ∷ []) []) are tells ∙ sym (filter-range_more p 0 k k (omega arith))
+
+pub passed_all : (p : ℕ → Bool) (k : ℕ) (arcs : List ℕ) → arcs ≡ filter p (range_with_len 0 k) → k ≡ POINTS
+    → arcs ≡ filter p (range_with_len 0 POINTS)
+passed_all p k arcs are all = are ∙ ap (λ n. filter p (range_with_len 0 n)) all
+
+-- membership as a test
+among-test : (count : ℕ) (test : ℕ → Bool) (x : ℕ) → 1 ≤ x → x < 1 + count → list_any (nat_eq x) (those count test) ≡ test x
+among-test count test x above below = elim (cases_Bool (test x)) [
+  | inl passes ↦
+      list_any-contained (nat_eq x) (those count test) x (are-those count test x above below passes) (eq-eqb x x refl) ∙ sym passes
+  | inr fails ↦
+      false_from_ne_true (list_any (nat_eq x) (those count test))
+      (λ any.
+      let found = list_any-some (nat_eq x) (those count test) any in
+      both_ways (test x) fails (ap test (eqb-true x found.0 found.2) ∙ (those-are count test found.0 found.1).passes))
+      ∙ sym fails
+]
+
+outside-test : (count : ℕ) (test : ℕ → Bool) (x : ℕ) → (1 ≤ x → x < 1 + count → ⊥) → list_any (nat_eq x) (those count test) ≡ false
+outside-test count test x not_within =
+    false_from_ne_true (list_any (nat_eq x) (those count test))
+    (λ any.
+    let found = list_any-some (nat_eq x) (those count test) any in
+    let same : x ≡ found.0 = eqb-true x found.0 found.2 in
+    let is = those-are count test found.0 found.1 in
+    not_within (omega (arith, same, is.above)) (omega (arith, same, is.below)))
+
+-- ends at the crossing
+
+abbrev four_of : (ℕ → Bool) → ℕ → ℕ
+four_of p a = cond (p a) 1 0 + (cond (p (a + 1)) 1 0 + (cond (p (a + 1 + 1)) 1 0 + cond (p (a + 1 + 1 + 1)) 1 0))
+
+count-four : (p : ℕ → Bool) (a : ℕ) → count_by p (range_with_len a 4) ≡ four_of p a
+count-four p a = omega arith
+
+slot-test : (crossings : List (List ℕ)) (k x slot place : ℕ) → slot < 4 → place ≡ 4 * k + slot
+    → nat_eq (arc_at crossings place) x ≡ nat_eq (arc_in (slice_index_or crossings k []) slot) x
+slot-test crossings k x slot place below is =
+    ap (λ n. nat_eq (arc_at crossings n) x) is ∙ ap (λ n. nat_eq n x) (arc_at-slot crossings k slot below)
+
+abbrev one_if : Bool → ℕ
+one_if b = cond b 1 0
+
+ends-same : (crossings : List (List ℕ)) (k x : ℕ) → ends_at crossings k x ≡ ends_of (slice_index_or crossings k []) x
+ends-same crossings k x =
+    count-four (λ place. nat_eq (arc_at crossings place) x) (4 * k)
+    ∙ ap₂ (λ m n. m + n) (ap (λ b. one_if b) (slot-test crossings k x 0 (4 * k) (omega arith) (omega arith)))
+    (ap₂ (λ m n. m + n) (ap (λ b. one_if b) (slot-test crossings k x 1 (4 * k + 1) (omega arith) (omega arith)))
+    (ap₂ (λ m n. m + n) (ap (λ b. one_if b) (slot-test crossings k x 2 (4 * k + 1 + 1) (omega arith) (omega arith)))
+    (ap (λ b. one_if b) (slot-test crossings k x 3 (4 * k + 1 + 1 + 1) (omega arith) (omega arith)))))
+
+apart-false : (x y : ℕ) → x ≢ y → nat_eq x y ≡ false
+apart-false x y apart = grind (arith, nat_tests)
+
+no-ends : (code : Code) (k x : ℕ) → IsPlace code k → (1 ≤ x → x < 1 + (arc_count code.crossings + code.loops) → ⊥)
+    → ends_of (slice_index_or code.crossings k []) x ≡ 0
+no-ends code k x place not_within =
+    ap₂ (λ m n. m + n) (zero_at 0 (omega arith))
+    (ap₂ (λ m n. m + n) (zero_at 1 (omega arith)) (ap₂ (λ m n. m + n) (zero_at 2 (omega arith)) (zero_at 3 (omega arith))))
+  where
+    zero_at : (slot : ℕ) → slot < 4 → one_if (nat_eq (arc_in (slice_index_or code.crossings k []) slot) x) ≡ 0
+    zero_at slot below =
+        let is = those-are (arc_count code.crossings + code.loops) (is_near (step_at code k)) (arc_in (slice_index_or code.crossings k []) slot)
+        (slot-near code k slot place.twice place.crossing below) in
+        ap (λ b. one_if b)
+        (apart-false (arc_in (slice_index_or code.crossings k []) slot) x
+        (λ same. not_within (omega (arith, same, is.above)) (omega (arith, same, is.below))))
+
+-- the tests
+
+none-near : (b : Bool) (d : ℕ) → b ≡ false → d ≡ 0 → (b || nat_lt 0 d) ≡ false
+none-near b d first second = ap₂ (λ c e. c || nat_lt 0 e) first second
+
+none-next : (b : Bool) (d : ℕ) → b ≡ false → d ≡ 0 → nat_eq (cond b 1 0 + d) 1 ≡ false
+none-next b d first second = ap₂ (λ c e. nat_eq (cond c 1 0 + e) 1) first second
+
+next-test : (e d next : ℕ) → next ≡ e + d → next ≤ 2 → nat_eq (cond (nat_eq e 1) 1 0 + d) 1 ≡ nat_eq next 1
+next-test e d next is few = grind (arith, nat_tests)
+
+near-all : (code : Code) (k : ℕ) → IsPlace code k
+    → filter (is_near_by (points_at code k).opened (slice_index_or code.crossings k [])) (range_with_len 0 POINTS) ≡ near (step_at code k)
+near-all code k place =
+    let count = arc_count code.crossings + code.loops in
+    let slots = slice_index_or code.crossings k [] in
+    let never : (x : ℕ) → (1 ≤ x → x < 1 + count → ⊥) → is_near_by (points_at code k).opened slots x ≡ false =
+    λ x not_within.
+    none-near (list_any (nat_eq x) (those count (is_open code k))) (ends_of slots x) (outside-test count (is_open code k) x not_within)
+    (no-ends code k x place not_within) in
+    filter-within (is_near_by (points_at code k).opened slots) (is_near (step_at code k)) count POINTS place.fits
+    (never 0 (λ above below. omega (arith, above)))
+    (λ x above below.
+    ap₂ (λ b d. b || nat_lt 0 d) (among-test count (is_open code k) x above below) (sym (ends-same code.crossings k x)))
+    (λ x past below. never x (λ above within. omega (arith, past, within)))
+
+next-all : (code : Code) (k : ℕ) → IsPlace code k
+    → filter (is_next_by (points_at code k).opened (slice_index_or code.crossings k [])) (range_with_len 0 POINTS)
+    ≡ (points_at code (k + 1)).opened
+next-all code k place =
+    let count = arc_count code.crossings + code.loops in
+    let slots = slice_index_or code.crossings k [] in
+    let never : (x : ℕ) → (1 ≤ x → x < 1 + count → ⊥) → is_next_by (points_at code k).opened slots x ≡ false =
+    λ x not_within.
+    none-next (list_any (nat_eq x) (those count (is_open code k))) (ends_of slots x) (outside-test count (is_open code k) x not_within)
+    (no-ends code k x place not_within) in
+    filter-within (is_next_by (points_at code k).opened slots) (is_open code (k + 1)) count POINTS place.fits
+    (never 0 (λ above below. omega (arith, above)))
+    (λ x above below.
+    ap₂ (λ b d. nat_eq (cond b 1 0 + d) 1) (among-test count (is_open code k) x above below) (sym (ends-same code.crossings k x))
+    ∙ next-test (ends_before code.crossings k x) (ends_at code.crossings k x) (ends_before code.crossings (k + 1) x)
+    (ends_before-more code.crossings k x) (few-ends code.crossings (k + 1) x place.twice above (omega (arith, place.crossing))))
+    (λ x past below. never x (λ above within. omega (arith, past, within)))
+
+pub near-are : (code : Code) (k : ℕ) (opened slots made : List ℕ) → IsPlace code k → opened ≡ (points_at code k).opened
+    → slots ≡ slice_index_or code.crossings k [] → made ≡ filter (is_near_by opened slots) (range_with_len 0 POINTS)
+    → made ≡ near (step_at code k)
+near-are code k opened slots made place before crossing is =
+    is ∙ ap₂ (λ xs ss. filter (is_near_by xs ss) (range_with_len 0 POINTS)) before crossing ∙ near-all code k place
+
+pub next-are : (code : Code) (k : ℕ) (opened slots made : List ℕ) → IsPlace code k → opened ≡ (points_at code k).opened
+    → slots ≡ slice_index_or code.crossings k [] → made ≡ filter (is_next_by opened slots) (range_with_len 0 POINTS)
+    → made ≡ (points_at code (k + 1)).opened
+next-are code k opened slots made place before crossing is =
+    is ∙ ap₂ (λ xs ss. filter (is_next_by xs ss) (range_with_len 0 POINTS)) before crossing ∙ next-all code k place

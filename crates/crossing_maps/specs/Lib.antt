@@ -1,0 +1,7 @@
+pub mod Partners
+pub mod Sites
+pub mod Counts
+pub mod AddedSeams
+pub mod NewTerms
+pub mod ListedPlaces
+pub mod Sides

@@ -1,0 +1,40 @@
+-- What the terms of a map become behind a crossing, as lists: a term for each dot set.
+use Rattle.std.specs.Prelude.{ℕ, ◌*◌, ◌^◌, List, length, map}
+use Rattle.std.specs.List.{flat_map, range_with_len}
+use Rattle.kh_types.specs.Code.{Code}
+use Rattle.dotted_surfaces.specs.Surfaces.{value}
+use Rattle.dotted_maps.specs.declared.term.Term.{Term}
+use Rattle.added_crossings.specs.Codes.{discs_behind}
+use Rattle.added_crossings.specs.Entries.{added_surface, saddle_surface}
+use Rattle.tangle_maps.specs.Sums.{term_of}
+
+-- the term with this coefficient and these dots
+abbrev pub term_with : ℕ → ℕ → Term
+term_with coefficient dots = term_of dots coefficient
+
+-- a term for each dot set below a count, with its coefficient
+abbrev pub all_terms : ℕ → (ℕ → ℕ) → List Term
+all_terms count coefficient = map (λ kept. term_of kept (coefficient kept)) (range_with_len 0 count)
+
+-- how many dot sets there are behind a crossing, which has a smoothing on either side
+abbrev pub sets_behind : Code → ℕ → ℕ → ℕ → List (ℕ × ℕ) → List (ℕ × ℕ) → ℕ
+sets_behind code k first second m n = 2 ^ length (discs_behind code k first second m n)
+
+-- what a term from m to n becomes, from labels of the circles that are closed on one side to labels of those on the other
+abbrev pub new_terms : Code → ℕ → ℕ → List (ℕ × ℕ) → List (ℕ × ℕ) → ℕ → ℕ → Term → List Term
+new_terms code k smoothing m n label other term =
+    all_terms (sets_behind code k smoothing smoothing m n)
+    (λ kept. term.coefficient * value (added_surface code k smoothing m n term.dots label other kept))
+
+-- what a map becomes
+abbrev pub new_map : Code → ℕ → ℕ → List (ℕ × ℕ) → List (ℕ × ℕ) → ℕ → ℕ → List Term → List Term
+new_map code k smoothing m n label other terms = flat_map (new_terms code k smoothing m n label other) terms
+
+-- the saddle of a pairing
+abbrev pub saddle_map : Code → ℕ → List (ℕ × ℕ) → ℕ → ℕ → List Term
+saddle_map code k m label other =
+    all_terms (sets_behind code k 0 1 m m) (λ kept. value (saddle_surface code k m label other kept))
+
+-- the arc at which a pair's disc is
+abbrev pub first_end : ℕ × ℕ → ℕ
+first_end pair = pair.0

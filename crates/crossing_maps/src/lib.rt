@@ -1,0 +1,14 @@
+//! Adding a crossing: the pairing behind it, the circles that it closes, and the terms of the new maps.
+#![tactic(auto)]
+
+pub mod added;
+pub mod behind;
+pub mod between;
+pub mod closed;
+pub mod genus;
+pub mod laws;
+pub mod names;
+pub mod seams;
+pub mod site;
+pub mod splitting;
+pub mod terms;

@@ -1,0 +1,12 @@
+pub mod PairingLemmas
+pub mod SumLemmas
+pub mod ChoiceLemmas
+pub mod SeamLemmas
+pub mod WeighLemmas
+pub mod ComposeLemmas
+pub mod PairedLemmas
+pub mod WayLemmas
+pub mod LawLemmas
+pub mod SizeLemmas
+pub mod PartSizes
+pub mod ColumnLemmas

@@ -1,0 +1,6 @@
+pub mod Pairings
+pub mod Sums
+pub mod Chosen
+pub mod Seams
+pub mod Ways
+pub mod Columns

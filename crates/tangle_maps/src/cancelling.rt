@@ -1,0 +1,59 @@
+//! What cancelling a pivot, an entry that is a number times the identity, makes of other entries.
+
+ghost use Rattle.std.specs.Prelude.{◌≡◌, ◌≢◌, ◌<◌, OnOk, length, slice_set};
+ghost use Rattle.prime_field.specs.Residues.{inverse_mod, negative_mod};
+ghost use Rattle.tangle_maps.specs.Columns.{terms_at, terms_in};
+ghost use Rattle.tangle_maps.specs.Sums.{AreReduced};
+ghost use Rattle.tangle_maps.specs.Ways.{HasReducedMaps, IsCancelledAlong, IsWay};
+
+use crate::composing::add_composition;
+use crate::sum::Terms;
+use crate::way::Way;
+use kh_types::NoMemory;
+use prime_field::laws::element_laws;
+use prime_field::{PrimeField, quotient};
+
+/// Takes from an entry what leads through a pivot: the first map of the way, into the pivot's head,
+/// the pivot's inverse, and the second map, out of its tail. Out of memory it may be half done.
+pub fn cancel<F: PrimeField>(entry: &mut Terms, way: &Way<'_>, pivot: F) -> Result<(), NoMemory>
+    requires entry { AreReduced F.P entry.old.items }
+    requires way { IsWay way.now }
+    requires maps { HasReducedMaps F.P way.now }
+    requires pivot { F.value_of pivot ≢ 0 }
+    ensures entry { OnOk result
+        (IsCancelledAlong F.P (F.value_of pivot) way.now entry.old.items entry.new.items) }
+    ensures reduced { AreReduced F.P entry.new.items }
+{
+    element_laws::<F>();
+    add_composition(entry, way, minus_inverse(pivot))
+}
+
+/// Minus the inverse of an element.
+fn minus_inverse<F: PrimeField>(pivot: F) -> F
+    requires { F.value_of pivot ≢ 0 }
+    ensures { F.value_of result ≡ negative_mod F.P (inverse_mod F.P (F.value_of pivot)) }
+{
+    element_laws::<F>();
+    quotient(F::of(1), pivot).neg()
+}
+
+/// The same for the entry at a place of a column, from 0; the others stay.
+pub fn cancel_at<F: PrimeField>(
+    column: &mut [Terms],
+    place: usize,
+    way: &Way<'_>,
+    pivot: F,
+) -> Result<(), NoMemory>
+    requires place { place < length column.old }
+    requires column { AreReduced F.P (terms_at column.old place) }
+    requires way { IsWay way.now }
+    requires maps { HasReducedMaps F.P way.now }
+    requires pivot { F.value_of pivot ≢ 0 }
+    ensures entry { OnOk result (IsCancelledAlong F.P (F.value_of pivot) way.now
+        (terms_at column.old place) (terms_at column.new place)) }
+    ensures others { terms_in column.new
+        ≡ slice_set (terms_in column.old) place (terms_at column.new place) }
+    ensures reduced { AreReduced F.P (terms_at column.new place) }
+{
+    cancel(&mut column[place], way, pivot)
+}

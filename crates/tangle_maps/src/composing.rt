@@ -1,0 +1,187 @@
+//! Compositions of maps.
+
+ghost use Rattle.std.specs.Prelude.{◌≡◌, ℕ, ◌<◌, ◌≤◌, ◌*◌, ◌-◌, ◌%◌, IfOk, OnOk, slice_index};
+ghost use Rattle.std.specs.List.{flat_map, Contains};
+ghost use Rattle.kh_types.specs.Residues.{Same};
+ghost use Rattle.dotted_maps.specs.Maps.{scaled};
+ghost use Rattle.dotted_maps.specs.Parts.{product_over};
+ghost use Rattle.tangle_maps.specs.declared.pairing.TheConstants.{POINTS};
+ghost use Rattle.tangle_maps.specs.Pairings.{IsOpened};
+ghost use Rattle.tangle_maps.specs.Seams.{CanCompose, factor_by, factor_for, left_by};
+ghost use Rattle.tangle_maps.specs.Seams.{load_by, seam_listed, seam_terms};
+ghost use Rattle.tangle_maps.specs.Sums.{AreReduced, IsSum};
+ghost use Rattle.tangle_maps.specs.Ways.{HasReducedMaps, IsComposedAlong, IsWay, listed_along};
+
+use crate::choices::{Dots, add_choices};
+use crate::names::{Names, at};
+use crate::pairing::POINTS;
+use crate::seam::{Seam, dots_on};
+use crate::sum::Terms;
+use crate::way::Way;
+use dotted_maps::term::Term;
+use kh_types::NoMemory;
+use prime_field::PrimeField;
+use prime_field::laws::element_laws;
+use smallvec::SmallVec;
+use std::alloc::Global;
+
+/// Dots and genus of a component.
+fn load(seam: &Seam, component: u8, dots: u64, others: u64) -> usize
+    requires { component < POINTS }
+    ensures load { result ≡ load_by seam.now dots others component }
+    ensures genus { slice_index seam.now.genera component ≤ result }
+{
+    dots_on(component, dots, &seam.first)
+        + dots_on(component, others, &seam.second)
+        + usize::from(at(&seam.genera, component))
+}
+
+/// A value times the factor of a component.
+fn times_factor<F: PrimeField>(value: F, load: usize, genus: u8) -> F
+    requires { genus ≤ load }
+    ensures { F.value_of result ≡ F.value_of value * factor_for load genus % F.P }
+{
+    element_laws::<F>();
+    if load > 1 {
+        F::of(0)
+    } else if genus == 1 {
+        value.add(value)
+    } else {
+        value
+    }
+}
+
+/// Writes down how many discs each component leaves without a dot, and multiplies a value by the
+/// factors of all components.
+fn weigh<F: PrimeField>(seam: &Seam, dots: u64, others: u64, left: &mut Names, value: F) -> F
+    requires { IsOpened seam.now.components.items }
+    ensures left { (k : ℕ) → Contains seam.now.components.items k
+        → slice_index left.new k ≡ left_by seam.now dots others k }
+    ensures value { Same F.P (F.value_of result) (F.value_of value
+        * product_over (factor_by seam.now dots others) seam.now.components.items) }
+{
+    let components: &[u8] = &seam.components;
+    let mut weighed = value;
+    'components: for component in components {
+        let load = load(seam, *component, dots, others);
+        left[usize::from(*component)] = left_at(load);
+        weighed = times_factor(weighed, load, at(&seam.genera, *component));
+    }
+    weighed
+}
+
+/// How many discs a component with this load leaves without a dot.
+fn left_at(load: usize) -> u8
+    ensures { result ≡ 1 - load }
+{
+    if load == 0 { 1 } else { 0 }
+}
+
+/// Adds a multiple of the composition of two terms to a sum.
+fn add_composed<F: PrimeField>(
+    terms: &mut Terms,
+    seam: &Seam,
+    term: &Term,
+    other: &Term,
+    factor: F,
+) -> Result<(), NoMemory>
+    requires reduced { AreReduced F.P terms.old.items }
+    requires seam { CanCompose seam.now }
+    requires term { term.now.coefficient < F.P }
+    requires other { other.now.coefficient < F.P }
+    ensures sum { OnOk result (IsSum F.P terms.old.items
+        (scaled (F.value_of factor) (seam_terms seam.now term.now other.now)) terms.new.items) }
+    ensures reduced { AreReduced F.P terms.new.items }
+{
+    let mut left = [0; POINTS];
+    let value = product(term, other, factor);
+    let weighed = weigh(seam, term.dots, other.dots, &mut left, value);
+    let none = Dots { dots: 0, place: 0 };
+    add_choices(terms, &seam.components, &seam.whole, &left, none, weighed)
+}
+
+/// The product of two terms' coefficients, times a factor.
+fn product<F: PrimeField>(term: &Term, other: &Term, factor: F) -> F
+    requires term { term.now.coefficient < F.P }
+    requires other { other.now.coefficient < F.P }
+    ensures { Same F.P (F.value_of result)
+        (F.value_of factor * (term.now.coefficient * other.now.coefficient)) }
+{
+    factor.mul(F::of(term.coefficient).mul(F::of(other.coefficient)))
+}
+
+/// Adds a multiple of the composition of a term, and each term of a map behind it, to a sum.
+fn add_behind<F: PrimeField>(
+    terms: &mut Terms,
+    seam: &Seam,
+    term: &Term,
+    second: &[Term],
+    factor: F,
+) -> Result<(), NoMemory>
+    requires reduced { AreReduced F.P terms.old.items }
+    requires seam { CanCompose seam.now }
+    requires term { term.now.coefficient < F.P }
+    requires second { AreReduced F.P second.now }
+    ensures sum { OnOk result (IsSum F.P terms.old.items
+        (scaled (F.value_of factor) (flat_map (seam_terms seam.now term.now) second.now))
+        terms.new.items) }
+    ensures reduced { AreReduced F.P terms.new.items }
+{
+    'others: for other in second {
+        add_composed(terms, seam, term, other, factor)?;
+    }
+    Ok(())
+}
+
+/// Adds a multiple of the composition of two maps over a seam to a sum.
+pub fn add_all<F: PrimeField>(
+    terms: &mut Terms,
+    seam: &Seam,
+    first: &[Term],
+    second: &[Term],
+    factor: F,
+) -> Result<(), NoMemory>
+    requires reduced { AreReduced F.P terms.old.items }
+    requires seam { CanCompose seam.now }
+    requires first { AreReduced F.P first.now }
+    requires second { AreReduced F.P second.now }
+    ensures sum { OnOk result (IsSum F.P terms.old.items
+        (scaled (F.value_of factor) (seam_listed seam.now first.now second.now)) terms.new.items) }
+    ensures reduced { AreReduced F.P terms.new.items }
+{
+    'terms: for term in first {
+        add_behind(terms, seam, term, second, factor)?;
+    }
+    Ok(())
+}
+
+/// Adds a multiple of the composition of a way's maps to a sum. Out of memory it may be half done.
+pub fn add_composition<F: PrimeField>(
+    terms: &mut Terms,
+    way: &Way<'_>,
+    factor: F,
+) -> Result<(), NoMemory>
+    requires reduced { AreReduced F.P terms.old.items }
+    requires way { IsWay way.now }
+    requires maps { HasReducedMaps F.P way.now }
+    ensures sum { OnOk result (IsSum F.P terms.old.items
+        (scaled (F.value_of factor) (listed_along way.now)) terms.new.items) }
+    ensures reduced { AreReduced F.P terms.new.items }
+{
+    let seam = Seam::new(way.from, way.over, way.to, way.opened);
+    add_all(terms, &seam, way.first, way.second, factor)
+}
+
+/// The composition of a way's maps, as a reduced sum.
+/// Source: after Bar-Natan 2005, the composition of dotted surfaces.
+pub fn compose<F: PrimeField>(alloc: Global, way: &Way<'_>) -> Result<Terms, NoMemory>
+    requires way { IsWay way.now }
+    requires maps { HasReducedMaps F.P way.now }
+    ensures composition { IfOk result (λ whole. IsComposedAlong F.P way.now whole.items) }
+    ensures reduced { IfOk result (λ whole. AreReduced F.P whole.items) }
+{
+    element_laws::<F>();
+    let mut whole: Terms = SmallVec::new(alloc);
+    add_composition::<F>(&mut whole, way, F::of(1))?;
+    Ok(whole)
+}

@@ -1,0 +1,20 @@
+//! Maps between pairings of open arcs: sums of dotted discs, and their compositions.
+#![tactic(auto)]
+
+mod cancelling;
+mod choices;
+mod composing;
+pub mod laws;
+pub mod names;
+mod pairing;
+pub mod seam;
+mod sum;
+#[cfg(test)]
+mod tests;
+mod way;
+
+pub use cancelling::{cancel, cancel_at};
+pub use composing::{add_all, add_composition, compose};
+pub use pairing::{ALONE, POINTS, Pairing, join_pairs};
+pub use sum::{INLINE_TERMS, Terms, add_scaled, add_term, is_zero, number_of};
+pub use way::{Way, is_way};
