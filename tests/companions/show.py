@@ -239,6 +239,13 @@ def states_fault(code):
     return None if right else f"{named} and not {wanted}, {errors}"
 
 
+def unknown_fault():
+    """Without its code the picture of a link says which components have no arrow, and is drawn."""
+    status, wrote, errors = run("drawing", ["--svg"], plain.drawing.drawing(plain.diagrams.read("PD[X[4,1,3,2],X[2,3,1,4]]")))
+    right = (status, wrote.count('class="arrow'), errors.count("\n")) == (0, 1, 1) and "1 of 2 components without an arrow" in errors
+    return None if right else f"{status}, {errors}"
+
+
 def words_fault(words, given, status, wanted):
     """What is wrong with words of `show/drawing` on a trefoil, if anything is; CODE stands for a file with this code."""
     with tempfile.NamedTemporaryFile("w", encoding="utf-8") as file:
@@ -305,6 +312,7 @@ def faults(program=None):
         yield f"show/{name}: {what}", row_fault(name, words, given, status, wanted)
     for what, words, code, status, wanted in WORDS:
         yield f"show/drawing: {what}", words_fault(words, code, status, wanted)
+    yield "show/drawing: a link without its code", unknown_fault()
     yield "show/table: a reduced table as a picture", table_picture_fault(REDUCED_TREFOIL, REDUCED_TEXTS)
     yield "show/polynomial: all stored tables and back", round_fault()
     for number, code in enumerate(diagrams()):
