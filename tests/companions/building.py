@@ -143,9 +143,9 @@ def interrupted(kit):
     for number in SIGNALS:
         started = started_under(kit, number, signal.SIG_DFL, "1000")
         started.send_signal(number)
-        started.communicate(timeout=PATIENCE)
-        ended.append((started.returncode, wait_for(lambda: all(is_gone(process) for *_, process in kit.told()))))
-    return ended, [(70, True)] * len(SIGNALS)
+        said = number.name in started.communicate(timeout=PATIENCE)[1]
+        ended.append((started.returncode, said, wait_for(lambda: all(is_gone(process) for *_, process in kit.told()))))
+    return ended, [(70, True, True)] * len(SIGNALS)
 
 
 def not_interrupted(kit):

@@ -6,6 +6,7 @@ runs these behind its rows.
 import os
 import shutil
 import subprocess
+import sys
 import tempfile
 
 from companions import building
@@ -13,7 +14,7 @@ from shared.places import TOP
 from shared.running import PATIENCE
 
 CANNOT_RUN = 70
-COMMANDS = "cat chmod cp dirname env flock mkdir mktemp find python3 readlink rm seq sh sleep tail".split()
+COMMANDS = "cat chmod cp dirname env flock mkdir mktemp find readlink rm seq sh sleep tail".split()
 TOOLS = ("kit.py", "lanes.py", "proving.py", "build-times.txt")
 
 # What stands in for `rt`: it writes its words down, "proves" two crates, "builds" a program that says its words, and "tries" one.
@@ -44,7 +45,7 @@ class Copy:
         self.write(os.path.join("bin", "rt"), TOOLCHAIN)
         os.chmod(os.path.join(folder, "bin", "rt"), 0o755)
         os.mkdir(os.path.join(folder, "commands"))
-        for name, path in ((name, shutil.which(name)) for name in COMMANDS):
+        for name, path in [("python3", sys.executable), *((name, shutil.which(name)) for name in COMMANDS)]:
             if path:
                 os.symlink(path, os.path.join(folder, "commands", name))
 
