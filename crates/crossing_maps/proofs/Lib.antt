@@ -10,3 +10,4 @@ pub mod SeamTerms
 pub mod Placed
 pub mod NewLemmas
 pub mod SeamPlaces
+pub mod PlaceLaws

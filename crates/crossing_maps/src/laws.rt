@@ -1,13 +1,18 @@
-//! The pairing behind a crossing and its closed circles, in classes of all arcs that a program can
-//! number.
+//! The pairing behind a crossing, its closed circles and the surface that it adds, in classes of all
+//! arcs that a program can number.
 
-ghost use Rattle.std.specs.Prelude.{◌≡◌, ℕ, ◌+◌, List, ◌++◌};
+ghost use Rattle.std.specs.Prelude.{◌≡◌, ℕ, ◌+◌, List, [], ◌++◌, slice_index_or};
 ghost use Rattle.kh_types.specs.Classes.{classes_of};
 ghost use Rattle.kh_types.specs.Code.{Code};
 ghost use Rattle.dotted_surfaces.specs.Points.{AreAmong};
 ghost use Rattle.added_crossings.specs.Steps.{near, pairs_among};
 ghost use Rattle.added_crossings.specs.Codes.{closed_at, pairing_behind, points_at, smoothing_at, step_at};
 ghost use Rattle.tangle_maps.specs.declared.pairing.TheConstants.{POINTS};
+ghost use Rattle.tangle_maps.specs.Seams.{CanCompose};
+ghost use Rattle.tangle_maps.specs.declared.seam.Seam.{Seam};
+ghost use Rattle.crossing_maps.specs.AddedSeams.{ArePairs, IsSeamAt};
+ghost use Rattle.crossing_maps.specs.ListedPlaces.{IsArcs};
+ghost use Rattle.crossing_maps.specs.Partners.{HasArcsBelow};
 ghost use Rattle.crossing_maps.specs.Sites.{IsPlace, closed_in};
 
 /// What classes of all arcs that a program can number make of a pairing and a smoothing is the
@@ -21,4 +26,24 @@ pub fn all_arcs_serve()
         → AreAmong (points_at code k).opened m → closed_in (points_at code (k + 1)).opened
         (near (step_at code k)) (classes_of POINTS (m ++ smoothing_at code k smoothing))
         ≡ closed_at code k smoothing m }
+{}
+
+/// Arcs at a crossing, open before or behind it, near it, or named for a circle that it closes, are
+/// few enough for a program.
+pub fn places_have_arcs()
+    ensures slots { (code : Code) (k : ℕ) → IsPlace code k
+        → HasArcsBelow POINTS (slice_index_or code.crossings k []) }
+    ensures opened { (code : Code) (k j : ℕ) → IsPlace code k
+        → IsArcs POINTS (points_at code j).opened }
+    ensures near { (code : Code) (k : ℕ) → IsPlace code k
+        → IsArcs POINTS (near (step_at code k)) }
+    ensures closed { (code : Code) (k smoothing : ℕ) (m : List (ℕ × ℕ)) → IsPlace code k
+        → IsArcs POINTS (closed_at code k smoothing m) }
+{}
+
+/// The seam of a surface that a crossing adds can be composed over.
+pub fn seams_can_compose()
+    ensures { (code : Code) (k first second : ℕ) (m n : List (ℕ × ℕ)) (discs lowers : List ℕ)
+        (label other : ℕ) (seam : Seam) → ArePairs code k m n
+        → IsSeamAt code k first second m n discs lowers label other seam → CanCompose seam }
 {}
