@@ -23,7 +23,6 @@ use Rattle.added_crossings.specs.Codes.{arc_there, disc_of, discs_behind, points
 use Rattle.added_crossings.specs.Entries.{coefficient_sheet, saddle_surface}
 use Rattle.added_crossings.specs.Steps.{near}
 use Rattle.added_crossings.proofs.CodeSteps.{slot-near}
-use Rattle.added_crossings.proofs.CodeSums.{opened-near}
 use Rattle.added_crossings.proofs.Members.{All-contained}
 use Rattle.tangle_maps.specs.declared.pairing.TheConstants.{POINTS}
 use Rattle.tangle_maps.specs.declared.seam.Seam.{Seam}
@@ -32,7 +31,7 @@ use Rattle.tangle_maps.specs.Sums.{AreReduced, HaveDotsBelow, IsSum, has_dots, t
 use Rattle.crossing_maps.specs.AddedSeams.{ArePairs, IsSeamAt, all_dots, joins_there, places_there}
 use Rattle.crossing_maps.specs.Counts.{load_at, on}
 use Rattle.crossing_maps.specs.NewTerms.{all_terms, first_end, new_map, saddle_map, sets_behind, term_with}
-use Rattle.crossing_maps.proofs.Placed.{joins-there, near-distinct, value-sized, within-there}
+use Rattle.crossing_maps.proofs.Placed.{joins-there, near-distinct, opened-near, value-sized, within-there}
 use Rattle.crossing_maps.proofs.SeamTerms.{coefficient-chosen, terms-same}
 use Rattle.crossing_maps.proofs.SpreadTerms.{HaveCoefficients, IsSum-spread}
 use Rattle.crossing_maps.proofs.Values.{factor_at, places-named, sets_at}

@@ -10,7 +10,7 @@ use Rattle.std.proofs.lemmas.List.Sums.{sum_by-cons}
 use Rattle.kh_types.proofs.ListSums.{sum_by-flat_map}
 use Rattle.kh_types.proofs.Lists.{Contains-filter, Contains-map, Contains-flat_map}
 use Rattle.dotted_surfaces.proofs.Components.{AllByRecursion-at}
-use Rattle.added_crossings.specs.Pairings.{IsPaired, degree, ends_in}
+use Rattle.added_crossings.specs.Pairings.{IsPaired, end_count, ends_in}
 use Rattle.added_crossings.specs.Steps.{is_mate, pair_with, pairs_among, pairs_at}
 use Rattle.added_crossings.proofs.Members.{All-contained, Contains-cons_cases, Contains-next}
 use Rattle.added_crossings.proofs.NewPairing.{IsPair, pairs-are}
@@ -57,7 +57,7 @@ up-length partners a b = here (can_pair partners a b)
     here true = length-set (set partners a b) b a ∙ length-set partners a b
     here false = refl
 
-pub stays : (partners : List ℕ) (pairs : List (ℕ × ℕ)) (x : ℕ) → degree pairs x ≡ 0
+pub stays : (partners : List ℕ) (pairs : List (ℕ × ℕ)) (x : ℕ) → end_count pairs x ≡ 0
     → slice_index (fold paired_up partners pairs) x ≡ slice_index partners x
 stays partners [] x none = refl
 stays partners ((a, b) ∷ pairs) x none =
@@ -99,7 +99,7 @@ become partners x y alone =
     })
 
 -- a pair that is there
-there : (pairs : List (ℕ × ℕ)) (x y : ℕ) → Contains pairs (x, y) → (1 ≤ degree pairs x) × (1 ≤ degree pairs y)
+there : (pairs : List (ℕ × ℕ)) (x y : ℕ) → Contains pairs (x, y) → (1 ≤ end_count pairs x) × (1 ≤ end_count pairs y)
 there [] x y (k, below, is) = absurd (omega (arith, below))
 there ((a, b) ∷ pairs) x y has =
     let first = sum_by-cons (ends_in x) (a, b) pairs in
@@ -115,7 +115,7 @@ there ((a, b) ∷ pairs) x y has =
     ]
 
 pub own : (partners : List ℕ) (pairs : List (ℕ × ℕ)) (x y : ℕ) → AreAlone partners x y → Contains pairs (x, y)
-    → degree pairs x ≡ 1 → degree pairs y ≡ 1 → ArePartnersIn (fold paired_up partners pairs) x y
+    → end_count pairs x ≡ 1 → end_count pairs y ≡ 1 → ArePartnersIn (fold paired_up partners pairs) x y
 own partners [] x y alone (k, below, is) first second = absurd (omega (arith, below))
 own partners ((a, b) ∷ pairs) x y alone has first second =
     let x_sum = sum_by-cons (ends_in x) (a, b) pairs in
@@ -155,7 +155,7 @@ pub record HasEnd (pairs : List (ℕ × ℕ)) (x : ℕ) : Type 0 where
 no-ends : (x a b : ℕ) → x ≢ a → x ≢ b → ends_in x (a, b) ≡ 0
 no-ends x a b first second = grind (arith, nat_tests)
 
-pub ended : (pairs : List (ℕ × ℕ)) (x : ℕ) → degree pairs x ≡ 1 → HasEnd pairs x
+pub ended : (pairs : List (ℕ × ℕ)) (x : ℕ) → end_count pairs x ≡ 1 → HasEnd pairs x
 ended [] x one = absurd (omega (arith, one))
 ended ((a, b) ∷ pairs) x one = elim (cases_eq x a) [
   | inl same ↦ record { pair = (a, b); has = (0, omega arith, refl); end = inl same }
@@ -176,7 +176,7 @@ sum-part f (y ∷ xs) x has = elim (Contains-cons_cases y x xs has) [
   | inr later ↦ omega (arith, sum_by-cons f y xs, sum-part f xs x later)
 ]
 
-two-mates : (x y z : ℕ) (mates : List ℕ) → 2 ≤ degree (map (pair_with x) (y ∷ z ∷ mates)) x
+two-mates : (x y z : ℕ) (mates : List ℕ) → 2 ≤ end_count (map (pair_with x) (y ∷ z ∷ mates)) x
 two-mates x y z mates =
     let f : ℕ × ℕ → ℕ = ends_in x in
     let rest = map (pair_with x) mates in
@@ -189,7 +189,7 @@ two-mates x y z mates =
     )
 
 row : (points classes : List ℕ) (x : ℕ) → Contains points x
-    → degree (pairs_at points classes x) x ≤ degree (pairs_among points classes) x
+    → end_count (pairs_at points classes x) x ≤ end_count (pairs_among points classes) x
 row points classes x has =
     omega (
       arith,
@@ -284,7 +284,7 @@ here points classes x opened paired has =
         absurd (omega (
           arith,
           two-mates x y z mates,
-          ap (λ ys. degree (map (pair_with x) ys) x) are,
+          ap (λ ys. end_count (map (pair_with x) ys) x) are,
           row points classes x has,
           paired.once x has,
         ))

@@ -1,5 +1,5 @@
 -- The surface that a crossing of a code adds, by classes of all arcs that a program can number.
-use Rattle.std.proofs.Common.{◌≡◌, ℕ, ◌+◌, ◌*◌, ◌^◌, ◌<◌, ◌≤◌, ◌∙◌, List, ◌++◌, length, map, refl, sym, ap₂, arith, Bool, true, false, ◌&&◌}
+use Rattle.std.proofs.Common.{◌≡◌, ℕ, ◌+◌, ◌*◌, ◌^◌, ◌<◌, ◌≤◌, ◌∙◌, List, ◌++◌, length, map, refl, sym, ap₂, arith, Bool, true, false, ◌&&◌, ◌||◌, ap}
 use Rattle.std.specs.Prelude.{nat_eq, slice_index}
 use Rattle.std.specs.List.{count_by, range_with_len, AllByRecursion, Contains}
 use Rattle.std.proofs.lemmas.Bool.{both_ways}
@@ -82,6 +82,12 @@ pub near-below : (code : Code) (k : ℕ) → AllByRecursion (λ x. x < count_of 
 near-below code k =
     All-contained (λ x. x < count_of code + 1) (near (step_at code k))
     (λ x has. omega (arith, (those-are (count_of code) (is_near (step_at code k)) x has).below))
+
+pub opened-near : (code : Code) (k x : ℕ) → Contains (points_at code k).opened x → Contains (near (step_at code k)) x
+opened-near code k x has =
+    let is = those-are (count_of code) (is_open code k) x has in
+    are-those (count_of code) (is_near (step_at code k)) x is.above is.below
+    (ap (λ b. b || (step_at code k).at_crossing x) is.passes)
 
 pub next-near : (code : Code) (k x : ℕ) → IsPlace code k → Contains (points_at code (k + 1)).opened x → Contains (near (step_at code k)) x
 next-near code k x place has =

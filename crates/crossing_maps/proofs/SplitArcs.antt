@@ -2,27 +2,40 @@
 use Rattle.std.proofs.Common.{◌≡◌, ◌≢◌, ℕ, inl, inr, ◌+◌, ◌-◌, ◌<◌, ◌≤◌, ◌∙◌, List, [], ◌∷◌, ◌++◌, refl, sym, subst, ap, ap₂, arith, Bool, true, false, cond, not}
 use Rattle.std.specs.Prelude.{nat_eq, slice_index}
 use Rattle.std.specs.List.{filter, range_with_len, AllByRecursion, Contains}
-use Rattle.std.proofs.lemmas.Bool.{cases_Bool, both_ways, eq-eqb}
+use Rattle.std.proofs.lemmas.Bool.{cases_Bool, both_ways, eq-eqb, eqb-true, false_from_ne_true}
 use Rattle.std.proofs.lemmas.Bool.Decides.{nat_tests}
 use Rattle.std.proofs.lemmas.List.Elements.{filter-append}
 use Rattle.std.proofs.lemmas.List.FromFn.{get_or-range_with_len}
+use Rattle.std.proofs.lemmas.List.Sums.{sum_by-cons}
 use Rattle.kh_types.specs.Circles.{smoothing_of}
 use Rattle.kh_types.specs.Classes.{classes_of}
 use Rattle.kh_types.specs.Code.{Code, arc_count}
 use Rattle.kh_types.proofs.Lists.{filter-range_agree}
 use Rattle.kh_types.proofs.Ranges.{range-append}
 use Rattle.dotted_surfaces.proofs.Components.{AllByRecursion-at}
-use Rattle.added_crossings.specs.Pairings.{IsPaired}
+use Rattle.dotted_surfaces.specs.Points.{AreAmong}
+use Rattle.added_crossings.specs.Pairings.{IsPaired, end_count, ends_in}
 use Rattle.added_crossings.specs.Steps.{pairs_among, those}
 use Rattle.added_crossings.specs.Codes.{is_open, pairing_behind, points_at}
 use Rattle.added_crossings.proofs.Members.{All-contained, are-those, range-within, those-are}
 use Rattle.added_crossings.proofs.NewPairing.{IsPair, pairs-are}
-use Rattle.added_crossings.proofs.Pairs.{IsPaired-behind, degree-none}
+use Rattle.added_crossings.proofs.Pairs.{IsPaired-behind}
 use Rattle.tangle_maps.specs.declared.pairing.TheConstants.{POINTS}
 use Rattle.tangle_maps.specs.Pairings.{IsOpened, is_paired, paired_arcs}
 use Rattle.crossing_maps.specs.Sites.{IsPlace, IsSite}
 use Rattle.crossing_maps.proofs.AllArcs.{pairs-serve}
 use Rattle.crossing_maps.proofs.PairedUp.{ended, made-own, made_of, stays}
+
+-- a point that is not among some points is no end of pairs of these
+unpaired : (points : List ℕ) (pairs : List (ℕ × ℕ)) (x : ℕ) → AreAmong points pairs → (Contains points x → ⊥) → end_count pairs x ≡ 0
+unpaired points [] x among not = refl
+unpaired points (pair ∷ pairs) x among not =
+    sum_by-cons (ends_in x) pair pairs
+    ∙ ap₂ (λ s t. s + t)
+    (ap₂ (λ (b c : Bool). cond b 1 0 + cond c 1 0) (other pair.0 among.0.0) (other pair.1 among.0.1)) (unpaired points pairs x among.1 not)
+  where
+    other : (y : ℕ) → Contains points y → nat_eq y x ≡ false
+    other y has = false_from_ne_true (nat_eq y x) (λ same. not (subst (λ z. Contains points z) (eqb-true y x same) has))
 
 filter-none : (p : ℕ → Bool) (xs : List ℕ) → AllByRecursion (λ x. p x ≡ false) xs → filter p xs ≡ []
 filter-none p [] all = refl
@@ -87,7 +100,7 @@ without-partner : (points classes : List ℕ) (x : ℕ) → IsPaired points (pai
 without-partner points classes x paired not_has below =
     same-false x (slice_index (made_of points classes) x)
     (sym (stays (range_with_len 0 POINTS) (pairs_among points classes) x
-    (degree-none points (pairs_among points classes) x paired.among not_has)
+    (unpaired points (pairs_among points classes) x paired.among not_has)
     ∙ at-range POINTS x below))
 
 pub arcs-made : (count : ℕ) (test : ℕ → Bool) (classes : List ℕ) → count + 1 ≤ POINTS → IsOpened (those count test)
