@@ -6,7 +6,7 @@ import re
 from typing import NamedTuple
 
 from answers import Unreadable, given
-from plane import walk_from
+from planar import walk_from
 
 ITEM = re.compile(r"X\[(\d+), ?(\d+), ?(\d+), ?(\d+)\]")
 OTHER = "the drawing is not one of this planar diagram"

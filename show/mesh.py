@@ -8,7 +8,7 @@ a triangle over. All is done with sums, products, quotients and square roots, so
 import math
 from typing import NamedTuple
 
-from plane import faces_of
+from planar import faces_of
 
 # The length of each arc of an ideal face.
 ARC = 6.0

@@ -9,7 +9,7 @@ from typing import NamedTuple
 from columns import column_curves
 from elastic import bent
 from mesh import piece_of, spread, turned
-from plane import components_of, pieces_of
+from planar import components_of, pieces_of
 
 # The radius of a loop, the room between pieces, and how wide a row of them becomes.
 RADIUS, ROOM, WIDEST = 1.9, 1.5, 48.0
