@@ -38,7 +38,8 @@ AT_A_CROSSING = re.compile(r"(?:under pass|over pass|two-arc component|arc range
 def furnished(folder, program):
     """A copy of the repository in a folder, with the tools and the program."""
     copy = scripts.Copy(folder)
-    shutil.copytree(os.path.join(TOP, "tools"), os.path.join(folder, "tools"), ignore=shutil.ignore_patterns("__pycache__"))
+    tools, ignored = os.path.join(folder, "tools"), shutil.ignore_patterns("__pycache__")
+    shutil.copytree(os.path.join(TOP, "tools"), tools, ignore=ignored, dirs_exist_ok=True)
     os.symlink(os.path.join(TOP, "reference"), os.path.join(folder, "reference"))
     os.makedirs(os.path.join(folder, "crates", "kh_main", "out"))
     os.symlink(os.path.abspath(program), os.path.join(folder, "crates", "kh_main", "out", "kh_main"))
