@@ -190,6 +190,16 @@ def claim_faults(copy):
         yield f"{command} of many generators", None if status == (LIMIT if command in said.HAVE_IT else 0) else f"status {status}"
 
 
+def without_python(copy):
+    """A folder with the commands of the copy but Python."""
+    folder = os.path.join(copy.folder, "commands-alone")
+    if not os.path.isdir(folder):
+        os.mkdir(folder)
+        for name in set(os.listdir(os.path.join(copy.folder, "commands"))) - {"python3"}:
+            os.symlink(os.readlink(os.path.join(copy.folder, "commands", name)), os.path.join(folder, name))
+    return folder
+
+
 def general_faults(copy):
     """Where the line can not be known something is said that holds for all lines of the status."""
     answer = "{} and {}".format(", ".join(said.HAVE_IT_NOT[:-1]), said.HAVE_IT_NOT[-1])
@@ -206,7 +216,7 @@ def general_faults(copy):
         right = came[0] == status and text in " ".join(came[2].split()) and "^" not in came[2]
         yield f"{name} by a pipe", plain_fault(came[2]) if right else str(came)
         if words == CHECK:
-            alone = run(copy, words, given, path=os.path.join(copy.folder, "commands"))
+            alone = run(copy, words, given, path=without_python(copy))
             yield f"{name} without Python", None if came == alone else f"{alone} and not {came}"
     came = run(copy, said.VERIFY, said.LOG + b"j 3 i 1 dim 1\n" * 80_000)
     yield "a long log", None if came[0] == REFUSED and "docs/LOG-FORMAT.md" in came[2] and "^" not in came[2] else str(came)
