@@ -1,4 +1,5 @@
 pub mod MorePairs
+pub mod Loopless
 pub mod PairedUp
 pub mod AllArcs
 pub mod SplitArcs

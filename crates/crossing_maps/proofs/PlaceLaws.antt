@@ -22,6 +22,7 @@ use Rattle.crossing_maps.specs.AddedSeams.{ArePairs, IsSeamAt, joins_there}
 use Rattle.crossing_maps.specs.ListedPlaces.{IsArcs}
 use Rattle.crossing_maps.specs.Partners.{HasArcsBelow}
 use Rattle.crossing_maps.specs.Sites.{IsPlace}
+use Rattle.crossing_maps.proofs.Loopless.{near-are, near-few, open-are}
 use Rattle.crossing_maps.proofs.Placed.{joins-there, within-there}
 use Rattle.crossing_maps.proofs.SeamPlaces.{arcs-filtered}
 use Rattle.crossing_maps.proofs.Values.{places-named}
@@ -40,15 +41,17 @@ slots-below code k place slot below =
     omega (
       arith,
       place.fits,
-      (those-are (arc_count code.crossings + code.loops) (is_near (step_at code k)) (arc_in (slice_index_or code.crossings k []) slot)
-          (slot-near code k slot place.twice place.crossing below)).below,
+      near-few code k (arc_in (slice_index_or code.crossings k []) slot) place.twice (slot-near code k slot place.twice place.crossing below),
     )
 
 pub opened-arcs : (code : Code) (k j : ℕ) → IsPlace code k → IsArcs POINTS (points_at code j).opened
-opened-arcs code k j place = those-arcs (arc_count code.crossings + code.loops) (is_open code j) place.fits
+opened-arcs code k j place =
+    subst (λ xs. IsArcs POINTS xs) (sym (open-are code j place.twice)) (those-arcs (arc_count code.crossings) (is_open code j) place.fits)
 
 pub near-arcs : (code : Code) (k : ℕ) → IsPlace code k → IsArcs POINTS (near (step_at code k))
-near-arcs code k place = those-arcs (arc_count code.crossings + code.loops) (is_near (step_at code k)) place.fits
+near-arcs code k place =
+    subst (λ xs. IsArcs POINTS xs) (sym (near-are code k place.twice))
+    (those-arcs (arc_count code.crossings) (is_near (step_at code k)) place.fits)
 
 pub closed-arcs : (code : Code) (k smoothing : ℕ) (m : List (ℕ × ℕ)) → IsPlace code k → IsArcs POINTS (closed_at code k smoothing m)
 closed-arcs code k smoothing m place =

@@ -6,20 +6,22 @@ use Rattle.std.proofs.lemmas.List.Sums.{count_by-le-length, length-filter}
 use Rattle.kh_types.specs.Circles.{smoothing_of}
 use Rattle.kh_types.specs.Classes.{classes_of, is_least}
 use Rattle.kh_types.specs.Code.{Code, arc_count}
+use Rattle.kh_types.specs.Darts.{HasArcsTwice}
 use Rattle.dotted_surfaces.specs.Points.{AreAmong, discs, least_points}
 use Rattle.dotted_maps.proofs.LeastPoints.{AllByRecursion-filter, AreAmong-append, AreBelow-among}
-use Rattle.added_crossings.specs.Codes.{discs_behind, is_open, pairing_behind, points_at, step_at}
+use Rattle.added_crossings.specs.Codes.{discs_behind, pairing_behind, points_at, step_at}
 use Rattle.added_crossings.specs.Steps.{near}
 use Rattle.added_crossings.proofs.CodeSums.{AreAmong-behind}
-use Rattle.added_crossings.proofs.Members.{All-contained, those-are}
+use Rattle.added_crossings.proofs.Members.{All-contained}
 use Rattle.tangle_maps.specs.declared.pairing.TheConstants.{POINTS}
 use Rattle.tangle_maps.specs.declared.seam.Seam.{Seam}
-use Rattle.tangle_maps.proofs.SizeLemmas.{least_points-size}
+use Rattle.tangle_maps.proofs.SizeLemmas.{least_points-sizes}
 use Rattle.crossing_maps.specs.AddedSeams.{IsAddedSeam, IsSeamAt, joins_there, places_there}
 use Rattle.crossing_maps.specs.Counts.{Places, on}
 use Rattle.crossing_maps.specs.ListedPlaces.{IsArcs}
 use Rattle.crossing_maps.specs.Sides.{IsSplit}
 use Rattle.crossing_maps.specs.Sites.{IsPlace, IsSite}
+use Rattle.crossing_maps.proofs.Loopless.{open-few}
 use Rattle.crossing_maps.proofs.Placed.{places-same}
 
 filter-shorter : (p : ℕ → Bool) (xs : List ℕ) → length (filter p xs) ≤ length xs
@@ -32,16 +34,15 @@ arcs-filtered n p arcs is = record {
 }
 
 -- discs of pairings of open arcs do not depend on the size
-discs-sized : (code : Code) (k : ℕ) (m n : List (ℕ × ℕ)) → arc_count code.crossings + code.loops + 1 ≤ POINTS
+discs-sized : (code : Code) (k : ℕ) (m n : List (ℕ × ℕ)) → HasArcsTwice code.crossings → arc_count code.crossings + 1 ≤ POINTS
     → AreAmong (points_at code k).opened m → AreAmong (points_at code k).opened n
     → least_points POINTS (points_at code k).opened (m ++ n) ≡ discs (points_at code k) m n
-discs-sized code k m n fits first second =
-    let size = arc_count code.crossings + code.loops + 1 in
+discs-sized code k m n twice fits first second =
+    let size = arc_count code.crossings + 1 in
     let opened = (points_at code k).opened in
     let below : AllByRecursion (λ x. x < size) opened =
-    All-contained (λ x. x < size) opened
-    (λ x has. omega (arith, (those-are (arc_count code.crossings + code.loops) (is_open code k) x has).below)) in
-    least_points-size size POINTS opened (m ++ n) fits below
+    All-contained (λ x. x < size) opened (λ x has. open-few code k x twice has) in
+    least_points-sizes size (arc_count code.crossings + code.loops + 1) POINTS opened (m ++ n) (omega arith) fits below
     (AreBelow-among size opened (m ++ n) below (AreAmong-append opened m n first second))
 
 abbrev made : List ℕ → List ℕ → List ℕ → List ℕ → List ℕ → List ℕ → Places
@@ -66,11 +67,11 @@ seam_there code k first second m n behind other_behind opened around next slots 
     are_classes ∙ ap (λ s. classes_of POINTS ((m ++ smoothing_of first s) ++ (n ++ smoothing_of second s))) site.crossing in
     let rims_there : rims ≡ discs_behind code k first second m n =
     are_rims ∙ ap₂ (λ xs pairs. least_points POINTS xs pairs) site.behind (ap₂ (λ xs ys. xs ++ ys) split.pairs other_split.pairs)
-    ∙ discs-sized code (k + 1) (pairing_behind code k first m) (pairing_behind code k second n) place.fits
+    ∙ discs-sized code (k + 1) (pairing_behind code k first m) (pairing_behind code k second n) place.twice place.fits
     (AreAmong-behind code k first m place.twice place.crossing split.among)
     (AreAmong-behind code k second n place.twice place.crossing other_split.among) in
     let faces_there : ds ≡ faces =
-    are_ds ∙ ap (λ xs. least_points POINTS xs (m ++ n)) site.before ∙ discs-sized code k m n place.fits split.among other_split.among in
+    are_ds ∙ ap (λ xs. least_points POINTS xs (m ++ n)) site.before ∙ discs-sized code k m n place.twice place.fits split.among other_split.among in
     let there : made rims ds closed_list other_list opened next ≡ places_there code k first second m n faces (points_at code k).opened =
     places-same rims_there faces_there (are_closed ∙ split.circles) (are_others ∙ other_split.circles) site.before site.behind in
     record {
