@@ -12,3 +12,5 @@ pub mod Placed
 pub mod NewLemmas
 pub mod SeamPlaces
 pub mod PlaceLaws
+pub mod FewClosed
+pub mod PairedPartners

@@ -64,7 +64,7 @@ slot-test crossings k x slot place below is =
 abbrev one_if : Bool → ℕ
 one_if b = cond b 1 0
 
-ends-same : (crossings : List (List ℕ)) (k x : ℕ) → ends_at crossings k x ≡ ends_of (slice_index_or crossings k []) x
+pub ends-same : (crossings : List (List ℕ)) (k x : ℕ) → ends_at crossings k x ≡ ends_of (slice_index_or crossings k []) x
 ends-same crossings k x =
     count-four (λ place. nat_eq (arc_at crossings place) x) (4 * k)
     ∙ ap₂ (λ m n. m + n) (ap (λ b. one_if b) (slot-test crossings k x 0 (4 * k) (omega arith) (omega arith)))

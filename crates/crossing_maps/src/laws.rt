@@ -1,13 +1,15 @@
 //! The pairing behind a crossing, its closed circles and the surface that it adds, in classes of all
 //! arcs that a program can number.
 
-ghost use Rattle.std.specs.Prelude.{◌≡◌, ℕ, ◌+◌, List, [], ◌++◌, slice_index_or};
+ghost use Rattle.std.specs.Prelude.{◌≡◌, ℕ, ◌+◌, ◌≤◌, List, [], ◌++◌, length, slice_index_or};
 ghost use Rattle.kh_types.specs.Classes.{classes_of};
 ghost use Rattle.kh_types.specs.Code.{Code};
 ghost use Rattle.dotted_surfaces.specs.Points.{AreAmong};
+ghost use Rattle.added_crossings.specs.Pairings.{IsPaired};
 ghost use Rattle.added_crossings.specs.Steps.{near, pairs_among};
 ghost use Rattle.added_crossings.specs.Codes.{closed_at, pairing_behind, points_at, smoothing_at, step_at};
 ghost use Rattle.tangle_maps.specs.declared.pairing.TheConstants.{POINTS};
+ghost use Rattle.tangle_maps.specs.Pairings.{ArePartners, joins_of, paired_arcs};
 ghost use Rattle.tangle_maps.specs.Seams.{CanCompose};
 ghost use Rattle.tangle_maps.specs.declared.seam.Seam.{Seam};
 ghost use Rattle.crossing_maps.specs.AddedSeams.{ArePairs, IsSeamAt};
@@ -46,4 +48,16 @@ pub fn seams_can_compose()
     ensures { (code : Code) (k first second : ℕ) (m n : List (ℕ × ℕ)) (discs lowers : List ℕ)
         (label other : ℕ) (seam : Seam) → ArePairs code k m n
         → IsSeamAt code k first second m n discs lowers label other seam → CanCompose seam }
+{}
+
+/// A crossing closes at most two circles.
+pub fn crossings_close_few_circles()
+    ensures { (code : Code) (k smoothing : ℕ) (m : List (ℕ × ℕ)) → IsPlace code k
+        → AreAmong (points_at code k).opened m → length (closed_at code k smoothing m) ≤ 2 }
+{}
+
+/// Partners are a pairing of the arcs that have another arc for a partner.
+pub fn partners_are_paired()
+    ensures { (partners opened : List ℕ) → opened ≡ paired_arcs partners → ArePartners partners
+        → IsPaired opened (joins_of partners opened) }
 {}
