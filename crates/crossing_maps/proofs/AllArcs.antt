@@ -3,20 +3,19 @@ use Rattle.std.proofs.Common.{◌≡◌, ℕ, ◌+◌, ◌<◌, ◌∙◌, List,
 use Rattle.std.specs.Prelude.{nat_eq, nat_lt, slice_index}
 use Rattle.std.specs.List.{filter, flat_map, AllByRecursion, Contains}
 use Rattle.kh_types.specs.Circles.{smoothing_of}
-use Rattle.kh_types.specs.Classes.{AreBelow, classes_of, is_least}
+use Rattle.kh_types.specs.Classes.{classes_of, is_least}
 use Rattle.kh_types.specs.Code.{Code, arc_count}
 use Rattle.dotted_surfaces.proofs.Components.{list_any-on}
 use Rattle.dotted_surfaces.specs.Points.{AreAmong}
 use Rattle.added_crossings.specs.Pairings.{IsPaired}
-use Rattle.added_crossings.specs.Steps.{is_mate, is_near, is_none_in, near, pair_with, pairs_among, pairs_at}
-use Rattle.added_crossings.specs.Codes.{closed_at, is_open, pairing_behind, points_at, smoothing_at, step_at}
-use Rattle.added_crossings.proofs.Members.{All-contained, those-are}
-use Rattle.added_crossings.proofs.Classes.{AreAmong-below}
-use Rattle.added_crossings.proofs.CodeSums.{joins-near}
+use Rattle.added_crossings.specs.Steps.{is_mate, is_none_in, near, pair_with, pairs_among, pairs_at}
+use Rattle.added_crossings.specs.Codes.{closed_at, pairing_behind, points_at, smoothing_at, step_at}
+use Rattle.added_crossings.proofs.Members.{All-contained}
 use Rattle.added_crossings.proofs.Pairs.{IsPaired-behind}
 use Rattle.tangle_maps.specs.declared.pairing.TheConstants.{POINTS}
-use Rattle.tangle_maps.proofs.SizeLemmas.{class-size, least_points-size}
+use Rattle.tangle_maps.proofs.SizeLemmas.{class-sizes, least_points-sizes}
 use Rattle.crossing_maps.specs.Sites.{IsPlace, IsSite, closed_in}
+use Rattle.crossing_maps.proofs.Loopless.{joins-few, near-few, open-few}
 
 filter-on : (p q : ℕ → Bool) (xs : List ℕ) → AllByRecursion (λ x. p x ≡ q x) xs → filter p xs ≡ filter q xs
 filter-on p q [] alike = refl
@@ -50,20 +49,13 @@ none-alike points classes others class alike =
 
 -- at a crossing
 
-below-all : (code : Code) (k smoothing : ℕ) (m : List (ℕ × ℕ)) → IsPlace code k → AreAmong (points_at code k).opened m
-    → AreBelow (arc_count code.crossings + code.loops + 1) (m ++ smoothing_at code k smoothing)
-below-all code k smoothing m place among =
-    AreAmong-below (arc_count code.crossings + code.loops) (is_near (step_at code k)) (m ++ smoothing_at code k smoothing)
-    (joins-near code k smoothing m place.twice place.crossing among)
-
 alike-open : (code : Code) (k smoothing : ℕ) (m : List (ℕ × ℕ)) → IsPlace code k → AreAmong (points_at code k).opened m
     → (x : ℕ) → Contains (points_at code (k + 1)).opened x
     → slice_index (classes_of POINTS (m ++ smoothing_at code k smoothing)) x
     ≡ slice_index (classes_of (arc_count code.crossings + code.loops + 1) (m ++ smoothing_at code k smoothing)) x
 alike-open code k smoothing m place among x has =
-    class-size (arc_count code.crossings + code.loops + 1) POINTS x (m ++ smoothing_at code k smoothing) place.fits
-    (below-all code k smoothing m place among)
-    (omega (arith, (those-are (arc_count code.crossings + code.loops) (is_open code (k + 1)) x has).below))
+    class-sizes (arc_count code.crossings + 1) (arc_count code.crossings + code.loops + 1) POINTS x (m ++ smoothing_at code k smoothing)
+    (omega arith) place.fits (joins-few code k smoothing m place.twice place.crossing among) (open-few code (k + 1) x place.twice has)
 
 pub pairs-serve : (code : Code) (k smoothing : ℕ) (m : List (ℕ × ℕ)) → IsPlace code k → AreAmong (points_at code k).opened m
     → pairs_among (points_at code (k + 1)).opened (classes_of POINTS (m ++ smoothing_at code k smoothing))
@@ -87,10 +79,9 @@ closed-serve code k smoothing m place among =
     (filter (is_least (classes_of POINTS joins)) around)
     (λ x has. none-alike points (classes_of POINTS joins) (classes_of n joins) x (alike-open code k smoothing m place among)))
     ∙ ap (λ xs. filter (is_none_in points (classes_of n joins)) xs)
-    (least_points-size n POINTS around joins place.fits
-    (All-contained (λ x. x < n) around
-    (λ x has. omega (arith, (those-are (arc_count code.crossings + code.loops) (is_near (step_at code k)) x has).below)))
-    (below-all code k smoothing m place among))
+    (least_points-sizes (arc_count code.crossings + 1) n POINTS around joins (omega arith) place.fits
+    (All-contained (λ x. x < arc_count code.crossings + 1) around (λ x has. near-few code k x place.twice has))
+    (joins-few code k smoothing m place.twice place.crossing among))
 
 -- what code computes
 

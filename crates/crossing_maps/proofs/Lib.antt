@@ -1,4 +1,5 @@
 pub mod MorePairs
+pub mod Loopless
 pub mod PairedUp
 pub mod AllArcs
 pub mod SplitArcs
@@ -10,4 +11,8 @@ pub mod SeamTerms
 pub mod Placed
 pub mod NewLemmas
 pub mod SeamPlaces
+pub mod Composable
+pub mod AddedTerms
+pub mod FewClosed
 pub mod PlaceLaws
+pub mod PairedPartners

@@ -62,7 +62,7 @@ coefficients-made code k first second m n ds lowers label other seam term are al
     let within = within-there code k first second m n ds lowers are all_ds all_lowers in
     let wide : AreJoins POINTS around joins =
     record {
-      below = AllByRecursion-weaker (λ x. x < arc_count code.crossings + code.loops + 1) (λ x. x < POINTS) around
+      below = AllByRecursion-weaker (λ x. x < arc_count code.crossings + 1) (λ x. x < POINTS) around
           (λ x below. omega (arith, below, are.place.fits)) joined.below;
       among = joined.among;
     } in
@@ -76,8 +76,8 @@ coefficients-made code k first second m n ds lowers label other seam term are al
           ap (λ ts. coefficient_in ts kept) same ∙ coefficient-chosen (term.coefficient * 1 * unit) kept sets
           ∙ grouped term.coefficient unit (count_by (nat_eq kept) sets)
           ∙ ap (λ v. term.coefficient * v)
-          (sym (value-sized (arc_count code.crossings + code.loops + 1) around joins at kept term.dots label other are.place.fits joined
-          (near-distinct code k) within below));
+          (sym (value-sized (arc_count code.crossings + 1) (arc_count code.crossings + code.loops + 1) around joins at kept term.dots label other
+          (omega arith) are.place.fits joined (near-distinct code k) within below));
       dots = subst (HaveDotsBelow (sets_behind code k first second m n)) (sym same)
           (terms-below (term.coefficient * 1 * unit) (sets_behind code k first second m n) (2 ^ length here.rims) sets
           (ap (λ i. 2 ^ i) (length-map at.rims class))

@@ -7,7 +7,7 @@ use Rattle.kh_types.specs.Classes.{classes_of, is_least}
 use Rattle.kh_types.specs.Code.{Code, arc_count}
 use Rattle.dotted_surfaces.specs.Points.{least_points}
 use Rattle.dotted_surfaces.specs.Surfaces.{value}
-use Rattle.dotted_surfaces.proofs.Components.{AllByRecursion-at}
+use Rattle.dotted_surfaces.proofs.Components.{AllByRecursion-at, AllByRecursion-weaker}
 use Rattle.dotted_maps.specs.Parts.{product_over}
 use Rattle.dotted_maps.proofs.ComponentParts.{AreDistinct, distinct-filter}
 use Rattle.dotted_maps.proofs.LeastPoints.{AllByRecursion-filter, AreAmong-append, AreJoins, joins-below, least-contained}
@@ -18,10 +18,11 @@ use Rattle.added_crossings.proofs.CodeSums.{joins-near}
 use Rattle.added_crossings.proofs.Labels.{map-on}
 use Rattle.added_crossings.proofs.Members.{All-contained, are-those, those-are}
 use Rattle.tangle_maps.specs.declared.pairing.TheConstants.{POINTS}
-use Rattle.tangle_maps.proofs.SizeLemmas.{class-size, least_points-size}
+use Rattle.tangle_maps.proofs.SizeLemmas.{class-sizes, least_points-sizes}
 use Rattle.crossing_maps.specs.AddedSeams.{ArePairs, joins_there, places_there}
 use Rattle.crossing_maps.specs.Counts.{Places, on, surface_at}
 use Rattle.crossing_maps.specs.Sites.{IsPlace}
+use Rattle.crossing_maps.proofs.Loopless.{near-few}
 use Rattle.crossing_maps.proofs.Values.{factor_at, range-distinct, sets_at, value-chosen}
 
 -- lists of places
@@ -52,20 +53,25 @@ on-alike points f g at within alike =
     here : (xs : List ℕ) → AllByRecursion (λ x. Contains points x) xs → map f xs ≡ map g xs
     here xs all = map-on f g xs (λ x has. alike x (AllByRecursion-at (λ y. Contains points y) xs x all has))
 
--- the value of a surface, by classes of any greater size
-pub value-sized : (n : ℕ) (points : List ℕ) (joins : List (ℕ × ℕ)) (at : Places) (kept dots label other : ℕ) → n ≤ POINTS
-    → AreJoins n points joins → AreDistinct points → AreWithin points at → kept < 2 ^ length at.rims
+-- the value of a surface, by classes of another size, both above the points
+pub value-sized : (limit n : ℕ) (points : List ℕ) (joins : List (ℕ × ℕ)) (at : Places) (kept dots label other : ℕ) → limit ≤ n
+    → limit ≤ POINTS → AreJoins limit points joins → AreDistinct points → AreWithin points at → kept < 2 ^ length at.rims
     → value (surface_at n points joins at kept dots label other)
     ≡ product_over (factor_at (on (slice_index (classes_of POINTS joins)) at) dots label other) (least_points POINTS points joins)
     * count_by (nat_eq kept) (sets_at (least_points POINTS points joins) (on (slice_index (classes_of POINTS joins)) at) dots label other)
-value-sized n points joins at kept dots label other fits joined distinct within below =
-    let small = joins-below n points joins joined in
+value-sized limit n points joins at kept dots label other whole fits joined distinct within below =
+    let small = joins-below limit points joins joined in
+    let wide : AreJoins n points joins =
+    record {
+      below = AllByRecursion-weaker (λ x. x < limit) (λ x. x < n) points (λ x less. omega (arith, less, whole)) joined.below;
+      among = joined.among;
+    } in
     let names : least_points n points joins ≡ least_points POINTS points joins =
-    sym (least_points-size n POINTS points joins fits joined.below small) in
+    sym (least_points-sizes limit n POINTS points joins whole fits joined.below small) in
     let here : on (slice_index (classes_of n joins)) at ≡ on (slice_index (classes_of POINTS joins)) at =
     on-alike points (slice_index (classes_of n joins)) (slice_index (classes_of POINTS joins)) at within
-    (λ x has. sym (class-size n POINTS x joins fits small (AllByRecursion-at (λ y. y < n) points x joined.below has))) in
-    value-chosen n points joins at kept dots label other joined distinct within.rims below
+    (λ x has. sym (class-sizes limit n POINTS x joins whole fits small (AllByRecursion-at (λ y. y < limit) points x joined.below has))) in
+    value-chosen n points joins at kept dots label other wide distinct within.rims below
     ∙ ap₂ (λ (xs : List ℕ) (p : Places). product_over (factor_at p dots label other) xs * count_by (nat_eq kept) (sets_at xs p dots label other))
     names here
 
@@ -77,11 +83,6 @@ count_of code = arc_count code.crossings + code.loops
 pub near-distinct : (code : Code) (k : ℕ) → AreDistinct (near (step_at code k))
 near-distinct code k =
     distinct-filter (is_near (step_at code k)) (range_with_len 1 (count_of code)) (range-distinct 1 (count_of code))
-
-pub near-below : (code : Code) (k : ℕ) → AllByRecursion (λ x. x < count_of code + 1) (near (step_at code k))
-near-below code k =
-    All-contained (λ x. x < count_of code + 1) (near (step_at code k))
-    (λ x has. omega (arith, (those-are (count_of code) (is_near (step_at code k)) x has).below))
 
 pub opened-near : (code : Code) (k x : ℕ) → Contains (points_at code k).opened x → Contains (near (step_at code k)) x
 opened-near code k x has =
@@ -101,9 +102,9 @@ next-near code k x place has =
     second false b is = absurd (both_ways false refl is)
 
 pub joins-there : (code : Code) (k first second : ℕ) (m n : List (ℕ × ℕ)) → ArePairs code k m n
-    → AreJoins (count_of code + 1) (near (step_at code k)) (joins_there code k first second m n)
+    → AreJoins (arc_count code.crossings + 1) (near (step_at code k)) (joins_there code k first second m n)
 joins-there code k first second m n are = record {
-  below = near-below code k;
+  below = All-contained (λ x. x < arc_count code.crossings + 1) (near (step_at code k)) (λ x has. near-few code k x are.place.twice has);
   among = AreAmong-append (near (step_at code k)) (m ++ smoothing_at code k first) (n ++ smoothing_at code k second)
       (joins-near code k first m are.place.twice are.place.crossing are.first)
       (joins-near code k second n are.place.twice are.place.crossing are.second);

@@ -1,7 +1,7 @@
 -- The arcs that have a partner behind a crossing are those that are open there.
 use Rattle.std.proofs.Common.{◌≡◌, ◌≢◌, ℕ, inl, inr, ◌+◌, ◌-◌, ◌<◌, ◌≤◌, ◌∙◌, List, [], ◌∷◌, ◌++◌, refl, sym, subst, ap, ap₂, arith, Bool, true, false, cond, not}
 use Rattle.std.specs.Prelude.{nat_eq, slice_index}
-use Rattle.std.specs.List.{filter, range_with_len, AllByRecursion, Contains}
+use Rattle.std.specs.List.{filter, range_with_len, Contains}
 use Rattle.std.proofs.lemmas.Bool.{cases_Bool, both_ways, eq-eqb, eqb-true, false_from_ne_true}
 use Rattle.std.proofs.lemmas.Bool.Decides.{nat_tests}
 use Rattle.std.proofs.lemmas.List.Elements.{filter-append}
@@ -24,6 +24,7 @@ use Rattle.tangle_maps.specs.declared.pairing.TheConstants.{POINTS}
 use Rattle.tangle_maps.specs.Pairings.{IsOpened, is_paired, paired_arcs}
 use Rattle.crossing_maps.specs.Sites.{IsPlace, IsSite}
 use Rattle.crossing_maps.proofs.AllArcs.{pairs-serve}
+use Rattle.crossing_maps.proofs.Loopless.{append-none, filter-none, open-are}
 use Rattle.crossing_maps.proofs.PairedUp.{ended, made-own, made_of, stays}
 
 -- a point that is not among some points is no end of pairs of these
@@ -36,10 +37,6 @@ unpaired points (pair ∷ pairs) x among not =
   where
     other : (y : ℕ) → Contains points y → nat_eq y x ≡ false
     other y has = false_from_ne_true (nat_eq y x) (λ same. not (subst (λ z. Contains points z) (eqb-true y x same) has))
-
-filter-none : (p : ℕ → Bool) (xs : List ℕ) → AllByRecursion (λ x. p x ≡ false) xs → filter p xs ≡ []
-filter-none p [] all = refl
-filter-none p (x ∷ xs) all = ap₂ (λ (b : Bool) (ys : List ℕ). cond b (x ∷ ys) ys) all.0 (filter-none p xs all.1)
 
 pub filter-within : (p q : ℕ → Bool) (count n : ℕ) → count + 1 ≤ n → p 0 ≡ false
     → ((x : ℕ) → 1 ≤ x → x < 1 + count → p x ≡ q x) → ((x : ℕ) → count < x → x < n → p x ≡ false)
@@ -63,10 +60,6 @@ filter-within p q count n within none alike later =
     ∙ ap (λ xs. filter p (range_with_len 1 count) ++ xs) back
     ∙ append-none (filter p (range_with_len 1 count))
     ∙ filter-range_agree p q 1 count alike
-  where
-    append-none : (xs : List ℕ) → xs ++ [] ≡ xs
-    append-none [] = refl
-    append-none (x ∷ xs) = ap (λ (ys : List ℕ). x ∷ ys) (append-none xs)
 
 apart-true : (x y : ℕ) → x ≢ y → not (nat_eq x y) ≡ true
 apart-true x y apart = grind (arith, nat_tests)
@@ -124,12 +117,14 @@ pub split-arcs : (code : Code) (k smoothing : ℕ) (m : List (ℕ × ℕ)) (part
     → classes ≡ classes_of POINTS (m ++ smoothing_of smoothing slots) → partners ≡ made_of next classes → IsOpened next
     → next ≡ paired_arcs partners
 split-arcs code k smoothing m partners classes opened around next slots place site paired are made small =
-    let count = arc_count code.crossings + code.loops in
+    let count = arc_count code.crossings in
+    let is : next ≡ those count (is_open code (k + 1)) = site.behind ∙ open-are code (k + 1) place.twice in
     let same : pairs_among (points_at code (k + 1)).opened classes ≡ pairing_behind code k smoothing m =
     ap (pairs_among (points_at code (k + 1)).opened) (are ∙ ap (λ s. classes_of POINTS (m ++ smoothing_of smoothing s)) site.crossing)
     ∙ pairs-serve code k smoothing m place paired.among in
     let behind = IsPaired-behind code k smoothing m place.twice place.crossing paired in
-    site.behind
-    ∙ sym (arcs-made count (is_open code (k + 1)) classes place.fits (subst (λ xs. IsOpened xs) site.behind small)
-    (subst (λ pairs. IsPaired (points_at code (k + 1)).opened pairs) (sym same) behind))
-    ∙ ap paired_arcs (ap (λ xs. made_of xs classes) (sym site.behind) ∙ sym made)
+    is
+    ∙ sym (arcs-made count (is_open code (k + 1)) classes place.fits (subst (λ xs. IsOpened xs) is small)
+    (subst (λ xs. IsPaired xs (pairs_among xs classes)) (open-are code (k + 1) place.twice)
+    (subst (λ pairs. IsPaired (points_at code (k + 1)).opened pairs) (sym same) behind)))
+    ∙ ap paired_arcs (ap (λ xs. made_of xs classes) (sym is) ∙ sym made)

@@ -8,11 +8,11 @@ use Rattle.added_crossings.specs.Steps.{is_none_in, near}
 use Rattle.added_crossings.specs.Codes.{points_at, step_at}
 use Rattle.tangle_maps.specs.declared.pairing.TheConstants.{POINTS}
 
--- a code each of whose arcs has two ends, and which a program can number; and a crossing of it
+-- a code each of whose arcs has two ends, and which a program can number; and a crossing of it. Loops need no number: no pairing meets one
 pub record IsPlace (code : Code) (k : ℕ) : Type 0 where
   pub twice : HasArcsTwice code.crossings
   pub crossing : k < length code.crossings
-  pub fits : arc_count code.crossings + code.loops + 1 ≤ POINTS
+  pub fits : arc_count code.crossings + 1 ≤ POINTS
 
 -- the arcs and the slots of the crossing behind the first k
 pub record IsSite (code : Code) (k : ℕ) (opened around next slots : List ℕ) : Type 0 where

@@ -1,19 +1,24 @@
 //! The pairing behind a crossing, its closed circles and the surface that it adds, in classes of all
 //! arcs that a program can number.
 
-ghost use Rattle.std.specs.Prelude.{◌≡◌, ℕ, ◌+◌, List, [], ◌++◌, slice_index_or};
+ghost use Rattle.std.specs.Prelude.{◌≡◌, ℕ, ◌+◌, ◌≤◌, List, [], ◌++◌, length, slice_index_or};
 ghost use Rattle.kh_types.specs.Classes.{classes_of};
 ghost use Rattle.kh_types.specs.Code.{Code};
 ghost use Rattle.dotted_surfaces.specs.Points.{AreAmong};
+ghost use Rattle.added_crossings.specs.Pairings.{IsPaired};
 ghost use Rattle.added_crossings.specs.Steps.{near, pairs_among};
 ghost use Rattle.added_crossings.specs.Codes.{closed_at, pairing_behind, points_at, smoothing_at, step_at};
 ghost use Rattle.tangle_maps.specs.declared.pairing.TheConstants.{POINTS};
+ghost use Rattle.tangle_maps.specs.Pairings.{ArePartners, joins_of, paired_arcs};
 ghost use Rattle.tangle_maps.specs.Seams.{CanCompose};
 ghost use Rattle.tangle_maps.specs.declared.seam.Seam.{Seam};
 ghost use Rattle.crossing_maps.specs.AddedSeams.{ArePairs, IsSeamAt};
 ghost use Rattle.crossing_maps.specs.ListedPlaces.{IsArcs};
 ghost use Rattle.crossing_maps.specs.Partners.{HasArcsBelow};
+ghost use Rattle.crossing_maps.specs.Sides.{CanAdd, IsSideAt, IsSiteAt};
 ghost use Rattle.crossing_maps.specs.Sites.{IsPlace, closed_in};
+ghost use Rattle.crossing_maps.specs.declared.between.Side.{Side};
+ghost use Rattle.crossing_maps.specs.declared.splitting.Site.{Site};
 
 /// What classes of all arcs that a program can number make of a pairing and a smoothing is the
 /// pairing behind the crossing, and its closed circles.
@@ -41,9 +46,28 @@ pub fn places_have_arcs()
         → IsArcs POINTS (closed_at code k smoothing m) }
 {}
 
+/// At a place of a code a crossing can be added between what smoothings of it make of two pairings.
+pub fn crossings_can_be_added()
+    ensures { (code : Code) (k : ℕ) (site : Site) (from to : Side) → IsPlace code k
+        → IsSiteAt code k site → IsSideAt code k site from → IsSideAt code k site to
+        → CanAdd site from to }
+{}
+
 /// The seam of a surface that a crossing adds can be composed over.
 pub fn seams_can_compose()
     ensures { (code : Code) (k first second : ℕ) (m n : List (ℕ × ℕ)) (discs lowers : List ℕ)
         (label other : ℕ) (seam : Seam) → ArePairs code k m n
         → IsSeamAt code k first second m n discs lowers label other seam → CanCompose seam }
+{}
+
+/// A crossing closes at most two circles.
+pub fn crossings_close_few_circles()
+    ensures { (code : Code) (k smoothing : ℕ) (m : List (ℕ × ℕ)) → IsPlace code k
+        → AreAmong (points_at code k).opened m → length (closed_at code k smoothing m) ≤ 2 }
+{}
+
+/// Partners are a pairing of the arcs that have another arc for a partner.
+pub fn partners_are_paired()
+    ensures { (partners opened : List ℕ) → opened ≡ paired_arcs partners → ArePartners partners
+        → IsPaired opened (joins_of partners opened) }
 {}

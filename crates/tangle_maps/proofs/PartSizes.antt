@@ -125,3 +125,10 @@ composed-size n k opened m c o dots others kept within placed pairing first seco
     (discs-agree n k opened (m ++ (o ++ c)) within placed.alive
     (AreAmong-append opened m (o ++ c) first (AreAmong-append opened o c third second)))
     ∙ sym (composed-parts (numbered n opened) m c o dots others kept placed pairing first second third)
+
+pub composed-sizes : (l n k : ℕ) (opened : List ℕ) (m c o : List (ℕ × ℕ)) (dots others kept : ℕ) → l ≤ n → l ≤ k
+    → ArePlaced (numbered l opened) → IsPairing (numbered l opened) m → AreAmong opened m → AreAmong opened c → AreAmong opened o
+    → composed (numbered k opened) m c o dots others kept ≡ composed (numbered n opened) m c o dots others kept
+composed-sizes l n k opened m c o dots others kept first_within second_within placed pairing first second third =
+    composed-size l k opened m c o dots others kept second_within placed pairing first second third
+    ∙ sym (composed-size l n opened m c o dots others kept first_within placed pairing first second third)

@@ -61,3 +61,14 @@ pub least_points-size : (n k : ℕ) (points : List ℕ) (joins : List (ℕ × �
 least_points-size n k points joins within small below =
     filter-on (is_least (classes_of k joins)) (is_least (classes_of n joins)) points
     (tests-alike n k joins points within below small)
+
+-- two sizes, both above the points
+
+pub class-sizes : (m n k x : ℕ) (pairs : List (ℕ × ℕ)) → m ≤ n → m ≤ k → AreBelow m pairs → x < m
+    → slice_index (classes_of k pairs) x ≡ slice_index (classes_of n pairs) x
+class-sizes m n k x pairs first second below small = class-size m k x pairs second below small ∙ sym (class-size m n x pairs first below small)
+
+pub least_points-sizes : (m n k : ℕ) (points : List ℕ) (joins : List (ℕ × ℕ)) → m ≤ n → m ≤ k → AllByRecursion (λ x. x < m) points
+    → AreBelow m joins → least_points k points joins ≡ least_points n points joins
+least_points-sizes m n k points joins first second small below =
+    least_points-size m k points joins second small below ∙ sym (least_points-size m n points joins first small below)

@@ -68,3 +68,18 @@ pub fn sizes_do_not_matter()
         → composed (numbered k opened) m c o dots others kept
         ≡ composed (numbered n opened) m c o dots others kept }
 {}
+
+/// Nor do they where two sizes are both above the arcs, whichever of them is the greater: so loops,
+/// which have numbers above those of arcs, do not matter.
+pub fn sizes_above_arcs_do_not_matter()
+    ensures class { (l n k x : ℕ) (joins : List (ℕ × ℕ)) → l ≤ n → l ≤ k → AreBelow l joins → x < l
+        → slice_index (classes_of k joins) x ≡ slice_index (classes_of n joins) x }
+    ensures least { (l n k : ℕ) (points : List ℕ) (joins : List (ℕ × ℕ)) → l ≤ n → l ≤ k
+        → AllByRecursion (λ x. x < l) points → AreBelow l joins
+        → least_points k points joins ≡ least_points n points joins }
+    ensures composed { (l n k : ℕ) (opened : List ℕ) (m c o : List (ℕ × ℕ)) (dots others kept : ℕ)
+        → l ≤ n → l ≤ k → ArePlaced (numbered l opened) → IsPairing (numbered l opened) m
+        → AreAmong opened m → AreAmong opened c → AreAmong opened o
+        → composed (numbered k opened) m c o dots others kept
+        ≡ composed (numbered n opened) m c o dots others kept }
+{}

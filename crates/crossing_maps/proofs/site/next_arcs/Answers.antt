@@ -1,6 +1,6 @@
 use Rattle.std.proofs.Common.{arith}
 use Rattle.crossing_maps.specs.Sites.{is_next_by}
-use Rattle.crossing_maps.proofs.SiteArcs.{passed_all, passed_more, next-are}
+use Rattle.crossing_maps.proofs.SiteArcs.{passed_all, passed_more, next-made}
 use Rattle.crossing_maps.proofs.site.next_arcs.Goals as goal
 
 pub arcs-preserved : goal.arcs-preserved
@@ -12,6 +12,6 @@ arcs-preserved c = record {
 
 pub returns : goal.returns
 returns c = λ code k place before crossing.
-    next-are code k c.args.opened.now c.args.crossing.now c.arcs.made.items place before crossing
+    next-made code k c.args.opened.now c.args.crossing.now c.arcs.made.items place before crossing
     (passed_all (is_next_by c.args.opened.now c.args.crossing.now) c.arcs.arc c.arcs.made.items c.arcs.invariant.passed
     (omega (arith, c.arcs-test.false, c.arcs.auto.arc-end)))
