@@ -5,13 +5,18 @@
 from answers import Unreadable
 from arcs import in_order, leaving_darts, numbers_of
 from labels import arrows_of, around, beside, name_of, page_of, placed
-from page import number_text
+from page import colour_class, number_text, path_of, picture, text_at
 from planar import components_of, first_passes, plane_of
-from shape import point_at, scaled
+from shape import point_at, scaled, shape_of
+from strands import BROAD, strands_of
 
 # The lengths of a shape in pixels, the least first: the next is taken where there is no room for a number.
 SCALES = (20, 23, 26, 30, 35, 40, 46, 53, 61, 70)
-DOT = 8
+MARGIN, DOT = 26, 8
+RULES = (
+    f".strand{{fill:none;stroke:currentColor;stroke-width:{BROAD};stroke-linecap:round;stroke-linejoin:round}}"
+    ".arrow,.dot{fill:currentColor;stroke-linejoin:round}text{font-size:14px;text-anchor:middle}.crossing{font-weight:bold}"
+)
 
 
 class Diagram:
@@ -98,7 +103,48 @@ def labels_of(diagram, shape, mark, with_numbers):
     raise Unreadable("there is no room for the numbers of this diagram")
 
 
-def arrow_path(corners, more=""):
-    """The path of an arrow."""
-    points = "L".join(f"{number_text(x)} {number_text(y)}" for x, y in corners)
-    return f'<path{more} d="M{points}Z"/>'
+class Lines:
+    """The lines of a picture: strands, arrows, numbers; components have colours of their own or none."""
+
+    def __init__(self, diagram, labels, colours):
+        self.labels, self.colours = labels, colours
+        self.parts = strands_of(diagram.plane, labels.shape, diagram.components)
+
+    def colour(self, component, other="ink"):
+        return colour_class(component) if self.colours else other
+
+    def strands(self):
+        return [path_of(curve, f' class="strand {self.colour(number)}"', is_closed) for curve, number, is_closed in self.parts]
+
+    def arrows(self):
+        lines = []
+        for corners, number in self.labels.arrows:
+            points = "L".join(f"{number_text(x)} {number_text(y)}" for x, y in corners)
+            lines.append(f'<path class="arrow {self.colour(number)}" d="M{points}Z"/>')
+        return lines
+
+    def numbers(self):
+        lines = []
+        for text, box, number in self.labels.texts:
+            kind = "crossing faint" if number is None else f"arc {self.colour(number, 'accent')}"
+            lines.append(text_at(box.x, box.y, text, f' class="{kind}"'))
+        return lines
+
+    def edges(self):
+        """Points that are on the page."""
+        boxes = [box for _, box, _ in self.labels.texts]
+        corners = [(x, y) for box in boxes for x, y in ((box.left, box.top), (box.right, box.bottom))]
+        return [edge for strand in self.parts for edge in strand.curve] + corners
+
+
+def svg_of(slices, crossings=None, with_numbers=False, mark=None, colours=False):
+    """The picture of a drawing, with arrows where there is a code or directions are known without it."""
+    diagram = Diagram(slices, crossings)
+    labels = labels_of(diagram, shape_of(diagram.plane, slices), mark, with_numbers)
+    parts = Lines(diagram, labels, colours)
+    dot = []
+    if labels.dot:
+        dot = [f'<circle class="dot accent" cx="{number_text(labels.dot[0])}" cy="{number_text(labels.dot[1])}" r="{DOT}"/>']
+    marked = None if mark is None else f"{'loop' if isinstance(labels.marked, int) else 'arc'} {mark}"
+    lines = [*parts.strands(), *parts.arrows(), *dot, *parts.numbers()]
+    return picture(parts.edges(), MARGIN, diagram.title(), diagram.description(marked), RULES, lines)
