@@ -38,7 +38,7 @@ def digest(text):
 
 def policy():
     """What a page may do: run its own script, look as its own style says, and nothing with any other place."""
-    return f"default-src 'none'; style-src 'unsafe-inline'; script-src '{digest(script())}'"
+    return f"default-src 'none'; style-src 'unsafe-inline'; script-src '{digest(script())}'; img-src 'self' data:"
 
 
 def script():
@@ -205,6 +205,7 @@ def section(name, title, inside):
 
 
 CHOSEN = (
+    '<figure id="preview" class="screen" hidden><img alt=""><figcaption class="note"></figcaption></figure>'
     '<section id="chosen" aria-live="polite" aria-label="what is chosen"><div id="told"><p>Choose a crossing of the drawing, a cell of the '
     "table or a state of the cube.</p></div></section>"
 )
@@ -242,7 +243,7 @@ def page_of(sheet, before="", between="", head="", first=""):
 def whole(title, meta, lines):
     """A file of HTML with this in its body."""
     return "\n".join([
-        "<!DOCTYPE html>", '<html lang="en">', "<head>", '<meta charset="utf-8">', meta,
+        "<!DOCTYPE html>", '<html lang="en">', "<head>", '<meta charset="utf-8">', meta, '<link rel="icon" href="data:,">',
         '<meta name="viewport" content="width=device-width, initial-scale=1">', '<meta name="color-scheme" content="light dark">',
         f"<title>{escape(title)}</title>", f"<style>{style()}</style>", "</head>", "<body>", *lines,
         f"<footer>{FOOTER}</footer>", f"<script>{script()}</script>", "</body>", "</html>",

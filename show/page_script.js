@@ -174,9 +174,12 @@
     find("#chosen").append(button);
   }
 
+  let waiting;
+
   // Marks the arcs and crossings of a move on the drawing, and shows what the move would make, where a server answers.
   function mark(move) {
     marks.replaceChildren();
+    clearTimeout(waiting);
     if (!move) return;
     const { arcs = "", crossings = "", preview } = move.dataset;
     arcs.split(" ").filter(Boolean).forEach((arc) => element("use", marks, { href: `#arc-${arc}`, class: "mark" }));
@@ -184,12 +187,15 @@
       const circle = find(`.target[href="#crossing-${crossing}"] circle`);
       element("circle", marks, { class: "mark thin", cx: circle.getAttribute("cx"), cy: circle.getAttribute("cy"), r: 17 });
     });
+    if (preview) waiting = setTimeout(() => showPreview(move), 250);
+  }
+
+  function showPreview(move) {
     const image = find("#preview");
-    if (image && preview) {
-      image.hidden = false;
-      find("img", image).src = preview;
-      find("figcaption", image).textContent = `behind ${move.dataset.told}`;
-    }
+    image.hidden = false;
+    find("img", image).src = move.dataset.preview;
+    find("img", image).alt = "the diagram behind the move";
+    find("figcaption", image).textContent = `What it makes: ${move.getAttribute("aria-label")}`;
   }
 
   document.addEventListener("click", (event) => {
