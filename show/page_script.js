@@ -215,6 +215,7 @@
   });
   window.addEventListener("popstate", () => show(chosen()));
   window.addEventListener("hashchange", () => show(chosen()));
+  all(".state-name").forEach((name) => (name.outerHTML = stateLink(name.textContent)));
   makeChoices();
   makeSmall();
   show(chosen());

@@ -1,5 +1,5 @@
 """What a page says in words: polynomials, degrees, states, crossings and cells, as HTML."""
-from html import escape
+from generators import MOST_LISTED
 
 MINUS = "\u2212"
 
@@ -73,8 +73,9 @@ def counts_told(counts):
     return f"{listed(parts)}"
 
 
-def state_link(state):
-    return f'<a href="#state-{state.text()}">{state.name()}</a>'
+def state_link(state, is_listed=True):
+    """A link to a state; where states are not listed the script makes it one."""
+    return f'<a href="#state-{state.text()}">{state.name()}</a>' if is_listed else f'<span class="state-name">{state.name()}</span>'
 
 
 def generators_told(states):
@@ -83,7 +84,8 @@ def generators_told(states):
     if not states:
         return "No generator stands here."
     if len(states) <= 20:
-        parts = [f"{state_link(state)} ({count}, {minus_told(state, minuses)})" for state, count, minuses in states]
+        is_listed = len(states[0][0].bits) <= MOST_LISTED
+        parts = [f"{state_link(state, is_listed)} ({count}, {minus_told(state, minuses)})" for state, count, minuses in states]
         return f"{counted(total, 'generator')}, in {counted(len(states), 'state')}: {', '.join(parts)}."
     return f"{counted(total, 'generator')}, in {len(states)} states with {counted(sum(states[0][0].bits), 'one')}."
 
@@ -91,7 +93,3 @@ def generators_told(states):
 def minus_told(state, minuses):
     """Which labels the circles of a state have."""
     return f"{len(state.circles) - minuses} v+, {minuses} v-".replace("v-", f"v{MINUS}")
-
-
-def caption_of(code):
-    return f"<code>{escape(code)}</code>"
