@@ -122,7 +122,7 @@
     return Boolean(isShown);
   }
 
-  const chosen = () => decodeURIComponent(location.hash.slice(1));
+  const chosen = () => location.hash.slice(1);
   function go(name) {
     if (show(name)) history.pushState(null, "", `#${name}`);
   }

@@ -9,6 +9,7 @@ import select
 import shutil
 import signal
 import subprocess
+import sys
 import tempfile
 import time
 
@@ -18,6 +19,11 @@ SWITCHES = (
     "--headless=new", "--remote-debugging-pipe", "--no-first-run", "--no-sandbox", "--disable-gpu", "--disable-dev-shm-usage",
     "--disable-background-networking", "--disable-component-update", "--disable-sync", "--no-default-browser-check", "--hide-scrollbars",
     "--force-color-profile=srgb", "--lang=en",
+)
+# (the browser reads from the file 3 and writes to the file 4)
+BEGIN = (
+    "import fcntl, os, sys; files = [fcntl.fcntl(int(it), fcntl.F_DUPFD, 10) for it in sys.argv[1:3]]; "
+    "os.dup2(files[0], 3), os.dup2(files[1], 4); os.execv(sys.argv[3], sys.argv[3:])"
 )
 KEYS = {"Tab": 9, "Enter": 13, "Escape": 27}
 
@@ -38,7 +44,7 @@ class Browser:
         self.folder = tempfile.TemporaryDirectory(ignore_cleanup_errors=True)
         theirs, self.writing = os.pipe()
         self.reading, their_own = os.pipe()
-        words = ["sh", "-c", 'exec "$@" 3<&%d 4>&%d' % (theirs, their_own), "sh", path(), *SWITCHES, f"--user-data-dir={self.folder.name}"]
+        words = [sys.executable, "-c", BEGIN, str(theirs), str(their_own), path(), *SWITCHES, f"--user-data-dir={self.folder.name}"]
         settings = dict(os.environ, HOME=self.folder.name)
         nothing = subprocess.DEVNULL
         self.process = subprocess.Popen(
@@ -102,6 +108,9 @@ class Browser:
             self.events.append(self.message(until))
 
     def load(self, address):
+        """Loads a page, anew also where another place of it was shown."""
+        if "#" in address:
+            self.load("about:blank")
         self.loaded(lambda: self.call("Page.navigate", url=address))
 
     def faults(self):
