@@ -22,6 +22,8 @@ COMMANDS = {CHECK, CONVERT, GAUSS, DRAW, JONES, EDIT, MIRROR, REVERSE, *HOMOLOGY
 ANSWERED, REFUSED, TOO_LARGE, MOVE_REFUSED = 0, 1, 6, 7
 # The most bytes that `kh` takes as a code.
 MOST_BYTES = 65_536
+# The processes that run.
+RUNNING = set()
 
 
 class Answer(NamedTuple):
@@ -47,18 +49,31 @@ def begun(words, file, given):
     return subprocess.Popen(words, stdin=file, stdout=subprocess.PIPE, stderr=subprocess.PIPE, start_new_session=True)
 
 
+def end(process):
+    """Ends a process, and what it has begun, which is of its session."""
+    with contextlib.suppress(ProcessLookupError):
+        os.killpg(process.pid, signal.SIGKILL)
+
+
+def end_all():
+    """Ends all that still runs."""
+    for process in list(RUNNING):
+        end(process)
+
+
 def ran(words, given, seconds):
     """What these words write, given a text, in so many seconds at most. (`./kh` shows the place of a fault where its input is a file.)"""
     with tempfile.TemporaryFile() as file, begun(words, file, given) as process:
+        RUNNING.add(process)
         try:
             wrote, said = process.communicate(timeout=seconds)
         except BaseException as stop:
-            # (what runs may have begun others, which are of its session)
-            with contextlib.suppress(ProcessLookupError):
-                os.killpg(process.pid, signal.SIGKILL)
+            end(process)
             if isinstance(stop, subprocess.TimeoutExpired):
                 raise Unreadable(f"it takes longer than {seconds} seconds") from stop
             raise
+        finally:
+            RUNNING.discard(process)
     return Answer(process.returncode, wrote.decode(errors="replace"), said.decode(errors="replace"))
 
 

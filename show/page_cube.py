@@ -14,7 +14,8 @@ def ports(edges, end):
     at = {}
     for edge, (tail, head) in edges.items():
         at.setdefault((tail, head)[end], []).append(((tail, head)[1 - end], edge))
-    return {edge: (place + 1) / (len(them) + 1) for them in at.values() for place, (_, edge) in enumerate(sorted(them, key=lambda it: it[0]))}
+    orders = [sorted(them, key=lambda it: it[0]) for them in at.values()]
+    return {edge: (place + 1) / (len(order) + 1) for order in orders for place, (_, edge) in enumerate(order)}
 
 
 class Cube:

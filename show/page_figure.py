@@ -13,6 +13,8 @@ from strands import SHARPNESS, arms_of
 
 # The radius of what is clicked at a crossing, and how far a small picture of one reaches.
 HIT, VIEW = 17, 34
+# How many times as large as its lengths a drawing is shown at most.
+LARGEST = 2
 SIGNS = {1: "positive", -1: "negative"}
 
 
@@ -100,7 +102,8 @@ def target(figure, crossing):
 def drawing_of(figure, listed):
     """The drawing, with places to click, and the circles of those states that are listed, which are shown where one is chosen."""
     edges, diagram = figure.edges(), figure.diagram
-    size = f'width="{number_text(edges[2])}" height="{number_text(edges[3])}" viewBox="{box_text(edges)}"'
+    # (a small drawing is made larger, but not by much)
+    size = f'viewBox="{box_text(edges)}" style="max-width:min(26rem,{number_text(LARGEST * edges[2])}px)"'
     overlays = [f'<g class="overlay" id="state-{state.text()}">{figure.circles(state)}</g>' for state in listed]
     return "\n".join([
         f'<svg id="drawing" class="figure" {size} role="group" aria-labelledby="drawing-title" aria-describedby="drawing-told">',

@@ -27,7 +27,8 @@ def file_text(name):
 def style():
     """The style, with the colours of the classes on a light screen and on paper, and those on a dark screen."""
     light, dark = ("".join(f"--{name}:{pair[at]};" for name, pair in CLASSES.items()) for at in (0, 1))
-    classes = "".join(f".{name}{{color:var(--{name})}}" for name in [*(f"colour{at}" for at in range(len(COLOURS))), "ink", "faint", "accent"])
+    names = [*(f"colour{at}" for at in range(len(COLOURS))), "ink", "faint", "accent"]
+    classes = "".join(f".{name}{{color:var(--{name})}}" for name in names)
     return f":root{{{light}}}@media screen and (prefers-color-scheme:dark){{:root{{{dark}}}}}{classes}\n{file_text('page_style.css')}"
 
 

@@ -110,8 +110,8 @@ def bigons(sides):
 def slides(sides):
     for numbers, arcs in corners(sides, 3):
         one, other, third = numbers
-        told = f"{one}, {other} and {third}"
-        yield Move(f"r3 {one} {other} {third}", "slide", "the triangle at crossings", told, f"the triangle at crossings {told}", arcs, numbers)
+        told, row = f"{one}, {other} and {third}", "the triangle at crossings"
+        yield Move(f"r3 {one} {other} {third}", "slide", row, told, f"{row} {told}", arcs, numbers)
 
 
 def fingers(sides):

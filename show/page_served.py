@@ -93,7 +93,8 @@ def moves_section(session, step, action, fault):
         '<button name="word" value="reverse">turn all directions</button></form>'
     )
     form_of = f'<form class="screen" method="post" action="{action}/move"><p class="steps">{steps}</p>{lists(moves, action)}</form>'
-    note = f'<p class="note">{counted(len(moves), "move")}, each tried by <code>kh edit</code>. Point at one to see where it is and what it makes; press it to make it.</p>'
+    told_of = "each tried by <code>kh edit</code>. Point at one to see where it is and what it makes; press it to make it."
+    note = f'<p class="note">{counted(len(moves), "move")}, {told_of}</p>'
     script = script_told(step) if step.lines else ""
     return section("moves", "Moves", f"{told}{changed}{note}{form_of}{script}{turns}")
 

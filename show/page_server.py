@@ -129,7 +129,8 @@ class Handler(http.server.BaseHTTPRequestHandler):
         if what == "":
             return self.send(200, HTML, page_served.step_page(session, base, number, self.head()))
         if what == "/page.html":
-            return self.send(200, HTML, page_served.saved_page(session, number), {"Content-Disposition": 'attachment; filename="link.html"'})
+            more = {"Content-Disposition": 'attachment; filename="link.html"'}
+            return self.send(200, HTML, page_served.saved_page(session, number), more)
         moves = session.moves_of(session.steps[number].code) if move else []
         if not move or int(move) >= len(moves):
             raise Refused(404, "there is nothing here")

@@ -14,7 +14,7 @@ import tempfile
 import plain.cube
 import plain.diagrams
 import plain.moves
-from companions.show import named_circles
+from companions.show import help_fault, named_circles
 from shared import documents, known_diagrams
 from shared.places import TOP
 from shared.running import PATIENCE
@@ -161,8 +161,8 @@ def states_fault(root, code):
 
 def edges_fault(root, code):
     """The cube has its edges, each merging or splitting as the plain reading has it."""
-    found = {(it.attributes["data-tail"], it.attributes["data-head"]): it.attributes["class"].split()[1] for it in root.all("path", class_="edge")
-             if "data-tail" in it.attributes}
+    edges = [it.attributes for it in root.all("path", class_="edge") if "data-tail" in it.attributes]
+    found = {(it["data-tail"], it["data-head"]): it["class"].split()[1] for it in edges}
     wanted = {}
     for state in itertools.product((0, 1), repeat=len(code.crossings)):
         for at in (at for at, bit in enumerate(state) if not bit):
@@ -290,6 +290,31 @@ def slow_fault():
     return "what it began is still there"
 
 
+SCAN = """\
+#!/bin/sh
+echo "$*" >> "$0.words"
+printf 'table 2\\nfield %s\\nj 0 i 0 dim 1\\njones 1*q^0\\n' "$3"
+"""
+
+
+def scan_fault(program):
+    """Beyond the limit the tables are those of `kh-scan`, where there is one, asked with the same words."""
+    kh, before = asking.Kh(program), asking.KH_SCAN
+    with open(os.path.join(TOP, "examples", "braid-20.pd"), encoding="utf-8") as file, tempfile.TemporaryDirectory() as folder:
+        code, asking.KH_SCAN = file.read(), os.path.join(folder, "kh-scan")
+        try:
+            without = sheets.tables_of(kh, code)
+            with open(asking.KH_SCAN, "w", encoding="utf-8") as made_of:
+                made_of.write(SCAN)
+            os.chmod(asking.KH_SCAN, 0o755)
+            tables, limit = sheets.tables_of(kh, code)
+            words = open(asking.KH_SCAN + ".words", encoding="utf-8").read().splitlines()
+        finally:
+            asking.KH_SCAN = before
+    right = without == ([], "limit generators 35161506 of 4194304") and ([it.field for it in tables], limit) == (list(FIELDS), "")
+    return None if right and words == [f"homology --field {field}" for field in FIELDS] else f"{without}, {tables}, {limit}, {words}"
+
+
 def stored_fault(program):
     """The pages of `docs/pages` are what their script makes."""
     words = [os.path.join(TOP, "show", "pages"), "--test", "--kh", program]
@@ -310,4 +335,6 @@ def faults(program):
         yield f"moves of {name}", moves_fault(program, code)
     yield "no other words", words_fault(program)
     yield "a run that takes long", slow_fault()
+    yield "tables beyond the limit", scan_fault(program)
     yield "docs/pages", stored_fault(program)
+    yield "kh-page --help", help_fault("kh-page")

@@ -1,10 +1,11 @@
 """Tries pages in a browser: those of `docs/pages` as files, and those that `kh-page` serves.
 
-Debian's `chromium` is driven without a window. Where it is not installed these tests are left out, and that is told; with KH_BROWSER=install
-in the environment it is first installed by apt-get. `tests/program` runs these behind its rows.
+Debian's `chromium` is driven without a window. Where it is not installed these tests are left out, and that is told; with
+KH_BROWSER=install in the environment it is first installed by apt-get. `tests/program` runs these behind its rows.
 """
 import json
 import os
+import re
 import subprocess
 
 from rows.texts import TREFOIL
@@ -16,7 +17,8 @@ from shared.serving import Serving
 LINKS = ("trefoil", "figure-eight", "hopf", "whitehead", "8_19")
 # Sizes of screens: a phone, a tablet, a laptop.
 SIZES = ((360, 740), (820, 1180), (1300, 900))
-# What stands on a page, as its elements with their names and texts, without the places that change.
+# What a mouse does to an element; what stands on a page, as its elements with their names and texts, without the places that change.
+HAPPENS = "document.querySelector('%s').dispatchEvent(new MouseEvent('%s', {bubbles: true, cancelable: true}))"
 OUTLINE = """(() => {
   const told = (it) => [it.tagName, it.id, it.getAttribute('class') || '', it.getAttribute('aria-label') || '',
     it.children.length ? '' : it.textContent.trim()].join('|');
@@ -42,7 +44,7 @@ def outline_fault(tab, name):
     tab.load(address(name))
     before = tab.value(OUTLINE)
     for link in tab.value("Array.from(document.querySelectorAll('.state, .target, .grid a')).map((it) => it.getAttribute('href'))"):
-        tab.value(f"document.querySelector('a[href=\"{link}\"]').dispatchEvent(new MouseEvent('click', {{bubbles: true, cancelable: true}}))")
+        tab.value(HAPPENS % (f'a[href=\"{link}\"]', "click"))
         if tab.value("location.hash") != link:
             return f"{link} is not chosen: {tab.value('location.hash')}"
     tab.press("Escape")
@@ -110,7 +112,7 @@ def keyboard_fault(tab):
     reached = []
     for _ in range(200):
         tab.press("Tab")
-        at = tab.value("[document.activeElement.tagName, document.activeElement.getAttribute('href') || document.activeElement.textContent]")
+        at = tab.value("(() => {const it = document.activeElement; return [it.tagName, it.getAttribute('href') || it.textContent]})()")
         if at[0] == "BODY" or at[0] == "HTML":
             break
         reached.append(at[1])
@@ -172,12 +174,13 @@ def served_faults(tab, program):
         press(tab, "#draw")
         yield "a code that is typed", None if "3 crossings" in tab.text("#diagram") and not tab.faults() else f"{tab.faults()}"
         tab.value("document.querySelectorAll('details').forEach((it) => (it.open = true))")
-        tab.value("document.querySelector('button[value=\"r2 add 1 left 3 left\"]').dispatchEvent(new MouseEvent('mouseover', {bubbles: true}))")
+        tab.value(HAPPENS % ('button[value=\"r2 add 1 left 3 left\"]', "mouseover"))
         marked = tab.value("Array.from(document.querySelectorAll('#marks use')).map((it) => it.getAttribute('href')).join()")
         yield "a move that is pointed at", None if marked == "#arc-1,#arc-3" else marked
         wide = tab.value(
-            "new Promise((done) => {const it = document.querySelector('#preview img'); it.addEventListener('load', () => done(it.naturalWidth));"
-            "it.addEventListener('error', () => done(0)); setTimeout(() => done(-1), 60000)})"
+            "new Promise((done) => {const it = document.querySelector('#preview img');"
+            "it.addEventListener('load', () => done(it.naturalWidth)); it.addEventListener('error', () => done(0));"
+            "setTimeout(() => done(-1), 60000)})"
         )
         yield "the picture of what it makes", None if wide > 100 else f"{wide}"
         press(tab, 'button[value="r2 add 1 left 3 left"]')
@@ -200,6 +203,40 @@ def served_faults(tab, program):
             right = said in found and tab.value("document.querySelector('#text').value") == text and not tab.text(".fault b")
             yield f"{text} is typed", None if right else json.dumps(found)
         yield "another site can not", foreign_fault(tab, serving)
+
+
+# The steps of the lessons: what is typed, what is pressed and leads to another page, what is clicked on the page.
+KINK, FINGER = 'button[value="r1 add 1 under plus"]', 'button[value="r2 add 1 left 3 left"]'
+LESSONS = [
+    ("type", "PD[X[1,4,2,5], X[3,6,4,1], X[5,2,6]]"), ("press", "#draw"), ("type", TREFOIL), ("press", "#draw"),
+    ("click", '.target[href="#crossing-1"]'), ("click", '.state[data-state="000"]'), ("click", "#choices button:nth-of-type(1)"),
+    ("click", '.grid a[href="#cell_-5_-2"]'), ("click", '.grid a[href="#cell_-7_-3"]'), ("press", 'button[value^="trefoil"]'),
+    ("press", KINK), ("click", '.state[data-state="0000"]'), ("press", 'button[value="undo"]'), ("press", 'button[value="redo"]'),
+    ("press", 'button[value="undo"]'), ("press", FINGER), ("type", "braid: 1 2 1"), ("press", "#draw"), ("press", 'button[value="r3 1 2 3"]'),
+    ("press", 'button[value="r1 drop 2"]'), ("press", 'button[value^="trefoil"]'), ("press", 'button[value="mirror"]'),
+    ("click", '.state[data-state="111"]'),
+]
+QUOTED = re.compile(r'"([^"\n]*(?:\n[^"\n]+)*)"')
+
+
+def lessons_fault(tab, program):
+    """The steps of `docs/TEACHING.md` can be done, and what it quotes is then on the page."""
+    seen = []
+    with open(os.path.join(TOP, "docs", "TEACHING.md"), encoding="utf-8") as file:
+        quotes = [" ".join(it.split()) for it in QUOTED.findall(file.read().partition("```")[0])]
+    with Serving(program) as serving:
+        tab.load(serving.address())
+        for kind, what in LESSONS:
+            if kind == "type":
+                tab.type("#text", what)
+            elif kind == "click":
+                tab.click(what)
+            else:
+                press(tab, what)
+            tab.value("document.querySelectorAll('details').forEach((it) => (it.open = true))")
+            seen.append(" ".join(tab.value("document.body.innerText").split()))
+    lacking = [quote for quote in quotes if not any(quote in it for it in seen)]
+    return f"on no page of the lessons: {lacking}" if lacking or len(quotes) < 30 else None
 
 
 def foreign_fault(tab, serving):
@@ -241,3 +278,4 @@ def faults(program):
         yield from size_faults(tab)
         yield from colour_faults(tab)
         yield from served_faults(tab, program)
+        yield "the lessons", lessons_fault(tab, program)

@@ -4,7 +4,10 @@ that are long, cut, slow or many.
 `tests/program` runs these behind its rows.
 """
 import contextlib
+import itertools
+import os
 import socket
+import tempfile
 import threading
 import time
 
@@ -29,7 +32,7 @@ TYPED = [
 # Texts that are no codes, and what is said, with a caret below the place where there is one.
 WRONG = [
     ("a letter that is none", "braid: 1 1 x", "a letter of a braid is a number\n  braid: 1 1 x\n             ^"),
-    ("a crossing of three arcs", "PD[X[1,4,2], X[3,6,4,1]]", "a crossing has four arcs, and this one has 3\n  PD[X[1,4,2], X[3,6,4,1]]\n     ^"),
+    ("a crossing of three arcs", "PD[X[1,4,2]]", "a crossing has four arcs, and this one has 3\n  PD[X[1,4,2]]\n     ^"),
     ("a virtual trefoil", "PD[X[3,1,4,2], X[4,2,1,3]]", "refused checkerboard at arc 2"),
     ("a name that is none", "8_77", "the reference has no link of this name"),
     ("nothing", "", "there is no code in this text"),
@@ -37,6 +40,7 @@ WRONG = [
     ("a tag", "<b>&amp;", "<b>&amp;"),
     ("words for a shell", "$(touch /tmp/x); `id` | true", "^"),
     ("too many crossings", "T(2,25)", "20"),
+    ("many brackets", "[" * 60_000, "its brackets are too deep"),
 ]
 # Lines that are no moves.
 NO_MOVES = ["r1 add 1 under plus; touch x", "homology", "r3 1 2 3\nr1 drop 1", "", "undo ", "r1 add 1111 under plus", "look 1 1", "--help"]
@@ -123,19 +127,23 @@ def heads_fault(serving):
     answer = serving.get(serving.step(TREFOIL))
     lacking = [name for name, value in HEADS.items() if value not in answer.heads.get(name, "")]
     policy = answer.heads["content-security-policy"]
-    return None if not lacking and "default-src 'none'" in policy and "access-control-allow-origin" not in answer.heads else f"{lacking}, {policy}"
+    is_closed = "default-src 'none'" in policy and "access-control-allow-origin" not in answer.heads
+    return None if not lacking and is_closed else f"{lacking}, {policy}"
 
 
-def strange_requests(serving):
-    """Requests that are not answered: what they are, their bytes, whether they are cut, and their status; 0 where none is sent."""
+LINE, FORM = b"line=r1+add+1+under+plus", "application/x-www-form-urlencoded"
+
+
+def posted(serving, step, length, body, kind=FORM, heads=(), path="move"):
+    """The bytes of a form for a step."""
+    heads = [("Content-Type", kind), ("Content-Length", length), *heads]
+    return serving.head("POST", f"/{serving.token}/{step}/{path}", heads) + body
+
+
+def strange_hosts(serving, step):
+    """Requests under another name, without the token, and from other pages: what they are, their bytes, whether they are cut, and their
+    status."""
     own, token = f"127.0.0.1:{serving.port}", serving.token
-    step = serving.step(TREFOIL)
-    form = "application/x-www-form-urlencoded"
-
-    def post(length, body, kind=form, heads=(), path=f"{step}/move"):
-        return serving.head("POST", f"/{token}/{path}", [("Content-Type", kind), ("Content-Length", length), *heads]) + body
-
-    line = b"line=r1+add+1+under+plus"
     yield "no host", f"GET /{token}/ HTTP/1.1\r\n\r\n".encode(), False, 403
     yield "another host", serving.head("GET", f"/{token}/", host="example.org"), False, 403
     yield "another host with this port", serving.head("GET", f"/{token}/", host=f"example.org:{serving.port}"), False, 403
@@ -152,25 +160,38 @@ def strange_requests(serving):
         ("another port", [("Origin", "http://127.0.0.1:1")]), ("another scheme", [("Origin", f"https://{own}")]),
         ("another site", [("Sec-Fetch-Site", "cross-site")]), ("a site beside it", [("Sec-Fetch-Site", "same-site")]),
     ):
-        yield f"a form of {name}", post(len(line), line, heads=heads), False, 403
+        yield f"a form of {name}", posted(serving, step, len(LINE), LINE, heads=heads), False, 403
         yield f"a request of {name}", serving.head("GET", f"/{token}/{step}", heads), False, 403
-    yield "a form without its length", serving.head("POST", f"/{token}/{step}/move", [("Content-Type", form)]) + line, False, 411
+
+
+def strange_forms(serving, step):
+    """Forms that are none, too long or cut, in the same way."""
+
+    def post(length, body, kind=FORM, heads=(), path="move"):
+        return posted(serving, step, length, body, kind, heads, path)
+
+    yield "no length", serving.head("POST", f"/{serving.token}/{step}/move", [("Content-Type", FORM)]) + LINE, False, 411
     yield "a form in pieces", post(5, b"", heads=[("Transfer-Encoding", "chunked")]) + b"5\r\nline=\r\n0\r\n\r\n", False, 411
-    yield "a length below 0", post(-1, line), False, 411
-    yield "a length in letters", post("x", line), False, 411
-    yield "two lengths", post(len(line), line, heads=[("Content-Length", "3")]), False, 411
+    yield "a length below 0", post(-1, LINE), False, 411
+    yield "a length in letters", post("x", LINE), False, 411
+    yield "two lengths", post(len(LINE), LINE, heads=[("Content-Length", "3")]), False, 411
     yield "a long form", post(10**8, b""), False, 413
-    yield "a form that is cut", post(len(line) + 10, line), True, 400
-    yield "a form in JSON", post(len(line), line, "application/json"), False, 415
-    yield "a form as plain text", post(len(line), line, "text/plain"), False, 415
+    yield "a form that is cut", post(len(LINE) + 10, LINE), True, 400
+    yield "a form in JSON", post(len(LINE), LINE, "application/json"), False, 415
+    yield "a form as plain text", post(len(LINE), LINE, "text/plain"), False, 415
     yield "a form of many fields", post(11, b"a&b&c&d&e&f"), False, 400
     yield "bytes for a form", post(4, b"\xff\xfe\x00\x01"), False, 400
+    yield "another word", post(len(LINE), LINE, path="bench"), False, 404
+
+
+def strange_requests(serving, step):
+    """Requests for what is not there, long ones and cut ones, in the same way; 0 where nothing is sent back."""
+    token = serving.token
     yield "a path upwards", serving.head("GET", f"/{token}/../../etc/passwd"), False, 404
     yield "a path upwards in codes", serving.head("GET", f"/{token}/%2e%2e/README.md"), False, 404
     yield "a file of the repository", serving.head("GET", f"/{token}/README.md"), False, 404
     yield "a step that is none", serving.head("GET", f"/{token}/99999"), False, 404
-    yield "a move of a step that is none", post(len(line), line, path="99999/move"), False, 404
-    yield "another word", post(len(line), line, path=f"{step}/bench"), False, 404
+    yield "a move of a step that is none", posted(serving, 99999, len(LINE), LINE), False, 404
     yield "another method", serving.head("DELETE", f"/{token}/{step}"), False, 501
     yield "a request for a tunnel", serving.head("CONNECT", "example.org:443"), False, 501
     yield "a long address", serving.head("GET", f"/{token}/" + "x" * 100_000), False, 414
@@ -183,7 +204,9 @@ def strange_requests(serving):
 
 def strange_faults(serving):
     """Each of these has its status, and the server goes on."""
-    for name, given, is_cut, wanted in strange_requests(serving):
+    step = serving.step(TREFOIL)
+    requests = itertools.chain(*(them(serving, step) for them in (strange_hosts, strange_forms, strange_requests)))
+    for name, given, is_cut, wanted in requests:
         answer = serving.sent(given, is_cut)
         # (a server that closes before all is sent may be heard or not)
         statuses = wanted if isinstance(wanted, tuple) else (wanted, 0) if len(given) > 50_000 else (wanted,)
@@ -257,6 +280,35 @@ def end_fault(program):
     return None if came == (0, "") else f"{came}"
 
 
+SLOW = """\
+#!/bin/sh
+case $1 in homology) echo $$ > "$0.pid"; exec sleep 600 ;; esac
+exec '%s' "$@"
+"""
+
+
+def end_at_work_fault(program):
+    """Control-C ends a run of `kh` too."""
+    with tempfile.TemporaryDirectory() as folder:
+        path = os.path.join(folder, "slow")
+        with open(path, "w", encoding="utf-8") as file:
+            file.write(SLOW % os.path.abspath(program))
+        os.chmod(path, 0o755)
+        with Serving(path) as serving:
+            asked = threading.Thread(target=serving.get, args=[serving.step(TREFOIL)], daemon=True)
+            asked.start()
+            while not (os.path.exists(path + ".pid") and os.path.getsize(path + ".pid")):
+                time.sleep(0.05)
+            came = serving.interrupted()
+        with open(path + ".pid", encoding="utf-8") as file:
+            place = f"/proc/{file.read().strip()}/stat"
+        for _ in range(200):
+            if not os.path.exists(place) or " Z " in open(place, encoding="utf-8").read():
+                return None if came == (0, "") else f"{came}"
+            time.sleep(0.05)
+    return "the run goes on"
+
+
 def first_fault(program):
     """It begins with a code of a file."""
     with Serving(program, f"{DATA}/../../examples/hopf.pd") as serving:
@@ -287,4 +339,5 @@ def faults(program):
         yield "six at once", at_once_fault(serving)
         yield "other addresses", others_fault(serving)
     yield "Control-C", end_fault(program)
+    yield "Control-C at work", end_at_work_fault(program)
     yield "a file to begin with", first_fault(program)
