@@ -14,7 +14,11 @@ OTHER = "the drawing is not one of this planar diagram"
 
 def read_code(path):
     """The arcs at the crossings of a file that `kh convert` wrote."""
-    text = given([path])
+    return crossings_of(given([path]), path)
+
+
+def crossings_of(text, path):
+    """The arcs at the crossings of a text that `kh convert` wrote; it is named so where it has another form."""
     crossings = [tuple(map(int, it)) for it in ITEM.findall(text)]
     if not text.startswith("PD[") or sorted(arc for it in crossings for arc in it) != sorted([*range(1, 2 * len(crossings) + 1)] * 2):
         raise Unreadable(f"{path} has no planar diagram as `kh convert` writes it")

@@ -1,0 +1,222 @@
+"use strict";
+// Links the parts of a page: a state shows its circles on the drawing and the edges out of it, a cell the states whose generators stand
+// there, a crossing its sign and smoothings. What is chosen stands behind # in the page's address. Without this script the same is in
+// lists, and the circles of a state are shown by its address alone.
+(() => {
+  const SVG = "http://www.w3.org/2000/svg";
+  const find = (selector, from = document) => from.querySelector(selector);
+  const all = (selector, from = document) => Array.from(from.querySelectorAll(selector));
+  document.documentElement.classList.add("js");
+  const drawing = find("#drawing");
+  if (!drawing) return;
+  const data = JSON.parse(find("#data").textContent);
+  const count = data.crossings.length;
+  const told = find("#told"), shown = find("#shown"), marks = find("#marks"), choices = find("#choices");
+  const NOTHING = told.innerHTML;
+
+  const signed = (value) => String(value).replace("-", "\u2212");
+  const counted = (number, thing) => `${number} ${thing}${number === 1 ? "" : "s"}`;
+
+  // The places of the arcs at a crossing that a smoothing joins.
+  const joins = (bit) => (bit === "1" ? [[0, 3], [1, 2]] : [[0, 1], [2, 3]]);
+
+  // The circles of a state, each a list of arcs, by their least arcs.
+  function circlesOf(bits) {
+    const least = [];
+    for (let arc = 0; arc <= 2 * count + data.loops; arc++) least.push(arc);
+    const root = (arc) => (least[arc] === arc ? arc : root(least[arc]));
+    data.crossings.forEach((arcs, at) => joins(bits[at]).forEach(([one, other]) => {
+      const [low, high] = [root(arcs[one]), root(arcs[other])].sort((a, b) => a - b);
+      least[high] = low;
+    }));
+    const found = new Map();
+    for (let arc = 1; arc < least.length; arc++) found.set(root(arc), [...(found.get(root(arc)) || []), arc]);
+    return Array.from(found.values());
+  }
+
+  const changed = (bits, at) => bits.slice(0, at) + (bits[at] === "1" ? "0" : "1") + bits.slice(at + 1);
+  const ones = (bits) => bits.split("1").length - 1;
+
+  function element(name, parent, attributes) {
+    const made = document.createElementNS(SVG, name);
+    for (const key in attributes) made.setAttribute(key, attributes[key]);
+    parent.append(made);
+    return made;
+  }
+
+  // Draws the circles of a state over the strands.
+  function drawState(bits) {
+    circlesOf(bits).forEach((circle, number) => {
+      const group = element("g", shown, { class: `circle colour${number % data.colours}` });
+      circle.forEach((arc) => element("use", group, { href: `#arm-${arc}` }));
+      data.crossings.forEach((arcs, at) => joins(bits[at]).forEach(([one, other]) => {
+        if (circle.includes(arcs[one])) element("use", group, { href: `#turn-${at + 1}-${one}${other}` });
+      }));
+    });
+    drawing.classList.add("dim");
+  }
+
+  // The generators of a state by their quantum degrees, from the least.
+  function generatorsOf(bits, circles) {
+    const found = [];
+    for (let minuses = circles, many = 1; minuses >= 0; many = (many * minuses) / (circles - minuses + 1), minuses--) {
+      found.push(`${many} at ${signed(circles - 2 * minuses + ones(bits) + data.plus - 2 * data.minus)}`);
+    }
+    return found.join(", ");
+  }
+
+  const stateLink = (bits) => `<a href="#state-${bits}">${bits || "the one state"}</a>`;
+
+  function edgesOf(bits) {
+    const before = circlesOf(bits).length, found = [];
+    for (let at = 0; at < count; at++) {
+      if (bits[at] === "1") continue;
+      const head = changed(bits, at);
+      found.push(`${at + 1}: ${circlesOf(head).length < before ? "merge" : "split"} to ${stateLink(head)}`);
+    }
+    return found.join(", ") || "none";
+  }
+
+  function showState(bits) {
+    const circles = circlesOf(bits);
+    drawState(bits);
+    const sets = circles.map((circle, number) => `<span class="colour${number % data.colours}">{${circle.join(",")}}</span>`);
+    told.innerHTML = `<h3>State ${bits || "without choices"}</h3><p>${counted(circles.length, "circle")}: ${sets.join(" ")}</p>
+      <p>i = ${signed(ones(bits) - data.minus)}; generators at j: ${generatorsOf(bits, circles.length)}</p>
+      <p>Edges out of it, by crossing: ${edgesOf(bits)}</p>`;
+    all(".cube").forEach((cube) => cube.classList.add("one"));
+    all(`.edge[data-tail="${bits}"]`).forEach((edge) => edge.classList.add("out"));
+    all(`.state[data-state="${bits}"]`).forEach((state) => state.classList.add("on"));
+    all("button", choices).forEach((button, at) => choose(button, at, bits[at]));
+  }
+
+  function showCell(name) {
+    const cell = document.getElementById(name);
+    told.innerHTML = `<h3>${find("dt", cell).innerHTML}</h3><p>${find("dd", cell).innerHTML}</p>`;
+    all(`.grid a[href="#${name}"]`).forEach((link) => link.classList.add("on"));
+    const states = (cell.dataset.states || "none").split(" ");
+    all(".cube .state").forEach((state) => state.classList.toggle("has", states.includes(state.dataset.state)));
+  }
+
+  function showCrossing(name) {
+    const cells = all("th, td", document.getElementById(name));
+    told.innerHTML = `<h3>Crossing ${cells[0].innerHTML}</h3><p>${cells[1].innerHTML}, ${cells[2].innerHTML}</p>
+      <p>0-smoothing: ${cells[3].innerHTML}</p><p>1-smoothing: ${cells[4].innerHTML}</p>`;
+    all(`.target[href="#${name}"]`).forEach((link) => link.classList.add("on"));
+  }
+
+  // Shows what this name stands for, and nothing else.
+  function show(name) {
+    shown.replaceChildren();
+    drawing.classList.remove("dim");
+    all(".on, .out, .one, .has").forEach((it) => it.classList.remove("on", "out", "one", "has"));
+    all("button", choices).forEach((button, at) => choose(button, at, null));
+    const state = /^state-([01]*)$/.exec(name);
+    const isShown = state ? state[1].length === count : /^(cell_|crossing-)/.test(name) && document.getElementById(name);
+    find("#chosen").classList.toggle("active", Boolean(isShown));
+    find(".small").classList.toggle("dim", Boolean(isShown && state));
+    if (!isShown) told.innerHTML = NOTHING;
+    else if (state) showState(state[1]);
+    else if (name.startsWith("cell_")) showCell(name);
+    else showCrossing(name);
+    return Boolean(isShown);
+  }
+
+  const chosen = () => location.hash.slice(1);
+  function go(name) {
+    if (show(name)) history.pushState(null, "", `#${name}`);
+  }
+
+  // A button for each crossing, which changes its smoothing.
+  function choose(button, at, bit) {
+    if (button.classList.contains("none")) return void (button.disabled = bit === null);
+    button.textContent = bit === null ? `${at + 1}` : `${at + 1}: ${bit}`;
+    button.setAttribute("aria-pressed", String(bit === "1"));
+    button.setAttribute("aria-label", bit === null ? `smooth all crossings` : `crossing ${at + 1}, ${bit}-smoothing`);
+  }
+
+  function makeChoices() {
+    if (!count) return;
+    const label = document.createElement("span");
+    label.textContent = "Smooth at";
+    choices.append(label);
+    for (let at = 0; at < count; at++) {
+      const button = document.createElement("button");
+      button.type = "button";
+      button.addEventListener("click", () => {
+        const state = /^state-([01]*)$/.exec(chosen());
+        go(`state-${state && state[1].length === count ? changed(state[1], at) : changed("0".repeat(count), at)}`);
+      });
+      choices.append(button);
+    }
+    const none = document.createElement("button");
+    none.type = "button";
+    none.className = "none";
+    none.textContent = "show the link";
+    none.addEventListener("click", close);
+    choices.append(none);
+  }
+
+  function close() {
+    history.pushState(null, "", location.pathname + location.search);
+    show("");
+  }
+
+  // A small copy of the drawing beside what is told, for small screens, and what closes it there.
+  function makeSmall() {
+    const small = element("svg", find("#chosen"), { class: "small", viewBox: drawing.getAttribute("viewBox"), "aria-hidden": "true" });
+    ["#strands", "#shown"].forEach((href) => element("use", small, { href }));
+    const button = document.createElement("button");
+    button.type = "button";
+    button.className = "close";
+    button.textContent = "close";
+    button.addEventListener("click", close);
+    find("#chosen").append(button);
+  }
+
+  let waiting;
+
+  // Marks the arcs and crossings of a move on the drawing, and shows what the move would make, where a server answers.
+  function mark(move) {
+    marks.replaceChildren();
+    clearTimeout(waiting);
+    if (!move) return;
+    const { arcs = "", crossings = "", preview } = move.dataset;
+    arcs.split(" ").filter(Boolean).forEach((arc) => element("use", marks, { href: `#arc-${arc}`, class: "mark" }));
+    crossings.split(" ").filter(Boolean).forEach((crossing) => {
+      const circle = find(`.target[href="#crossing-${crossing}"] circle`);
+      element("circle", marks, { class: "mark thin", cx: circle.getAttribute("cx"), cy: circle.getAttribute("cy"), r: 17 });
+    });
+    if (preview) waiting = setTimeout(() => showPreview(move), 250);
+  }
+
+  function showPreview(move) {
+    const image = find("#preview");
+    image.hidden = false;
+    find("img", image).src = move.dataset.preview;
+    find("img", image).alt = "the diagram behind the move";
+    find("figcaption", image).textContent = `What it makes: ${move.getAttribute("aria-label")}`;
+  }
+
+  document.addEventListener("click", (event) => {
+    const link = event.target.closest('a[href^="#"]');
+    if (!link || event.ctrlKey || event.metaKey || event.shiftKey) return;
+    const name = link.getAttribute("href").slice(1);
+    if (!/^(state-|cell_|crossing-)/.test(name)) return;
+    event.preventDefault();
+    go(name);
+  });
+  for (const [begun, ended] of [["mouseover", "mouseout"], ["focusin", "focusout"]]) {
+    document.addEventListener(begun, (event) => mark(event.target.closest("[data-arcs], [data-crossings]")));
+    document.addEventListener(ended, () => mark(null));
+  }
+  document.addEventListener("keydown", (event) => {
+    if (event.key === "Escape" && chosen()) close();
+  });
+  window.addEventListener("popstate", () => show(chosen()));
+  window.addEventListener("hashchange", () => show(chosen()));
+  all(".state-name").forEach((name) => (name.outerHTML = stateLink(name.textContent)));
+  makeChoices();
+  makeSmall();
+  show(chosen());
+})();
