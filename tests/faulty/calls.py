@@ -20,6 +20,9 @@ NUMBERS = 400
 MORE = 40
 BYTES = 200
 FEW = 20
+# Diagrams with so many blocks, each of which a worker of its own may take, and numbers of workers.
+BLOCKS = ((b"PD[]", 1), (cases.TREFOIL, 5), (cases.FIGURE_EIGHT, 6))
+WORKERS = (1, 2, 4, 64)
 
 
 class Shim:
@@ -125,6 +128,16 @@ def thread_faults(shim, case, wanted, count):
             yield f"{case.name}, thread {number} is not started, {mode}", outcome(came, wanted)
 
 
+def thread_counts(shim):
+    """So many workers are at work, as far as there are blocks: the caller, and a thread at least for each other one."""
+    for given, blocks in BLOCKS:
+        for workers in WORKERS:
+            shim.run(cases.Case("homology", ["homology", "--workers", str(workers)], given))
+            started, least = shim.counts()["thread"], min(workers, blocks) - 1
+            right = started >= least if least else not started
+            yield f"homology of {blocks} blocks by {workers} workers, threads", None if right else f"{started} started, and not {least}"
+
+
 def case_faults(shim, case, most=None, all_numbers=False):
     """What comes of a case when its calls fail, each in turn; with a most, of each kind no more than so many of the first ones."""
     wanted = shim.child.run(case.words, case.given)[:2]
@@ -142,8 +155,10 @@ def faults(child, chosen, all_numbers=False, most=None):
     """The name of each case in which a call fails, and what is wrong with it, if anything is."""
     with tempfile.TemporaryDirectory() as folder:
         shim = Shim(child, folder)
-        for case in chosen if shim.is_built() else ():
-            yield from case_faults(shim, case, most, all_numbers)
+        if shim.is_built():
+            yield from thread_counts(shim)
+            for case in chosen:
+                yield from case_faults(shim, case, most, all_numbers)
 
 
 def few(program):

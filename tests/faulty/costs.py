@@ -2,19 +2,25 @@
 
 No command needs more than twice the space that `check` needs for an input that is refused, but that `verify` may hold a log four times
 over; and no refusal takes more than five times as long as `true`, but those of a count of generators and of logs of a million bytes. Times
-are the best of many runs, one after another and in turns with `true`.
+are the best of many runs, one after another and in turns with `true`. Answers to a diagram of a million generators take so many bytes for
+each of them at most: what `certify` writes is in memory, whole, beside the block that is cancelled, and so is what `verify` reads.
 """
 import resource
 import time
 
+import plain.cube
+import plain.diagrams as codes
 from faulty.cases import LOG, Case
 from faulty.limits import limited, run
+from shared import known_diagrams
 
 KB = 1024
 LEAST, MOST, STEP = 1_000, 400_000, 100
 TURNS = 15
 MORE_SPACE, MORE_TIME, MORE_LOGS = 2, 5, 4
 SIZE, LONG = 65_536, 500_000
+LARGE = "a braid of 16 crossings on 4 strands"
+BYTES_OF_A_GENERATOR = {"certify": 120, "verify": 120, "reduced": 60}
 
 TEXTS = {
     "an empty text": b"",
@@ -90,6 +96,19 @@ def best_times(child, true, case):
     return best[child], best[true]
 
 
+def answer_faults(child, commands):
+    """What the answers to a large diagram take too much memory for, if they do: its log, which is verified, and its reduced table."""
+    text = dict(known_diagrams.begun())[LARGE].encode()
+    generators, given = plain.cube.generator_count(codes.read(text.decode())), {"certify": text, "reduced": text}
+    for command, most in BYTES_OF_A_GENERATOR.items():
+        if command in commands and command in given:
+            came = child.run([command, *(["--mark", "1"] if command == "reduced" else [])], given[command])
+            given.setdefault("verify", came.wrote)  # (what `certify` wrote, which comes first)
+            much = child.takes_more(came, most * generators // KB)
+            fault = f"status {came.status}, {came.kilobytes} KB for {generators} generators" if came.status or much else None
+            yield f"{command} of {LARGE}, memory", fault
+
+
 def faults(program, child, true, commands):
     """The name of each refusal, and what it costs too much, if it does."""
     spaces, dearest, logs = {}, (0, None), {}
@@ -107,4 +126,5 @@ def faults(program, child, true, commands):
         for_check = spaces.get(f"check of {text}") or max(it for other, it in spaces.items() if other.startswith("check of "))
         most = MORE_SPACE * for_check + MORE_LOGS * logs[name]
         yield f"{name}, space", f"{space} KB, and `check` {for_check}" if space > most else None
+    yield from answer_faults(child, commands)
     print(f"refusals need {min(spaces.values())} to {max(spaces.values())} KB; the longest takes {dearest[0]:.1f} of `true`: {dearest[1]}")

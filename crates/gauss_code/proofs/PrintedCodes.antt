@@ -12,19 +12,23 @@ use Rattle.kh_types.specs.Acceptance.{accepted}
 use Rattle.kh_types.specs.declared.limits.TheConstants.{CROSSINGS, LOOPS}
 use Rattle.kh_types.proofs.PassPairs.{IsArc-at}
 use Rattle.kh_types.proofs.Heads.{HasNoSingleArcs-accepted, IsPass-over, IsPass-under}
+use Rattle.kh_lex.specs.Lines.{with_feed}
+use Rattle.kh_lex.specs.Symbols.{Means}
+use Rattle.kh_lex.proofs.WrittenLines.{Means-line}
+use Rattle.kh_lex.proofs.WrittenTexts.{IsWritten, Means-written}
 use Rattle.gauss_code.specs.Listings.{groups_of, crossing_count, loop_group_count}
-use Rattle.gauss_code.specs.Grammar.{number_places}
+use Rattle.gauss_code.specs.Grammar.{gauss_spelled, number_places}
 use Rattle.code_passes.specs.Passes.{Pass, all_passes, pass_of, slots_by_passes, slots_between}
 use Rattle.gauss_code.specs.Codes.{listed_code}
 use Rattle.code_passes.specs.ComponentLabels.{component_labels, label_at, entering_label, labels_of_code}
-use Rattle.gauss_code.specs.Printing.{body_of, gauss_text}
+use Rattle.gauss_code.specs.Printing.{body_of, gauss_text, listing_of}
 use Rattle.gauss_code.specs.Reading.{IsGaussReading}
 use Rattle.code_passes.proofs.ArcLabels.{IsOriented, entering_label-names, entering_label-under}
 use Rattle.gauss_code.proofs.Bodies.{groups_of-body_of, HasSmallNumbers-body_of, labels_of-body_of, loop_group_count-body_of}
 use Rattle.gauss_code.proofs.GoodListings.{half-arc_labels, no_fault, signs}
 use Rattle.code_passes.proofs.CutArcs.{Cut, Cut-first_arcs, end-within, size}
 use Rattle.gauss_code.proofs.ListedPasses.{HasLabel-code, all_passes-code, labels-code, pass_of-label, pass_on}
-use Rattle.gauss_code.proofs.PrintedTexts.{AreSmall, IsSmall, Means-listing_text}
+use Rattle.gauss_code.proofs.PrintedTexts.{AreSmall, IsSmall, written-listing_text}
 use Rattle.code_passes.proofs.Searches.{matched_false, matched_true}
 
 -- the numbers of the listing are small
@@ -150,22 +154,18 @@ listed_code-listing code oriented four =
     ∙ ap (λ xs. made xs (loop_group_count body)) (crossings-code crossings oriented four)
     ∙ ap (λ n. made crossings n) (loop_group_count-body_of components code.loops each))
 
--- the text of a code reads as the code
-pub IsGaussReading-gauss_text : (code : Code) → IsTrue (accepted code) → All (λ slots. length slots ≡ 4) code.crossings
-    → length code.crossings ≤ CROSSINGS → code.loops ≤ LOOPS → IsGaussReading (gauss_text code) (Ok code)
-IsGaussReading-gauss_text code holds four few few_loops =
+-- a text reads as a code, where it means what is listed of the code
+reads-meaning : (text : List ℕ) (code : Code) → IsTrue (accepted code) → All (λ slots. length slots ≡ 4) code.crossings
+    → length code.crossings ≤ CROSSINGS → code.loops ≤ LOOPS → Means text (gauss_spelled (listing_of code)) → IsGaussReading text (Ok code)
+reads-meaning text code holds four few few_loops means =
     let crossings = code.crossings in
     let is = HasNoSingleArcs-accepted code holds in
     let oriented : IsOriented crossings = record { directed = is.0; moves = is.1 } in
     let components = labels_of_code crossings in
     let body = body_of components code.loops in
     let each = HasLabel-code crossings oriented in
-    let means = Means-listing_text body (signs crossings)
-    (HasSmallNumbers-body_of components code.loops
-    (small-cut crossings oriented few 1 (arc_count crossings) (first_arcs crossings) (Cut-first_arcs crossings oriented.directed)))
-    (small-range (sign_of crossings) 1 (length crossings) (λ crossing from below. small-sign (is_positive crossings crossing))) in
     record {
-      listing = record { body = body; signs = Some (signs crossings) };
+      listing = listing_of code;
       places = number_places means.tokens;
       lists = record { tokens = means.tokens; cut = means.cut; spells = means.meaning; at = refl };
       good = no_fault crossings body (number_places means.tokens) oriented
@@ -173,3 +173,30 @@ IsGaussReading-gauss_text code holds four few few_loops =
           (omega (arith, few_loops, loop_group_count-body_of components code.loops each));
       same = listed_code-listing code oriented four;
     }
+
+-- the text of a code is written by the symbols of what is listed of it
+written-gauss_text : (code : Code) → IsTrue (accepted code) → length code.crossings ≤ CROSSINGS
+    → IsWritten (gauss_text code) (gauss_spelled (listing_of code))
+written-gauss_text code holds few =
+    let crossings = code.crossings in
+    let is = HasNoSingleArcs-accepted code holds in
+    let oriented : IsOriented crossings = record { directed = is.0; moves = is.1 } in
+    let components = labels_of_code crossings in
+    written-listing_text (body_of components code.loops) (signs crossings)
+    (HasSmallNumbers-body_of components code.loops
+    (small-cut crossings oriented few 1 (arc_count crossings) (first_arcs crossings) (Cut-first_arcs crossings oriented.directed)))
+    (small-range (sign_of crossings) 1 (length crossings) (λ crossing from below. small-sign (is_positive crossings crossing)))
+
+-- the text of a code reads as the code
+pub IsGaussReading-gauss_text : (code : Code) → IsTrue (accepted code) → All (λ slots. length slots ≡ 4) code.crossings
+    → length code.crossings ≤ CROSSINGS → code.loops ≤ LOOPS → IsGaussReading (gauss_text code) (Ok code)
+IsGaussReading-gauss_text code holds four few few_loops =
+    reads-meaning (gauss_text code) code holds four few few_loops
+    (Means-written (gauss_text code) (gauss_spelled (listing_of code)) (written-gauss_text code holds few))
+
+-- and so does a line of it
+pub IsGaussReading-line : (code : Code) → IsTrue (accepted code) → All (λ slots. length slots ≡ 4) code.crossings
+    → length code.crossings ≤ CROSSINGS → code.loops ≤ LOOPS → IsGaussReading (with_feed (gauss_text code)) (Ok code)
+IsGaussReading-line code holds four few few_loops =
+    reads-meaning (with_feed (gauss_text code)) code holds four few few_loops
+    (Means-line (gauss_text code) (gauss_spelled (listing_of code)) (written-gauss_text code holds few))

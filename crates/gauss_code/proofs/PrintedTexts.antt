@@ -1,14 +1,13 @@
--- A listing in print: its text means the symbols that spell it.
+-- A listing in print: its text is written by the symbols that spell it.
 use Rattle.std.proofs.Common.{◌≡◌, ℕ, ◌≤◌, ℤ, nat_abs, false, Some, List, [], ◌∷◌, ◌++◌, codes, refl, sym, subst, arith, append_assoc}
 use Rattle.std.specs.Char.{is_ascii_digit}
 use Rattle.std.specs.Fmt.{signed_decimal}
 use Rattle.std.specs.List.{AllByRecursion, flat_map}
 use Rattle.kh_lex.specs.Cuts.{begins_with}
-use Rattle.kh_lex.specs.Symbols.{Means}
 use Rattle.kh_lex.specs.declared.limits.TheConstants.{NUMBER_LIMIT}
 use Rattle.kh_lex.specs.declared.symbol.Symbol.{Symbol}
 use Rattle.kh_lex.specs.declared.symbol.Symbol.TheVariants.{LeftBrace, Number, RightBrace}
-use Rattle.kh_lex.proofs.WrittenTexts.{IsWritten, Means-written, comma-written, left_brace-written, left_bracket-written, nothing-written, number-written, right_brace-written, right_bracket-written, space-written, word-written}
+use Rattle.kh_lex.proofs.WrittenTexts.{IsWritten, comma-written, left_brace-written, left_bracket-written, nothing-written, number-written, right_brace-written, right_bracket-written, space-written, word-written}
 use Rattle.gauss_code.specs.Listings.{Body, Listing}
 use Rattle.gauss_code.specs.Grammar.{body_symbols, group_symbols, next_group, next_number, numbers_symbols, gauss_spelled}
 use Rattle.gauss_code.specs.Printing.{body_text, group_text, listing_text, next_group_text, next_number_text, numbers_text}
@@ -93,11 +92,10 @@ body-written {rest = rest} {more = more} (Body.Groups group groups) small none w
 abbrev pub listing_with : Body → List ℤ → Listing
 listing_with body signs = record { body = body; signs = Some signs }
 
--- its text means the symbols that spell it
-pub Means-listing_text : (body : Body) (signs : List ℤ) → HasSmallNumbers body → AreSmall signs
-    → Means (listing_text (listing_with body signs)) (gauss_spelled (listing_with body signs))
-Means-listing_text body signs small small_signs =
-    Means-written (listing_text (listing_with body signs)) (gauss_spelled (listing_with body signs))
-    (word-written (codes "GaussCode") (omega arith) refl refl (left_bracket-written (body-written body small refl
+-- its text is written by the symbols that spell it
+pub written-listing_text : (body : Body) (signs : List ℤ) → HasSmallNumbers body → AreSmall signs
+    → IsWritten (listing_text (listing_with body signs)) (gauss_spelled (listing_with body signs))
+written-listing_text body signs small small_signs =
+    word-written (codes "GaussCode") (omega arith) refl refl (left_bracket-written (body-written body small refl
     (right_bracket-written (space-written (word-written (codes "Signs") (omega arith) refl refl (left_bracket-written
-    (numbers-written signs small_signs refl (right_bracket-written nothing-written)))))))))
+    (numbers-written signs small_signs refl (right_bracket-written nothing-written))))))))

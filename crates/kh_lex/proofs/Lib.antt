@@ -9,6 +9,7 @@ mod LexerSteps
 pub mod GrammarLemmas
 pub mod MachineLemmas
 pub mod WrittenTexts
+pub mod WrittenLines
 pub mod Sections
 mod SectionLoops
 mod CutSections

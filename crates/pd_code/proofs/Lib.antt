@@ -1,5 +1,6 @@
 mod Spellings
 mod SoFar
 mod MachineReads
-mod PrintingLemmas
+pub mod PrintingLemmas
 pub mod ReadingLemmas
+pub mod AcceptedSlots

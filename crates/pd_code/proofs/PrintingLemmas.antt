@@ -10,6 +10,8 @@ use Rattle.kh_types.specs.Code.{Code, arc_count}
 use Rattle.kh_types.specs.declared.limits.TheConstants.{CROSSINGS, LOOPS}
 use Rattle.kh_lex.specs.declared.limits.TheConstants.{NUMBER_LIMIT}
 use Rattle.kh_lex.specs.declared.symbol.Symbol.{Symbol}
+use Rattle.kh_lex.specs.Lines.{with_feed}
+use Rattle.kh_lex.proofs.WrittenLines.{Means-line}
 use Rattle.kh_lex.proofs.WrittenTexts.{IsWritten, Means-written, comma-written, left_bracket-written, nothing-written, number-written, right_bracket-written, space-written, word-written}
 use Rattle.pd_code.specs.declared.item.Item.{Item}
 use Rattle.pd_code.specs.declared.item.Item.TheVariants.{Crossing, Loop}
@@ -70,10 +72,10 @@ listed-written {rest = rest} {more = more} (item ∷ items) small written =
     (subst (IsWritten (item_text item ++ (flat_map next_text items ++ rest))) (sym (append_assoc (item_symbols item) (flat_map next_symbols items) more))
     (item-written item small.0 (next-written items small.1 written)))
 
--- the text that lists items spells them
-Spells-text_of_items : (items : List Item) → AllByRecursion HasSmallNumbers items → Spells (text_of_items items) items
-Spells-text_of_items items small = Means-written (text_of_items items) (pd_spelled items)
-    (word-written (codes "PD") (omega arith) refl refl (left_bracket-written (listed-written items small (right_bracket-written nothing-written))))
+-- the text that lists items is written by their symbols
+written-text_of_items : (items : List Item) → AllByRecursion HasSmallNumbers items → IsWritten (text_of_items items) (pd_spelled items)
+written-text_of_items items small =
+    word-written (codes "PD") (omega arith) refl refl (left_bracket-written (listed-written items small (right_bracket-written nothing-written)))
 
 -- the items of a code have small numbers
 small_crossings : (crossings : List (List ℕ)) (others : List Item) → AllByRecursion HasFourSlots crossings → AllByRecursion HasSmallNumbers others
@@ -123,23 +125,42 @@ loops-items (arcs ∷ crossings) names = loops-items crossings names
 abbrev made : ℕ → List (List ℕ) → Code
 made loops crossings = record { crossings = crossings; loops = loops }
 
--- the text of a code reads as the code
-pub IsPdReading-pd_text : (code : Code) → All HasFourSlots code.crossings → length code.crossings ≤ CROSSINGS → code.loops ≤ LOOPS → IsPdReading (pd_text code) (Ok code)
-IsPdReading-pd_text code all few few_loops = record {
+-- a text that spells the items of a code reads as the code
+reads-spelled : (text : List ℕ) (code : Code) → AllByRecursion HasFourSlots code.crossings → length code.crossings ≤ CROSSINGS
+    → code.loops ≤ LOOPS → Spells text (items_of_code code) → IsPdReading text (Ok code)
+reads-spelled text code four few few_loops is_spelled = record {
   items = items_of_code code;
-  pd_spelled = Spells-text_of_items (items_of_code code)
-      (small_crossings code.crossings (map loop_item (loop_names code)) four (small_loops (arc_count code.crossings + 1) code.loops (omega arith)));
+  pd_spelled = is_spelled;
   crossings = rw same_crossings few;
   loops = rw same_loops few_loops;
   same = ap (made code.loops) (sym same_crossings) ∙ ap (λ n. made n (crossings_among (items_of_code code))) (sym same_loops);
 }
   where
-    four : AllByRecursion HasFourSlots code.crossings
-    four = recursion_from_All HasFourSlots code.crossings all
-
     same_crossings : crossings_among (items_of_code code) ≡ code.crossings
     same_crossings = crossings_of-items code.crossings (loop_names code) four
 
     same_loops : loop_item_count (items_of_code code) ≡ code.loops
     same_loops = sym (length-filter is_loop_item (items_of_code code)) ∙ loops-items code.crossings (loop_names code)
         ∙ length-range_with_len (arc_count code.crossings + 1) code.loops
+
+-- the text of a code is written by their symbols
+written-pd_text : (code : Code) → AllByRecursion HasFourSlots code.crossings → length code.crossings ≤ CROSSINGS → code.loops ≤ LOOPS
+    → IsWritten (pd_text code) (pd_spelled (items_of_code code))
+written-pd_text code four few few_loops =
+    written-text_of_items (items_of_code code)
+    (small_crossings code.crossings (map loop_item (loop_names code)) four
+    (small_loops (arc_count code.crossings + 1) code.loops (omega (arith, few, few_loops))))
+
+-- the text of a code reads as the code
+pub IsPdReading-pd_text : (code : Code) → All HasFourSlots code.crossings → length code.crossings ≤ CROSSINGS → code.loops ≤ LOOPS → IsPdReading (pd_text code) (Ok code)
+IsPdReading-pd_text code all few few_loops =
+    let four = recursion_from_All HasFourSlots code.crossings all in
+    reads-spelled (pd_text code) code four few few_loops
+    (Means-written (pd_text code) (pd_spelled (items_of_code code)) (written-pd_text code four few few_loops))
+
+-- and so does a line of it
+pub IsPdReading-line : (code : Code) → All HasFourSlots code.crossings → length code.crossings ≤ CROSSINGS → code.loops ≤ LOOPS → IsPdReading (with_feed (pd_text code)) (Ok code)
+IsPdReading-line code all few few_loops =
+    let four = recursion_from_All HasFourSlots code.crossings all in
+    reads-spelled (with_feed (pd_text code)) code four few few_loops
+    (Means-line (pd_text code) (pd_spelled (items_of_code code)) (written-pd_text code four few few_loops))

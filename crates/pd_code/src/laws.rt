@@ -1,7 +1,9 @@
 //! What holds of the definitions that the contracts cite, beyond any one call.
 
-ghost use Rattle.std.specs.Prelude.{◌≡◌, ◌≤◌, ℕ, All, List, [], ◌∷◌, codes, length, Result, Ok, Err};
+ghost use Rattle.std.specs.Prelude.{◌≡◌, ◌≤◌, ℕ, All, IsTrue, List, [], ◌∷◌, codes, length, Result, Ok, Err};
+ghost use Rattle.kh_types.specs.Acceptance.{accepted};
 ghost use Rattle.kh_types.specs.Code.{Code};
+ghost use Rattle.kh_lex.specs.Lines.{with_feed};
 ghost use Rattle.pd_code.specs.declared.stop.PdStop.{PdStop};
 ghost use Rattle.pd_code.specs.Printing.{HasFourSlots, pd_text};
 ghost use Rattle.pd_code.specs.Reading.{IsPdReading};
@@ -17,12 +19,18 @@ pub fn each_text_has_one_reading()
         IsPdReading text a → IsPdReading text b → a ≡ b }
 {}
 
-/// The text of a code within the limits reads as the code. That a diagram's crossings have four
-/// slots each is part of their type.
+/// The text of a code within the limits reads as the code, and so does a line of it. That a
+/// diagram's crossings have four slots each is part of their type; those of an accepted code then
+/// hold bytes.
 pub fn printed_codes_are_read_back()
-    ensures { (code : Code) → All HasFourSlots code.crossings →
+    ensures text { (code : Code) → All HasFourSlots code.crossings →
         length code.crossings ≤ CROSSINGS → code.loops ≤ LOOPS →
         IsPdReading (pd_text code) (Ok code) }
+    ensures line { (code : Code) → All HasFourSlots code.crossings →
+        length code.crossings ≤ CROSSINGS → code.loops ≤ LOOPS →
+        IsPdReading (with_feed (pd_text code)) (Ok code) }
+    ensures accepted { (code : Code) → IsTrue (accepted code) → length code.crossings ≤ CROSSINGS →
+        All (λ slots. length slots ≡ 4) code.crossings → All HasFourSlots code.crossings }
 {}
 
 /// What some texts read as, and how some codes are printed.
