@@ -6,7 +6,7 @@ use Rattle.std.proofs.lemmas.Bool.{cases_eq, cases_lt}
 use Rattle.std.proofs.lemmas.Bool.Decides.{nat_tests}
 use Rattle.std.proofs.lemmas.List.{ext_get_or}
 use Rattle.std.proofs.lemmas.List.FromFn.{length-map-range_with_len, get_or-map-range_with_len}
-use Rattle.std.proofs.lemmas.List.Sums.{sum_by-cons, sum_by-append}
+use Rattle.std.proofs.lemmas.List.Sums.{sum_by-append}
 use Rattle.code_passes.specs.Labels.{listed_number}
 use Rattle.code_passes.specs.Passes.{Pass, turned_labels, pass_at, passes_from, all_passes, all_labels}
 use Rattle.code_passes.proofs.Sums.{value_if, only_at, sum-only, sum_by-none}

@@ -2,7 +2,7 @@
 -- left once.
 use Rattle.std.proofs.Common.{◌≡◌, ◌≢◌, ℕ, zero, suc, inl, inr, ◌⊎◌, ◌+◌, ◌-◌, ◌<◌, ◌≤◌, ◌∙◌, List, [], ◌∷◌, length, map, refl, sym, ap, arith, Bool, true, false, ℤ, pos, min}
 use Rattle.std.specs.Prelude.{nat_eq, nat_lt, int_lt, ◌&&◌, if◌then◌else◌}
-use Rattle.std.specs.List.{flat_map, sum_by, range_with_len, AllByRecursion}
+use Rattle.std.specs.List.{sum_by, range_with_len, AllByRecursion}
 use Rattle.std.proofs.lemmas.Bool.{cases_eq, cases_lt}
 use Rattle.std.proofs.lemmas.Bool.Decides.{nat_tests}
 use Rattle.std.proofs.lemmas.List.{length-append}

@@ -1,5 +1,5 @@
 -- The passes at the crossings are all passes of the components, each once.
-use Rattle.std.proofs.Common.{◌≡◌, ℕ, zero, suc, ◌+◌, ◌/◌, ◌<◌, ◌≤◌, ◌∙◌, List, length, get_or, refl, sym, subst, ap, arith, Bool, ℤ, nat_abs, pos, negsuc}
+use Rattle.std.proofs.Common.{◌≡◌, ℕ, zero, suc, ◌+◌, ◌<◌, ◌≤◌, ◌∙◌, List, length, get_or, refl, sym, subst, ap, arith, Bool, ℤ, nat_abs, pos, negsuc}
 use Rattle.std.specs.Prelude.{nat_eq, None}
 use Rattle.std.specs.List.{sum_by, count_by, range_with_len, AllByRecursion}
 use Rattle.std.specs.Ordering.{int_eq}

@@ -19,3 +19,4 @@ pub mod Searches
 pub mod CutArcs
 pub mod ArcLabels
 pub mod TwoArcComponents
+pub mod EndsOfArcs

@@ -1,7 +1,7 @@
 -- The crossings of the code of some components and signs: their slots, and the pairs of arcs that their passes join.
-use Rattle.std.proofs.Common.{◌≡◌, ℕ, zero, suc, inl, inr, ◌⊎◌, ◌-◌, ◌<◌, List, [], ◌∷◌, length, map, refl, sym, subst, arith, true, false, ℤ, pos}
+use Rattle.std.proofs.Common.{◌≡◌, ℕ, zero, suc, inl, inr, ◌⊎◌, ◌-◌, ◌<◌, List, [], ◌∷◌, length, refl, sym, subst, arith, true, false, ℤ, pos}
 use Rattle.std.specs.Prelude.{None, slice_index_or, if◌then◌else◌}
-use Rattle.std.specs.List.{flat_map, range_with_len, AllByRecursion}
+use Rattle.std.specs.List.{flat_map, AllByRecursion}
 use Rattle.std.specs.Ordering.{int_eq}
 use Rattle.std.proofs.lemmas.List.FromFn.{length-map-range_with_len, get_or-map-range_with_len}
 use Rattle.kh_types.specs.Code.{arc_in, arc_count, slots_of, IsCrossing}

@@ -4,8 +4,9 @@
 ghost use Rattle.std.specs.Prelude.{◌≡◌, ◌≢◌, ◌-◌, ℕ, ℤ, List, length, pos, None};
 ghost use Rattle.std.specs.List.{All, flat_map};
 ghost use Rattle.std.specs.Ordering.{int_eq};
-ghost use Rattle.kh_types.specs.Code.{IsCrossing};
-ghost use Rattle.kh_types.specs.Directions.{is_positive, HasNoSingleArcs};
+ghost use Rattle.kh_types.specs.Code.{IsArc, IsCrossing};
+ghost use Rattle.kh_types.specs.Components.{next};
+ghost use Rattle.kh_types.specs.Directions.{is_positive, HasEnds, HasNoSingleArcs};
 ghost use Rattle.kh_types.specs.Accepted.{IsDirected};
 ghost use Rattle.code_passes.specs.Labels.{bad_label, listed_number};
 ghost use Rattle.code_passes.specs.Passes.{crossings_of};
@@ -31,4 +32,11 @@ pub fn listed_components_have_their_signs()
         → IsCrossing (crossings_of components signs) crossing
         → is_positive (crossings_of components signs) crossing
         ≡ int_eq (listed_number signs (crossing - 1)) (pos 1) }
+{}
+
+/// Each arc of a directed code that is in a component of two arcs or more, and so is not its own
+/// next, has one head and one tail, which are its two darts, whatever the other components are.
+pub fn arcs_have_two_ends()
+    ensures { (crossings : List (List ℕ)) → IsDirected crossings → (arc : ℕ)
+        → IsArc crossings arc → next crossings arc ≢ arc → HasEnds crossings arc }
 {}
