@@ -1,1 +1,4 @@
 pub mod Held
+pub mod Scanned
+pub mod Tallies
+pub mod CountedRows

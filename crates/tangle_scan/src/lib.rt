@@ -2,12 +2,28 @@
 //! theorem alone, and the table that it counts at its end.
 #![tactic(auto)]
 
+mod circle_numbers;
 mod column;
 mod complex;
+mod counted;
+mod counting;
+mod ending;
 mod front;
 mod object;
+mod order;
+mod scan;
+mod scan_count;
+mod scanning;
+mod table;
+mod tally;
+mod tallying;
 
 pub use column::{Column, Entry};
 pub use complex::TangleComplex;
+pub use ending::{finished_scans_are_last, table_of_finished};
 pub use front::Front;
 pub use object::Object;
+pub use order::ordered;
+pub use scan::Scan;
+pub use scanning::{scan_table, scan_table_by};
+pub use table::{ScanRow, ScanTable};

@@ -1,0 +1,85 @@
+//! An order of crossings in which few arcs are open at once. Any order is right, and this one is
+//! mostly fast: it is this project's rule.
+
+ghost use Rattle.std.specs.Prelude.{◌≡◌, ◌<◌, ◌≤◌, length};
+ghost use Rattle.cell_complexes.specs.Cubes.{IsReordered};
+
+use arrayvec::ArrayVec;
+use kh_types::{CROSSINGS, Crossing, Diagram};
+
+/// Crossings in some order.
+type Crossings = ArrayVec<Crossing, CROSSINGS>;
+
+/// For each number of an arc, whether one of its ends has been met.
+type Ends = [bool; 256];
+
+/// The crossings of a diagram, in an order where each next one leaves the fewest arcs open: of those
+/// equal one that touches most open arcs, else the first.
+#[tactic(auto, using(crate::proofs::OrderLemmas::steps))]
+pub fn ordered(diagram: &Diagram) -> ArrayVec<Crossing, CROSSINGS>
+    ensures { IsReordered diagram.now.crossings result.items }
+{
+    let mut left = diagram.to_raw().crossings;
+    let mut made: Crossings = ArrayVec::new();
+    let mut ends = [false; 256];
+    'crossings: while !left.is_empty() {
+        let crossing = left.remove(next_place(&left, &ends));
+        meet(&mut ends, crossing);
+        made.push(crossing);
+    }
+    made
+}
+
+/// The place of the crossing that comes next.
+fn next_place(crossings: &[Crossing], ends: &Ends) -> usize
+    requires { 0 < length crossings.now }
+    ensures { result < length crossings.now }
+{
+    let mut best = 0;
+    let mut least = cost(crossings[0], ends);
+    'places: for place in 1..crossings.len() {
+        let cost = cost(crossings[place], ends);
+        if cost < least {
+            best = place;
+            least = cost;
+        }
+    }
+    best
+}
+
+/// How many more arcs are open behind a crossing, counted from -4, and, among those with equally
+/// many, how few of its slots have arcs that were open.
+fn cost(crossing: Crossing, ends: &Ends) -> u32 {
+    let [a, b, c, d] = crossing.0;
+    arc_cost(crossing, a, ends)
+        + arc_cost(crossing, b, ends)
+        + arc_cost(crossing, c, ends)
+        + arc_cost(crossing, d, ends)
+}
+
+/// What the arc at a slot adds to the cost: five for each arc more that is open, and one where it
+/// was not open.
+fn arc_cost(crossing: Crossing, arc: u8, ends: &Ends) -> u32
+    ensures { result ≤ 11 }
+{
+    if is_twice(crossing, arc) {
+        6
+    } else if ends[usize::from(arc)] {
+        0
+    } else {
+        11
+    }
+}
+
+/// Whether two slots of a crossing have an arc.
+fn is_twice(crossing: Crossing, arc: u8) -> bool {
+    crossing.0.iter().filter(|other| **other == arc).count() > 1
+}
+
+/// Marks the ends of a crossing's arcs as met.
+fn meet(ends: &mut Ends, crossing: Crossing) {
+    'slots: for slot in 0..4usize {
+        let arc = usize::from(crossing.0[slot]);
+        ends[arc] = !ends[arc];
+    }
+}

@@ -1,0 +1,96 @@
+//! A scan, whose type keeps what the theorem asks.
+
+ghost use Rattle.std.specs.Prelude.{◌≡◌, IfOk, IsTrue};
+ghost use Rattle.kh_types.specs.Acceptance.{accepted};
+ghost use Rattle.tangle_scan.specs.Held.{HasNoPivot};
+ghost use Rattle.tangle_scan.specs.Scanned.{IsBehind, IsScanned, IsFirstComplex};
+
+use crate::column::Column;
+use crate::complex::TangleComplex;
+use crate::front::Front;
+use crate::object::Object;
+use arrayvec::ArrayVec;
+use kh_types::{Diagram, NoMemory};
+use prime_field::PrimeField;
+use std::alloc::Global;
+use std::marker::{Model, PhantomData};
+use tangle_maps::Pairing;
+
+/// A scan of a diagram over a field: a front and the complex there, to which steps of the theorem
+/// lead from before the first crossing. Contracts see both. Source: Bar-Natan 2007.
+#[derive(Drop)]
+pub struct Scan<F: PrimeField> {
+    front: Front,
+    complex: TangleComplex,
+    field: PhantomData<F>,
+}
+
+impl<F: PrimeField> Model for Scan<F> {
+    ghost use Rattle.tangle_scan.specs.Scanned.{IsScanned, Scanned, scanned};
+
+    ghost Value = { Scanned };
+
+    ghost view = { λ scan. scanned scan.front scan.complex };
+
+    ghost invariant = { λ scan. IsScanned F.P (scanned scan.front scan.complex) };
+}
+
+impl<F: PrimeField> Scan<F> {
+    /// The scan before the first crossing of a diagram: one object, which pairs no arcs.
+    pub fn new(alloc: Global, diagram: &Diagram) -> Result<Scan<F>, NoMemory>
+        ensures behind { IfOk result (IsBehind diagram.now 0) }
+        ensures none { IfOk result (λ scan. HasNoPivot scan.complex) }
+    {
+        // (what the type of a diagram keeps)
+        let _ = diagram.crossings();
+        let complex = first_complex(alloc)?;
+        let front = Front {
+            diagram: *diagram,
+            done: 0,
+            opened: ArrayVec::new(),
+        };
+        Ok(Scan {
+            front,
+            complex,
+            field: PhantomData,
+        })
+    }
+
+    /// What the type keeps. It does nothing: a function calls it, and its proof then has the facts.
+    pub fn laws(&self)
+        ensures kept { IsScanned F.P self.now }
+        ensures accepted { IsTrue (accepted self.now.front.diagram) }
+    {
+        let _ = self.front.diagram.crossings();
+    }
+
+    /// The diagram.
+    pub fn diagram(&self) -> &Diagram
+        ensures { result.now ≡ self.now.front.diagram }
+    {
+        &self.front.diagram
+    }
+
+    /// The objects.
+    pub fn objects(&self) -> &[Object]
+        ensures { result.now ≡ self.now.complex.objects.items }
+    {
+        &self.complex.objects
+    }
+}
+
+/// The complex before the first crossing.
+fn first_complex(alloc: Global) -> Result<TangleComplex, NoMemory>
+    ensures { IfOk result IsFirstComplex }
+{
+    let mut objects = Vec::new(alloc);
+    objects.push(Object {
+        pairing: Pairing::none(),
+        degree: 0,
+        shift: 0,
+        is_alive: true,
+    })?;
+    let mut columns: Vec<Column> = Vec::new(alloc);
+    columns.push(Vec::new(alloc))?;
+    Ok(TangleComplex { objects, columns })
+}
