@@ -13,6 +13,7 @@ pub mod NewLemmas
 pub mod SeamPlaces
 pub mod Composable
 pub mod AddedTerms
+pub mod TrefoilPlaces
 pub mod FewClosed
 pub mod PlaceLaws
 pub mod PairedPartners

@@ -1,5 +1,5 @@
--- What a place of a code tells of arcs, and that the seams there can be composed over.
-use Rattle.std.proofs.Common.{ℕ, ◌+◌, ◌<◌, ◌≤◌, List, [], ◌++◌, length, refl, sym, subst, ap, arith, Bool}
+-- What a place of a code tells of arcs, and that crossings can be added there.
+use Rattle.std.proofs.Common.{ℕ, ◌+◌, ◌<◌, ◌≤◌, List, [], ◌++◌, length, sym, subst, ap, arith, Bool}
 use Rattle.std.specs.Prelude.{slice_index_or}
 use Rattle.std.specs.List.{filter, range_with_len, AllByRecursion, Contains}
 use Rattle.std.proofs.lemmas.List.FromFn.{length-range_with_len}
@@ -7,14 +7,11 @@ use Rattle.std.proofs.lemmas.List.Sums.{count_by-le-length, length-filter}
 use Rattle.kh_types.specs.Classes.{classes_of, is_least}
 use Rattle.kh_types.specs.Code.{Code, arc_count, arc_in}
 use Rattle.dotted_surfaces.specs.Points.{AreAmong}
-use Rattle.added_crossings.specs.Codes.{closed_at, discs_behind, is_open, pairing_behind, points_at, smoothing_at, step_at}
+use Rattle.added_crossings.specs.Codes.{closed_at, is_open, points_at, smoothing_at, step_at}
 use Rattle.added_crossings.specs.Steps.{is_near, is_none_in, near, those}
 use Rattle.added_crossings.proofs.CodeSteps.{slot-near}
 use Rattle.added_crossings.proofs.Members.{All-contained, those-are}
 use Rattle.tangle_maps.specs.declared.pairing.TheConstants.{POINTS}
-use Rattle.tangle_maps.specs.declared.seam.Seam.{Seam}
-use Rattle.tangle_maps.specs.Seams.{CanCompose}
-use Rattle.crossing_maps.specs.AddedSeams.{ArePairs, IsSeamAt, joins_there}
 use Rattle.crossing_maps.specs.ListedPlaces.{IsArcs}
 use Rattle.crossing_maps.specs.Partners.{HasArcsBelow}
 use Rattle.crossing_maps.specs.Sides.{CanAdd, IsAround, IsSideAt, IsSiteAt, pairs_before}
@@ -22,9 +19,8 @@ use Rattle.crossing_maps.specs.Sites.{IsPlace}
 use Rattle.crossing_maps.specs.declared.between.Side.{Side}
 use Rattle.crossing_maps.specs.declared.splitting.Site.{Site}
 use Rattle.crossing_maps.proofs.Loopless.{near-are, near-few, open-are}
-use Rattle.crossing_maps.proofs.Composable.{composable}
 use Rattle.crossing_maps.proofs.FewClosed.{few-closed}
-use Rattle.crossing_maps.proofs.Placed.{joins-there, next-near, opened-near, within-there}
+use Rattle.crossing_maps.proofs.Placed.{next-near, opened-near}
 use Rattle.crossing_maps.proofs.SeamPlaces.{arcs-filtered}
 
 filter-shorter : (p : ℕ → Bool) (xs : List ℕ) → length (filter p xs) ≤ length xs
@@ -59,19 +55,8 @@ closed-arcs code k smoothing m place =
     arcs-filtered POINTS (is_none_in (points_at code (k + 1)).opened classes) (filter (is_least classes) (near (step_at code k)))
     (arcs-filtered POINTS (is_least classes) (near (step_at code k)) (near-arcs code k place))
 
-pub can-compose : (code : Code) (k first second : ℕ) (m n : List (ℕ × ℕ)) (ds lowers : List ℕ) (label other : ℕ) (seam : Seam)
-    → ArePairs code k m n → IsSeamAt code k first second m n ds lowers label other seam → CanCompose seam
-can-compose code k first second m n ds lowers label other seam are is =
-    let few = arcs-filtered POINTS
-    (is_least (classes_of (arc_count code.crossings + code.loops + 1) (pairing_behind code k first m ++ pairing_behind code k second n)))
-    (points_at code (k + 1)).opened (opened-arcs code k (k + 1) are.place) in
-    composable (near (step_at code k)) (discs_behind code k first second m n) (classes_of POINTS (joins_there code k first second m n))
-    (joins_there code k first second m n) seam
-    (record { below = (near-arcs code k are.place).below; among = (joins-there code k first second m n are).among }) refl
-    (within-there code k first second m n [] [] are tt tt).rims few.fits is.added.parts is.added.whole
-
 -- what a program keeps of a place of a code
-around-there : (code : Code) (k : ℕ) (site : Site) → IsPlace code k → IsSiteAt code k site → IsAround site
+pub around-there : (code : Code) (k : ℕ) (site : Site) → IsPlace code k → IsSiteAt code k site → IsAround site
 around-there code k site place is =
     let around = near (step_at code k) in
     let Near : ℕ → Type 0 = λ x. Contains around x in

@@ -10,9 +10,6 @@ ghost use Rattle.added_crossings.specs.Steps.{near, pairs_among};
 ghost use Rattle.added_crossings.specs.Codes.{closed_at, pairing_behind, points_at, smoothing_at, step_at};
 ghost use Rattle.tangle_maps.specs.declared.pairing.TheConstants.{POINTS};
 ghost use Rattle.tangle_maps.specs.Pairings.{ArePartners, joins_of, paired_arcs};
-ghost use Rattle.tangle_maps.specs.Seams.{CanCompose};
-ghost use Rattle.tangle_maps.specs.declared.seam.Seam.{Seam};
-ghost use Rattle.crossing_maps.specs.AddedSeams.{ArePairs, IsSeamAt};
 ghost use Rattle.crossing_maps.specs.ListedPlaces.{IsArcs};
 ghost use Rattle.crossing_maps.specs.Partners.{HasArcsBelow};
 ghost use Rattle.crossing_maps.specs.Sides.{CanAdd, IsSideAt, IsSiteAt};
@@ -51,13 +48,6 @@ pub fn crossings_can_be_added()
     ensures { (code : Code) (k : ℕ) (site : Site) (from to : Side) → IsPlace code k
         → IsSiteAt code k site → IsSideAt code k site from → IsSideAt code k site to
         → CanAdd site from to }
-{}
-
-/// The seam of a surface that a crossing adds can be composed over.
-pub fn seams_can_compose()
-    ensures { (code : Code) (k first second : ℕ) (m n : List (ℕ × ℕ)) (discs lowers : List ℕ)
-        (label other : ℕ) (seam : Seam) → ArePairs code k m n
-        → IsSeamAt code k first second m n discs lowers label other seam → CanCompose seam }
 {}
 
 /// A crossing closes at most two circles.

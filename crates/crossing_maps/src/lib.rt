@@ -13,3 +13,5 @@ pub mod seams;
 pub mod site;
 pub mod splitting;
 pub mod terms;
+#[cfg(test)]
+mod tests;

@@ -1,0 +1,9 @@
+use Rattle.kh_types.specs.WorkedCodes.{trefoil}
+use Rattle.crossing_maps.proofs.PlaceLaws.{can-add}
+use Rattle.crossing_maps.proofs.TrefoilPlaces.{trefoil-place}
+use Rattle.crossing_maps.proofs.tests.added_there.Goals as goal
+
+pub added_map-requires-clause-sides : goal.added_map-requires-clause-sides
+added_map-requires-clause-sides c =
+    can-add trefoil c.args.place c.args.site.now _ _ (trefoil-place c.args.place c.requires.place) c.requires.site
+    c.split_there-split.ensures c.split_there-other_split.ensures
