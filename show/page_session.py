@@ -80,8 +80,6 @@ class Session:
         """The step of a text in any form that `kh-codes` reads, of this name where it has none; of several codes that of the first."""
         came = ran([sys.executable, KH_CODES, "--names"], text, self.kh.seconds)
         said = re.sub(r"^input: .*\n", "", re.sub(r"^input:(?=\d)", "line ", came.said, flags=re.M), flags=re.M)
-        if "Traceback (most recent call last)" in said:
-            raise Unreadable("this text can not be read: its brackets are too deep, or it is too long")
         if not came.wrote:
             raise Unreadable(said.strip() or "there is no code in this text")
         lines = came.wrote.splitlines()

@@ -40,7 +40,7 @@ WRONG = [
     ("a tag", "<b>&amp;", "<b>&amp;"),
     ("words for a shell", "$(touch /tmp/x); `id` | true", "^"),
     ("too many crossings", "T(2,25)", "20"),
-    ("many brackets", "[" * 60_000, "its brackets are too deep"),
+    ("many brackets", "[" * 60_000, "no code has so many brackets in one another"),
 ]
 # Lines that are no moves.
 NO_MOVES = ["r1 add 1 under plus; touch x", "homology", "r3 1 2 3\nr1 drop 1", "", "undo ", "r1 add 1111 under plus", "look 1 1", "--help"]
