@@ -17,6 +17,8 @@ from sheet import sheet_of
 
 # How many steps are kept, how many sheets with their moves, and how long a request waits for the one before it.
 MOST_STEPS, MOST_SHEETS, WAIT = 2_000, 24, 120
+# The most letters of a name, and of what is said of a code.
+MOST_LETTERS, MOST_SAID = 80, 2_000
 # The words behind the names of buttons that make another diagram.
 TURNS = {"mirror": MIRROR, "reverse": REVERSE}
 NUMBERED = re.compile(r"code \d+|")
@@ -90,7 +92,8 @@ class Session:
             start = self.kh.answer(CONVERT, code).strip()
         except Refusal as fault:
             raise Unreadable("\n".join(filter(None, (said.strip(), str(fault))))) from fault
-        return self.add(Step(known if NUMBERED.fullmatch(name) else name, start, (), start, said.strip()))
+        name = known if NUMBERED.fullmatch(name) else name
+        return self.add(Step(name[:MOST_LETTERS], start, (), start, said.strip()[:MOST_SAID]))
 
     def moved(self, number, line):
         """The step behind a line of a script, or the answer that refuses it."""
@@ -120,6 +123,6 @@ class Session:
         return svg_of(slices, crossings, colours=len(diagram.components) + diagram.plane.loops > 1)
 
     def is_ready(self):
-        """What is said where the program gives no right answer at all."""
+        """What is said where the program gives no answer, or not at once since it is not built."""
         came = self.kh.ask(CONVERT, "PD[Loop[1]]")
-        return None if came.status == ANSWERED else came.said or came.wrote
+        return None if came.status == ANSWERED and not came.said else came.said or came.wrote or f"status {came.status}"
