@@ -13,6 +13,7 @@ from answers import Unreadable
 
 TOP = os.path.dirname(os.path.dirname(os.path.abspath(__file__)))
 KH, KH_SCAN, KH_CODES = (os.path.join(TOP, *path) for path in (["kh"], ["kh-scan"], ["tools", "kh-codes"]))
+BUILT = os.path.join(TOP, "crates", "kh_main", "out", "kh_main")
 FIELDS = (2, 3, 5, 7)
 CHECK, CONVERT, GAUSS, DRAW, JONES, EDIT, MIRROR, REVERSE = (
     ("check",), ("convert",), ("convert", "--to", "gauss"), ("draw",), ("jones",), ("edit",), ("mirror",), ("reverse",)

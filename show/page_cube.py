@@ -1,12 +1,12 @@
 """The cube of states on a page: columns by the number of ones, each state with its circles, and the edges between them."""
+from typing import NamedTuple
+
 from generators import edges_of
 from page import number_text, path_of, text_at
 from page_figure import box_text
 
-# The largest and the least picture of a state, how broad its strokes are, its room, the height of a line, and the room between states.
-LARGEST, STROKE, PAD, LINE, BETWEEN = 84, 2.2, 9, 17, 12
-# The room between columns, for each crossing.
-GAP, GAP_FOR_EACH = 28, 13
+# How broad the strokes of a state are, its room, the height of a line, and the room between states.
+STROKE, PAD, LINE, BETWEEN = 2.2, 8, 17, 9
 
 
 def ports(edges, end):
@@ -18,16 +18,30 @@ def ports(edges, end):
     return {edge: (place + 1) / (len(order) + 1) for order in orders for place, (_, edge) in enumerate(order)}
 
 
+class Sizes(NamedTuple):
+    """How large the picture of a state becomes at most, the size of texts, the least breadth of a state, and the room between columns."""
+
+    picture: int
+    text: int
+    breadth: int
+    gap: int
+
+
+# By the number of crossings; the last is that of all that follow.
+SIZES = (*4 * [Sizes(84, 14, 74, 66)], Sizes(70, 13, 70, 58), Sizes(56, 12, 68, 54), Sizes(46, 12, 68, 50))
+
+
 class Cube:
     """All states of a figure, where each stands, and the edges."""
 
     def __init__(self, figure, states):
         self.figure, self.states, self.count = figure, states, figure.count
         self.inner = figure.inner()
-        self.part = min(0.5, LARGEST / max(self.inner[2], self.inner[3], 1))
-        self.width = max(self.part * self.inner[2] + 2 * PAD, 74)
+        self.of = SIZES[min(self.count, len(SIZES) - 1)]
+        self.part = min(0.5, self.of.picture / max(self.inner[2], self.inner[3], 1))
+        self.width = max(self.part * self.inner[2] + 2 * PAD, self.of.breadth)
         self.height = self.part * self.inner[3] + 2 * PAD + LINE
-        self.gap = GAP + GAP_FOR_EACH * self.count
+        self.gap = self.of.gap
         columns = {}
         for state in states:
             columns.setdefault(sum(state.bits), []).append(state)
@@ -64,7 +78,7 @@ class Cube:
         return [
             f'<a class="state" href="#state-{state.text()}" data-state="{state.text()}" aria-label="{told}">',
             f'<rect class="band" x="{number_text(x)}" y="{number_text(y)}" {size} rx="6"/>',
-            text_at(x + self.width / 2, y + LINE - 3, f"{state.name()}: {count}", ' class="ink"'),
+            text_at(x + self.width / 2, y + LINE - 2, f"{state.name()}: {count}", f' class="ink" style="font-size:{self.of.text}px"'),
             f'<g transform="{move}" stroke-width="{number_text(STROKE / self.part)}">{self.figure.circles(state)}</g>',
             "</a>",
         ]

@@ -87,7 +87,7 @@
     all(".cube").forEach((cube) => cube.classList.add("one"));
     all(`.edge[data-tail="${bits}"]`).forEach((edge) => edge.classList.add("out"));
     all(`.state[data-state="${bits}"]`).forEach((state) => state.classList.add("on"));
-    all("button", choices).forEach((button, at) => choose(button, at, bits[at]));
+    all(".choice", choices).forEach((button, at) => choose(button, at, bits[at]));
   }
 
   function showCell(name) {
@@ -110,7 +110,7 @@
     shown.replaceChildren();
     drawing.classList.remove("dim");
     all(".on, .out, .one, .has").forEach((it) => it.classList.remove("on", "out", "one", "has"));
-    all("button", choices).forEach((button, at) => choose(button, at, null));
+    all(".choice", choices).forEach((button, at) => choose(button, at, null));
     const state = /^state-([01]*)$/.exec(name);
     const isShown = state ? state[1].length === count : /^(cell_|crossing-)/.test(name) && document.getElementById(name);
     find("#chosen").classList.toggle("active", Boolean(isShown));
@@ -129,32 +129,34 @@
 
   // A button for each crossing, which changes its smoothing.
   function choose(button, at, bit) {
-    if (button.classList.contains("none")) return void (button.disabled = bit === null);
     button.textContent = bit === null ? `${at + 1}` : `${at + 1}: ${bit}`;
     button.setAttribute("aria-pressed", String(bit === "1"));
-    button.setAttribute("aria-label", bit === null ? `smooth all crossings` : `crossing ${at + 1}, ${bit}-smoothing`);
+    button.setAttribute("aria-label", bit === null ? `1-smoothing of crossing ${at + 1}` : `crossing ${at + 1}, ${bit}-smoothing`);
   }
 
   function makeChoices() {
     if (!count) return;
     const label = document.createElement("span");
-    label.textContent = "Smooth at";
+    label.textContent = "Smoothings:";
     choices.append(label);
+    const zero = "0".repeat(count);
+    addButton("all 0", () => go(`state-${zero}`));
     for (let at = 0; at < count; at++) {
-      const button = document.createElement("button");
-      button.type = "button";
-      button.addEventListener("click", () => {
+      addButton("", () => {
         const state = /^state-([01]*)$/.exec(chosen());
-        go(`state-${state && state[1].length === count ? changed(state[1], at) : changed("0".repeat(count), at)}`);
-      });
-      choices.append(button);
+        go(`state-${changed(state && state[1].length === count ? state[1] : zero, at)}`);
+      }).classList.add("choice");
     }
-    const none = document.createElement("button");
-    none.type = "button";
-    none.className = "none";
-    none.textContent = "show the link";
-    none.addEventListener("click", close);
-    choices.append(none);
+    addButton("the link", close).classList.add("none");
+  }
+
+  function addButton(text, act) {
+    const button = document.createElement("button");
+    button.type = "button";
+    button.textContent = text;
+    button.addEventListener("click", act);
+    choices.append(button);
+    return button;
   }
 
   function close() {

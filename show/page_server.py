@@ -23,6 +23,7 @@ HOST = "127.0.0.1"
 MOST_FORM, SECONDS, MOST_AT_A_TIME = 3 * MOST_BYTES + 64, 10, 12
 HTML, SVG, TEXT = "text/html; charset=utf-8", "image/svg+xml", "text/plain; charset=utf-8"
 FORM = "application/x-www-form-urlencoded"
+OTHER_PAGE = "the request comes from another page: put the address that kh-page has told into a new window"
 STEP = re.compile(r"/(\d{1,9})(/move|/turn|/page\.html|/preview/(\d{1,4})\.svg)?")
 
 
@@ -85,9 +86,9 @@ class Handler(http.server.BaseHTTPRequestHandler):
             raise Refused(403, "this server has another name")
         origin, site = self.headers.get("Origin"), self.headers.get("Sec-Fetch-Site", "none")
         if origin is not None and origin not in [f"http://{it}" for it in self.server.hosts]:
-            raise Refused(403, "the request comes from another page")
+            raise Refused(403, OTHER_PAGE)
         if site not in ("none", "same-origin"):
-            raise Refused(403, "the request comes from another page")
+            raise Refused(403, OTHER_PAGE)
         path = self.path.partition("?")[0]
         token, slash, rest = path[1:].partition("/")
         if not hmac.compare_digest(token.encode(), self.server.token.encode()):

@@ -17,6 +17,8 @@ from sheet import sheet_of
 
 # How many steps are kept, how many sheets with their moves, and how long a request waits for the one before it.
 MOST_STEPS, MOST_SHEETS, WAIT = 2_000, 24, 120
+# The most letters of a name, and of what is said of a code.
+MOST_LETTERS, MOST_SAID = 80, 2_000
 # The words behind the names of buttons that make another diagram.
 TURNS = {"mirror": MIRROR, "reverse": REVERSE}
 NUMBERED = re.compile(r"code \d+|")
@@ -80,8 +82,6 @@ class Session:
         """The step of a text in any form that `kh-codes` reads, of this name where it has none; of several codes that of the first."""
         came = ran([sys.executable, KH_CODES, "--names"], text, self.kh.seconds)
         said = re.sub(r"^input: .*\n", "", re.sub(r"^input:(?=\d)", "line ", came.said, flags=re.M), flags=re.M)
-        if "Traceback (most recent call last)" in said:
-            raise Unreadable("this text can not be read: its brackets are too deep, or it is too long")
         if not came.wrote:
             raise Unreadable(said.strip() or "there is no code in this text")
         lines = came.wrote.splitlines()
@@ -92,7 +92,8 @@ class Session:
             start = self.kh.answer(CONVERT, code).strip()
         except Refusal as fault:
             raise Unreadable("\n".join(filter(None, (said.strip(), str(fault))))) from fault
-        return self.add(Step(known if NUMBERED.fullmatch(name) else name, start, (), start, said.strip()))
+        name = known if NUMBERED.fullmatch(name) else name
+        return self.add(Step(name[:MOST_LETTERS], start, (), start, said.strip()[:MOST_SAID]))
 
     def moved(self, number, line):
         """The step behind a line of a script, or the answer that refuses it."""
@@ -122,6 +123,6 @@ class Session:
         return svg_of(slices, crossings, colours=len(diagram.components) + diagram.plane.loops > 1)
 
     def is_ready(self):
-        """What is said where the program gives no right answer at all."""
+        """What is said where the program gives no answer, or not at once since it is not built."""
         came = self.kh.ask(CONVERT, "PD[Loop[1]]")
-        return None if came.status == ANSWERED else came.said or came.wrote
+        return None if came.status == ANSWERED and not came.said else came.said or came.wrote or f"status {came.status}"

@@ -85,11 +85,11 @@ def generators_told(states):
         return "No generator stands here."
     if len(states) <= 20:
         is_listed = len(states[0][0].bits) <= MOST_LISTED
-        parts = [f"{state_link(state, is_listed)} ({count}, {minus_told(state, minuses)})" for state, count, minuses in states]
+        parts = [f"{state_link(state, is_listed)} ({count} with {minus_told(state, minuses)})" for state, count, minuses in states]
         return f"{counted(total, 'generator')}, in {counted(len(states), 'state')}: {', '.join(parts)}."
     return f"{counted(total, 'generator')}, in {len(states)} states with {counted(sum(states[0][0].bits), 'one')}."
 
 
 def minus_told(state, minuses):
     """Which labels the circles of a state have."""
-    return f"{len(state.circles) - minuses} v+, {minuses} v-".replace("v-", f"v{MINUS}")
+    return f"{len(state.circles) - minuses} v+ and {minuses} v{MINUS}"

@@ -133,7 +133,7 @@ def generators_fault(root, diagram):
     for cell in root.one("dl", class_="cells").all("div"):
         pair = tuple(map(int, cell.attributes["id"].split("_")[1:]))
         text = cell.one("dd").text()
-        found = {name: int(many) for name, many in re.findall(r"([01]+|the one state) \((\d+), \d", text)}
+        found = {name: int(many) for name, many in re.findall(r"([01]+|the one state) \((\d+) with \d", text)}
         total = re.search(r"(\d+) generators?, in", text)
         if found != wanted.get(pair, {}) or (total and int(total[1]) != sum(found.values())):
             return f"{pair}: {found} and not {wanted.get(pair)}"

@@ -87,15 +87,15 @@ def click_faults(tab):
     tab.value("history.back()")
     tab.value("new Promise((done) => setTimeout(done, 200))")
     yield "the browser's way back", None if "j = −5" in tab.text("#told") else tab.text("#told")
-    tab.click("#choices button:nth-of-type(3)")
+    tab.click("#choices .choice:nth-of-type(4)")
     yield "a smoothing by its button", None if tab.text("#told h3") == "State 001" else tab.text("#told")
-    tab.click("#choices button:nth-of-type(1)")
+    tab.click("#choices .choice:nth-of-type(2)")
     yield "another smoothing", None if tab.text("#told h3") == "State 101" else tab.text("#told")
     tab.press("Escape")
     left = tab.value("document.querySelector('#shown').childElementCount")
     yield "Escape", None if left == 0 and tab.text("#told").startswith("Choose") else tab.text("#told")
     tab.load(address("8_19"))
-    tab.click("#choices button:nth-of-type(8)")
+    tab.click("#choices .choice:nth-of-type(9)")
     told, circles = tab.text("#told h3"), tab.value("document.querySelectorAll('#shown .circle').length")
     yield "a state that is not listed", None if told == "State 00000001" and circles == 2 else f"{told}, {circles}"
     tab.load(address("hopf") + "#state-10")
@@ -209,7 +209,7 @@ def served_faults(tab, program):
 KINK, FINGER = 'button[value="r1 add 1 under plus"]', 'button[value="r2 add 1 left 3 left"]'
 LESSONS = [
     ("type", "PD[X[1,4,2,5], X[3,6,4,1], X[5,2,6]]"), ("press", "#draw"), ("type", TREFOIL), ("press", "#draw"),
-    ("click", '.target[href="#crossing-1"]'), ("click", '.state[data-state="000"]'), ("click", "#choices button:nth-of-type(1)"),
+    ("click", '.target[href="#crossing-1"]'), ("click", '.state[data-state="000"]'), ("click", "#choices .choice:nth-of-type(2)"),
     ("click", '.grid a[href="#cell_-5_-2"]'), ("click", '.grid a[href="#cell_-7_-3"]'), ("press", 'button[value^="trefoil"]'),
     ("press", KINK), ("click", '.state[data-state="0000"]'), ("press", 'button[value="undo"]'), ("press", 'button[value="redo"]'),
     ("press", 'button[value="undo"]'), ("press", FINGER), ("type", "braid: 1 2 1"), ("press", "#draw"), ("press", 'button[value="r3 1 2 3"]'),

@@ -7,14 +7,16 @@ import contextlib
 import itertools
 import os
 import socket
+import subprocess
 import tempfile
 import threading
 import time
 
 from rows.texts import TREFOIL
 from shared import documents
-from shared.places import DATA
-from shared.serving import Serving
+from shared.places import TOP
+from shared.running import PATIENCE
+from shared.serving import KH_PAGE, Serving
 
 # Texts that are typed, and what stands on the page behind them: its heading and a sentence.
 TYPED = [
@@ -26,6 +28,7 @@ TYPED = [
     ("a DT code", "DT: [(4, 6, 2)]", "A diagram", "3 crossings (3 positive, 0 negative)"),
     ("JSON", "[[1,4,2,5],[3,6,4,1],[5,2,6,3]]", "A diagram", "3 crossings (0 positive, 3 negative)"),
     ("a loop", "unknot", "unknot", "1 loop"),
+    ("a long name", "n" * 300 + ": 4_1", "n" * 80, "4 crossings"),
     ("two codes", TREFOIL + "\n4_1", "A diagram", "Of 2 codes the first is shown."),
     ("a code with a tag in its name", "<script>alert(1)</script>: 4_1", "<script>alert(1)</script>", "4 crossings"),
 ]
@@ -40,7 +43,7 @@ WRONG = [
     ("a tag", "<b>&amp;", "<b>&amp;"),
     ("words for a shell", "$(touch /tmp/x); `id` | true", "^"),
     ("too many crossings", "T(2,25)", "20"),
-    ("many brackets", "[" * 60_000, "its brackets are too deep"),
+    ("many brackets", "[" * 60_000, "no code has so many brackets in one another"),
 ]
 # Lines that are no moves.
 NO_MOVES = ["r1 add 1 under plus; touch x", "homology", "r3 1 2 3\nr1 drop 1", "", "undo ", "r1 add 1111 under plus", "look 1 1", "--help"]
@@ -309,9 +312,18 @@ def end_at_work_fault(program):
     return "the run goes on"
 
 
+def no_program_fault():
+    """Without a program that answers it says so, and ends."""
+    for path, wanted in (("/bin/false", "gives no answer: status 1"), ("/nowhere", "No such file")):
+        came = subprocess.run([KH_PAGE, "--kh", path], capture_output=True, text=True, stdin=subprocess.DEVNULL, timeout=PATIENCE)
+        if came.returncode != 1 or came.stdout or not came.stderr.startswith("kh-page: ") or wanted not in came.stderr:
+            return f"{path}: {came}"
+    return None
+
+
 def first_fault(program):
     """It begins with a code of a file."""
-    with Serving(program, f"{DATA}/../../examples/hopf.pd") as serving:
+    with Serving(program, os.path.join(TOP, "examples", "hopf.pd")) as serving:
         page = serving.get(serving.first)
         return None if page.status == 200 and documents.read(page.text).one("h1").text() == "hopf" else f"{page.status}"
 
@@ -341,3 +353,4 @@ def faults(program):
     yield "Control-C", end_fault(program)
     yield "Control-C at work", end_at_work_fault(program)
     yield "a file to begin with", first_fault(program)
+    yield "no program", no_program_fault()

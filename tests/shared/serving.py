@@ -8,6 +8,7 @@ import urllib.parse
 
 from shared.places import TOP
 
+KH_PAGE = os.path.join(TOP, "kh-page")
 ADDRESS = re.compile(r"kh-page: open http://127\.0\.0\.1:(\d+)/([\w-]+)/(\d*)\n")
 SECONDS = 120
 
@@ -28,7 +29,7 @@ class Serving:
     """A server on a port of its own. It is ended behind a `with`."""
 
     def __init__(self, program, *words):
-        path = [os.path.join(TOP, "kh-page"), "--kh", os.path.abspath(program), *words]
+        path = [KH_PAGE, "--kh", os.path.abspath(program), *words]
         self.process = subprocess.Popen(path, stdin=subprocess.DEVNULL, stdout=subprocess.PIPE, stderr=subprocess.PIPE, text=True)
         found = ADDRESS.fullmatch(self.process.stdout.readline())
         if not found:
