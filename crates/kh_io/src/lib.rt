@@ -3,6 +3,8 @@
 #![tactic(auto)]
 
 mod counts;
+mod laws;
+mod limits;
 mod mem_sink;
 mod mem_source;
 mod sink;
@@ -12,6 +14,8 @@ mod std_edge;
 mod tests;
 mod transfer;
 
+pub use laws::limits_of_reads;
+pub use limits::READ_BYTES;
 pub use mem_sink::MemSink;
 pub use mem_source::MemSource;
 pub use sink::Sink;

@@ -4,13 +4,11 @@ ghost use Rattle.std.specs.Prelude.{◌≡◌, ◌≢◌, ◌-◌, ◌^◌, ℕ,
 ghost use Rattle.std.specs.Io.KnownBytes.{Consumes, Appends, IsAtEnd};
 ghost use Rattle.kh_io.specs.Faults.{Rose, HasCause};
 
+use crate::limits::READ_BYTES;
 use crate::sink::Sink;
 use crate::source::{Failed, Source};
 use kh_types::INPUT_BYTES;
 use std::alloc::{AllocError, Global};
-
-/// The most bytes of one read.
-const READ_BYTES: usize = 4_096;
 
 /// Why a source was not read to its end.
 #[derive(Clone, Copy, Debug, PartialEq, Eq)]

@@ -5,3 +5,4 @@ pub mod DiagramReadings
 pub mod JonesLemmas
 pub mod ReplyStatuses
 pub mod UnionReplies
+pub mod RunLemmas

@@ -1,9 +1,10 @@
 -- From the bytes of an input to the code of a diagram, or to the reply that refuses them. All of it is this project's rule.
-use Rattle.std.specs.Prelude.{◌≡◌, ◌⊎◌, ℕ, List, nat_eq, not, if◌then◌else◌, Option, Result, Ok, Err, None, Some}
+use Rattle.std.specs.Prelude.{◌≡◌, ◌⊎◌, ℕ, ◌≤◌, List, length, nat_eq, not, if◌then◌else◌, IsTrue, Option, Result, Ok, Err, None, Some}
 use Rattle.std.specs.List.{find}
 use Rattle.kh_types.specs.Code.{Code}
-use Rattle.kh_types.specs.Acceptance.{first_fault}
+use Rattle.kh_types.specs.Acceptance.{accepted, first_fault}
 use Rattle.kh_types.specs.declared.fault.CodeFault.{CodeFault}
+use Rattle.kh_types.specs.declared.limits.TheConstants.{INPUT_BYTES}
 use Rattle.kh_lex.specs.Cuts.{is_blank}
 use Rattle.pd_code.specs.Reading as pd
 use Rattle.gauss_code.specs.Reading as gauss
@@ -66,3 +67,9 @@ pub record IsFaulty (bytes : List ℕ) (reply : Reply) : Type 0 where
 abbrev pub IsDiagramRead : List ℕ → Result Code Reply → Type 0
 IsDiagramRead bytes (Ok code) = IsCodeRead bytes (Ok code) × (first_fault code ≡ None)
 IsDiagramRead bytes (Err reply) = IsCodeRead bytes (Err reply) ⊎ IsFaulty bytes reply
+
+-- the bytes of an input are the text of the code of an accepted diagram
+pub record IsDiagramText (bytes : List ℕ) (code : Code) : Type 0 where
+  pub few_bytes : length bytes ≤ INPUT_BYTES
+  pub read : IsCodeRead bytes (Ok code)
+  pub is_accepted : IsTrue (accepted code)

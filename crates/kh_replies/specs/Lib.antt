@@ -12,3 +12,5 @@ pub mod Draw
 pub mod Turns
 pub mod Union
 pub mod Check
+pub mod Told
+pub mod Runs

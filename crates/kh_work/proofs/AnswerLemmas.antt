@@ -42,7 +42,8 @@ use Rattle.kh_work.specs.Answer.{IsBlindReply, IsIntakeReply, IsNumberReply, IsL
 use Rattle.kh_work.specs.declared.draft.Draft.{Draft}
 use Rattle.kh_work.specs.Drafts.{reply_in}
 use Rattle.kh_work.specs.Runs.{IsBlindAnswer}
-use Rattle.kh_work.specs.Told.{IsKnownAnswer, IsKnownReply, IsReadOut}
+use Rattle.kh_work.specs.Told.{IsKnownAnswer, IsKnownReply}
+use Rattle.kh_replies.specs.Told.{IsReadOut}
 use Rattle.kh_work.proofs.ReplyLemmas.{cond-false, cond-true, IsCommandReply-few, less-false, less-true}
 
 -- nothing of a source is needed where the bytes do not matter

@@ -22,10 +22,10 @@ use Rattle.kh_replies.specs.declared.status.Status.TheVariants.{Done}
 use Rattle.kh_work.specs.Answer.{IsAnswer}
 use Rattle.kh_replies.specs.Jones.{jones_line}
 use Rattle.kh_replies.specs.Replies.{Reply, reply_of}
-use Rattle.kh_replies.specs.Statuses.{IsWhole}
 use Rattle.kh_replies.proofs.TextFaults.{few_crossings-read}
-use Rattle.kh_work.specs.Runs.{IsProgramRun, IsUndisturbed, Seen, IsAcceptedText, HasWrittenHomology, KeepsHeadline}
-use Rattle.kh_work.specs.Told.{Gives}
+use Rattle.kh_replies.specs.Told.{Gives, Seen}
+use Rattle.kh_replies.proofs.RunLemmas.{whole-undisturbed}
+use Rattle.kh_work.specs.Runs.{IsProgramRun, IsAcceptedText, HasWrittenHomology, KeepsHeadline, request_of}
 use Rattle.kh_work.proofs.AnswerLemmas.{IsAnswer-table}
 use Rattle.kh_work.proofs.OneAnswer.{HaveOneReply-task, IsAnswer-one}
 
@@ -65,7 +65,7 @@ headline-answer : (words : List (List ℕ)) (bytes : List ℕ) (command : Comman
 headline-answer words bytes command code reply is_command is_homology text is_answer =
     IsAnswer-one words bytes reply (reply_of Done (table_text (table command.field code) ++ jones_line code))
     (HaveOneReply-task words command Homology is_command is_homology (λ same. cc)) is_answer
-    (IsAnswer-table words bytes command code is_command is_homology text.few_bytes text.read text.is_accepted text.few_generators)
+    (IsAnswer-table words bytes command code is_command is_homology text.diagram.few_bytes text.diagram.read text.diagram.is_accepted text.few_generators)
     ∙ jones_line-sum command.field code
 
 -- what a run has written is this text
@@ -79,27 +79,16 @@ written-headline status before after field code reply is_field is_accepted few i
       sum = sum-table field code is_field is_accepted few;
     }
 
--- a run that nothing disturbed has written its answer whole
-pub whole-undisturbed : (words : List (List ℕ)) (source_before source_after sink_before sink_after : Seen)
-    (same_source same_sink : Type 0) (status : Status)
-    → IsProgramRun words source_before source_after sink_before sink_after same_source same_sink status
-    → IsUndisturbed source_before source_after sink_before sink_after status → IsWhole status
-whole-undisturbed words source_before source_after sink_before sink_after same_source same_sink status is_run undisturbed =
-    elim (is_run.complete undisturbed.reading undisturbed.writing) [
-      | inl whole ↦ whole
-      | inr is ↦ absurd (undisturbed.memory is)
-    ]
-
 pub headline-run : (words : List (List ℕ)) (source_before source_after sink_before sink_after : Seen)
     (same_source same_sink : Type 0) (status : Status)
     → IsProgramRun words source_before source_after sink_before sink_after same_source same_sink status
     → KeepsHeadline words source_before source_after sink_before sink_after status
 headline-run words source_before source_after sink_before sink_after same_source same_sink status is_run
     bytes command code is_bytes is_command is_homology text undisturbed =
-    let whole = whole-undisturbed words source_before source_after sink_before sink_after same_source same_sink status is_run undisturbed in
+    let whole = whole-undisturbed (request_of words) source_before source_after sink_before sink_after same_source same_sink status is_run undisturbed in
     let Answered : Option (List ℕ) → Type 0 = λ known. IfSome known (λ all.
     (reply : Reply) × IsAnswer words all reply × Gives reply status sink_before.bytes sink_after.bytes) in
     let told = subst Answered is_bytes (is_run.answered whole) in
-    written-headline status sink_before.bytes sink_after.bytes command.field code told.0 (IsCommand-sizes words command is_command).0 text.is_accepted
-    (few_crossings-read bytes code text.read)
+    written-headline status sink_before.bytes sink_after.bytes command.field code told.0 (IsCommand-sizes words command is_command).0
+    text.diagram.is_accepted (few_crossings-read bytes code text.diagram.read)
     (headline-answer words bytes command code told.0 is_command is_homology text told.1) told.2

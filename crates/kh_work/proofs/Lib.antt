@@ -6,7 +6,6 @@ pub mod EditLemmas
 pub mod OneAnswer
 pub mod VerifyLemmas
 pub mod Headlines
-pub mod Written
 pub mod Workers
 pub mod TurnAnswers
 pub mod ReducedAnswers

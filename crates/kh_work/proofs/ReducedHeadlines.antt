@@ -23,9 +23,10 @@ use Rattle.kh_replies.specs.Replies.{Reply, reply_of}
 use Rattle.kh_replies.proofs.TextFaults.{few_crossings-read}
 use Rattle.kh_work.specs.Answer.{IsAnswer}
 use Rattle.kh_work.specs.Reduced.{mark_line}
-use Rattle.kh_work.specs.Runs.{IsProgramRun, Seen, IsAcceptedText, HasWrittenReduced, KeepsReduced}
-use Rattle.kh_work.specs.Told.{Gives}
-use Rattle.kh_work.proofs.Headlines.{field-sized, whole-undisturbed}
+use Rattle.kh_replies.specs.Told.{Gives, Seen}
+use Rattle.kh_replies.proofs.RunLemmas.{whole-undisturbed}
+use Rattle.kh_work.specs.Runs.{IsProgramRun, IsAcceptedText, HasWrittenReduced, KeepsReduced, request_of}
+use Rattle.kh_work.proofs.Headlines.{field-sized}
 use Rattle.kh_work.proofs.OneAnswer.{HaveOneReply-task, IsAnswer-one}
 use Rattle.kh_work.proofs.ReducedAnswers.{IsAnswer-reduced}
 
@@ -47,7 +48,7 @@ reduced-answer words bytes command mark code reply is_command is_reduced is_give
     IsAnswer-one words bytes reply
     (reply_of Done (mark_line mark ++ (table_text (reduced_table command.field code mark) ++ jones_line code)))
     (HaveOneReply-task words command Reduced is_command is_reduced (λ same. cc)) is_answer
-    (IsAnswer-reduced words bytes command mark code is_command is_reduced is_given text.few_bytes text.read text.is_accepted marked
+    (IsAnswer-reduced words bytes command mark code is_command is_reduced is_given text.diagram.few_bytes text.diagram.read text.diagram.is_accepted marked
     text.few_generators)
     ∙ jones_line-marked command.field mark code
 
@@ -70,10 +71,10 @@ pub reduced-run : (words : List (List ℕ)) (source_before source_after sink_bef
     → KeepsReduced words source_before source_after sink_before sink_after status
 reduced-run words source_before source_after sink_before sink_after same_source same_sink status is_run
     bytes command mark code is_bytes is_command is_reduced is_given text marked undisturbed =
-    let whole = whole-undisturbed words source_before source_after sink_before sink_after same_source same_sink status is_run undisturbed in
+    let whole = whole-undisturbed (request_of words) source_before source_after sink_before sink_after same_source same_sink status is_run undisturbed in
     let Answered : Option (List ℕ) → Type 0 = λ known. IfSome known (λ all.
     (reply : Reply) × IsAnswer words all reply × Gives reply status sink_before.bytes sink_after.bytes) in
     let told = subst Answered is_bytes (is_run.answered whole) in
     written-reduced status sink_before.bytes sink_after.bytes command.field mark code told.0 (IsCommand-sizes words command is_command).0
-    text.is_accepted (few_crossings-read bytes code text.read) marked
+    text.diagram.is_accepted (few_crossings-read bytes code text.diagram.read) marked
     (reduced-answer words bytes command mark code told.0 is_command is_reduced is_given text marked told.1) told.2

@@ -1,17 +1,18 @@
 //! From words and the bytes of a source to a draft of the reply.
 
-ghost use Rattle.std.specs.Prelude.{◌≡◌, ◌≤◌, ℕ, length, IfOk, IsSome, None, OnOk, Some, Err};
+ghost use Rattle.std.specs.Prelude.{◌≡◌, ◌≢◌, ◌≤◌, ℕ, length, IfOk, IsSome, None, OnOk, Some, Err};
 ghost use Rattle.kh_io.specs.Faults.{Rose};
 ghost use Rattle.kh_replies.specs.Intakes.{intake_of};
 ghost use Rattle.kh_replies.specs.Statuses.{IsReplyStatus, IsWhole};
 ghost use Rattle.kh_replies.specs.DiagramReplies.{IsDiagramReply};
 ghost use Rattle.kh_replies.specs.Parts.{code_part, part_behind};
+ghost use Rattle.kh_replies.specs.Told.{IsReadOut, IsTaken};
 ghost use Rattle.kh_work.specs.Answer.{IsBlindReply, IsCodeReply, IsCommandReply, IsReplayReply, IsScriptedReply, IsTwoCodesReply, ReadsNothing, ReadsUpTo};
 ghost use Rattle.kh_work.specs.ByteLimits.{AreWithin, byte_limit};
 ghost use Rattle.kh_work.specs.Drafts.{IsReady, reply_in};
 ghost use Rattle.kh_work.specs.Reduced.{IsReducedReply};
 ghost use Rattle.kh_work.specs.Runs.{IsBlindAnswer};
-ghost use Rattle.kh_work.specs.Told.{IsKnownAnswer, IsKnownReply, IsTaken, IsReadOut};
+ghost use Rattle.kh_work.specs.Told.{IsKnownAnswer, IsKnownReply};
 ghost use Rattle.cancel_log.specs.declared.limits.TheConstants.{LOG_BYTES};
 ghost use Rattle.kh_types.specs.declared.limits.TheConstants.{LOOPS};
 ghost use Rattle.word_line.specs.Commands.{IsUsage};
@@ -23,34 +24,15 @@ use crate::commands::{
     reply_to_schedule, reply_to_verify,
 };
 use crate::draft::Draft;
-use kh_io::{ReadStop, Source, read_most};
+use kh_io::Source;
 use kh_replies::{
-    InputStop, Intake, Status, code_part, intake_of, part_behind, read_diagram, reply_to_check,
-    reply_to_convert, reply_to_draw, reply_to_jones, reply_to_mirror, reply_to_reverse,
-    reply_to_union, too_many_bytes, usage,
+    Input, InputStop, Intake, ReplyStop, Status, code_part, intake_of, part_behind, read_diagram,
+    read_input, reply_to_check, reply_to_convert, reply_to_draw, reply_to_jones, reply_to_mirror,
+    reply_to_reverse, reply_to_union, usage,
 };
 use kh_types::{Diagram, INPUT_BYTES, NoMemory, Words};
 use std::alloc::Global;
 use word_line::{Command, Task, WordStop, read_words};
-
-/// Why there is no reply. Source: this project's rule.
-#[derive(Clone, Copy, Debug, PartialEq, Eq)]
-pub enum ReplyStop {
-    /// The source failed while it was read.
-    ReadFault,
-    /// The run is out of memory.
-    NoMemory,
-}
-
-impl From<NoMemory> for ReplyStop {
-    ghost use Rattle.kh_work.specs.declared.answer.ReplyStop.{ReplyStop};
-
-    ghost from_gives = { λ _ stop. stop ≡ ReplyStop.NoMemory };
-
-    fn from(_: NoMemory) -> Self {
-        ReplyStop::NoMemory
-    }
-}
 
 /// A draft of the reply to words and a source, which is read where the words mean a command that
 /// reads. Source: this project's rule.
@@ -69,7 +51,8 @@ pub fn draft_to<S: Source>(alloc: Global, words: &Words, source: &mut S) -> Resu
         → OnOk result (IsReadOut limit (S.left source.old) (S.left source.new)) }
     ensures fault { result ≡ Err ReplyStop.ReadFault
         → Rose (S.faults source.old) (S.faults source.new) }
-    ensures quiet { OnOk result (S.faults source.new ≡ S.faults source.old) }
+    ensures stayed { result ≢ Err ReplyStop.ReadFault
+        → S.faults source.new ≡ S.faults source.old }
 {
     match read_words(alloc, words) {
         Ok(command) => draft_to_command(alloc, command, source),
@@ -99,7 +82,8 @@ fn draft_to_command<S: Source>(
         → OnOk result (IsReadOut limit (S.left source.old) (S.left source.new)) }
     ensures fault { result ≡ Err ReplyStop.ReadFault
         → Rose (S.faults source.old) (S.faults source.new) }
-    ensures quiet { OnOk result (S.faults source.new ≡ S.faults source.old) }
+    ensures stayed { result ≢ Err ReplyStop.ReadFault
+        → S.faults source.new ≡ S.faults source.old }
 {
     match byte_limit(intake_of(command.task)) {
         None => Ok(draft_to_number(alloc, command)?),
@@ -143,13 +127,12 @@ fn draft_to_source<S: Source>(
     ensures read_out { OnOk result (IsReadOut limit (S.left source.old) (S.left source.new)) }
     ensures fault { result ≡ Err ReplyStop.ReadFault
         → Rose (S.faults source.old) (S.faults source.new) }
-    ensures quiet { OnOk result (S.faults source.new ≡ S.faults source.old) }
+    ensures stayed { result ≢ Err ReplyStop.ReadFault
+        → S.faults source.new ≡ S.faults source.old }
 {
-    match read_most(alloc, source, limit) {
-        Ok(bytes) => Ok(draft_to_bytes(alloc, command, &bytes)?),
-        Err(ReadStop::ByteLimit) => Ok(Draft::Made(too_many_bytes(alloc, limit)?)),
-        Err(ReadStop::Fault) => Err(ReplyStop::ReadFault),
-        Err(ReadStop::NoMemory) => Err(ReplyStop::NoMemory),
+    match read_input(alloc, source, limit)? {
+        Input::Bytes(bytes) => Ok(draft_to_bytes(alloc, command, &bytes)?),
+        Input::Refused(reply) => Ok(Draft::Made(reply)),
     }
 }
 

@@ -1,12 +1,14 @@
 //! The top calls: they read, answer and write.
 
 ghost use Rattle.std.specs.Prelude.{◌≡◌};
-ghost use Rattle.kh_work.specs.Runs.{IsProgramRun, IsReplied, IsWritten, KeepsHeadline, KeepsReduced, seen};
+ghost use Rattle.kh_replies.specs.Runs.{IsReplied};
+ghost use Rattle.kh_replies.specs.Told.{seen};
+ghost use Rattle.kh_work.specs.Runs.{IsProgramRun, KeepsHeadline, KeepsReduced, request_of};
 
-use crate::answer::{ReplyStop, draft_to};
+use crate::answer::draft_to;
 use crate::completion::{completed_alone, completed_by};
-use kh_io::{Sink, Source, write_all};
-use kh_replies::{Reply, Status};
+use kh_io::{Sink, Source};
+use kh_replies::{Reply, ReplyStop, Status, written};
 use kh_types::Words;
 use std::alloc::Global;
 use std::sync::Wait;
@@ -71,7 +73,7 @@ fn reply_by<R: Threads + Wait + Sync, S: Source, G: Gate + Sync>(
     source: &mut S,
     gate: &G,
 ) -> Result<Reply, ReplyStop>
-    ensures { IsReplied words.now
+    ensures { IsReplied (request_of words.now)
         (seen (S.left source.old) (S.faults source.old)) (seen (S.left source.new) (S.faults source.new))
         (source.new ≡ source.old) result }
 {
@@ -81,26 +83,10 @@ fn reply_by<R: Threads + Wait + Sync, S: Source, G: Gate + Sync>(
 
 /// The reply to words and a source, made with no other thread.
 fn reply_alone<S: Source>(alloc: Global, words: &Words, source: &mut S) -> Result<Reply, ReplyStop>
-    ensures { IsReplied words.now
+    ensures { IsReplied (request_of words.now)
         (seen (S.left source.old) (S.faults source.old)) (seen (S.left source.new) (S.faults source.new))
         (source.new ≡ source.old) result }
 {
     let draft = draft_to(alloc, words, source)?;
     Ok(completed_alone(alloc, draft)?)
-}
-
-/// Writes a reply, if there is one, and answers how the run ends.
-fn written<K: Sink>(sink: &mut K, made: Result<Reply, ReplyStop>) -> Status
-    ensures { IsWritten made
-        (seen (K.written sink.old) (K.faults sink.old)) (seen (K.written sink.new) (K.faults sink.new))
-        (sink.new ≡ sink.old) result }
-{
-    match made {
-        Ok(reply) => match write_all(sink, reply.bytes()) {
-            Ok(()) => reply.status(),
-            Err(_) => Status::WriteFault,
-        },
-        Err(ReplyStop::ReadFault) => Status::ReadFault,
-        Err(ReplyStop::NoMemory) => Status::NoMemory,
-    }
 }

@@ -1,13 +1,14 @@
 use Rattle.std.proofs.Common.{◌≡◌}
-use Rattle.kh_work.specs.Runs.{seen}
+use Rattle.kh_replies.specs.Told.{seen}
+use Rattle.kh_replies.proofs.RunLemmas.{IsRun-written}
+use Rattle.kh_work.specs.Runs.{request_of}
 use Rattle.kh_work.proofs.Headlines.{headline-run}
 use Rattle.kh_work.proofs.ReducedHeadlines.{reduced-run}
-use Rattle.kh_work.proofs.Written.{IsProgramRun-written}
 use Rattle.kh_work.proofs.top.run.Goals as goal
 
 pub returns-clause-run : goal.returns-clause-run
 returns-clause-run g c =
-    IsProgramRun-written c.args.words.now (seen (g.S.Source.left c.args.source.now) (g.S.Source.faults c.args.source.now))
+    IsRun-written (request_of c.args.words.now) (seen (g.S.Source.left c.args.source.now) (g.S.Source.faults c.args.source.now))
     (seen (g.S.Source.left c.reply_by-made.new.source) (g.S.Source.faults c.reply_by-made.new.source))
     (seen (g.K.Sink.written c.args.sink.now) (g.K.Sink.faults c.args.sink.now))
     (seen (g.K.Sink.written c.written.new.sink) (g.K.Sink.faults c.written.new.sink))
