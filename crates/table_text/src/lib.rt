@@ -14,6 +14,6 @@ mod words;
 pub use jones_line::print_jones;
 pub use jones_sum::{Row, Table};
 pub use limits::{FIRST_CROSSINGS, FIRST_EXPONENT, TABLE_BYTES};
-pub use printer::print_table;
+pub use printer::{head_text, print_table, push_line};
 pub use reader::read_table;
 pub use stop::TableStop;

@@ -1,6 +1,6 @@
 //! Prints homology tables.
 
-ghost use Rattle.std.specs.Prelude.{◌≡◌, ◌++◌, string_bytes, IfOk, OnOk};
+ghost use Rattle.std.specs.Prelude.{◌≡◌, [], ◌++◌, string_bytes, IfOk, OnOk};
 ghost use Rattle.kh_types.specs.Table.{row_text, table_text};
 
 use jones_sum::{Row, Table};
@@ -13,18 +13,33 @@ pub fn print_table(alloc: Global, table: &Table) -> Result<Vec<u8>, NoMemory>
     ensures { IfOk result (λ text. text.items ≡ table_text table.now) }
 {
     let rows = table.rows();
-    let mut text = format!(in alloc; "table 2\nfield {}\n", table.field())?;
+    let mut text = head_text(alloc, table.field())?;
     'rows: for row in rows {
-        push_row(alloc, &mut text, *row)?;
+        push_line(alloc, &mut text, row.j, row.i, u128::from(row.dim))?;
     }
     Ok(text.into_bytes())
 }
 
-/// Adds the line of a row.
-fn push_row(alloc: Global, text: &mut String, row: Row) -> Result<(), NoMemory>
-    ensures { OnOk result (string_bytes text.new ≡ string_bytes text.old ++ row_text row) }
+/// The text of a table without rows, behind which `push_line` puts the lines of rows.
+pub fn head_text(alloc: Global, field: u8) -> Result<String, NoMemory>
+    ensures { IfOk result (λ text.
+        string_bytes text ≡ table_text (record { field = field; rows = [] })) }
 {
-    let line = row_text(alloc, row)?;
+    Ok(format!(in alloc; "table 2\nfield {field}\n")?)
+}
+
+/// Adds the line of a row to a text.
+pub fn push_line(
+    alloc: Global,
+    text: &mut String,
+    j: i16,
+    i: i16,
+    dim: u128,
+) -> Result<(), NoMemory>
+    ensures { OnOk result (string_bytes text.new
+        ≡ string_bytes text.old ++ row_text (record { j = j; i = i; dim = dim })) }
+{
+    let line = line_text(alloc, j, i, dim)?;
     text.push_str(line.as_str())?;
     Ok(())
 }
@@ -33,6 +48,13 @@ fn push_row(alloc: Global, text: &mut String, row: Row) -> Result<(), NoMemory>
 pub fn row_text(alloc: Global, row: Row) -> Result<String, NoMemory>
     ensures { IfOk result (λ text. string_bytes text ≡ row_text row) }
 {
-    let (j, i, dim) = (row.j, row.i, row.dim);
+    line_text(alloc, row.j, row.i, u128::from(row.dim))
+}
+
+/// The line of a row with these numbers.
+fn line_text(alloc: Global, j: i16, i: i16, dim: u128) -> Result<String, NoMemory>
+    ensures { IfOk result (λ text.
+        string_bytes text ≡ row_text (record { j = j; i = i; dim = dim })) }
+{
     Ok(format!(in alloc; "j {j} i {i} dim {dim}\n")?)
 }
