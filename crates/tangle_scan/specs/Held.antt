@@ -78,7 +78,7 @@ pub record IsColumn (p n : ℕ) (column : List Entry) : Type 0 where
 pub record AreObjects (done : ℕ) (opened : List ℕ) (objects : List Object) : Type 0 where
   pub pairs : All (λ object. opened ≡ paired_arcs object.pairing.partners) objects
   pub degrees : All (λ object. object.degree ≤ done) objects
-  pub least : All (λ object. pos 0 ≤ℤ object.shift +ℤ pos (2 * done)) objects
+  pub least : All (λ object. pos 0 ≤ℤ (object.shift +ℤ pos (2 * done))) objects
   pub most : All (λ object. object.shift ≤ℤ pos (2 * done)) objects
 
 -- the maps out of the object at a place lead to objects of the next degree
@@ -113,10 +113,10 @@ scan_at front complex = scan_behind front.done front.opened.items complex
 -- the map from one object to another is a number times the identity, as the program tells it: both are there, and have the same
 -- partners, and its one term has no dots
 pub record IsPivot (complex : TangleComplex) (tail head number : ℕ) : Type 0 where
-  pub tail : is_alive_at complex.objects.items tail ≡ true
-  pub head : is_alive_at complex.objects.items head ≡ true
+  pub is_there : is_alive_at complex.objects.items tail ≡ true
+  pub leads_there : is_alive_at complex.objects.items head ≡ true
   pub partners : partners_at complex.objects.items head ≡ partners_at complex.objects.items tail
-  pub number : number_in (terms_between complex tail head) ≡ Some number
+  pub told : number_in (terms_between complex tail head) ≡ Some number
 
 -- no map is a number other than 0 times the identity
 abbrev pub HasNoPivot : TangleComplex → Type 0
