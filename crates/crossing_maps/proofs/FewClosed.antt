@@ -1,7 +1,7 @@
 -- A crossing closes at most two circles.
 -- A closed circle is named by its least arc, and this arc is at the crossing: an arc near the crossing that is not at it stays open. A
 -- smoothing joins the four ends at the crossing in two pairs. So the name is one of two classes, and no name stands twice.
-use Rattle.std.proofs.Common.{◌≡◌, ◌⊎◌, ℕ, inl, inr, ◌+◌, ◌*◌, ◌<◌, ◌≤◌, ◌∙◌, List, [], ◌∷◌, ◌++◌, length, refl, sym, ap, arith, Bool, true, false, cond, not, ◌||◌}
+use Rattle.std.proofs.Common.{◌≡◌, ◌⊎◌, ℕ, inl, inr, ◌+◌, ◌<◌, ◌≤◌, ◌∙◌, List, [], ◌∷◌, ◌++◌, length, sym, ap, arith, Bool, true, false, cond, not, ◌||◌}
 use Rattle.std.specs.Prelude.{nat_eq, nat_lt, slice_index, slice_index_or}
 use Rattle.std.specs.List.{count_by, filter, list_any, AllByRecursion, Contains}
 use Rattle.std.proofs.lemmas.Bool.{both_ways, cases_eq, eq-eqb, eqb-true}
@@ -19,7 +19,7 @@ use Rattle.added_crossings.proofs.Classes.{AreAmong-below, Respects-second}
 use Rattle.added_crossings.proofs.CodeSteps.{ends_before-more}
 use Rattle.added_crossings.proofs.CodeSums.{joins-near}
 use Rattle.added_crossings.proofs.Members.{All-contained, are-those, filter-kept, those-are}
-use Rattle.crossing_maps.specs.Sites.{IsPlace, ends_of}
+use Rattle.crossing_maps.specs.Sites.{IsPlace}
 use Rattle.crossing_maps.proofs.Placed.{near-distinct}
 use Rattle.crossing_maps.proofs.SiteArcs.{ends-same}
 

@@ -11,6 +11,8 @@ pub mod SeamTerms
 pub mod Placed
 pub mod NewLemmas
 pub mod SeamPlaces
-pub mod PlaceLaws
+pub mod Composable
+pub mod AddedTerms
 pub mod FewClosed
+pub mod PlaceLaws
 pub mod PairedPartners

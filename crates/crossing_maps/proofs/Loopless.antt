@@ -1,6 +1,6 @@
 -- A loop has no end: what is open, or near a crossing, is an arc.
 use Rattle.std.proofs.Common.{◌≡◌, ℕ, inl, inr, ◌+◌, ◌-◌, ◌*◌, ◌/◌, ◌%◌, ◌<◌, ◌≤◌, ◌∙◌, List, [], ◌∷◌, ◌++◌, length, refl, ap, ap₂, arith, Bool, true, false, cond, ◌||◌}
-use Rattle.std.specs.Prelude.{nat_eq, nat_lt, slice_index, slice_index_or}
+use Rattle.std.specs.Prelude.{nat_eq, nat_lt, slice_index_or}
 use Rattle.std.specs.List.{filter, range_with_len, AllByRecursion, Contains}
 use Rattle.std.proofs.lemmas.Bool.{cases_lt, both_ways}
 use Rattle.std.proofs.lemmas.Bool.Decides.{nat_tests}

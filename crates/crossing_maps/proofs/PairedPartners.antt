@@ -1,7 +1,7 @@
 -- Partners are a pairing of the arcs that have one: each of these is an end of exactly one pair.
-use Rattle.std.proofs.Common.{◌≡◌, ℕ, inl, inr, ◌+◌, ◌≤◌, ◌<◌, ◌∙◌, List, [], ◌∷◌, sym, subst, ap, arith, Bool, cond}
+use Rattle.std.proofs.Common.{◌≡◌, ℕ, inl, inr, ◌+◌, ◌≤◌, ◌∙◌, List, [], ◌∷◌, sym, subst, ap, arith, Bool, cond}
 use Rattle.std.specs.Prelude.{nat_eq}
-use Rattle.std.specs.List.{count_by, flat_map, sum_by, Contains}
+use Rattle.std.specs.List.{count_by, sum_by, Contains}
 use Rattle.std.proofs.lemmas.Bool.{eq-eqb}
 use Rattle.std.proofs.lemmas.Bool.Decides.{nat_tests}
 use Rattle.std.proofs.lemmas.List.Sorted.{sum_by-IsPermutation}

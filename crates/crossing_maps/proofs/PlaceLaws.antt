@@ -1,31 +1,31 @@
 -- What a place of a code tells of arcs, and that the seams there can be composed over.
-use Rattle.std.proofs.Common.{ℕ, ◌+◌, ◌<◌, ◌≤◌, List, [], ◌++◌, length, sym, subst, ap, arith, Bool}
-use Rattle.std.specs.Prelude.{slice_index, slice_index_or}
+use Rattle.std.proofs.Common.{ℕ, ◌+◌, ◌<◌, ◌≤◌, List, [], ◌++◌, length, refl, sym, subst, ap, arith, Bool}
+use Rattle.std.specs.Prelude.{slice_index_or}
 use Rattle.std.specs.List.{filter, range_with_len, AllByRecursion, Contains}
-use Rattle.std.proofs.lemmas.List.{length-map}
 use Rattle.std.proofs.lemmas.List.FromFn.{length-range_with_len}
 use Rattle.std.proofs.lemmas.List.Sums.{count_by-le-length, length-filter}
 use Rattle.kh_types.specs.Classes.{classes_of, is_least}
 use Rattle.kh_types.specs.Code.{Code, arc_count, arc_in}
-use Rattle.dotted_surfaces.specs.Points.{least_points}
-use Rattle.dotted_surfaces.proofs.Components.{AllByRecursion-at, AllByRecursion-weaker}
-use Rattle.dotted_maps.proofs.LeastPoints.{AllByRecursion-filter, AreJoins}
+use Rattle.dotted_surfaces.specs.Points.{AreAmong}
 use Rattle.added_crossings.specs.Codes.{closed_at, discs_behind, is_open, pairing_behind, points_at, smoothing_at, step_at}
 use Rattle.added_crossings.specs.Steps.{is_near, is_none_in, near, those}
 use Rattle.added_crossings.proofs.CodeSteps.{slot-near}
 use Rattle.added_crossings.proofs.Members.{All-contained, those-are}
 use Rattle.tangle_maps.specs.declared.pairing.TheConstants.{POINTS}
 use Rattle.tangle_maps.specs.declared.seam.Seam.{Seam}
-use Rattle.tangle_maps.specs.Pairings.{IsOpened}
 use Rattle.tangle_maps.specs.Seams.{CanCompose}
 use Rattle.crossing_maps.specs.AddedSeams.{ArePairs, IsSeamAt, joins_there}
 use Rattle.crossing_maps.specs.ListedPlaces.{IsArcs}
 use Rattle.crossing_maps.specs.Partners.{HasArcsBelow}
+use Rattle.crossing_maps.specs.Sides.{CanAdd, IsAround, IsSideAt, IsSiteAt, pairs_before}
 use Rattle.crossing_maps.specs.Sites.{IsPlace}
+use Rattle.crossing_maps.specs.declared.between.Side.{Side}
+use Rattle.crossing_maps.specs.declared.splitting.Site.{Site}
 use Rattle.crossing_maps.proofs.Loopless.{near-are, near-few, open-are}
-use Rattle.crossing_maps.proofs.Placed.{joins-there, within-there}
+use Rattle.crossing_maps.proofs.Composable.{composable}
+use Rattle.crossing_maps.proofs.FewClosed.{few-closed}
+use Rattle.crossing_maps.proofs.Placed.{joins-there, next-near, opened-near, within-there}
 use Rattle.crossing_maps.proofs.SeamPlaces.{arcs-filtered}
-use Rattle.crossing_maps.proofs.Values.{places-named}
 
 filter-shorter : (p : ℕ → Bool) (xs : List ℕ) → length (filter p xs) ≤ length xs
 filter-shorter p xs = omega (arith, length-filter p xs, count_by-le-length p xs)
@@ -62,28 +62,50 @@ closed-arcs code k smoothing m place =
 pub can-compose : (code : Code) (k first second : ℕ) (m n : List (ℕ × ℕ)) (ds lowers : List ℕ) (label other : ℕ) (seam : Seam)
     → ArePairs code k m n → IsSeamAt code k first second m n ds lowers label other seam → CanCompose seam
 can-compose code k first second m n ds lowers label other seam are is =
-    let joins = joins_there code k first second m n in
-    let around = near (step_at code k) in
-    let class : ℕ → ℕ = slice_index (classes_of POINTS joins) in
-    let rims = discs_behind code k first second m n in
-    let names = least_points POINTS around joins in
-    let all = near-arcs code k are.place in
-    let wide : AreJoins POINTS around joins =
-    record { below = all.below; among = (joins-there code k first second m n are).among } in
-    let parts : IsOpened seam.components.items =
-    subst (λ xs. IsOpened xs) (sym is.added.parts)
-    (AllByRecursion-filter (λ x. x < POINTS) (is_least (classes_of POINTS joins)) around all.below) in
-    let named : AllByRecursion (λ i. Contains seam.components.items i) seam.whole.items =
-    subst (λ xs. AllByRecursion (λ i. Contains xs i) seam.whole.items) (sym is.added.parts)
-    (subst (λ ys. AllByRecursion (λ i. Contains names i) ys) (sym is.added.whole)
-    (places-named POINTS around joins rims wide (within-there code k first second m n [] [] are tt tt).rims)) in
     let few = arcs-filtered POINTS
     (is_least (classes_of (arc_count code.crossings + code.loops + 1) (pairing_behind code k first m ++ pairing_behind code k second n)))
     (points_at code (k + 1)).opened (opened-arcs code k (k + 1) are.place) in
+    composable (near (step_at code k)) (discs_behind code k first second m n) (classes_of POINTS (joins_there code k first second m n))
+    (joins_there code k first second m n) seam
+    (record { below = (near-arcs code k are.place).below; among = (joins-there code k first second m n are).among }) refl
+    (within-there code k first second m n [] [] are tt tt).rims few.fits is.added.parts is.added.whole
+
+-- what a program keeps of a place of a code
+around-there : (code : Code) (k : ℕ) (site : Site) → IsPlace code k → IsSiteAt code k site → IsAround site
+around-there code k site place is =
+    let around = near (step_at code k) in
+    let Near : ℕ → Type 0 = λ x. Contains around x in
+    let before : AllByRecursion Near (points_at code k).opened =
+    All-contained Near (points_at code k).opened (λ x has. opened-near code k x has) in
+    let behind : AllByRecursion Near (points_at code (k + 1)).opened =
+    All-contained Near (points_at code (k + 1)).opened (λ x has. next-near code k x place has) in
     record {
-      parts = parts;
-      named = named;
-      discs = AllByRecursion-weaker (λ i. Contains seam.components.items i) (λ i. i < POINTS) seam.whole.items
-          (λ i has. AllByRecursion-at (λ x. x < POINTS) seam.components.items i parts has) named;
-      room = omega (arith, few.fits, ap (λ (xs : List ℕ). length xs) is.added.whole, length-map rims class);
+      opened = subst (λ xs. IsArcs POINTS xs) (sym is.before) (opened-arcs code k k place);
+      around = subst (λ xs. IsArcs POINTS xs) (sym is.here) (near-arcs code k place);
+      next = subst (λ xs. IsArcs POINTS xs) (sym is.behind) (opened-arcs code k (k + 1) place);
+      before = subst (λ xs. AllByRecursion (λ x. Contains xs x) site.opened.now) (sym is.here)
+          (subst (λ xs. AllByRecursion Near xs) (sym is.before) before);
+      behind = subst (λ xs. AllByRecursion (λ x. Contains xs x) site.next.now) (sym is.here)
+          (subst (λ xs. AllByRecursion Near xs) (sym is.behind) behind);
+      slots = λ slot below.
+          subst (λ xs. Contains xs (arc_in site.crossing.now slot)) (sym is.here)
+          (subst (λ slots. Contains around (arc_in slots slot)) (sym is.crossing)
+          (slot-near code k slot place.twice place.crossing below));
     }
+
+pub can-add : (code : Code) (k : ℕ) (site : Site) (from to : Side) → IsPlace code k → IsSiteAt code k site → IsSideAt code k site from
+    → IsSideAt code k site to → CanAdd site from to
+can-add code k site from to place is first second = record {
+  around = around-there code k site place is;
+  first = subst (λ xs. AreAmong xs (pairs_before site from)) (sym is.before) first.among;
+  second = subst (λ xs. AreAmong xs (pairs_before site to)) (sym is.before) second.among;
+  closed = subst (λ xs. IsArcs POINTS xs) (sym first.circles) (closed-arcs code k from.smoothing (pairs_before site from) place);
+  others = subst (λ xs. IsArcs POINTS xs) (sym second.circles) (closed-arcs code k to.smoothing (pairs_before site to) place);
+  both = omega (
+    arith,
+    few-closed code k from.smoothing (pairs_before site from) place first.among,
+    few-closed code k to.smoothing (pairs_before site to) place second.among,
+    ap (λ (xs : List ℕ). length xs) first.circles,
+    ap (λ (xs : List ℕ). length xs) second.circles,
+  );
+}

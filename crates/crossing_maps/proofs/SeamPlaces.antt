@@ -1,24 +1,28 @@
 -- The seam that code makes at a crossing is the seam of the surface that the crossing adds.
-use Rattle.std.proofs.Common.{◌≡◌, ℕ, ◌+◌, ◌<◌, ◌≤◌, ◌∙◌, List, ◌++◌, length, subst, ap, ap₂, arith, Bool}
-use Rattle.std.specs.Prelude.{slice_index}
+use Rattle.std.proofs.Common.{◌≡◌, ℕ, ◌+◌, ◌<◌, ◌≤◌, ◌∙◌, List, [], ◌∷◌, ◌++◌, length, map, take, refl, sym, subst, ap, ap₂, arith, Bool, cond}
+use Rattle.std.specs.Prelude.{slice_index, slice_index_or}
 use Rattle.std.specs.List.{filter, AllByRecursion}
+use Rattle.std.proofs.lemmas.List.{take_more}
+use Rattle.std.proofs.lemmas.List.Elements.{filter-append}
 use Rattle.std.proofs.lemmas.List.Sums.{count_by-le-length, length-filter}
 use Rattle.kh_types.specs.Circles.{smoothing_of}
 use Rattle.kh_types.specs.Classes.{classes_of, is_least}
-use Rattle.kh_types.specs.Code.{Code, arc_count}
+use Rattle.kh_types.specs.Code.{Code, arc_count, arc_in}
 use Rattle.kh_types.specs.Darts.{HasArcsTwice}
 use Rattle.dotted_surfaces.specs.Points.{AreAmong, discs, least_points}
 use Rattle.dotted_maps.proofs.LeastPoints.{AllByRecursion-filter, AreAmong-append, AreBelow-among}
-use Rattle.added_crossings.specs.Codes.{discs_behind, pairing_behind, points_at, step_at}
+use Rattle.added_crossings.specs.Codes.{discs_behind, pairing_behind, points_at, saddle_strips, step_at}
 use Rattle.added_crossings.specs.Steps.{near}
 use Rattle.added_crossings.proofs.CodeSums.{AreAmong-behind}
 use Rattle.added_crossings.proofs.Members.{All-contained}
 use Rattle.tangle_maps.specs.declared.pairing.TheConstants.{POINTS}
 use Rattle.tangle_maps.specs.declared.seam.Seam.{Seam}
+use Rattle.tangle_maps.specs.Pairings.{with_partner}
 use Rattle.tangle_maps.proofs.SizeLemmas.{least_points-sizes}
 use Rattle.crossing_maps.specs.AddedSeams.{IsAddedSeam, IsSeamAt, joins_there, places_there}
 use Rattle.crossing_maps.specs.Counts.{Places, on}
 use Rattle.crossing_maps.specs.ListedPlaces.{IsArcs}
+use Rattle.crossing_maps.specs.NewTerms.{first_end}
 use Rattle.crossing_maps.specs.Sides.{IsSplit}
 use Rattle.crossing_maps.specs.Sites.{IsPlace, IsSite}
 use Rattle.crossing_maps.proofs.Loopless.{open-few}
@@ -49,20 +53,24 @@ abbrev made : List ℕ → List ℕ → List ℕ → List ℕ → List ℕ → L
 made rims discs closed others lowers raises =
     record { rims = rims; discs = discs; closed = closed; others = others; lowers = lowers; raises = raises }
 
+-- discs of code before the crossing
+pub faces_there : (code : Code) (k : ℕ) (m n : List (ℕ × ℕ)) (ds opened : List ℕ) → IsPlace code k → opened ≡ (points_at code k).opened
+    → AreAmong (points_at code k).opened m → AreAmong (points_at code k).opened n → ds ≡ least_points POINTS opened (m ++ n)
+    → ds ≡ discs (points_at code k) m n
+faces_there code k m n ds opened place before first second are =
+    are ∙ ap (λ xs. least_points POINTS xs (m ++ n)) before ∙ discs-sized code k m n place.twice place.fits first second
+
 pub seam_there : (code : Code) (k first second : ℕ) (m n behind other_behind : List (ℕ × ℕ)) (opened around next slots : List ℕ)
-    (closed others classes rims ds closed_list other_list : List ℕ) (label other : ℕ) (seam : Seam) → IsPlace code k
+    (closed others classes rims ds lowers closed_list other_list : List ℕ) (label other : ℕ) (seam : Seam) → IsPlace code k
     → IsSite code k opened around next slots → IsSplit code k first m behind closed → IsSplit code k second n other_behind others
     → classes ≡ classes_of POINTS ((m ++ smoothing_of first slots) ++ (n ++ smoothing_of second slots))
-    → rims ≡ least_points POINTS next (behind ++ other_behind) → ds ≡ least_points POINTS opened (m ++ n)
-    → closed_list ≡ closed → other_list ≡ others
-    → IsAddedSeam (filter (is_least classes) around) (on (slice_index classes) (made rims ds closed_list other_list opened next)) label other
+    → rims ≡ least_points POINTS next (behind ++ other_behind) → closed_list ≡ closed → other_list ≡ others
+    → IsAddedSeam (filter (is_least classes) around) (on (slice_index classes) (made rims ds closed_list other_list lowers next)) label other
     seam
-    → length seam.second.items ≤ POINTS
-    → IsSeamAt code k first second m n (discs (points_at code k) m n) (points_at code k).opened label other seam
-seam_there code k first second m n behind other_behind opened around next slots closed others classes rims ds closed_list other_list label
-    other seam place site split other_split are_classes are_rims are_ds are_closed are_others is room =
+    → length seam.second.items ≤ POINTS → IsSeamAt code k first second m n ds lowers label other seam
+seam_there code k first second m n behind other_behind opened around next slots closed others classes rims ds lowers closed_list other_list
+    label other seam place site split other_split are_classes are_rims are_closed are_others is room =
     let joins = joins_there code k first second m n in
-    let faces = discs (points_at code k) m n in
     let whole : classes ≡ classes_of POINTS joins =
     are_classes ∙ ap (λ s. classes_of POINTS ((m ++ smoothing_of first s) ++ (n ++ smoothing_of second s))) site.crossing in
     let rims_there : rims ≡ discs_behind code k first second m n =
@@ -70,16 +78,40 @@ seam_there code k first second m n behind other_behind opened around next slots 
     ∙ discs-sized code (k + 1) (pairing_behind code k first m) (pairing_behind code k second n) place.twice place.fits
     (AreAmong-behind code k first m place.twice place.crossing split.among)
     (AreAmong-behind code k second n place.twice place.crossing other_split.among) in
-    let faces_there : ds ≡ faces =
-    are_ds ∙ ap (λ xs. least_points POINTS xs (m ++ n)) site.before ∙ discs-sized code k m n place.twice place.fits split.among other_split.among in
-    let there : made rims ds closed_list other_list opened next ≡ places_there code k first second m n faces (points_at code k).opened =
-    places-same rims_there faces_there (are_closed ∙ split.circles) (are_others ∙ other_split.circles) site.before site.behind in
+    let there : made rims ds closed_list other_list lowers next ≡ places_there code k first second m n ds lowers =
+    places-same rims_there refl (are_closed ∙ split.circles) (are_others ∙ other_split.circles) refl site.behind in
     record {
       added = subst (λ at. IsAddedSeam (least_points POINTS (near (step_at code k)) joins) (on (slice_index (classes_of POINTS joins)) at)
           label other seam) there
           (subst (λ cs. IsAddedSeam (filter (is_least cs) (near (step_at code k)))
-          (on (slice_index cs) (made rims ds closed_list other_list opened next)) label other seam) whole
-          (subst (λ xs. IsAddedSeam (filter (is_least classes) xs) (on (slice_index classes) (made rims ds closed_list other_list opened next))
+          (on (slice_index cs) (made rims ds closed_list other_list lowers next)) label other seam) whole
+          (subst (λ xs. IsAddedSeam (filter (is_least classes) xs) (on (slice_index classes) (made rims ds closed_list other_list lowers next))
           label other seam) site.here is));
       room = room;
     }
+
+-- the half strips that code puts on a saddle, and its discs, at the first ends of pairs
+pub saddle_there : (code : Code) (k first second : ℕ) (m n : List (ℕ × ℕ)) (ds lowers opened slots : List ℕ) (label other : ℕ) (seam : Seam)
+    → first ≡ 0 → second ≡ 1 → n ≡ m → ds ≡ map first_end m → lowers ≡ arc_in slots 0 ∷ arc_in slots 0 ∷ opened
+    → opened ≡ (points_at code k).opened → slots ≡ slice_index_or code.crossings k []
+    → IsSeamAt code k first second m n ds lowers label other seam
+    → IsSeamAt code k 0 1 m m (map first_end m) (saddle_strips code k) label other seam
+saddle_there code k first second m n ds lowers opened slots label other seam zero one same ends strips before crossing is =
+    subst (λ xs. IsSeamAt code k 0 1 m m (map first_end m) xs label other seam)
+    (strips ∙ ap₂ (λ s (xs : List ℕ). arc_in s 0 ∷ arc_in s 0 ∷ xs) crossing before)
+    (subst (λ xs. IsSeamAt code k 0 1 m m xs lowers label other seam) ends
+    (subst (λ o. IsSeamAt code k 0 1 m o ds lowers label other seam) same
+    (subst (λ t. IsSeamAt code k 0 t m n ds lowers label other seam) one
+    (subst (λ s. IsSeamAt code k s second m n ds lowers label other seam) zero is))))
+
+-- the first ends of pairs with partners
+pub ends-first : (partners xs : List ℕ) → map first_end (map (with_partner partners) xs) ≡ xs
+ends-first partners [] = refl
+ends-first partners (x ∷ xs) = ap (λ (ys : List ℕ). x ∷ ys) (ends-first partners xs)
+
+-- one arc more that passes a test
+pub kept_more : (p : ℕ → Bool) (k : ℕ) (b : Bool) (xs old new : List ℕ) → k < length xs → b ≡ p (slice_index xs k)
+    → old ≡ filter p (take k xs) → new ≡ old ++ cond b (slice_index xs k ∷ []) [] → new ≡ filter p (take (k + 1) xs)
+kept_more p k b xs old new within passes are made =
+    made ∙ ap₂ (λ (ys : List ℕ) (c : Bool). ys ++ cond c (slice_index xs k ∷ []) []) are passes
+    ∙ sym (ap (filter p) (take_more xs k 0 within) ∙ filter-append p (take k xs) (slice_index xs k ∷ []))

@@ -1,5 +1,5 @@
 -- Sums whose dot sets have certain coefficients are sums of a term for each dot set.
-use Rattle.std.proofs.Common.{◌≡◌, ◌≢◌, ℕ, zero, suc, inl, inr, ◌+◌, ◌*◌, ◌%◌, ◌<◌, ◌≤◌, ◌∙◌, List, [], ◌∷◌, ◌++◌, map, refl, sym, subst, ap, ap₂, arith, Bool, true, false, cond, eq-eqb}
+use Rattle.std.proofs.Common.{◌≡◌, ◌≢◌, ℕ, zero, suc, inl, inr, ◌+◌, ◌*◌, ◌%◌, ◌<◌, ◌≤◌, ◌∙◌, List, [], ◌∷◌, ◌++◌, map, refl, sym, subst, ap, ap₂, arith, false, cond, eq-eqb}
 use Rattle.std.specs.Prelude.{nat_eq}
 use Rattle.std.specs.List.{flat_map, range_with_len}
 use Rattle.std.proofs.lemmas.Bool.{cases_lt}
@@ -7,11 +7,11 @@ use Rattle.std.proofs.lemmas.Bool.Decides.{nat_tests}
 use Rattle.std.proofs.lemmas.List.{map-append}
 use Rattle.std.proofs.lemmas.List.Sums.{sum_by-cons}
 use Rattle.kh_types.proofs.Lists.{AllByRecursion-append, AllByRecursion-first, AllByRecursion-second}
-use Rattle.kh_types.proofs.ListSums.{sum_by-alike, sum_by-flat_map, sum_by-map, sum_by-single, sum_by-times}
+use Rattle.kh_types.proofs.ListSums.{sum_by-alike, sum_by-flat_map, sum_by-map, sum_by-single}
 use Rattle.dotted_maps.specs.declared.term.Term.{Term}
 use Rattle.dotted_maps.specs.Maps.{coefficient_in, scaled}
 use Rattle.tangle_maps.specs.Sums.{HaveDotsBelow, IsSum, term_of}
-use Rattle.tangle_maps.proofs.SumLemmas.{IsSum-alike}
+use Rattle.tangle_maps.proofs.SumLemmas.{IsSum-alike, coefficient-scaled}
 use Rattle.crossing_maps.specs.NewTerms.{all_terms}
 
 abbrev counted : ℕ → Term → ℕ
@@ -37,12 +37,12 @@ beyond limit d (t ∷ ts) below past =
 abbrev spread_term : (ℕ → ℕ) → ℕ → Term
 spread_term coefficient kept = term_of kept (coefficient kept)
 
-all-below : (coefficient : ℕ → ℕ) (limit a n : ℕ) → a + n ≤ limit → HaveDotsBelow limit (map (spread_term coefficient) (range_with_len a n))
+pub all-below : (coefficient : ℕ → ℕ) (limit a n : ℕ) → a + n ≤ limit → HaveDotsBelow limit (map (spread_term coefficient) (range_with_len a n))
 all-below coefficient limit a zero within = tt
 all-below coefficient limit a (suc n) within =
     (omega (arith, within), all-below coefficient limit (a + 1) n (omega (arith, within)))
 
-spread-each : (count kept : ℕ) (coefficient : ℕ → ℕ) → kept < count → coefficient_in (all_terms count coefficient) kept ≡ coefficient kept
+pub spread-each : (count kept : ℕ) (coefficient : ℕ → ℕ) → kept < count → coefficient_in (all_terms count coefficient) kept ≡ coefficient kept
 spread-each count kept coefficient within =
     sum_by-map (counted kept) (spread_term coefficient) (range_with_len 0 count)
     ∙ sum_by-single (λ x. cond (nat_eq x kept) (coefficient x) 0) 0 count kept (omega arith) (omega (arith, within))
@@ -59,17 +59,6 @@ spread-alike count d coefficient terms have = elim (cases_lt d count) [
 ]
 
 -- multiples
-
-coefficient-scaled : (f d : ℕ) (terms : List Term) → coefficient_in (scaled f terms) d ≡ f * coefficient_in terms d
-coefficient-scaled f d terms =
-    sum_by-map (counted d) (λ term. record { dots = term.dots; coefficient = f * term.coefficient }) terms
-    ∙ sum_by-alike (λ term. cond (nat_eq term.dots d) (f * term.coefficient) 0) (λ term. f * counted d term)
-    (λ term. taken (nat_eq term.dots d) f term.coefficient) terms
-    ∙ sum_by-times (counted d) f terms
-  where
-    taken : (b : Bool) (f c : ℕ) → cond b (f * c) 0 ≡ f * cond b c 0
-    taken true f c = refl
-    taken false f c = omega arith
 
 scaled-append : (f : ℕ) (xs ys : List Term) → scaled f (xs ++ ys) ≡ scaled f xs ++ scaled f ys
 scaled-append f xs ys = map-append (λ term. record { dots = term.dots; coefficient = f * term.coefficient }) xs ys
@@ -122,6 +111,6 @@ IsSum-spread p f count coefficient make terms old new some makes is =
     let spread : Term → List Term = λ term. all_terms count (coefficient term) in
     IsSum-alike p old (scaled f (flat_map make terms)) (scaled f (flat_map spread terms)) new is
     (λ d. ap (λ z. z % p)
-    (coefficient-scaled f d (flat_map make terms) ∙ ap (λ z. f * z) (flat-alike count d coefficient make terms makes)
-    ∙ sym (coefficient-scaled f d (flat_map spread terms))))
+    (coefficient-scaled f (flat_map make terms) d ∙ ap (λ z. f * z) (flat-alike count d coefficient make terms makes)
+    ∙ sym (coefficient-scaled f (flat_map spread terms) d)))
     (λ limit below. flat-below f count limit coefficient make terms some makes below)

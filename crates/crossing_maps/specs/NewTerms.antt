@@ -1,12 +1,14 @@
 -- What the terms of a map become behind a crossing, as lists: a term for each dot set.
-use Rattle.std.specs.Prelude.{ℕ, ◌*◌, ◌^◌, List, length, map}
-use Rattle.std.specs.List.{flat_map, range_with_len}
+use Rattle.std.specs.Prelude.{ℕ, ◌*◌, ◌^◌, ◌<◌, List, length, map}
+use Rattle.std.specs.List.{flat_map, range_with_len, sum_by}
 use Rattle.kh_types.specs.Code.{Code}
+use Rattle.kh_types.specs.Residues.{Same}
 use Rattle.dotted_surfaces.specs.Surfaces.{value}
 use Rattle.dotted_maps.specs.declared.term.Term.{Term}
+use Rattle.dotted_maps.specs.Maps.{coefficient_in}
 use Rattle.added_crossings.specs.Codes.{discs_behind}
 use Rattle.added_crossings.specs.Entries.{added_surface, saddle_surface}
-use Rattle.tangle_maps.specs.Sums.{term_of}
+use Rattle.tangle_maps.specs.Sums.{HaveDotsBelow, term_of}
 
 -- the term with this coefficient and these dots
 abbrev pub term_with : ℕ → ℕ → Term
@@ -38,3 +40,17 @@ saddle_map code k m label other =
 -- the arc at which a pair's disc is
 abbrev pub first_end : ℕ × ℕ → ℕ
 first_end pair = pair.0
+
+-- terms are what a map becomes behind a crossing that has one smoothing on either side, modulo p: their dots are dots of the new discs, and
+-- the coefficient of a dot set is that of each old term, times the number of the surface that the crossing adds to it
+pub record AreAddedTerms (p : ℕ) (code : Code) (k smoothing : ℕ) (m n : List (ℕ × ℕ)) (label other : ℕ) (old new : List Term) : Type 0 where
+  pub dots : HaveDotsBelow (sets_behind code k smoothing smoothing m n) new
+  pub coefficients : (kept : ℕ) → kept < sets_behind code k smoothing smoothing m n
+      → Same p (coefficient_in new kept)
+      (sum_by (λ term. term.coefficient * value (added_surface code k smoothing m n term.dots label other kept)) old)
+
+-- terms are a multiple of the saddle of a pairing, modulo p: the coefficient of a dot set is that of the number of the saddle's surface
+pub record AreSaddleTerms (p factor : ℕ) (code : Code) (k : ℕ) (m : List (ℕ × ℕ)) (label other : ℕ) (new : List Term) : Type 0 where
+  pub dots : HaveDotsBelow (sets_behind code k 0 1 m m) new
+  pub coefficients : (kept : ℕ) → kept < sets_behind code k 0 1 m m
+      → Same p (coefficient_in new kept) (factor * value (saddle_surface code k m label other kept))

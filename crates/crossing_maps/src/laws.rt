@@ -15,7 +15,10 @@ ghost use Rattle.tangle_maps.specs.declared.seam.Seam.{Seam};
 ghost use Rattle.crossing_maps.specs.AddedSeams.{ArePairs, IsSeamAt};
 ghost use Rattle.crossing_maps.specs.ListedPlaces.{IsArcs};
 ghost use Rattle.crossing_maps.specs.Partners.{HasArcsBelow};
+ghost use Rattle.crossing_maps.specs.Sides.{CanAdd, IsSideAt, IsSiteAt};
 ghost use Rattle.crossing_maps.specs.Sites.{IsPlace, closed_in};
+ghost use Rattle.crossing_maps.specs.declared.between.Side.{Side};
+ghost use Rattle.crossing_maps.specs.declared.splitting.Site.{Site};
 
 /// What classes of all arcs that a program can number make of a pairing and a smoothing is the
 /// pairing behind the crossing, and its closed circles.
@@ -41,6 +44,13 @@ pub fn places_have_arcs()
         → IsArcs POINTS (near (step_at code k)) }
     ensures closed { (code : Code) (k smoothing : ℕ) (m : List (ℕ × ℕ)) → IsPlace code k
         → IsArcs POINTS (closed_at code k smoothing m) }
+{}
+
+/// At a place of a code a crossing can be added between what smoothings of it make of two pairings.
+pub fn crossings_can_be_added()
+    ensures { (code : Code) (k : ℕ) (site : Site) (from to : Side) → IsPlace code k
+        → IsSiteAt code k site → IsSideAt code k site from → IsSideAt code k site to
+        → CanAdd site from to }
 {}
 
 /// The seam of a surface that a crossing adds can be composed over.

@@ -7,6 +7,7 @@ pub mod between;
 pub mod closed;
 pub mod genus;
 pub mod laws;
+pub mod maps;
 pub mod names;
 pub mod seams;
 pub mod site;

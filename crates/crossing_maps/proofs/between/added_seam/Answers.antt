@@ -1,35 +1,31 @@
-use Rattle.std.proofs.Common.{◌∙◌, ℕ, List, length, sym, subst, ap, arith}
+use Rattle.std.proofs.Common.{◌∙◌, sym, subst, arith}
+use Rattle.added_crossings.specs.Codes.{points_at}
 use Rattle.tangle_maps.specs.declared.pairing.TheConstants.{POINTS}
-use Rattle.tangle_maps.specs.Pairings.{joins_of}
+use Rattle.crossing_maps.specs.AddedSeams.{IsSeamAt}
 use Rattle.crossing_maps.specs.ListedPlaces.{IsArcs}
-use Rattle.crossing_maps.proofs.SeamPlaces.{seam_there}
+use Rattle.crossing_maps.specs.Sides.{pairs_before}
+use Rattle.crossing_maps.proofs.SeamPlaces.{faces_there}
 use Rattle.crossing_maps.proofs.between.added_seam.Goals as goal
 
-pub seam_on-requires-clause-places : goal.seam_on-requires-clause-places
-seam_on-requires-clause-places c = record {
-  rims = subst (λ xs. IsArcs POINTS xs) (sym c.deref.ensures.0) c.discs_of-rims.ensures.arcs;
-  discs = subst (λ xs. IsArcs POINTS xs) (sym c.deref-2.ensures.0) c.discs_of-discs.ensures.arcs;
-  closed = subst (λ xs. IsArcs POINTS xs) (sym c.deref-3.ensures.0) c.requires.closed;
-  others = subst (λ xs. IsArcs POINTS xs) (sym c.deref-4.ensures.0) c.requires.others;
-  lowers = record { below = c.requires.opened.below; fits = omega (arith, c.requires.opened.fits) };
-  raises = c.requires.next;
-  both = omega (
-    arith,
-    c.requires.both,
-    ap (λ (xs : List ℕ). length xs) c.deref-3.ensures.0,
-    ap (λ (xs : List ℕ). length xs) c.deref-4.ensures.0,
-  );
-}
+pub discs_of-discs-requires : goal.discs_of-discs-requires
+discs_of-discs-requires c = c.requires.sides.around.opened
 
-pub returns : goal.returns
-returns c = λ code k place site split other_split.
-    let opened = c.args.site.now.opened.now in
-    let next = c.args.site.now.next.now in
-    seam_there code k c.args.from.now.smoothing c.args.to.now.smoothing (joins_of c.args.from.now.pairing.now.partners opened)
-    (joins_of c.args.to.now.pairing.now.partners opened) (joins_of c.args.from.now.split.now.pairing.partners next)
-    (joins_of c.args.to.now.split.now.pairing.partners next) opened c.args.site.now.near.now next c.args.site.now.crossing.now
-    c.args.from.now.split.now.closed.items c.args.to.now.split.now.closed.items c.added_classes-classes.result c.deref.result.now
-    c.deref-2.result.now c.deref-3.result.now c.deref-4.result.now c.args.from.now.label c.args.to.now.label c.seam_on.result place site
-    split other_split c.added_classes-classes.ensures (c.deref.ensures.0 ∙ c.discs_of-rims.ensures.discs)
-    (c.deref-2.ensures.0 ∙ c.discs_of-discs.ensures.discs) c.deref-3.ensures.0 c.deref-4.ensures.0 c.seam_on.ensures.seam
-    c.seam_on.ensures.room
+pub seam_between-requires-clause-discs : goal.seam_between-requires-clause-discs
+seam_between-requires-clause-discs c = subst (λ xs. IsArcs POINTS xs) (sym c.deref.ensures.0) c.discs_of-discs.ensures.arcs
+
+pub seam_between-requires-clause-lowers : goal.seam_between-requires-clause-lowers
+seam_between-requires-clause-lowers c =
+    record { below = c.requires.sides.around.opened.below; fits = omega (arith, c.requires.sides.around.opened.fits) }
+
+pub returns-clause-seam : goal.returns-clause-seam
+returns-clause-seam c = λ code k place is first second.
+    let site = c.args.site.now in
+    let from = c.args.from.now in
+    let to = c.args.to.now in
+    let m = pairs_before site from in
+    let n = pairs_before site to in
+    subst (λ xs. IsSeamAt code k from.smoothing to.smoothing m n xs (points_at code k).opened from.label to.label c.seam_between.result)
+    (faces_there code k m n c.deref.result.now site.opened.now place is.before first.among second.among
+    (c.deref.ensures.0 ∙ c.discs_of-discs.ensures.discs))
+    (subst (λ ys. IsSeamAt code k from.smoothing to.smoothing m n c.deref.result.now ys from.label to.label c.seam_between.result) is.before
+    (c.seam_between.ensures.seam code k place is first second))
