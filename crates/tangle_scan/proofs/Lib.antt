@@ -1,0 +1,9 @@
+pub mod ZippedLists
+pub mod ChildPlaces
+pub mod NewObjects
+pub mod NewEntries
+pub mod NewColumns
+pub mod ColumnTargets
+pub mod MoreColumns
+pub mod ReadySites
+pub mod AddedScan
