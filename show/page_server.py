@@ -141,6 +141,8 @@ class Handler(http.server.BaseHTTPRequestHandler):
         base = self.server.base
         if path in ("", "/"):
             return Reply(200, HTML, page_served.start_page(base, HEAD))
+        if path == "/example.svg":
+            return Reply(200, SVG, session.picture(page_served.TREFOIL, True))
         number, what, move = self.step(session, path)
         if what == "":
             return Reply(200, HTML, page_served.step_page(session, base, number, HEAD))
