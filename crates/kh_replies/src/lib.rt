@@ -22,7 +22,9 @@ pub use draw::reply_to_draw;
 pub use input::{InputStop, read_diagram};
 pub use intake::{Intake, intake_of};
 pub use jones::{jones_line, reply_to_jones};
-pub use laws::inputs_are_cut_at_the_first_semicolon;
+pub use laws::{
+    codes_of_texts_are_small, inputs_are_cut_at_the_first_semicolon, printed_diagrams_are_read_back,
+};
 pub use parts::{code_part, part_behind};
 pub use refusals::{
     refused_line, refused_log_line, refused_mark, too_large_number, too_many_bytes,
