@@ -1,3 +1,4 @@
+pub mod ChoiceBits
 pub mod Nearest
 pub mod Corners
 pub mod Strands
