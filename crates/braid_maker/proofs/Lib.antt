@@ -19,3 +19,4 @@ pub mod Accepted
 pub mod Digits
 pub mod NamedParts
 pub mod LetterTests
+pub mod Signs
