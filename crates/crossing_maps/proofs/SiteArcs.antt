@@ -1,4 +1,7 @@
 -- The arcs near a crossing and behind it, from the arcs that are open before it.
+-- Code filters all numbers below POINTS by two tests on the arcs open before and on the slots: so the tests have to be those of the
+-- definitions at arcs, where a count of slots is a count of ends (`ends-same`), and to fail elsewhere. Zero and the numbers above the arcs are
+-- neither open nor near (`none-first`, `none-past`): the code's lists leave loops out too, since a loop has no end.
 use Rattle.std.proofs.Common.{◌≡◌, ◌≢◌, ℕ, inl, inr, ◌+◌, ◌*◌, ◌<◌, ◌≤◌, ◌∙◌, List, [], ◌∷◌, ◌++◌, refl, sym, subst, ap, ap₂, arith, Bool, false, cond, ◌||◌}
 use Rattle.std.specs.Prelude.{nat_eq, nat_lt, slice_index_or}
 use Rattle.std.specs.List.{count_by, filter, list_any, range_with_len, Contains}
