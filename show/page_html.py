@@ -238,7 +238,7 @@ def page_of(sheet, before="", between="", head="", first=""):
     meta = head or f'<meta http-equiv="Content-Security-Policy" content="{policy()}">'
     return whole(name, meta, [
         f"<header>{first}<h1>{escape(name)}</h1>{before}</header>",
-        f'<main>\n<div class="left">\n{left}\n</div>\n<div class="right">', between, *parts, "</div>", *lists, "</main>",
+        f'<main>\n<div class="left">\n{left}\n</div>\n<div class="right">', between, *parts, *lists, "</div>\n</main>",
         f'<script type="application/json" id="data">{data_of(sheet)}</script>',
     ])
 

@@ -150,6 +150,21 @@ def size_faults(tab):
     tab.screen(1300, 900)
 
 
+def scrolled_faults(tab):
+    """However far a page is scrolled, the drawing with what stands below it covers nothing else."""
+    script = """(() => {
+      const box = (it) => it.getBoundingClientRect(), left = box(document.querySelector('.left'));
+      return Array.from(document.querySelectorAll('main section')).filter((it) => !it.closest('.left') && box(it).left < left.right
+        && box(it).top < left.bottom && box(it).bottom > left.top).map((it) => it.id).join();
+    })()"""
+    for name in LINKS:
+        tab.load(address(name))
+        for part in (0, 0.25, 0.5, 0.75, 1):
+            tab.value(f"scrollTo({{top: {part} * document.documentElement.scrollHeight, behavior: 'instant'}})")
+            covered = tab.value(f"new Promise((done) => requestAnimationFrame(() => done({script})))")
+            yield f"{name}, scrolled by {part}", f"covered: {covered}" if covered else None
+
+
 def colour_faults(tab):
     """A dark screen has other colours, and paper has those of a light one."""
     script = "['body', '.grid th', '.torsion'].map((it) => getComputedStyle(document.querySelector(it)).backgroundColor).join()"
@@ -287,6 +302,7 @@ def faults(program):
         yield "the keyboard", keyboard_fault(tab)
         yield "without a script", plain_fault(tab)
         yield from size_faults(tab)
+        yield from scrolled_faults(tab)
         yield from colour_faults(tab)
         yield from served_faults(tab, program)
         yield "the lessons", lessons_fault(tab, program)
