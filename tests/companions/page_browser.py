@@ -100,6 +100,9 @@ def click_faults(tab):
     yield "a state that is not listed", None if told == "State 00000001" and circles == 2 else f"{told}, {circles}"
     tab.load(address("hopf") + "#state-10")
     yield "an address with a state", None if tab.text("#told h3") == "State 10" else tab.text("#told")
+    tab.click(".grid a")
+    pale = tab.value("getComputedStyle(document.querySelector('#strands')).opacity")
+    yield "a cell behind an address with a state", None if pale == "1" and tab.text("#told h3").startswith("j =") else f"{pale}"
     for wrong in ("#state-1", "#state-xx", "#cell_9_9", "#crossing-9", "#%", "#data"):
         tab.load(address("hopf") + wrong)
         right = tab.text("#told").startswith("Choose") and not tab.faults()
