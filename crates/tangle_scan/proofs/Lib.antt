@@ -13,3 +13,4 @@ pub mod ColumnTargets
 pub mod MoreColumns
 pub mod ReadySites
 pub mod AddedScan
+pub mod StepLemmas
