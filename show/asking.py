@@ -20,7 +20,7 @@ CHECK, CONVERT, GAUSS, DRAW, JONES, EDIT, MIRROR, REVERSE = (
 )
 HOMOLOGY = {field: ("homology", "--field", str(field)) for field in FIELDS}
 COMMANDS = {CHECK, CONVERT, GAUSS, DRAW, JONES, EDIT, MIRROR, REVERSE, *HOMOLOGY.values()}
-ANSWERED, REFUSED, TOO_LARGE, MOVE_REFUSED = 0, 1, 6, 7
+ANSWERED, TOO_LARGE, MOVE_REFUSED = 0, 6, 7
 # The most bytes that `kh` takes as a code.
 MOST_BYTES = 65_536
 # The processes that run.

@@ -113,8 +113,10 @@ def table_section(grid):
     if sheet.limit:
         return f'<p class="limit">There is no table: {escape(sheet.limit)}. So many generators are more than the program takes.</p>'
     groups = alike(sheet.tables)
-    notes = ["A row is a quantum degree j, a column a homological degree i; χ is the sum of a row with signs, the coefficient of q^j."]
-    notes[0] = notes[0].replace("q^j", "q<sup>j</sup> in the Jones polynomial")
+    notes = [
+        "A row is a quantum degree j, a column a homological degree i; χ is the sum of a row with signs, the coefficient of q<sup>j</sup> in "
+        "the Jones polynomial."
+    ]
     if len(groups) > 1:
         notes.append("A coloured cell with a star has not the same dimension over all four fields: torsion.")
     if sheet.states:

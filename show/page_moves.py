@@ -17,7 +17,6 @@ LINE = re.compile(
     r"r1 add \d{1,3} (under|over) (plus|minus)|r1 drop \d{1,3}|r2 add \d{1,3} (left|right) \d{1,3} (left|right)|r2 drop \d{1,3} \d{1,3}"
     r"|r3 \d{1,3} \d{1,3} \d{1,3}|undo|redo"
 )
-ANSWER = re.compile(r"(\d+) (PD\[[^\n]*\]|refused [^\n]*)")
 # The most fingers that are tried, and the most moves in a script (`edit` takes more, and keeps 256 changes).
 MOST_FINGERS, MOST_LINES, MOST_CROSSINGS = 600, 250, 20
 KINDS = {

@@ -10,6 +10,15 @@ EXAMPLES = (
     ("the trefoil", "trefoil: PD[X[1,4,2,5], X[3,6,4,1], X[5,2,6,3]]"), ("the figure eight", "4_1"), ("a braid", "braid: 1 1 1"),
     ("the Hopf link", "2^2_1"), ("a torus knot", "T(3,4)"), ("the unknot", "unknot"),
 )
+TREFOIL = "PD[X[1, 4, 2, 5], X[3, 6, 4, 1], X[5, 2, 6, 3]]"
+HOW = f"""<section id="how" aria-labelledby="how-title"><h2 id="how-title">The code of your own drawing</h2>
+<img src="%s/example.svg" alt="the trefoil with its arcs and crossings numbered">
+<ol><li>Draw the knot with a gap where a strand passes under.</li>
+<li>Choose a point and a direction, walk along, and number the arcs from one crossing to the next: 1, 2, 3 and so on, until you are back. In a
+link go on with the next component.</li>
+<li>At each crossing write the four arcs around it. Begin with the one on which you come in below, and go on counterclockwise. At the crossing
+1 of this drawing that is <code>X[1, 4, 2, 5]</code>.</li>
+<li>All of them together are the code: <code>{TREFOIL}</code>.</li></ol></section>"""
 # The lists of moves that are open at first.
 OPEN = ("slide", "bigon", "unkink")
 
@@ -117,7 +126,7 @@ def start_page(base, head, text="", fault=""):
         "read: planar diagrams (Knot Atlas, KnotInfo, SnapPy), Gauss and DT codes, braid words such as <code>braid: 1 1 1</code>, names "
         "such as <code>8_19</code> and <code>T(3,4)</code>.</p>"
     )
-    return whole("kh", head, [f"<header>{told}{form(base, text, fault)}</header>"])
+    return whole("kh", head, [f"<header>{told}{form(base, text, fault)}</header>", HOW % base])
 
 
 def saved_page(session, number):

@@ -11,6 +11,7 @@ import socket
 import sys
 import threading
 import urllib.parse
+from typing import NamedTuple
 
 import page_served
 from answers import Unreadable
@@ -23,6 +24,10 @@ HOST = "127.0.0.1"
 MOST_FORM, SECONDS, MOST_AT_A_TIME = 3 * MOST_BYTES + 64, 10, 12
 HTML, SVG, TEXT = "text/html; charset=utf-8", "image/svg+xml", "text/plain; charset=utf-8"
 FORM = "application/x-www-form-urlencoded"
+# What pages may do beside what those that are files may, and what all else may; it stands in the answer's head, and so not in the page's.
+OF_PAGES = "form-action 'self'; frame-ancestors 'none'; base-uri 'none'"
+OF_OTHERS = "default-src 'none'; style-src 'unsafe-inline'; frame-ancestors 'none'"
+HEAD = "<!-- served -->"
 OTHER_PAGE = "the request comes from another page: put the address that kh-page has told into a new window"
 STEP = re.compile(r"/(\d{1,9})(/move|/turn|/page\.html|/preview/(\d{1,4})\.svg)?")
 
@@ -33,6 +38,15 @@ class Refused(Exception):
     def __init__(self, status, why):
         super().__init__(why)
         self.status, self.why = status, why
+
+
+class Reply(NamedTuple):
+    """What is sent: a status, what kind of text, the text, and more heads."""
+
+    status: int
+    kind: str
+    text: str
+    heads: tuple = ()
 
 
 class Handler(http.server.BaseHTTPRequestHandler):
@@ -66,19 +80,20 @@ class Handler(http.server.BaseHTTPRequestHandler):
         self.answered(self.post)
 
     def answered(self, answer):
-        """Sends what answers a request, or why none does."""
+        """Sends what answers a request, or why none does. (No other request waits while it is sent.)"""
         try:
             path = self.checked()
             form = self.form() if self.command == "POST" else {}
             self.alarm.cancel()
             with self.server.session as session:
-                answer(session, path, form)
+                reply = answer(session, path, form)
         except Refused as stop:
-            self.send(stop.status, TEXT, f"{stop.why}\n")
+            reply = Reply(stop.status, TEXT, f"{stop.why}\n")
         except Busy:
-            self.send(503, TEXT, "another request is still at work\n")
+            reply = Reply(503, TEXT, "another request is still at work\n")
         except Unreadable as fault:
-            self.send(400, HTML, page_served.start_page(self.server.base, self.head(), "", str(fault)))
+            reply = Reply(400, HTML, page_served.start_page(self.server.base, HEAD, "", str(fault)))
+        self.send(reply)
 
     def checked(self):
         """The path behind the token; anything that does not come from a page of this session is refused."""
@@ -122,20 +137,21 @@ class Handler(http.server.BaseHTTPRequestHandler):
         return int(found[1]), found[2] or "", found[3]
 
     def get(self, session, path, _):
-        """Answers with a page, or a picture."""
+        """A page, or a picture."""
         base = self.server.base
         if path in ("", "/"):
-            return self.send(200, HTML, page_served.start_page(base, self.head()))
+            return Reply(200, HTML, page_served.start_page(base, HEAD))
+        if path == "/example.svg":
+            return Reply(200, SVG, session.picture(page_served.TREFOIL, True))
         number, what, move = self.step(session, path)
         if what == "":
-            return self.send(200, HTML, page_served.step_page(session, base, number, self.head()))
+            return Reply(200, HTML, page_served.step_page(session, base, number, HEAD))
         if what == "/page.html":
-            more = {"Content-Disposition": 'attachment; filename="link.html"'}
-            return self.send(200, HTML, page_served.saved_page(session, number), more)
+            return Reply(200, HTML, page_served.saved_page(session, number), (("Content-Disposition", 'attachment; filename="link.html"'),))
         moves = session.moves_of(session.steps[number].code) if move else []
         if not move or int(move) >= len(moves):
             raise Refused(404, "there is nothing here")
-        return self.send(200, SVG, session.picture(moves[int(move)].code))
+        return Reply(200, SVG, session.picture(moves[int(move)].code))
 
     def post(self, session, path, form):
         """Makes a step of a form, and leads to it."""
@@ -148,7 +164,7 @@ class Handler(http.server.BaseHTTPRequestHandler):
             raise Refused(404, "there is nothing here")
         step, answer = session.moved(number, form.get("line", ""))
         if step is None:
-            return self.send(400, HTML, page_served.step_page(session, self.server.base, number, self.head(), answer))
+            return Reply(400, HTML, page_served.step_page(session, self.server.base, number, HEAD, answer))
         return self.lead(step)
 
     def typed(self, session, text):
@@ -156,30 +172,22 @@ class Handler(http.server.BaseHTTPRequestHandler):
         if len(text.encode()) > MOST_BYTES:
             raise Refused(413, f"a code has {MOST_BYTES} bytes at most")
         try:
-            number = session.typed(text)
+            return self.lead(session.typed(text))
         except Unreadable as fault:
-            return self.send(400, HTML, page_served.start_page(self.server.base, self.head(), text, str(fault)))
-        return self.lead(number)
-
-    def head(self):
-        """Nothing stands in the head of a served page: what it may do is said in the answer's own head."""
-        return "<!-- served -->"
+            return Reply(400, HTML, page_served.start_page(self.server.base, HEAD, text, str(fault)))
 
     def lead(self, number):
-        self.send(303, TEXT, "", {"Location": f"{self.server.base}/{number}"})
+        return Reply(303, TEXT, "", (("Location", f"{self.server.base}/{number}"),))
 
-    def send(self, status, kind, text, more=()):
-        body = text.encode()
-        self.send_response(status)
+    def send(self, reply):
+        body, is_page = reply.text.encode(), reply.kind == HTML
         heads = {
-            "Content-Type": kind, "Content-Length": str(len(body)), "Cache-Control": "no-store", "X-Content-Type-Options": "nosniff",
+            "Content-Type": reply.kind, "Content-Length": str(len(body)), "Cache-Control": "no-store", "X-Content-Type-Options": "nosniff",
             "Referrer-Policy": "same-origin", "Cross-Origin-Resource-Policy": "same-origin", "Cross-Origin-Opener-Policy": "same-origin",
-            "Content-Security-Policy": (
-                policy() + "; form-action 'self'; frame-ancestors 'none'; base-uri 'none'" if kind == HTML
-                else "default-src 'none'; style-src 'unsafe-inline'; frame-ancestors 'none'"
-            ),
+            "Content-Security-Policy": f"{policy()}; {OF_PAGES}" if is_page else OF_OTHERS,
         }
-        for name, value in {**heads, **dict(more)}.items():
+        self.send_response(reply.status)
+        for name, value in [*heads.items(), *reply.heads]:
             self.send_header(name, value)
         self.end_headers()
         self.wfile.write(body)

@@ -116,11 +116,11 @@ class Session:
         said = "The mirror image" if word == "mirror" else "All directions turned"
         return self.add(Step(f"{said} of {step.name or 'the diagram before'}", start, (), start, ""))
 
-    def picture(self, code):
-        """The drawing of a code as a picture of its own."""
+    def picture(self, code, with_numbers=False):
+        """The drawing of a code as a picture of its own, with its numbers or without."""
         slices, crossings = read_drawing(self.kh.answer(DRAW, code)), crossings_of(code, "the code")
         diagram = Diagram(slices, crossings)
-        return svg_of(slices, crossings, colours=len(diagram.components) + diagram.plane.loops > 1)
+        return svg_of(slices, crossings, with_numbers, colours=len(diagram.components) + diagram.plane.loops > 1)
 
     def is_ready(self):
         """What is said where the program gives no answer, or not at once since it is not built."""

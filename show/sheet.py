@@ -2,7 +2,7 @@
 import re
 from typing import NamedTuple
 
-from answers import Table, Unreadable, jones_of, read_drawing, read_tables
+from answers import Unreadable, jones_of, read_drawing, read_tables
 from arcs import crossings_of
 from asking import CHECK, CONVERT, DRAW, FIELDS, GAUSS, JONES
 from generators import MOST_COUNTED, Degrees, by_degrees, refuse_other_sum, states_of
@@ -88,7 +88,3 @@ def divided(jones):
         if left and max(left) > max(jones):
             return None
     return found if not left else None
-
-
-def table_at(table: Table, degrees):
-    return table.dimensions.get(degrees, 0)

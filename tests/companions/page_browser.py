@@ -202,7 +202,18 @@ def served_faults(tab, program):
             found = tab.text(".fault pre")
             right = said in found and tab.value("document.querySelector('#text').value") == text and not tab.text(".fault b")
             yield f"{text} is typed", None if right else json.dumps(found)
+        yield "a move without a script", plain_move_fault(tab, serving)
         yield "another site can not", foreign_fault(tab, serving)
+
+
+def plain_move_fault(tab, serving):
+    """Without a script a kink is taken out by its button."""
+    tab.screen(1300, 900, script=False)
+    tab.load(serving.address(serving.step("PD[X[1,1,2,2]]")))
+    press(tab, 'button[value="r1 drop 1"]')
+    tab.screen(1300, 900)
+    told = tab.text("#unchanged")
+    return None if "The Jones polynomial is the same" in told and "1 loop" in tab.text("#diagram") else told
 
 
 # The steps of the lessons: what is typed, what is pressed and leads to another page, what is clicked on the page.

@@ -121,6 +121,8 @@ def files_fault(serving):
     step = serving.step(TREFOIL)
     saved, picture = serving.get(f"{step}/page.html"), serving.get(f"{step}/preview/0.svg")
     right = saved.status == 200 and "attachment" in saved.heads["content-disposition"] and not list(documents.read(saved.text).all("form"))
+    example = serving.get("example.svg")
+    right = right and example.status == 200 and example.text.count('class="arc ') == 6 and example.text.count('class="crossing ') == 3
     right = right and picture.status == 200 and picture.heads["content-type"] == "image/svg+xml" and picture.text.startswith("<svg")
     return None if right and serving.get(f"{step}/preview/9999.svg").status == 404 else f"{saved.status}, {picture.status}"
 

@@ -10,7 +10,8 @@ use Rattle.kh_types.specs.Darts.{dart_at, dart_place, first_dart, partner_at, Ha
 use Rattle.kh_types.specs.Checkerboard.{IsCheckerboard, equation_of, is_solved, solves_at}
 use Rattle.kh_types.proofs.DartPairs.{dart_at-place, dart_place-below, partner-is, IsDartOf-first_dart}
 use Rattle.kh_types.proofs.RangeCounts.{list_all-each}
-use Rattle.braid_maker.specs.Words.{closed_crossings, number_with, bit_of, choice_of}
+use Rattle.braid_maker.specs.Words.{closed_crossings}
+use Rattle.braid_maker.proofs.ChoiceBits.{number_with, bit_of, choice_of}
 use Rattle.braid_maker.proofs.Corners.{corner_place, corner_place-crossing}
 use Rattle.braid_maker.proofs.Partners.{at_lower, at_upper, IsEnd-dart, partner-lower, partner-upper}
 

@@ -1,3 +1,4 @@
+pub mod ChoiceBits
 pub mod Nearest
 pub mod Corners
 pub mod Strands
@@ -18,3 +19,4 @@ pub mod Accepted
 pub mod Digits
 pub mod NamedParts
 pub mod LetterTests
+pub mod Signs

@@ -1,9 +1,11 @@
 //! What closed braids are as codes, and how many generators those of numbers have.
 
-ghost use Rattle.std.specs.Prelude.{◌≡◌, ◌<◌, ◌≤◌, ◌+◌, ◌*◌, ◌^◌, ℕ, ℤ, List, Bool, [], ◌∷◌, pos, neg_ℤ, codes, length, true, IsTrue};
+ghost use Rattle.std.specs.Prelude.{◌≡◌, ◌<◌, ◌≤◌, ◌+◌, ◌-◌, ◌*◌, ◌^◌, ℕ, ℤ, List, Bool, [], ◌∷◌, pos, neg_ℤ, codes, int_lt, length, true, IsTrue};
 ghost use Rattle.kh_types.specs.declared.limits.TheConstants.{COMPONENTS};
 ghost use Rattle.kh_types.specs.Checkerboard.{IsCheckerboard};
+ghost use Rattle.kh_types.specs.Code.{IsCrossing};
 ghost use Rattle.kh_types.specs.Darts.{HasArcsTwice};
+ghost use Rattle.kh_types.specs.Directions.{is_positive};
 ghost use Rattle.orient_arcs.specs.Alike.{AreAlike};
 ghost use Rattle.kh_types.specs.Acceptance.{accepted, first_fault, checkerboard_fault, genus_fault, arc_times_fault};
 ghost use Rattle.kh_types.specs.Faces.{face_count, piece_count, planar_face_count};
@@ -14,7 +16,7 @@ ghost use Rattle.circle_smoothing.specs.GeneratorCounts.{generator_count};
 ghost use Rattle.circle_smoothing.specs.declared.limits.TheConstants.{GENERATORS};
 ghost use Rattle.braid_maker.specs.declared.limits.TheConstants.{LETTERS, NUMBERS, STRANDS};
 ghost use Rattle.braid_maker.specs.Words.{closed_crossings};
-ghost use Rattle.braid_maker.specs.Braids.{braid_crossings, braid_code};
+ghost use Rattle.braid_maker.specs.Braids.{braid_crossings, braid_code, letter_at};
 ghost use Rattle.braid_maker.specs.Closures.{closure, code_of_number, letters_of, AreLetters};
 
 /// Closures worked out: how many pieces, faces and loops, the trefoil, the figure eight knot, and
@@ -71,6 +73,14 @@ pub fn closures_are_accepted()
         + (closure strands letters).loops ≤ strands }
     ensures generators { (strands : ℕ) (letters : List ℤ) → AreLetters strands letters
         → generator_count (closure strands letters) ≤ 2 ^ strands * 3 ^ length letters }
+{}
+
+/// A crossing of a closure is positive exactly where its letter is.
+pub fn closures_have_the_signs_of_their_letters()
+    ensures { (strands : ℕ) (letters : List ℤ) (crossing : ℕ)
+        → IsCrossing (closure strands letters).crossings crossing
+        → is_positive (closure strands letters).crossings crossing
+        ≡ int_lt (pos 0) (letter_at letters (crossing - 1)) }
 {}
 
 /// The code of each number is accepted, and its generators are within the limit.

@@ -21,3 +21,4 @@ pub mod WorkedVerdicts
 pub mod HistorySizes
 pub mod TableSizes
 pub mod LogSizes
+pub mod LogsExist

@@ -19,11 +19,12 @@ use Rattle.pd_code.specs.declared.stop.PdStop.{PdStop}
 use Rattle.pd_code.proofs.ReadingLemmas.{IsPdReading-one, IsPdReading-reading_of, reading_of}
 use Rattle.cancel_log.specs.LogLines.{field_line, log_line}
 use Rattle.cancel_log.specs.Starts.{IsFieldLine}
-use Rattle.cancel_log.specs.Verdicts.{FailsAtStart, GoesOn, IsVerdict, LacksLogLine, NamesDiagram}
+use Rattle.cancel_log.specs.Verdicts.{FailsAtStart, GoesOn, IsVerdict, IsVerdictOn, LacksLogLine, NamesDiagram}
 use Rattle.cancel_log.specs.declared.cause.LogCause.TheVariants as causes
 use Rattle.cancel_log.specs.declared.stop.LogStop.{LogStop}
 use Rattle.cancel_log.specs.declared.stop.LogStop.TheVariants.{Line, SizeLimit, NoMemory}
 use Rattle.cancel_log.proofs.StartLines.{names-ok, names-refused, names-unread, prime-five, prime-none, prime-seven, prime-three, prime-two}
+use Rattle.cancel_log.proofs.WholeLogs.{verdict-lines, verdict-text}
 use Rattle.cancel_log.proofs.VerdictsBehind.{IsVerdictBehind-one, IsVerdictBehind-verdict_behind, verdict_behind}
 
 -- the diagram that a text names, if there is one
@@ -161,10 +162,6 @@ verdict_of [] = wrong_at 1
 verdict_of (first ∷ others) = cond (bytes_eq first log_line) (second_verdict others) (wrong_at 1)
 
 -- it is a verdict
-
--- what lines come to
-abbrev IsVerdictOn : List (List ℕ) → Result Table LogStop → Type 0
-IsVerdictOn lines verdict = FailsAtStart lines verdict ⊎ GoesOn lines verdict
 
 -- by the field
 field-some : (text line : List ℕ) (others : List (List ℕ)) (code : Code) (field : Option ℕ) → NamesDiagram text code
@@ -311,14 +308,18 @@ goes-one lines verdict goes =
 
 -- each verdict on a text is that on its lines
 verdict-one : (text : List ℕ) (verdict : Result Table LogStop) → IsVerdict text verdict → verdict ≡ verdict_of (lines_of text)
-verdict-one text verdict (inl fails) = fails-one (lines_of text) verdict fails
-verdict-one text verdict (inr goes) = goes-one (lines_of text) verdict goes
+verdict-one text verdict is = go (verdict-lines text verdict is)
+  where
+    go : IsVerdictOn (lines_of text) verdict → verdict ≡ verdict_of (lines_of text)
+    go (inl fails) = fails-one (lines_of text) verdict fails
+    go (inr goes) = goes-one (lines_of text) verdict goes
 
 -- each text has one verdict
 
 -- each text has a verdict
 pub IsVerdict-some : (text : List ℕ) → (verdict : Result Table LogStop) × IsVerdict text verdict
-IsVerdict-some text = (verdict_of (lines_of text), verdict-some (lines_of text))
+IsVerdict-some text =
+    let verdict = verdict_of (lines_of text) in (verdict, verdict-text text verdict (verdict-some (lines_of text)))
 
 -- and no other
 pub IsVerdict-one : (text : List ℕ) (first second : Result Table LogStop) → IsVerdict text first → IsVerdict text second → first ≡ second

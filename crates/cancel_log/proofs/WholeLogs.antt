@@ -6,39 +6,66 @@ use Rattle.std.specs.List.{flat_map}
 use Rattle.kh_types.specs.Code.{Code}
 use Rattle.kh_types.specs.Table.{Table, row_text, table, table_text}
 use Rattle.kh_lex.specs.Lines.{lines_of}
+use Rattle.kh_lex.proofs.LineCuts.{CutsLines-lines_of, lines_of-CutsLines}
 use Rattle.circle_smoothing.specs.GeneratorCounts.{generator_count}
 use Rattle.circle_smoothing.specs.declared.limits.TheConstants.{GENERATORS}
 use Rattle.cancel_log.specs.LinesLeft.{AreFew, DifferAt, LinesLeft, TakesLine, lines_left}
 use Rattle.cancel_log.specs.LogBlocks.{lines_of_blocks}
 use Rattle.cancel_log.specs.LogLines.{close_line, table_lines_of}
 use Rattle.cancel_log.specs.Standings.{HasProved}
-use Rattle.cancel_log.specs.Verdicts.{BeginsAsLog, DifferFirst, FailsAtStart, IsLogOf, IsVerdict, IsVerdictBehind}
+use Rattle.cancel_log.specs.Verdicts.{BeginsAsLog, DifferFirst, FailsAtStart, IsLog, IsLogOf, IsVerdict, IsVerdictBehind, IsVerdictOn}
 use Rattle.cancel_log.specs.declared.cause.LogCause.TheVariants as causes
 use Rattle.cancel_log.specs.declared.limits.TheConstants.{LOG_BYTES}
 use Rattle.cancel_log.specs.declared.stop.LogStop.{LogStop}
 use Rattle.cancel_log.specs.declared.stop.LogStop.TheVariants.{Line, SizeLimit, NoMemory}
 use Rattle.cancel_log.proofs.LinesTaken.{length-lines_of-le}
 
+-- by the lines that a text is cut in
+
+-- a text is a log where its lines are
+pub log-text : (p : ℕ) (code : Code) (text : List ℕ) → IsLogOf p code (lines_of text) → IsLog p code text
+log-text p code text log = record { lines = lines_of text; cut = CutsLines-lines_of text; log = log }
+
+-- and only there
+log-lines : (p : ℕ) (code : Code) (text : List ℕ) → IsLog p code text → IsLogOf p code (lines_of text)
+log-lines p code text is = subst (IsLogOf p code) (lines_of-CutsLines text is.lines is.cut) is.log
+
+-- it comes to what its lines do
+pub verdict-text : (text : List ℕ) (verdict : Result Table LogStop) → IsVerdictOn (lines_of text) verdict → IsVerdict text verdict
+verdict-text text verdict reached = record { lines = lines_of text; cut = CutsLines-lines_of text; reached = reached }
+
+-- and to nothing else
+pub verdict-lines : (text : List ℕ) (verdict : Result Table LogStop) → IsVerdict text verdict → IsVerdictOn (lines_of text) verdict
+verdict-lines text verdict is =
+    subst (λ (lines : List (List ℕ)). IsVerdictOn lines verdict) (lines_of-CutsLines text is.lines is.cut) is.reached
+
 -- the whole from its parts
 
 pub verdict-start : (text : List ℕ) (stop : LogStop) → FailsAtStart (lines_of text) (Err stop) → IsVerdict text (Err stop)
-verdict-start text stop fails = inl fails
+verdict-start text stop fails = verdict-text text (Err stop) (inl fails)
 
 pub verdict-behind : (text : List ℕ) (code : Code) (p : ℕ) (others : List (List ℕ)) (verdict : Result Table LogStop)
     → BeginsAsLog (lines_of text) code p others → IsVerdictBehind p code others verdict → IsVerdict text verdict
 verdict-behind text code p others verdict begins behind =
-    inr (record { code = code; p = p; others = others; begins = begins; behind = behind })
+    verdict-text text verdict (inr (record { code = code; p = p; others = others; begins = begins; behind = behind }))
 
 pub verdict-table : (text : List ℕ) (homology : Table) → IsVerdict text (Ok homology)
-    → (p : ℕ) × (code : Code) × IsLogOf p code (lines_of text) × (homology ≡ table p code)
-verdict-table text homology (inl fails) = absurd fails
-verdict-table text homology (inr goes) =
-    (goes.p, goes.code, record { others = goes.others; begins = goes.begins; prove = goes.behind.0 }, goes.behind.1)
+    → (p : ℕ) × (code : Code) × IsLog p code text × (homology ≡ table p code)
+verdict-table text homology is = go (verdict-lines text (Ok homology) is)
+  where
+    go : IsVerdictOn (lines_of text) (Ok homology) → (p : ℕ) × (code : Code) × IsLog p code text × (homology ≡ table p code)
+    go (inl fails) = absurd fails
+    go (inr goes) = (
+      goes.p,
+      goes.code,
+      log-text goes.p goes.code text (record { others = goes.others; begins = goes.begins; prove = goes.behind.0 }),
+      goes.behind.1,
+    )
 
 -- the table of what comes behind the start
 pub verdict-log : (text : List ℕ) (code : Code) (p : ℕ) (others : List (List ℕ)) (verdict : Result Table LogStop)
     → BeginsAsLog (lines_of text) code p others → (verdict ≢ Err NoMemory → IsVerdictBehind p code others verdict)
-    → IfOk verdict (λ homology. (p : ℕ) × (code : Code) × IsLogOf p code (lines_of text) × (homology ≡ table p code))
+    → IfOk verdict (λ homology. (p : ℕ) × (code : Code) × IsLog p code text × (homology ≡ table p code))
 verdict-log text code p others (Ok homology) begins behind =
     verdict-table text homology (verdict-behind text code p others (Ok homology) begins (behind (λ is. absurd (cc))))
 verdict-log text code p others (Err stop) begins behind = tt
@@ -125,6 +152,8 @@ behind-table p code others left wanted homology number line within has same line
 pub ruleset behinds = (behind-large, table-taken, table-some, behind-ok, behind-table)
 
 -- a log of a diagram is verified
-pub log-verified : (p : ℕ) (code : Code) (text : List ℕ) → IsLogOf p code (lines_of text) → IsVerdict text (Ok (table p code))
-log-verified p code text log =
-    inr (record { code = code; p = p; others = log.others; begins = log.begins; behind = (log.prove, refl) })
+pub log-verified : (p : ℕ) (code : Code) (text : List ℕ) → IsLog p code text → IsVerdict text (Ok (table p code))
+log-verified p code text is =
+    let log = log-lines p code text is in
+    verdict-text text (Ok (table p code))
+    (inr (record { code = code; p = p; others = log.others; begins = log.begins; behind = (log.prove, refl) }))

@@ -21,6 +21,7 @@ use Rattle.cancel_log.specs.declared.stop.LogStop.TheVariants.{Line, SizeLimit}
 use Rattle.cancel_log.proofs.FirstDifferences.{compared}
 use Rattle.cancel_log.proofs.LineSays.{Says-one, Says-some}
 use Rattle.cancel_log.proofs.StandingWalks.{Halt, halt_at, said_of, walk, walked}
+use Rattle.cancel_log.proofs.WholeLogs.{verdict-behind}
 use Rattle.cancel_log.proofs.VerdictsBehind.{IsVerdictBehind-verdict_behind, compared-other, compared-same, halted, number_left, verdict_behind}
 
 -- lines say these things, as far as they are given
@@ -69,13 +70,9 @@ verdict-by p code others saids halt say small halts =
 goes-on : (text named : List ℕ) (p : ℕ) (code : Code) (others : List (List ℕ)) (verdict : Result Table LogStop)
     → NamesDiagram named code → IsSmallPrime p → lines_of text ≡ log_line ∷ named ∷ field_line p ∷ others
     → verdict_behind p code others ≡ verdict → IsVerdict text verdict
-goes-on text named p code others verdict names prime parts is = inr (record {
-  code = code;
-  p = p;
-  others = others;
-  begins = record { text = named; diagram = names; field = prime; parts = parts };
-  behind = subst (IsVerdictBehind p code others) is (IsVerdictBehind-verdict_behind p code others);
-})
+goes-on text named p code others verdict names prime parts is =
+    verdict-behind text code p others verdict (record { text = named; diagram = names; field = prime; parts = parts })
+    (subst (IsVerdictBehind p code others) is (IsVerdictBehind-verdict_behind p code others))
 
 -- the first three lines of a log, of a diagram that is small
 pub record Starts (named : List ℕ) (p : ℕ) (code : Code) : Type 0 where

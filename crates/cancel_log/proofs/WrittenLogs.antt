@@ -28,11 +28,12 @@ use Rattle.cancel_log.specs.LogBlocks.{IsShortBlock, block_lines, earlier_blocks
 use Rattle.cancel_log.specs.LogLines.{IsShortPivot, block_line, cancel_line, table_lines_of}
 use Rattle.cancel_log.specs.LogTexts.{log_text, start_lines, text_of_lines}
 use Rattle.cancel_log.specs.Standings.{IsFinishedBlock}
-use Rattle.cancel_log.specs.Verdicts.{IsLogOf}
+use Rattle.cancel_log.specs.Verdicts.{IsLog}
 use Rattle.cancel_log.proofs.FeedLemmas.{lines_of-lines, whole-block, whole-cancel, whole-field}
 use Rattle.cancel_log.proofs.PrintedDiagrams.{short-diagram}
 use Rattle.cancel_log.proofs.ShortBlocks.{short-block}
 use Rattle.cancel_log.proofs.StandingSteps.{lines-push}
+use Rattle.cancel_log.proofs.WholeLogs.{log-text}
 
 -- the lines of blocks have no line feed
 
@@ -70,13 +71,13 @@ short-blocks p code blocks field is few size are legal = λ k d below.
 pub log-of_blocks : (p : ℕ) (code : Code) (blocks : List BlockHistory) (text : List ℕ) → IsSmallPrime p → IsField p
     → IsTrue (accepted code) → length code.crossings ≤ CROSSINGS → code.loops ≤ LOOPS → generator_count code ≤ GENERATORS
     → ReadsAsPd (pd_text code) code → AreBlocksOf code blocks → All (HasLegalHistory p) blocks → All (IsFinished p) blocks
-    → text ≡ log_text p code blocks → IsLogOf p code (lines_of text)
+    → text ≡ log_text p code blocks → IsLog p code text
 log-of_blocks p code blocks text prime field is few loops size reads are legal zero same =
     let short = short-blocks p code blocks field is few size are legal in
     let diagram = short-diagram code is few loops in
     let whole : AllByRecursion HasNoLineFeed (start_lines p code ++ lines_of_blocks blocks) =
     (refl, (diagram.1, (whole-field p prime, whole-blocks blocks (recursion_from_All IsShortBlock blocks short)))) in
-    record {
+    log-text p code text (record {
       others = lines_of_blocks blocks ++ table_lines_of (table p code);
       begins = record {
         text = pd_text code;
@@ -102,7 +103,7 @@ log-of_blocks p code blocks text prime field is few loops size reads are legal z
         };
         parts = refl;
       };
-    }
+    })
 
 -- line by line
 
@@ -242,7 +243,7 @@ pub IsWritten-all : (p : ℕ) (code : Code) (degrees : List ℤ) (k : ℕ) (text
     → IsField p → IsTrue (accepted code) → length code.crossings ≤ CROSSINGS → code.loops ≤ LOOPS
     → generator_count code ≤ GENERATORS → ReadsAsPd (pd_text code) code → IsWritten p code degrees k text rows
     → length degrees ≤ k → degrees ≡ block_degrees code → lines ≡ table_text (table p code) → next ≡ text ++ lines
-    → IsLogOf p code (lines_of next)
+    → IsLog p code next
 IsWritten-all p code degrees k text next lines rows prime field is few loops size reads so_far all are is_lines is_next =
     log-of_blocks p code so_far.blocks next prime field is few loops size reads
     (record { diagram = so_far.diagram; degrees = so_far.degrees_are ∙ take_all k degrees all ∙ are }) so_far.legal so_far.zero

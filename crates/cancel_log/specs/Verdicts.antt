@@ -5,7 +5,7 @@ use Rattle.kh_types.specs.Code.{Code}
 use Rattle.kh_types.specs.Table.{Table, table}
 use Rattle.kh_types.specs.declared.limits.TheConstants.{INPUT_BYTES}
 use Rattle.prime_field.specs.Residues.{IsSmallPrime}
-use Rattle.kh_lex.specs.Lines.{lines_of}
+use Rattle.kh_lex.specs.Lines.{CutsLines}
 use Rattle.pd_code.specs.Reading.{ReadsAsPd}
 use Rattle.circle_smoothing.specs.GeneratorCounts.{generator_count}
 use Rattle.circle_smoothing.specs.declared.limits.TheConstants.{GENERATORS}
@@ -80,6 +80,12 @@ pub record IsLogOf (p : ℕ) (code : Code) (lines : List (List ℕ)) : Type 0 wh
   pub begins : BeginsAsLog lines code p others
   pub prove : ProveTable p code others
 
+-- a text is a log of a diagram over the field of p elements: the lines that cut it are
+pub record IsLog (p : ℕ) (code : Code) (text : List ℕ) : Type 0 where
+  pub lines : List (List ℕ)
+  pub cut : CutsLines text lines
+  pub log : IsLogOf p code lines
+
 -- lines of a diagram within the limit on generators tell of blocks that stand; then come later ones
 pub record TellOf (p : ℕ) (code : Code) (others : List (List ℕ)) (blocks : List BlockHistory) (later : List (List ℕ)) : Type 0 where
   pub within : generator_count code ≤ GENERATORS
@@ -148,6 +154,12 @@ pub record GoesOn (lines : List (List ℕ)) (verdict : Result Table LogStop) : T
   pub begins : BeginsAsLog lines code p others
   pub behind : IsVerdictBehind p code others verdict
 
--- what the text of a log comes to, by its lines; running out of memory is no verdict
-abbrev pub IsVerdict : List ℕ → Result Table LogStop → Type 0
-IsVerdict text verdict = FailsAtStart (lines_of text) verdict ⊎ GoesOn (lines_of text) verdict
+-- what the lines of a log come to: one of the first three fails, or they go on; running out of memory is no verdict
+abbrev pub IsVerdictOn : List (List ℕ) → Result Table LogStop → Type 0
+IsVerdictOn lines verdict = FailsAtStart lines verdict ⊎ GoesOn lines verdict
+
+-- what the text of a log comes to, by the lines that cut it
+pub record IsVerdict (text : List ℕ) (verdict : Result Table LogStop) : Type 0 where
+  pub lines : List (List ℕ)
+  pub cut : CutsLines text lines
+  pub reached : IsVerdictOn lines verdict

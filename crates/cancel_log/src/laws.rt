@@ -1,11 +1,15 @@
 //! What holds of the definitions that the contracts cite, beyond any one call.
 
-ghost use Rattle.std.specs.Prelude.{◌≡◌, ℕ, List, [], ◌++◌, codes, Result, Ok, Err};
+ghost use Rattle.std.specs.Prelude.{◌≡◌, ◌≤◌, ℕ, All, IsTrue, List, [], ◌++◌, codes, length, Result, Ok, Err};
+ghost use Rattle.kh_types.specs.Acceptance.{accepted};
 ghost use Rattle.kh_types.specs.Code.{Code};
+ghost use Rattle.kh_types.specs.declared.limits.TheConstants.{CROSSINGS, LOOPS};
+ghost use Rattle.prime_field.specs.Residues.{IsSmallPrime};
+ghost use Rattle.circle_smoothing.specs.GeneratorCounts.{generator_count};
+ghost use Rattle.circle_smoothing.specs.declared.limits.TheConstants.{GENERATORS};
 ghost use Rattle.kh_types.specs.Table.{Table, table};
 ghost use Rattle.kh_types.specs.WorkedCodes.{curl, one_loop};
-ghost use Rattle.kh_lex.specs.Lines.{lines_of};
-ghost use Rattle.cancel_log.specs.Verdicts.{IsLogOf, IsVerdict};
+ghost use Rattle.cancel_log.specs.Verdicts.{IsLog, IsVerdict};
 ghost use Rattle.cancel_log.specs.declared.stop.LogStop.{LogStop};
 ghost use Rattle.cancel_log.specs.declared.limits.TheConstants.{DEGREE_DIGITS, LOG_BYTES, PLACE_DIGITS};
 
@@ -21,8 +25,18 @@ pub fn limits()
 
 /// A log of a diagram over a field is verified, and its table is the diagram's.
 pub fn logs_are_verified()
-    ensures { (p : ℕ) (code : Code) (text : List ℕ) → IsLogOf p code (lines_of text)
+    ensures { (p : ℕ) (code : Code) (text : List ℕ) → IsLog p code text
         → IsVerdict text (Ok (table p code)) }
+{}
+
+/// Each accepted diagram within the limits has a log over each field, and one that is short enough
+/// to be verified. That a diagram's crossings have four slots each is part of their type.
+pub fn diagrams_have_logs()
+    ensures { (p : ℕ) (code : Code) → IsSmallPrime p → IsTrue (accepted code)
+        → All (λ slots. length slots ≡ 4) code.crossings
+        → length code.crossings ≤ CROSSINGS → code.loops ≤ LOOPS
+        → generator_count code ≤ GENERATORS
+        → (text : List ℕ) × IsLog p code text × (length text ≤ LOG_BYTES) }
 {}
 
 /// Each text has exactly one verdict.

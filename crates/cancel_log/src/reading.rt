@@ -3,9 +3,8 @@
 ghost use Rattle.std.specs.Prelude.{◌≡◌, ◌≢◌, ◌≤◌, ℕ, Err, IfOk, length};
 ghost use Rattle.kh_types.specs.Code.{Code};
 ghost use Rattle.kh_types.specs.Table.{table};
-ghost use Rattle.kh_lex.specs.Lines.{lines_of};
 ghost use Rattle.cancel_log.specs.LinesLeft.{AreFew};
-ghost use Rattle.cancel_log.specs.Verdicts.{IsLogOf, IsVerdict, IsVerdictBehind};
+ghost use Rattle.cancel_log.specs.Verdicts.{IsLog, IsVerdict, IsVerdictBehind};
 ghost use Rattle.cancel_log.specs.declared.limits.TheConstants.{LOG_BYTES};
 
 use crate::difference::first_difference;
@@ -28,7 +27,7 @@ pub fn verify_log(alloc: Global, text: &[u8]) -> Result<Table, LogStop>
     requires { length text.now ≤ LOG_BYTES }
     ensures verdict { result ≢ Err LogStop.NoMemory → IsVerdict text.now result }
     ensures table { IfOk result (λ homology. (p : ℕ) × (code : Code)
-        × IsLogOf p code (lines_of text.now) × (homology ≡ table p code)) }
+        × IsLog p code text.now × (homology ≡ table p code)) }
 {
     let mut lines = Lines::of(text);
     let start = take_start(alloc, &mut lines)?;

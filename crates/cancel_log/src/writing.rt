@@ -7,7 +7,7 @@ ghost use Rattle.circle_smoothing.specs.declared.limits.TheConstants.{GENERATORS
 ghost use Rattle.cube_signs.specs.Blocks.{block_degrees};
 ghost use Rattle.kh_types.specs.Table.{table, table_text};
 ghost use Rattle.kh_types.specs.declared.limits.TheConstants.{LOOPS};
-ghost use Rattle.kh_lex.specs.Lines.{lines_of, with_feed};
+ghost use Rattle.kh_lex.specs.Lines.{with_feed};
 ghost use Rattle.pd_code.specs.Printing.{pd_text};
 ghost use Rattle.pd_code.specs.Reading.{ReadsAsPd};
 ghost use Rattle.shared_block.specs.AllBlocks.{AreBlocksOf, IsFinished};
@@ -15,7 +15,7 @@ ghost use Rattle.cancel_log.specs.LogBlocks.{block_lines};
 ghost use Rattle.cancel_log.specs.LogLines.{cancel_line};
 ghost use Rattle.cancel_log.specs.LogTexts.{log_text, start_lines, text_of_lines};
 ghost use Rattle.cancel_log.specs.Standings.{IsFinishedBlock};
-ghost use Rattle.cancel_log.specs.Verdicts.{IsLogOf};
+ghost use Rattle.cancel_log.specs.Verdicts.{IsLog};
 ghost use Rattle.cancel_log.specs.declared.limits.TheConstants.{LOG_BYTES};
 
 use cancel_step::Pivot;
@@ -36,7 +36,7 @@ use table_text::print_table;
 pub fn write_log<F: PrimeField>(alloc: Global, diagram: &Diagram) -> Result<Vec<u8>, NoMemory>
     requires size { generator_count diagram.now ≤ GENERATORS }
     requires loops { diagram.now.loops ≤ LOOPS }
-    ensures log { IfOk result (λ text. IsLogOf F.P diagram.now (lines_of text.items)) }
+    ensures log { IfOk result (λ text. IsLog F.P diagram.now text.items) }
     ensures few { IfOk result (λ text. length text.items ≤ LOG_BYTES) }
 {
     // (what the types of a field and a diagram keep)
@@ -71,7 +71,7 @@ pub fn log_of_blocks<F: PrimeField>(
     requires zero { All (IsFinished F.P) blocks.now }
     requires table { homology.now ≡ table F.P diagram.now }
     ensures text { IfOk result (λ text. text.items ≡ log_text F.P diagram.now blocks.now) }
-    ensures log { IfOk result (λ text. IsLogOf F.P diagram.now (lines_of text.items)) }
+    ensures log { IfOk result (λ text. IsLog F.P diagram.now text.items) }
     ensures few { IfOk result (λ text. length text.items ≤ LOG_BYTES) }
 {
     // (what the types of a field and a diagram keep)

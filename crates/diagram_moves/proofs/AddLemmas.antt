@@ -18,7 +18,8 @@ use Rattle.kinks_and_fingers.specs.FingerAdd.{moved_slots, with_finger, differ, 
 use Rattle.kinks_and_fingers.specs.KinkAdds.{with_kink}
 use Rattle.kinks_and_fingers.proofs.FingerAccepted.{accepted-fingered, AreFingerable-accepted}
 use Rattle.kinks_and_fingers.proofs.KinkFaces.{accepted-kinked}
-use Rattle.diagram_moves.specs.AddSteps.{IsTakenArc, AreTakenArcs, kinked_there, kinked_to, fingered_to}
+use Rattle.diagram_moves.specs.AddSteps.{IsTakenArc, AreTakenArcs, kinked_there}
+use Rattle.diagram_moves.proofs.MadeSoFar.{kinked_to, fingered_to}
 use Rattle.diagram_moves.specs.MoveFaults.{kink_add_fault, finger_place_fault, no_arc, crossing_limit_fault, on_loop, same_arc, wrong_genus}
 use Rattle.diagram_moves.specs.declared.fault.MoveFault.TheVariants.{NoArc, CrossingLimit, OnLoop, SameArc, Genus}
 use Rattle.diagram_moves.proofs.FaultLemmas.{both-none, none-above, none-apart, none-same, none-within}

@@ -23,7 +23,7 @@ use Rattle.diagram_moves.specs.declared.change.Move.TheVariants.{KinkAdd, KinkDr
 use Rattle.diagram_moves.specs.declared.fault.MoveFault.{MoveFault}
 use Rattle.diagram_moves.specs.declared.fault.MoveFault.TheVariants.{NoArc, NoCrossing, CrossingLimit, OnLoop, SameArc, NoKink, NoBigon, NoTriangle, Heights, Genus}
 use Rattle.diagram_moves.specs.Joinable.{numbered}
-use Rattle.diagram_moves.specs.Kept.{HasComponents}
+use Rattle.diagram_moves.proofs.KeptComponents.{HasComponents}
 use Rattle.diagram_moves.specs.Moved.{answered, is_left, moved, slid_at, HasWrongFaces, JoinsPieces, LeavesSphere}
 use Rattle.diagram_moves.specs.MoveFaults.{no_arc, no_crossing, crossing_limit_fault, on_loop, same_arc, no_kink, no_bigon, no_triangle, no_heights, wrong_genus, refused_where, kink_add_fault, kink_drop_fault, finger_place_fault, finger_add_fault, finger_drop_fault, slide_fault}
 use Rattle.diagram_moves.proofs.AddLemmas.{fingers_are_taken, kinks_are_taken, sum-fingered}

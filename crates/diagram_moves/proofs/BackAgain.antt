@@ -18,7 +18,7 @@ use Rattle.orient_arcs.proofs.AscendingNames.{KeepsComponents-ascending}
 use Rattle.orient_arcs.proofs.KeptOrder.{own-crossings}
 use Rattle.diagram_moves.specs.declared.fault.MoveFault.{MoveFault}
 use Rattle.diagram_moves.specs.Joinable.{numbered, parts_in}
-use Rattle.diagram_moves.specs.Kept.{HasComponents}
+use Rattle.diagram_moves.proofs.KeptComponents.{HasComponents}
 use Rattle.diagram_moves.specs.Moved.{answered}
 
 -- where the answer is a code there was no fault, and it is the code

@@ -16,9 +16,10 @@ use Rattle.kinks_and_fingers.specs.Drops.{dropped, is_bigon, is_kink, is_of_two,
 use Rattle.kinks_and_fingers.specs.Dropping.{HasBigonAt, HasKinkAt}
 use Rattle.kinks_and_fingers.specs.Strands.{Strands, slots_at}
 use Rattle.kinks_and_fingers.proofs.Sound.{HasBigonAt-found, HasKinkAt-found, IsSound-finger, IsSound-kink}
-use Rattle.diagram_moves.specs.DropSteps.{is_ring_in, kept_to, passes_there, renamed_there, signs_to, stays, straight_to}
+use Rattle.diagram_moves.specs.DropSteps.{is_ring_in, kept_to, passes_there, renamed_there, signs_to, stays}
+use Rattle.diagram_moves.proofs.MadeSoFar.{straight_to}
 use Rattle.diagram_moves.specs.Joinable.{AreReady, numbered, parts_in}
-use Rattle.diagram_moves.specs.Kept.{HasComponents}
+use Rattle.diagram_moves.proofs.KeptComponents.{HasComponents}
 use Rattle.diagram_moves.specs.MoveFaults.{finger_drop_fault, kink_drop_fault, no_bigon, no_crossing, no_kink}
 use Rattle.diagram_moves.specs.declared.fault.MoveFault.TheVariants.{NoBigon, NoCrossing, NoKink}
 use Rattle.diagram_moves.proofs.DroppedCodes.{IsKept-finger, IsKept-kink}

@@ -28,7 +28,7 @@ use Rattle.diagram_moves.specs.declared.change.Move.TheVariants.{FingerAdd, Fing
 use Rattle.diagram_moves.specs.declared.fault.MoveFault.{MoveFault}
 use Rattle.diagram_moves.specs.declared.fault.MoveFault.TheVariants.{NoBigon, NoCrossing}
 use Rattle.diagram_moves.specs.Joinable.{numbered}
-use Rattle.diagram_moves.specs.Kept.{HasComponents}
+use Rattle.diagram_moves.proofs.KeptComponents.{HasComponents}
 use Rattle.diagram_moves.specs.Moved.{answered, is_left, moved}
 use Rattle.diagram_moves.specs.MoveFaults.{finger_add_fault, finger_drop_fault, finger_place_fault, wrong_genus}
 use Rattle.diagram_moves.proofs.AddLemmas.{fingers_are_taken, fingers_on_the_sphere_are_accepted}

@@ -26,7 +26,7 @@ use Rattle.diagram_moves.specs.declared.change.Move.TheVariants.{KinkAdd, KinkDr
 use Rattle.diagram_moves.specs.declared.fault.MoveFault.{MoveFault}
 use Rattle.diagram_moves.specs.declared.fault.MoveFault.TheVariants.{NoCrossing, NoKink}
 use Rattle.diagram_moves.specs.Joinable.{numbered}
-use Rattle.diagram_moves.specs.Kept.{HasComponents}
+use Rattle.diagram_moves.proofs.KeptComponents.{HasComponents}
 use Rattle.diagram_moves.specs.Moved.{answered, moved}
 use Rattle.diagram_moves.specs.MoveFaults.{kink_add_fault, kink_drop_fault, refused_where}
 use Rattle.diagram_moves.proofs.AddLemmas.{kinks_are_taken}

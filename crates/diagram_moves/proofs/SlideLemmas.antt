@@ -8,7 +8,8 @@ use Rattle.kh_types.specs.StateSum.{state_sum}
 use Rattle.slides.specs.Triangles.{dart_at_slot, slide_slot, step}
 use Rattle.slides.proofs.FoundTriangles.{IsTriangle-slot, has_heights-slot}
 use Rattle.diagram_moves.specs.Joinable.{AreReady, parts_in}
-use Rattle.diagram_moves.specs.Kept.{HasComponents, slid_strands}
+use Rattle.diagram_moves.specs.Kept.{slid_strands}
+use Rattle.diagram_moves.proofs.KeptComponents.{HasComponents}
 use Rattle.diagram_moves.specs.SlideSteps.{IsSlidable, slid_arc, slid_strands_at}
 use Rattle.slides.specs.Slid.{slid_crossing}
 use Rattle.diagram_moves.specs.Moved.{slid_at, slid_from}

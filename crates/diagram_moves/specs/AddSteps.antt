@@ -1,24 +1,14 @@
 -- Kinks and fingers that are added, crossing by crossing.
-use Rattle.std.specs.Prelude.{◌≢◌, ◌≤◌, ℕ, ◌+◌, List, length, map}
-use Rattle.std.specs.List.{range_with_len}
+use Rattle.std.specs.Prelude.{◌≢◌, ◌≤◌, ℕ, ◌+◌, List, length}
 use Rattle.kh_types.specs.Code.{Code, IsArc}
 use Rattle.kh_types.specs.declared.limits.TheConstants.{CROSSINGS}
 use Rattle.kh_types.specs.Directions.{is_positive}
-use Rattle.kinks_and_fingers.specs.FingerAdd.{moved_slots}
 use Rattle.kinks_and_fingers.specs.KinkAdds.{kinked_slots}
 use Rattle.kinks_and_fingers.specs.Strands.{slots_at}
 
 -- the crossing at a place, on the arcs after a kink
 abbrev pub kinked_there : List (List ℕ) → ℕ → ℕ → List ℕ
 kinked_there crossings a place = kinked_slots a (is_positive crossings (place + 1)) (slots_at crossings place)
-
--- the first so many of them
-abbrev pub kinked_to : List (List ℕ) → ℕ → ℕ → List (List ℕ)
-kinked_to crossings a count = map (kinked_there crossings a) (range_with_len 0 count)
-
--- the first so many crossings, on the arcs after a finger
-abbrev pub fingered_to : List (List ℕ) → ℕ → ℕ → ℕ → List (List ℕ)
-fingered_to crossings a b count = map (moved_slots crossings a b) (range_with_len 1 count)
 
 -- a finger can be put on two arcs: they are different ones, and there is room for two crossings more
 pub record AreTakenArcs (code : Code) (over under : ℕ) : Type 0 where

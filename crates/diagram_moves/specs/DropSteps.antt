@@ -1,6 +1,6 @@
 -- What is left where two crossings are dropped, place by place.
 use Rattle.std.specs.Prelude.{ℕ, List, map, nat_eq, Bool, not, ◌&&◌, ◌||◌}
-use Rattle.std.specs.List.{filter, flat_map, range_with_len}
+use Rattle.std.specs.List.{filter, range_with_len}
 use Rattle.kh_types.specs.Directions.{positive_at}
 use Rattle.kh_types.specs.Classes.{is_least}
 use Rattle.kh_types.specs.Code.{arc_in}
@@ -19,10 +19,6 @@ passes_there crossings place = passes_of (slots_at crossings place)
 -- the crossing at a place under other names
 abbrev pub renamed_there : List (List ℕ) → List ℕ → ℕ → List ℕ
 renamed_there crossings names place = renamed_slots names (slots_at crossings place)
-
--- the passes of the two, among the first so many crossings
-abbrev pub straight_to : List (List ℕ) → ℕ → ℕ → ℕ → List (ℕ × ℕ)
-straight_to crossings first second count = flat_map (passes_there crossings) (filter (is_of_two first second) (range_with_len 0 count))
 
 -- the others among them, under other names
 abbrev pub kept_to : List (List ℕ) → List ℕ → ℕ → ℕ → ℕ → List (List ℕ)

@@ -25,7 +25,3 @@ slid_strands code x y z = record {
   signs = map (positive_at code.crossings) (range_with_len 0 (length code.crossings));
   loops = code.loops;
 }
-
--- a code has as many components and loops together as another
-abbrev pub HasComponents : Code → Code → Type 0
-HasComponents old new = component_count new.crossings + new.loops ≡ component_count old.crossings + old.loops

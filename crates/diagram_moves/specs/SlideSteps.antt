@@ -1,17 +1,12 @@
 -- A slide, crossing by crossing.
-use Rattle.std.specs.Prelude.{ℕ, ◌+◌, ◌*◌, ◌<◌, List, map, unwrap_or}
-use Rattle.std.specs.List.{range_with_len}
+use Rattle.std.specs.Prelude.{ℕ, ◌+◌, ◌*◌, ◌<◌, List, unwrap_or}
 use Rattle.kh_types.specs.Code.{Code, IsCrossing}
 use Rattle.kh_types.specs.Darts.{dart_count}
 use Rattle.kinks_and_fingers.specs.Strands.{Strands}
-use Rattle.slides.specs.Slid.{arc_there, slid_crossing, source}
+use Rattle.slides.specs.Slid.{arc_there, source}
 use Rattle.slides.specs.Triangles.{dart_at_slot, slide_slot, step}
 use Rattle.diagram_moves.specs.Joinable.{AreReady, parts_in}
 use Rattle.diagram_moves.specs.Kept.{slid_strands}
-
--- the first so many crossings after the slide
-abbrev pub slid_to : List (List ℕ) → ℕ → ℕ → ℕ → ℕ → List (List ℕ)
-slid_to crossings x y z count = map (slid_crossing crossings x y z) (range_with_len 0 count)
 
 -- three darts of a code
 pub record AreDarts (crossings : List (List ℕ)) (x y z : ℕ) : Type 0 where

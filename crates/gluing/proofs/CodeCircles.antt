@@ -16,7 +16,8 @@ use Rattle.kh_types.proofs.JoinedClasses.{IsNamed-classes_of}
 use Rattle.gluing.proofs.OldLemmas.{own_passes}
 use Rattle.kh_types.proofs.EdgeBits.{bit-set_there, bit-set_other}
 use Rattle.gluing.specs.Glue.{renamed, Places}
-use Rattle.gluing.specs.Codes.{darts_of, dart_smoothings, arc_of_dart, name_count, HoldsArcs}
+use Rattle.gluing.specs.Codes.{arc_of_dart, name_count, HoldsArcs}
+use Rattle.gluing.proofs.DartPairs.{darts_of, dart_smoothings}
 use Rattle.gluing.proofs.Renamed.{AreBelow-append}
 
 -- smoothings, on any four names

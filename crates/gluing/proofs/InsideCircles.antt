@@ -10,7 +10,9 @@ use Rattle.kh_types.proofs.ClassLemmas.{classes-together, classes-finest}
 use Rattle.kh_types.proofs.JoinedClasses.{IsNamed-classes_of}
 use Rattle.gluing.proofs.OldLemmas.{own_passes}
 use Rattle.gluing.specs.Glue.{renamed, Places, JoinAlike}
-use Rattle.gluing.specs.Slides.{ties_of, ends_joined, closed_inside, IsPlacedTriangle, IsNoSide, TouchNoSide, stubs, at_stubs, rest_circles}
+use Rattle.gluing.specs.Slides.{ends_joined, closed_inside, IsPlacedTriangle, IsNoSide}
+use Rattle.gluing.proofs.OuterPairs.{TouchNoSide, stubs, at_stubs, rest_circles}
+use Rattle.gluing.proofs.Ties.{ties_of}
 use Rattle.gluing.proofs.Glued.{class_count-glued_parts}
 use Rattle.gluing.proofs.Renamed.{AreBelow-renamed, AreBelow-append, classes_of-turned, class_count-renamed}
 use Rattle.gluing.proofs.TiedTable.{IsTied}

@@ -7,7 +7,7 @@ use Rattle.std.proofs.lemmas.Int.{ints}
 use Rattle.std.proofs.lemmas.List.{map-append}
 use Rattle.kh_types.specs.StateSum.{int_sum, circle_coefficient}
 use Rattle.kh_types.proofs.Ranges.{range-append}
-use Rattle.gluing.specs.Terms.{term_at, signed_by_count}
+use Rattle.gluing.proofs.Terms.{term_at, signed_by_count}
 
 -- one circle more
 pub circle_coefficient-more : (k : ℕ) (x : ℤ)

@@ -8,7 +8,8 @@ use Rattle.kh_types.specs.Circles.{smoothings_of, circle_count}
 use Rattle.kh_types.specs.StateSum.{int_sum, term_with, sum_with}
 use Rattle.kh_types.specs.StateSum as kh
 use Rattle.gluing.specs.Glue.{renamed}
-use Rattle.gluing.specs.Codes.{dart_smoothings, arc_of_dart, name_count, HoldsArcs, IsRenumbered}
+use Rattle.gluing.specs.Codes.{arc_of_dart, name_count, HoldsArcs, IsRenumbered}
+use Rattle.gluing.proofs.DartPairs.{dart_smoothings}
 use Rattle.gluing.proofs.Renamed.{class_count-renamed}
 use Rattle.gluing.proofs.CodeCircles.{smoothings_of-darts, dart_smoothings-below, class_count-circles}
 use Rattle.gluing.proofs.Stubs.{renamed-twice}

@@ -12,7 +12,8 @@ use Rattle.kh_types.proofs.JoinedClasses.{classes_of-same}
 use Rattle.gluing.proofs.OldLemmas.{all_from}
 use Rattle.gluing.specs.Glue.{renamed}
 use Rattle.gluing.specs.Codes.{name_count, HoldsArcs}
-use Rattle.gluing.specs.SlidCodes.{is_one_of, outside_at, outside_of, Shows, HasTriangle}
+use Rattle.gluing.specs.SlidCodes.{Shows, HasTriangle}
+use Rattle.gluing.proofs.OutsidePairs.{is_one_of, outside_at, outside_of}
 use Rattle.gluing.proofs.Renamed.{AreBelow-renamed, AreBelow-append, Respects-append, Respects-front, Respects-back}
 use Rattle.gluing.proofs.CodeCircles.{smoothing_by, smoothing_by-renamed, smoothing_by-same, smoothing_by-below}
 use Rattle.gluing.proofs.Stubs.{Respects-renamed, Respects-from_renamed}

@@ -11,10 +11,13 @@ use Rattle.kh_types.specs.Generators.{one_count}
 use Rattle.kh_types.specs.StateSum.{int_sum, signed_by_parity, circle_coefficient, term_with, sum_with}
 use Rattle.kh_types.specs.StateSum as kh
 use Rattle.kh_types.proofs.EdgeBits.{bit-set_there, bit-set_other}
-use Rattle.gluing.specs.Terms.{term_at, signed_by_count}
+use Rattle.gluing.proofs.Terms.{term_at, signed_by_count}
 use Rattle.gluing.specs.Codes.{name_count}
-use Rattle.gluing.specs.Slides.{triangle_before, triangle_after, ends_joined, closed_inside, IsNoSide, rest_circles, is_tied_throughout}
-use Rattle.gluing.specs.SlidCodes.{outside_at, outside_of, HasTriangle, IsSlid}
+use Rattle.gluing.specs.Slides.{triangle_before, triangle_after, ends_joined, closed_inside, IsNoSide}
+use Rattle.gluing.proofs.OuterPairs.{rest_circles}
+use Rattle.gluing.proofs.Ties.{is_tied_throughout}
+use Rattle.gluing.specs.SlidCodes.{HasTriangle, IsSlid}
+use Rattle.gluing.proofs.OutsidePairs.{outside_at, outside_of}
 use Rattle.gluing.proofs.CodeCircles.{class_count-circles, smoothing_by-same}
 use Rattle.gluing.proofs.TiedTable.{IsTied-state, is_tied-slots}
 use Rattle.gluing.proofs.InsideCircles.{class_count-inside, rest_circles-positive}

@@ -9,7 +9,8 @@ use Rattle.std.proofs.lemmas.Slice.Eq.{bytes_eq-Decides}
 use Rattle.std.proofs.lemmas.Int.{ints}
 use Rattle.std.proofs.lemmas.List.{map-append}
 use Rattle.kh_types.specs.StateSum.{int_sum}
-use Rattle.gluing.specs.Slides.{InsideTerm, inside_value, inside_sum, Tally, is_counted_by, zero_or_one, counted_at, counted, tallies_of, opposite, have_one_sum, inside_terms, triangle_before, triangle_after, is_slidable}
+use Rattle.gluing.specs.Slides.{InsideTerm, inside_value, inside_sum, inside_terms, triangle_before, triangle_after, is_slidable}
+use Rattle.gluing.proofs.Tallies.{Tally, is_counted_by, zero_or_one, counted_at, counted, tallies_of, opposite, have_one_sum}
 use Rattle.gluing.proofs.KinkSums.{int_sum-append}
 use Rattle.gluing.proofs.SlideTable.{have_one_sum-slide, both_true}
 

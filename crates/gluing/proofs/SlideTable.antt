@@ -2,7 +2,8 @@
 use Rattle.std.proofs.Common.{◌≡◌, ℕ, zero, suc, ◌+◌, ◌<◌, ◌≤◌, ◌⊎◌, inl, inr, Bool, true, false, not, ◌&&◌, ◌||◌, refl, sym, ap, ◌∙◌, [], ◌∷◌, map, arith}
 use Rattle.std.specs.List.{range_with_len, list_all}
 use Rattle.std.proofs.lemmas.Bool.Decides.{nat_tests}
-use Rattle.gluing.specs.Slides.{slide_keeps_sum, inside_terms, triangle_before, triangle_after, have_one_sum, closed_inside, is_slidable}
+use Rattle.gluing.specs.Slides.{inside_terms, triangle_before, triangle_after, closed_inside, is_slidable}
+use Rattle.gluing.proofs.Tallies.{slide_keeps_sum, have_one_sum}
 
 -- of the eight states of a triangle at slots 0, 0 and 1 one closes a circle inside
 closed_inside-001 : map (closed_inside (triangle_before 0 0 1)) (range_with_len 0 8) ≡ 0 ∷ 0 ∷ 0 ∷ 0 ∷ 1 ∷ 0 ∷ 0 ∷ 0 ∷ []

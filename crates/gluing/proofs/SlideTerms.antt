@@ -7,7 +7,7 @@ use Rattle.std.proofs.lemmas.Int.{ints}
 use Rattle.std.proofs.lemmas.List.{map-append}
 use Rattle.kh_types.specs.Bits.{ones}
 use Rattle.kh_types.specs.StateSum.{int_sum, circle_coefficient}
-use Rattle.gluing.specs.Terms.{term_at, signed_by_count}
+use Rattle.gluing.proofs.Terms.{term_at, signed_by_count}
 use Rattle.gluing.specs.Slides.{inside_sum, terms_of_state, term_exponents, ends_joined, closed_inside, is_slidable, triangle_before, triangle_after}
 use Rattle.gluing.proofs.KinkSums.{signed_by-add, signed_by-next, int_sum-append}
 use Rattle.gluing.proofs.SlideSums.{inside_sum-append, inside_sum-slide}

@@ -7,7 +7,8 @@ use Rattle.kh_types.specs.Classes.{classes_of, class_count, Respects, AreBelow}
 use Rattle.kh_types.proofs.ClassLemmas.{classes-together, classes-finest}
 use Rattle.kh_types.proofs.JoinedClasses.{slice_index-range}
 use Rattle.gluing.specs.Glue.{renamed, Places, JoinAlike}
-use Rattle.gluing.specs.Slides.{IsPlacedTriangle, IsNoSide, TouchNoSide, stubs, at_stubs}
+use Rattle.gluing.specs.Slides.{IsPlacedTriangle, IsNoSide}
+use Rattle.gluing.proofs.OuterPairs.{TouchNoSide, stubs, at_stubs}
 use Rattle.gluing.proofs.Glued.{class_count-glued_parts}
 use Rattle.gluing.proofs.Renamed.{class_count-range, class_count-fresh}
 

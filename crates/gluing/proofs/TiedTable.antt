@@ -9,7 +9,8 @@ use Rattle.std.proofs.lemmas.List.FromFn.{length-range_with_len, get_or-range_wi
 use Rattle.std.proofs.lemmas.List.{get_or-map}
 use Rattle.kh_types.specs.Classes.{classes_of, class_count, AreBelow}
 use Rattle.kh_types.specs.Circles.{smoothings_of}
-use Rattle.gluing.specs.Slides.{triangle_before, triangle_after, is_tied_throughout, is_tied_at, are_below, ties_of, ends_joined, closed_inside, inside_classes}
+use Rattle.gluing.specs.Slides.{triangle_before, triangle_after, ends_joined, closed_inside, inside_classes}
+use Rattle.gluing.proofs.Ties.{is_tied_throughout, is_tied_at, are_below, ties_of}
 use Rattle.gluing.proofs.SlideTable.{both_true, list_all-range}
 
 all_slots : list_all (λ p. list_all (λ q. list_all (λ r. is_tied_throughout (triangle_before p q r) && is_tied_throughout (triangle_after p q r)) (range_with_len 0 4))

@@ -1,24 +1,9 @@
 -- Codes before and after a third Reidemeister move.
-use Rattle.std.specs.Prelude.{◌≡◌, ◌≢◌, ℕ, ◌<◌, List, [], length, slice_index_or, nat_eq, Bool, true, ◌||◌, if◌then◌else◌}
-use Rattle.std.specs.List.{flat_map, enumerate_from}
-use Rattle.kh_types.specs.Bits.{bit}
+use Rattle.std.specs.Prelude.{◌≡◌, ◌≢◌, ℕ, ◌<◌, List, [], length, slice_index_or, true}
 use Rattle.kh_types.specs.Code.{Code, arc_in}
-use Rattle.kh_types.specs.Circles.{smoothing_of}
 use Rattle.gluing.specs.Arcs.{arc_by_place}
 use Rattle.gluing.specs.Codes.{name_count, HoldsArcs}
 use Rattle.gluing.specs.Slides.{triangle_before, triangle_after, is_slidable, IsPlacedTriangle, IsNoSide}
-
--- whether a place is one of three
-abbrev pub is_one_of : ℕ → ℕ → ℕ → ℕ → Bool
-is_one_of c d e place = nat_eq place c || (nat_eq place d || nat_eq place e)
-
--- what the smoothing of a crossing joins, if it does not stand at one of three places
-abbrev pub outside_at : ℕ → ℕ → ℕ → ℕ → ℕ × List ℕ → List (ℕ × ℕ)
-outside_at c d e state at = if is_one_of c d e at.0 then [] else smoothing_of (bit state at.0) at.1
-
--- what the smoothings of all crossings but those at three places join
-abbrev pub outside_of : List (List ℕ) → ℕ → ℕ → ℕ → ℕ → List (ℕ × ℕ)
-outside_of crossings c d e state = flat_map (outside_at c d e state) (enumerate_from 0 crossings)
 
 -- a crossing has, at each slot, the arc that stands for the inside number there
 abbrev pub Shows : (ℕ → ℕ) → List ℕ → List ℕ → Type 0

@@ -1,6 +1,7 @@
 pub mod PartLemmas
 pub mod TextReadings
 pub mod TextFaults
+pub mod ReadCodes
 pub mod DiagramReadings
 pub mod JonesLemmas
 pub mod ReplyStatuses

@@ -68,6 +68,10 @@ read-small forms.Json bytes code read = json-small bytes code read
 pub few_crossings-read : (bytes : List ℕ) (code : Code) → IsCodeRead bytes (Ok code) → length code.crossings ≤ CROSSINGS
 few_crossings-read bytes code read = (read-small (input_form bytes) bytes code read).crossings
 
+-- and few loops
+pub few_loops-read : (bytes : List ℕ) (code : Code) → IsCodeRead bytes (Ok code) → code.loops ≤ LOOPS
+few_loops-read bytes code read = (read-small (input_form bytes) bytes code read).loops
+
 pub text-fault : (bytes : List ℕ) (code : Code) (fault : CodeFault) → IsCodeRead bytes (Ok code) → first_fault code ≡ Some fault
     → IsTextFault fault
 text-fault bytes code (faults.ArcRange crossing slot) read is = tt

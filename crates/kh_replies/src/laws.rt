@@ -1,6 +1,13 @@
 //! Laws of the definitions: each is the contract of a function that does nothing.
 
-ghost use Rattle.std.specs.Prelude.{◌≡◌, ◌≢◌, [], ◌∷◌, ◌++◌, ℕ, List, All};
+ghost use Rattle.std.specs.Prelude.{◌≡◌, ◌≢◌, ◌≤◌, [], ◌∷◌, ◌++◌, ℕ, List, All, IsTrue, Ok, length};
+ghost use Rattle.kh_types.specs.Acceptance.{accepted};
+ghost use Rattle.kh_types.specs.Code.{Code};
+ghost use Rattle.kh_types.specs.declared.limits.TheConstants.{CROSSINGS, LOOPS};
+ghost use Rattle.kh_lex.specs.Lines.{with_feed};
+ghost use Rattle.word_line.specs.declared.command.Form.{Form};
+ghost use Rattle.kh_replies.specs.Convert.{text_in};
+ghost use Rattle.kh_replies.specs.Inputs.{IsCodeRead};
 ghost use Rattle.kh_replies.specs.Parts.{code_part, part_behind};
 
 /// An input is cut at its first semicolon, byte 59: the code is before it and the script behind it.
@@ -10,4 +17,23 @@ pub fn inputs_are_cut_at_the_first_semicolon()
         → (code_part (code ++ 59 ∷ script) ≡ code) × (part_behind (code ++ 59 ∷ script) ≡ script) }
     ensures whole { (code : List ℕ) → All (λ byte. byte ≢ 59) code
         → (code_part code ≡ code) × (part_behind code ≡ []) }
+{}
+
+/// The crossings of the code of a text have four slots each, and its crossings and loops are within
+/// the limits.
+pub fn codes_of_texts_are_small()
+    ensures slots { (bytes : List ℕ) (code : Code) → IsCodeRead bytes (Ok code)
+        → All (λ slots. length slots ≡ 4) code.crossings }
+    ensures crossings { (bytes : List ℕ) (code : Code) → IsCodeRead bytes (Ok code)
+        → length code.crossings ≤ CROSSINGS }
+    ensures loops { (bytes : List ℕ) (code : Code) → IsCodeRead bytes (Ok code) → code.loops ≤ LOOPS }
+{}
+
+/// A line of the text of an accepted diagram within the limits, in either form, is read as its
+/// code. That a diagram's crossings have four slots each is part of their type.
+pub fn printed_diagrams_are_read_back()
+    ensures { (form : Form) (code : Code) → IsTrue (accepted code)
+        → All (λ slots. length slots ≡ 4) code.crossings
+        → length code.crossings ≤ CROSSINGS → code.loops ≤ LOOPS
+        → IsCodeRead (with_feed (text_in form code)) (Ok code) }
 {}

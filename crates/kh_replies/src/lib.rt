@@ -27,7 +27,9 @@ pub use ending::written;
 pub use input::{InputStop, read_diagram};
 pub use intake::{Intake, intake_of};
 pub use jones::{jones_line, reply_to_jones};
-pub use laws::inputs_are_cut_at_the_first_semicolon;
+pub use laws::{
+    codes_of_texts_are_small, inputs_are_cut_at_the_first_semicolon, printed_diagrams_are_read_back,
+};
 pub use parts::{code_part, part_behind};
 pub use reading::{Input, read_input};
 pub use refusals::{

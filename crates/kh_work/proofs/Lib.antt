@@ -3,6 +3,7 @@ pub mod ReducedLemmas
 pub mod ReplyLemmas
 pub mod ScheduleLemmas
 pub mod EditLemmas
+pub mod CertifyReplies
 pub mod OneAnswer
 pub mod VerifyLemmas
 pub mod Headlines
@@ -11,3 +12,5 @@ pub mod TurnAnswers
 pub mod ReducedAnswers
 pub mod LogAnswers
 pub mod ReducedHeadlines
+pub mod TextAnswers
+pub mod CaseAnswers

@@ -5,10 +5,10 @@ use Rattle.kh_types.specs.Code.{Code}
 use Rattle.kh_types.specs.Acceptance.{accepted}
 use Rattle.kh_types.specs.Table.{Table, table, table_text}
 use Rattle.kh_types.specs.declared.limits.TheConstants.{INPUT_BYTES}
-use Rattle.kh_lex.specs.Lines.{lines_of}
+use Rattle.cancel_log.proofs.WholeLogs.{log-verified, verdict-table}
 use Rattle.circle_smoothing.specs.GeneratorCounts.{generator_count}
 use Rattle.circle_smoothing.specs.declared.limits.TheConstants.{GENERATORS}
-use Rattle.cancel_log.specs.Verdicts.{IsLogOf, IsVerdict}
+use Rattle.cancel_log.specs.Verdicts.{IsLog, IsVerdict}
 use Rattle.cancel_log.specs.declared.limits.TheConstants.{LOG_BYTES}
 use Rattle.cancel_log.specs.declared.stop.LogStop.{LogStop}
 use Rattle.cancel_log.specs.declared.stop.LogStop.TheVariants.{Line, SizeLimit, NoMemory}
@@ -69,7 +69,7 @@ few_certified field code reply few (inr log) = log.1
 -- each log of an accepted diagram that is short enough answers its code
 pub IsAnswer-log : (words : List (List ℕ)) (bytes : List ℕ) (command : Command) (code : Code) (text : List ℕ) → IsCommand words command
     → command.task ≡ Certify → length bytes ≤ INPUT_BYTES → IsCodeRead bytes (Ok code) → IsTrue (accepted code)
-    → generator_count code ≤ GENERATORS → IsLogOf command.field code (lines_of text) → length text ≤ LOG_BYTES
+    → generator_count code ≤ GENERATORS → IsLog command.field code text → length text ≤ LOG_BYTES
     → IsAnswer words bytes (reply_of Done text)
 IsAnswer-log words bytes command code text meant is_certify few_bytes read is_accepted few log short =
     answer-task words bytes command Certify (reply_of Done text) meant is_certify refl few_bytes
@@ -90,13 +90,13 @@ IsAnswer-only_logs words bytes command code reply meant is_certify few_bytes rea
 
 -- a log is answered by the table that it proves
 pub IsAnswer-verified : (words : List (List ℕ)) (bytes : List ℕ) (command : Command) (field : ℕ) (code : Code) → IsCommand words command
-    → command.task ≡ Verify → length bytes ≤ LOG_BYTES → IsLogOf field code (lines_of bytes)
+    → command.task ≡ Verify → length bytes ≤ LOG_BYTES → IsLog field code bytes
     → IsAnswer words bytes (reply_of Done (codes "verified\n" ++ table_text (table field code)))
 IsAnswer-verified words bytes command field code meant is_verify few log =
     answer-task words bytes command Verify (reply_of Done (verified_text (table field code))) meant is_verify refl few
     (record {
       verdict = Ok (table field code);
-      reached = inr (record { code = code; p = field; others = log.others; begins = log.begins; behind = (log.prove, refl) });
+      reached = log-verified field code bytes log;
       answered = refl;
     })
 
@@ -113,18 +113,14 @@ limit_is_not_done reply refusal is limited done =
 -- bytes are a log of a diagram, and a text tells the table that it proves
 abbrev Proves : List ℕ → List ℕ → Type 0
 Proves bytes text =
-    (field : ℕ) × (code : Code) × IsLogOf field code (lines_of bytes) × (text ≡ codes "verified\n" ++ table_text (table field code))
+    (field : ℕ) × (code : Code) × IsLog field code bytes × (text ≡ codes "verified\n" ++ table_text (table field code))
 
 -- what a log comes to is told as done where it proves a table
 done_verdict : (bytes : List ℕ) (verdict : Result Table LogStop) (reply : Reply) → IsVerdict bytes verdict → IsVerdictReply verdict reply
     → reply.status ≡ Done → Proves bytes reply.text
-done_verdict bytes (Ok homology) reply (inl start) told done = absurd start
-done_verdict bytes (Ok homology) reply (inr on) told done = (
-  on.p,
-  on.code,
-  record { others = on.others; begins = on.begins; prove = on.behind.0 },
-  ap (λ (r : Reply). r.text) told ∙ ap verified_text on.behind.1,
-)
+done_verdict bytes (Ok homology) reply reached told done =
+    let proved = verdict-table bytes homology reached in
+    (proved.0, proved.1, proved.2, ap (λ (r : Reply). r.text) told ∙ ap verified_text proved.3)
 done_verdict bytes (Err (Line line cause)) reply reached told done = refusal_is_not_done reply _ told refl done
 done_verdict bytes (Err (SizeLimit generators)) reply reached told done = limit_is_not_done reply _ told refl done
 done_verdict bytes (Err NoMemory) reply reached told done = absurd told
@@ -138,7 +134,7 @@ done_within bytes reply (inr few) done = done_verdict bytes few.1.verdict reply 
 -- bytes that are answered as done are a log, and the reply tells the table that it proves
 pub IsAnswer-only_verified : (words : List (List ℕ)) (bytes : List ℕ) (command : Command) (reply : Reply) → IsCommand words command
     → command.task ≡ Verify → IsAnswer words bytes reply → reply.status ≡ Done
-    → (field : ℕ) × (code : Code) × IsLogOf field code (lines_of bytes) × (reply.text ≡ codes "verified\n" ++ table_text (table field code))
+    → (field : ℕ) × (code : Code) × IsLog field code bytes × (reply.text ≡ codes "verified\n" ++ table_text (table field code))
 IsAnswer-only_verified words bytes command reply meant is_verify answered done =
     done_within bytes reply (answered-task words bytes command Verify reply meant is_verify answered) done
 

@@ -1,9 +1,11 @@
 -- What answers the text of a log, and what is said of logs that are written.
 use Rattle.std.proofs.Common.{◌≡◌, ◌≢◌, inl, inr, ℕ, List, IfOk, refl, sym, subst, ◌∙◌, Result, Ok, Err}
 use Rattle.kh_types.specs.Table.{Table}
-use Rattle.cancel_log.specs.Verdicts.{IsVerdict}
+use Rattle.kh_lex.specs.Lines.{lines_of}
+use Rattle.cancel_log.specs.Verdicts.{IsVerdict, IsVerdictOn}
 use Rattle.cancel_log.specs.declared.stop.LogStop.{LogStop}
 use Rattle.cancel_log.specs.declared.stop.LogStop.TheVariants.{Line, SizeLimit, NoMemory}
+use Rattle.cancel_log.proofs.WholeLogs.{verdict-lines}
 use Rattle.cancel_log.proofs.OneVerdict.{IsVerdict-one, IsVerdict-some}
 use Rattle.kh_replies.specs.Replies.{Reply, reply_of}
 use Rattle.kh_replies.specs.Refusals.{refused_log_line, too_many_generators}
@@ -15,8 +17,11 @@ IsVerdictReply-some : (text : List ℕ) (verdict : Result Table LogStop) → IsV
 IsVerdictReply-some text (Ok homology) reached = (reply_of Done (verified_text homology), refl)
 IsVerdictReply-some text (Err (Line line cause)) reached = (refused_log_line line (cause_word cause), refl)
 IsVerdictReply-some text (Err (SizeLimit generators)) reached = (too_many_generators generators, refl)
-IsVerdictReply-some text (Err NoMemory) (inl start) = absurd start
-IsVerdictReply-some text (Err NoMemory) (inr on) = absurd on.behind
+IsVerdictReply-some text (Err NoMemory) reached = go (verdict-lines text (Err NoMemory) reached)
+  where
+    go : {P : Type 0} → IsVerdictOn (lines_of text) (Err NoMemory) → P
+    go (inl start) = absurd start
+    go (inr on) = absurd on.behind
 
 IsVerdictReply-one : (verdict : Result Table LogStop) (a b : Reply) → IsVerdictReply verdict a → IsVerdictReply verdict b → a ≡ b
 IsVerdictReply-one (Ok homology) a b is_a is_b = is_a ∙ sym is_b

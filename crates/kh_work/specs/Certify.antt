@@ -2,10 +2,9 @@
 -- project's rule.
 use Rattle.std.specs.Prelude.{◌≡◌, ◌⊎◌, ℕ, ◌<◌, ◌≤◌, length}
 use Rattle.kh_types.specs.Code.{Code}
-use Rattle.kh_lex.specs.Lines.{lines_of}
 use Rattle.circle_smoothing.specs.GeneratorCounts.{generator_count}
 use Rattle.circle_smoothing.specs.declared.limits.TheConstants.{GENERATORS}
-use Rattle.cancel_log.specs.Verdicts.{IsLogOf}
+use Rattle.cancel_log.specs.Verdicts.{IsLog}
 use Rattle.cancel_log.specs.declared.limits.TheConstants.{LOG_BYTES}
 use Rattle.kh_replies.specs.declared.status.Status.TheVariants.{Done}
 use Rattle.kh_replies.specs.Replies.{Reply}
@@ -14,7 +13,7 @@ use Rattle.kh_replies.specs.Refusals.{too_many_generators}
 -- a reply is a log of a diagram over the field of so many elements, short enough to be verified
 pub record IsCertificate (field : ℕ) (code : Code) (reply : Reply) : Type 0 where
   pub status : reply.status ≡ Done
-  pub log : IsLogOf field code (lines_of reply.text)
+  pub log : IsLog field code reply.text
   pub few : length reply.text ≤ LOG_BYTES
 
 -- the cube has too many generators, and the reply says so; or it has not, and the reply is a log, whichever pivots that lists

@@ -1,19 +1,26 @@
 //! Laws of the definitions: each is the contract of a function that does nothing.
 
-ghost use Rattle.std.specs.Prelude.{◌≡◌, ◌<◌, ◌≤◌, ◌++◌, ℕ, List, [], codes, length};
+pub mod cases;
+
+ghost use Rattle.std.specs.Prelude.{◌≡◌, ◌≢◌, ◌<◌, ◌≤◌, ◌++◌, ℕ, List, [], codes, length};
 ghost use Rattle.std.specs.Prelude.{Err, IsTrue, Ok, Some, false, true};
 ghost use Rattle.std.specs.Prelude.{◌+ℤ◌, ◌-ℤ◌, ℤ, pos};
+ghost use Rattle.std.specs.Fmt.{decimal};
 ghost use Rattle.circle_smoothing.specs.GeneratorCounts.{generator_count};
 ghost use Rattle.circle_smoothing.specs.declared.limits.TheConstants.{GENERATORS};
-ghost use Rattle.cancel_log.specs.Verdicts.{IsLogOf};
+ghost use Rattle.cancel_log.specs.Verdicts.{IsLog};
 ghost use Rattle.cancel_log.specs.declared.limits.TheConstants.{LOG_BYTES};
 ghost use Rattle.commit_core.specs.Answering.{answers};
 ghost use Rattle.kh_types.specs.Code.{Code};
 ghost use Rattle.kh_types.specs.Acceptance.{accepted};
+ghost use Rattle.kh_types.specs.Components.{component_count};
+ghost use Rattle.kh_types.specs.Directions.{minus_count, plus_count};
+ghost use Rattle.kh_types.specs.Faces.{face_count, piece_count};
 ghost use Rattle.kh_types.specs.StateSum.{euler, polynomial_text, state_sum};
 ghost use Rattle.kh_types.specs.Table.{table, table_text};
 ghost use Rattle.kh_types.specs.declared.limits.TheConstants.{CROSSINGS, INPUT_BYTES, LOOPS};
 ghost use Rattle.word_line.specs.declared.command.Command.{Command};
+ghost use Rattle.word_line.specs.declared.command.Form.{Form};
 ghost use Rattle.word_line.specs.declared.command.Task.{Task};
 ghost use Rattle.kh_replies.specs.declared.status.Status.{Status};
 ghost use Rattle.kh_replies.specs.Replies.{Reply, reply_of};
@@ -26,7 +33,6 @@ ghost use Rattle.word_line.specs.Values.{IsFieldSize};
 ghost use Rattle.kh_work.specs.Schedule.{answer_lines, events_of};
 ghost use Rattle.kh_work.specs.Reduced.{mark_line};
 ghost use Rattle.kh_work.specs.Edit.{edits_in, outcome_reply};
-ghost use Rattle.kh_lex.specs.Lines.{lines_of};
 ghost use Rattle.kh_work.specs.Answer.{HaveOneReply, IsAnswer};
 ghost use Rattle.kh_work.specs.Certify.{IsCertificate};
 ghost use Rattle.kh_work.specs.Bench.{bench_counts, bench_lines};
@@ -39,6 +45,7 @@ ghost use Rattle.link_algebra.specs.Mirrors.{mirror_of, reversal_of};
 ghost use Rattle.link_algebra.specs.Unions.{crossings_together, loops_together, union_of};
 ghost use Rattle.morse_drawing.specs.Pages.{slices_of};
 ghost use Rattle.morse_drawing.specs.Texts.{drawing_text};
+ghost use Rattle.gauss_code.specs.Printing.{gauss_text};
 ghost use Rattle.pd_code.specs.Printing.{pd_text};
 ghost use Rattle.reduced_cube.specs.Reduced.{is_mark, reduced_table};
 ghost use Rattle.undo_stack.specs.Schedule.{IsSchedule};
@@ -51,12 +58,17 @@ ghost use Rattle.undo_stack.specs.declared.schedule.ScheduleLine.{ScheduleLine};
 
 use reduced_cube::laws::{known_marks, reduced_euler_characteristic};
 
-/// To all words, but those that mean `certify`, and all bytes there is exactly one answer.
+/// To all words and all bytes there is an answer, and one alone, unless the words mean `certify` and
+/// it is done: so refusals and limits are one, and so is the status.
 pub fn one_answer()
-    ensures some { (words : List (List ℕ)) (bytes : List ℕ) → HaveOneReply words
-        → (reply : Reply) × IsAnswer words bytes reply }
+    ensures some { (words : List (List ℕ)) (bytes : List ℕ) → (reply : Reply) × IsAnswer words bytes reply }
     ensures one { (words : List (List ℕ)) (bytes : List ℕ) (reply other : Reply) → HaveOneReply words
         → IsAnswer words bytes reply → IsAnswer words bytes other → reply ≡ other }
+    ensures undone { (words : List (List ℕ)) (bytes : List ℕ) (reply other : Reply)
+        → reply.status ≢ Status.Done
+        → IsAnswer words bytes reply → IsAnswer words bytes other → reply ≡ other }
+    ensures status { (words : List (List ℕ)) (bytes : List ℕ) (reply other : Reply)
+        → IsAnswer words bytes reply → IsAnswer words bytes other → reply.status ≡ other.status }
 {}
 
 /// Commands that differ only in the number of their workers have the same answers.
@@ -86,6 +98,42 @@ pub fn accepted_diagrams_are_answered_by_their_polynomial()
         → IsCommand words command → command.task ≡ Task.Jones
         → length bytes ≤ INPUT_BYTES → IsCodeRead bytes (Ok code) → IsTrue (accepted code)
         → IsAnswer words bytes (reply_of Status.Done (jones_line code)) }
+{}
+
+/// Words that mean the command `check`, and bytes that are the text of the code of an accepted
+/// diagram, are answered by one line: how many crossings it has, how many of them are positive and
+/// how many negative, how many components, connected pieces and faces, each without the
+/// crossingless loops, and how many such loops.
+pub fn accepted_diagrams_are_answered_by_their_counts()
+    ensures { (words : List (List ℕ)) (bytes : List ℕ) (command : Command) (code : Code)
+        → IsCommand words command → command.task ≡ Task.Check
+        → length bytes ≤ INPUT_BYTES → IsCodeRead bytes (Ok code) → IsTrue (accepted code)
+        → IsAnswer words bytes (reply_of Status.Done (codes "accepted crossings "
+        ++ (decimal (length code.crossings)
+        ++ (codes " plus " ++ (decimal (plus_count code.crossings)
+        ++ (codes " minus " ++ (decimal (minus_count code.crossings)
+        ++ (codes " components " ++ (decimal (component_count code.crossings)
+        ++ (codes " pieces " ++ (decimal (piece_count code.crossings)
+        ++ (codes " faces " ++ (decimal (face_count code.crossings)
+        ++ (codes " loops " ++ (decimal code.loops ++ codes "\n"))))))))))))))) }
+{}
+
+/// Words that mean the command `convert`, and bytes that are the text of the code of an accepted
+/// diagram, are answered by a line: its planar diagram text, or its signed Gauss text where the
+/// words ask for that. What is answered is read as the same code, in either form.
+pub fn accepted_diagrams_are_answered_by_their_text()
+    ensures planar { (words : List (List ℕ)) (bytes : List ℕ) (command : Command) (code : Code)
+        → IsCommand words command → command.task ≡ Task.Convert → command.to ≡ Form.Pd
+        → length bytes ≤ INPUT_BYTES → IsCodeRead bytes (Ok code) → IsTrue (accepted code)
+        → IsAnswer words bytes (reply_of Status.Done (pd_text code ++ codes "\n")) }
+    ensures gauss { (words : List (List ℕ)) (bytes : List ℕ) (command : Command) (code : Code)
+        → IsCommand words command → command.task ≡ Task.Convert → command.to ≡ Form.Gauss
+        → length bytes ≤ INPUT_BYTES → IsCodeRead bytes (Ok code) → IsTrue (accepted code)
+        → IsAnswer words bytes (reply_of Status.Done (gauss_text code ++ codes "\n")) }
+    ensures read_back { (words : List (List ℕ)) (bytes : List ℕ) (command : Command) (code : Code) (reply : Reply)
+        → IsCommand words command → command.task ≡ Task.Convert
+        → length bytes ≤ INPUT_BYTES → IsCodeRead bytes (Ok code) → IsTrue (accepted code)
+        → IsAnswer words bytes reply → IsCodeRead reply.text (Ok code) }
 {}
 
 /// Words that mean the command `schedule`, and bytes with the code of an accepted diagram within
@@ -163,7 +211,7 @@ pub fn accepted_diagrams_are_answered_by_their_logs()
     ensures answer { (words : List (List ℕ)) (bytes : List ℕ) (command : Command) (code : Code) (text : List ℕ)
         → IsCommand words command → command.task ≡ Task.Certify
         → length bytes ≤ INPUT_BYTES → IsCodeRead bytes (Ok code) → IsTrue (accepted code)
-        → generator_count code ≤ GENERATORS → IsLogOf command.field code (lines_of text)
+        → generator_count code ≤ GENERATORS → IsLog command.field code text
         → length text ≤ LOG_BYTES → IsAnswer words bytes (reply_of Status.Done text) }
     ensures only { (words : List (List ℕ)) (bytes : List ℕ) (command : Command) (code : Code) (reply : Reply)
         → IsCommand words command → command.task ≡ Task.Certify
@@ -179,12 +227,12 @@ pub fn accepted_diagrams_are_answered_by_their_logs()
 pub fn logs_are_answered_by_their_table()
     ensures answer { (words : List (List ℕ)) (bytes : List ℕ) (command : Command) (field : ℕ) (code : Code)
         → IsCommand words command → command.task ≡ Task.Verify → length bytes ≤ LOG_BYTES
-        → IsLogOf field code (lines_of bytes)
+        → IsLog field code bytes
         → IsAnswer words bytes (reply_of Status.Done (codes "verified\n" ++ table_text (table field code))) }
     ensures only { (words : List (List ℕ)) (bytes : List ℕ) (command : Command) (reply : Reply)
         → IsCommand words command → command.task ≡ Task.Verify
         → IsAnswer words bytes reply → reply.status ≡ Status.Done
-        → (field : ℕ) × (code : Code) × IsLogOf field code (lines_of bytes)
+        → (field : ℕ) × (code : Code) × IsLog field code bytes
         × (reply.text ≡ codes "verified\n" ++ table_text (table field code)) }
     ensures certified { (words other : List (List ℕ)) (bytes : List ℕ) (command verifier : Command) (code : Code)
         (reply : Reply) → IsCommand words command → command.task ≡ Task.Certify

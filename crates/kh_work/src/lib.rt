@@ -7,12 +7,13 @@ mod byte_limits;
 mod commands;
 mod completion;
 mod draft;
-mod laws;
+pub mod laws;
 mod tables;
 mod top;
 
 pub use kh_replies::Status;
 pub use laws::{
+    accepted_diagrams_are_answered_by_their_counts,
     accepted_diagrams_are_answered_by_their_drawing, accepted_diagrams_are_answered_by_their_edit,
     accepted_diagrams_are_answered_by_their_logs, accepted_diagrams_are_answered_by_their_mirror,
     accepted_diagrams_are_answered_by_their_polynomial,

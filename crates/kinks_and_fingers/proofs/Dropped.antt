@@ -7,7 +7,7 @@ use Rattle.kh_types.specs.Bits.{bit}
 use Rattle.face_walk.specs.AddedArcs.{IsPlanar}
 use Rattle.kinks_and_fingers.specs.Strands.{dart_name, enters, is_head_at, HasTwoEnds, HasColours, IsPlanarBy}
 use Rattle.kinks_and_fingers.specs.Drops.{kept_crossings, kept_signs}
-use Rattle.kinks_and_fingers.specs.Dropping.{is_code_head, is_colour, dartwise, IsDropped}
+use Rattle.kinks_and_fingers.proofs.DroppedDarts.{is_code_head, is_colour, dartwise, IsDropped}
 use Rattle.kinks_and_fingers.proofs.KeptCodes.{block_place, block_slot, length-kept, kept-name, kept-sign}
 
 code_head-dartwise : (crossings : List (List ℕ)) (f : ℕ → ℕ) (x : ℕ)

@@ -11,7 +11,8 @@ use Rattle.kh_types.proofs.ClassCounts.{class_count-components}
 use Rattle.kh_types.proofs.Heads.{HasNoSingleArcs-accepted}
 use Rattle.kh_types.proofs.NextArcs.{component, IsNamed-components_of}
 use Rattle.kh_types.proofs.PassPairs.{passes-below}
-use Rattle.kinks_and_fingers.specs.FingerAdd.{opened, fingered_crossings, fingered, AreFingerable}
+use Rattle.kinks_and_fingers.specs.FingerAdd.{opened, fingered_crossings, fingered}
+use Rattle.kinks_and_fingers.proofs.MovableArcs.{AreFingerable}
 use Rattle.face_walk.proofs.PlainCounts.{count_by-one_to_one}
 use Rattle.face_walk.proofs.Cover.{class_count-counts}
 use Rattle.face_walk.proofs.Board.{IsCheckerboard-planar}

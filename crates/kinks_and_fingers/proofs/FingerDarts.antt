@@ -7,7 +7,8 @@ use Rattle.kh_types.specs.Code.{arc_in, slots_of, arc_count, IsArc}
 use Rattle.kh_types.specs.Darts.{arc_of, IsDart}
 use Rattle.kh_types.specs.Directions.{is_head, head_of, tail_of, HasEnds}
 use Rattle.kh_types.proofs.Heads.{HasEnds-directed}
-use Rattle.kinks_and_fingers.specs.FingerAdd.{opened, head_number, dart_with, fingered_crossings, AreFingerable}
+use Rattle.kinks_and_fingers.specs.FingerAdd.{opened, head_number, dart_with, fingered_crossings}
+use Rattle.kinks_and_fingers.proofs.MovableArcs.{AreFingerable}
 use Rattle.kinks_and_fingers.proofs.Opened.{low, IsOneOf, head_number-one, head_number-other, number-cases, opened-from, head_number-within, opened-le-head_number, low-within, low-positive}
 use Rattle.kinks_and_fingers.proofs.TwiceCounts.{HasTwoPlaces}
 use Rattle.kinks_and_fingers.proofs.Passed.{HasTwoPlaces-darts}

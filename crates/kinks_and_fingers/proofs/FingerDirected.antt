@@ -7,7 +7,7 @@ use Rattle.std.proofs.lemmas.Bool.Decides.{nat_tests}
 use Rattle.std.proofs.lemmas.List.{get_or_past}
 use Rattle.kh_types.specs.declared.dart.Dart.{Dart}
 use Rattle.kh_types.specs.Code.{slots_of, arc_count, IsArc}
-use Rattle.kh_types.specs.Components.{components_of, next}
+use Rattle.kh_types.specs.Components.{components_of, next, passes_of}
 use Rattle.kh_types.specs.Darts.{arc_of, IsDart}
 use Rattle.kh_types.specs.Directions.{is_head, head_of}
 use Rattle.kh_types.specs.Accepted.{IsDirected}
@@ -16,9 +16,9 @@ use Rattle.kh_types.proofs.NextArcs.{component, IsNamed-components_of, component
 use Rattle.kh_types.proofs.Heads.{HasEnds-directed}
 use Rattle.kh_types.proofs.ClassLemmas.{classes-finest}
 use Rattle.kh_types.proofs.PassPairs.{passes-below, passes-positive}
-use Rattle.kh_types.specs.Components.{passes_of}
 use Rattle.kh_types.proofs.DartColours.{arc_at}
-use Rattle.kinks_and_fingers.specs.FingerAdd.{opened, head_number, fingered_crossings, AreFingerable}
+use Rattle.kinks_and_fingers.specs.FingerAdd.{opened, head_number, fingered_crossings}
+use Rattle.kinks_and_fingers.proofs.MovableArcs.{AreFingerable}
 use Rattle.kinks_and_fingers.proofs.Opened.{low, IsOneOf, low-opened, low-middle, low-last, number-cases, opened-suc, opened-le, opened-zero, low-within, low-past, low-positive}
 use Rattle.kinks_and_fingers.proofs.Passed.{HasPass, IsPassed, HasRuns}
 use Rattle.kinks_and_fingers.proofs.FingerSlots.{length-fingered, arc_of-tail, HasPasses}

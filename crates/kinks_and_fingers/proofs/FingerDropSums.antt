@@ -18,12 +18,13 @@ use Rattle.kh_types.proofs.AcceptedLemmas.{HasArcsTwice-accepted}
 use Rattle.kh_types.proofs.Heads.{HasNoSingleArcs-accepted}
 use Rattle.kh_types.proofs.Lists.{count_by-map}
 use Rattle.kh_types.proofs.RangeCounts.{count_by-alike}
-use Rattle.gluing.specs.Terms.{term_at}
+use Rattle.gluing.proofs.Terms.{term_at}
 use Rattle.kinks_and_fingers.specs.Strands.{enters}
 use Rattle.kinks_and_fingers.specs.Drops.{kept_places, kept_signs, kept_crossings, is_of_two, without_finger}
-use Rattle.kinks_and_fingers.specs.Dropping.{HasBigonAt, is_code_head}
+use Rattle.kinks_and_fingers.specs.Dropping.{HasBigonAt}
+use Rattle.kinks_and_fingers.proofs.DroppedDarts.{is_code_head}
 use Rattle.kinks_and_fingers.specs.DropCircles.{closing_at, through_at, strand_circle_count, strand_plus, strand_minus, strand_term, strand_sum}
-use Rattle.kinks_and_fingers.specs.Insertions.{with_bit}
+use Rattle.kinks_and_fingers.proofs.InsertedBits.{with_bit}
 use Rattle.kinks_and_fingers.specs.Pulls.{dart_in, early, late}
 use Rattle.kinks_and_fingers.proofs.Smoothed.{dart_in-below, dart_in-place, IsPermutation-late}
 use Rattle.kinks_and_fingers.proofs.OldDarts.{heads-partner, dart_in-slot}

@@ -14,7 +14,8 @@ use Rattle.kh_types.proofs.Lists.{filter-map, filter-range_agree}
 use Rattle.kinks_and_fingers.specs.Strands.{dart_name}
 use Rattle.kinks_and_fingers.specs.Drops.{straight_names, is_of_two}
 use Rattle.kinks_and_fingers.specs.Pulls.{dart_in, late, early, early_dart, smoothed, IsClosedPlanar}
-use Rattle.kinks_and_fingers.specs.Dropping.{is_code_head, is_colour, dartwise, class_name, HasBigonAt, IsDropped}
+use Rattle.kinks_and_fingers.specs.Dropping.{HasBigonAt}
+use Rattle.kinks_and_fingers.proofs.DroppedDarts.{is_code_head, is_colour, dartwise, class_name, IsDropped}
 use Rattle.kinks_and_fingers.proofs.OldDarts.{IsClosedPlanar-accepted, dart_name-partner, heads-partner, colours-partner, on_arcs, on_arcs-at, dart_name-below, heads-across, colours-next, dart_in-next}
 use Rattle.kinks_and_fingers.proofs.KeptCodes.{block_place, block_slot, places-but, straight-finest}
 use Rattle.kinks_and_fingers.proofs.Smoothed.{IsClosedPlanar-smoothed, smoothed-named, dart_in-below, dart_in-place, dart_cases, IsPermutation-late, IsPermutation-dartwise, dart_in-apart}

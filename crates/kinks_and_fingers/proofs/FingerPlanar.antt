@@ -15,7 +15,8 @@ use Rattle.face_walk.specs.AddedArcs.{open_face_count, open_piece_count}
 use Rattle.face_walk.proofs.FewFaces.{face_count-le}
 use Rattle.face_walk.proofs.OpenFaces.{face_back, IsPermutation-face_step, open_faces-in_pieces}
 use Rattle.kh_types.proofs.ExchangedCycles.{class_count-exchange_apart, class_count-exchange_together}
-use Rattle.kinks_and_fingers.specs.FingerAdd.{opened, dart_with, fingered_crossings, with_finger, differ, side_dart, AreOfOneFace, AreOfTwoPieces, AreFingerable}
+use Rattle.kinks_and_fingers.specs.FingerAdd.{opened, dart_with, fingered_crossings, with_finger, differ, side_dart, AreOfOneFace, AreOfTwoPieces}
+use Rattle.kinks_and_fingers.proofs.MovableArcs.{AreFingerable}
 use Rattle.kinks_and_fingers.proofs.Opened.{head_number-one}
 use Rattle.face_walk.proofs.Cover.{pieces-ends}
 use Rattle.kinks_and_fingers.proofs.FingerSlots.{length-fingered, over_from, over_to, over_from-below, over_to-below}

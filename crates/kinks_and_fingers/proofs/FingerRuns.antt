@@ -10,7 +10,8 @@ use Rattle.kh_types.specs.Darts.{arc_of, IsDart}
 use Rattle.kh_types.specs.Directions.{is_head}
 use Rattle.kh_types.proofs.DirectedPasses.{across, IsDart-across, is_head-across, arc_of-across}
 use Rattle.kh_types.proofs.NextArcs.{component, component-next}
-use Rattle.kinks_and_fingers.specs.FingerAdd.{opened, head_number, dart_with, fingered_crossings, AreFingerable}
+use Rattle.kinks_and_fingers.specs.FingerAdd.{opened, head_number, dart_with, fingered_crossings}
+use Rattle.kinks_and_fingers.proofs.MovableArcs.{AreFingerable}
 use Rattle.kinks_and_fingers.proofs.Opened.{low, IsOneOf, low-opened, low-head_number, low-middle, low-last, opened-suc, opened-injective}
 use Rattle.kinks_and_fingers.proofs.Passed.{IsStep, IsStep-inside}
 use Rattle.kinks_and_fingers.proofs.FingerSlots.{length-fingered, slots_of-first, slots_of-second, arc_of-head, arc_of-tail, over_from, over_to, HasPasses, HasPasses-crossing_with}

@@ -18,7 +18,8 @@ use Rattle.kh_types.proofs.RangeCounts.{count_by-alike}
 use Rattle.kh_types.proofs.DirectedPasses.{across, is_head-across, over-positive, over-negative}
 use Rattle.kh_types.proofs.DirectionLemmas.{plus_count-le}
 use Rattle.kh_types.proofs.NextArcs.{component, size_at, HasPlace-directed, IsArc-next, component-next}
-use Rattle.kinks_and_fingers.specs.FingerAdd.{opened, dart_with, fingered_crossings, AreFingerable}
+use Rattle.kinks_and_fingers.specs.FingerAdd.{opened, dart_with, fingered_crossings}
+use Rattle.kinks_and_fingers.proofs.MovableArcs.{AreFingerable}
 use Rattle.face_walk.proofs.PlainCounts.{counted}
 use Rattle.kinks_and_fingers.proofs.Opened.{IsOneOf, head_number-other, opened-injective, opened-less, opened-le}
 use Rattle.kinks_and_fingers.proofs.Numbered.{components-numbered}

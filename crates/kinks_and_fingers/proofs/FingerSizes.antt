@@ -12,7 +12,8 @@ use Rattle.kh_types.specs.Directions.{HasNoSingleArcs}
 use Rattle.kh_types.specs.Accepted.{IsDirected}
 use Rattle.kh_types.proofs.Lists.{count_by-map}
 use Rattle.kh_types.proofs.NextArcs.{component, size_at, IsNamed-components_of, next-alone}
-use Rattle.kinks_and_fingers.specs.FingerAdd.{opened, head_number, dart_with, fingered_crossings, AreFingerable}
+use Rattle.kinks_and_fingers.specs.FingerAdd.{opened, head_number, dart_with, fingered_crossings}
+use Rattle.kinks_and_fingers.proofs.MovableArcs.{AreFingerable}
 use Rattle.face_walk.proofs.PlainCounts.{count_by-one_to_one}
 use Rattle.kinks_and_fingers.proofs.Opened.{low, IsOneOf, low-opened, low-head_number, head_number-one, head_number-other, low-middle, low-last, number-cases, opened-injective, opened-le-head_number, head_number-within, low-positive, low-within}
 use Rattle.kinks_and_fingers.proofs.Numbered.{arcs_in-places, next-numbered}

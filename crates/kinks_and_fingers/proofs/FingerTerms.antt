@@ -2,7 +2,7 @@
 use Rattle.std.proofs.Common.{◌≡◌, ℕ, suc, ◌+◌, ◌*◌, ◌∙◌, ℤ, pos, neg_ℤ, ◌+ℤ◌, ◌-ℤ◌, ap, ap₂, arith}
 use Rattle.std.proofs.lemmas.Int.{ints}
 use Rattle.kh_types.specs.StateSum.{circle_coefficient}
-use Rattle.gluing.specs.Terms.{term_at, signed_by_count}
+use Rattle.gluing.proofs.Terms.{term_at, signed_by_count}
 use Rattle.gluing.proofs.KinkSums.{signed_by-add, signed_by-next, circle_coefficient-more}
 
 -- two mixed states of one circle count, the straight one, and the one with a circle more

@@ -7,8 +7,11 @@ use Rattle.kh_types.specs.Classes.{classes_of, class_count, Respects, AreBelow}
 use Rattle.kh_types.proofs.ClassLemmas.{classes-together, classes-finest}
 use Rattle.kh_types.proofs.JoinedClasses.{class_count-apart, classes_of-together, slice_index-range}
 use Rattle.gluing.specs.Glue.{renamed, Places, JoinAlike}
-use Rattle.gluing.specs.Slides.{ties_of, IsPlacedTriangle, rest_circles}
-use Rattle.kinks_and_fingers.specs.Fingers.{straight_joined, AreAmong, HasFinger}
+use Rattle.gluing.specs.Slides.{IsPlacedTriangle}
+use Rattle.gluing.proofs.OuterPairs.{rest_circles}
+use Rattle.gluing.proofs.Ties.{ties_of}
+use Rattle.kinks_and_fingers.specs.Fingers.{AreAmong, HasFinger}
+use Rattle.kinks_and_fingers.proofs.StraightTerms.{straight_joined}
 use Rattle.gluing.proofs.Glued.{class_count-glued_parts}
 use Rattle.gluing.proofs.Renamed.{class_count-range, AreBelow-renamed, classes_of-turned}
 use Rattle.gluing.proofs.InsideCircles.{rest_circles-on_arcs}

@@ -14,10 +14,13 @@ use Rattle.kh_types.specs.Directions.{plus_count, minus_count}
 use Rattle.kh_types.specs.StateSum.{int_sum, circle_coefficient, state_term, state_sum}
 use Rattle.gluing.proofs.SlidSums.{term_with-is}
 use Rattle.gluing.specs.Glue.{renamed, Places}
-use Rattle.gluing.specs.Terms.{signed_by_count, term_at}
-use Rattle.gluing.specs.Codes.{dart_smoothings, arc_of_dart, name_count}
-use Rattle.gluing.specs.Slides.{InsideTerm, inside_sum, ends_joined, closed_inside, term_exponents, rest_circles, IsNoSide, TouchNoSide}
-use Rattle.kinks_and_fingers.specs.Fingers.{finger, straight_joined, straight_term}
+use Rattle.gluing.proofs.Terms.{signed_by_count, term_at}
+use Rattle.gluing.specs.Codes.{arc_of_dart, name_count}
+use Rattle.gluing.proofs.DartPairs.{dart_smoothings}
+use Rattle.gluing.specs.Slides.{InsideTerm, inside_sum, ends_joined, closed_inside, term_exponents, IsNoSide}
+use Rattle.gluing.proofs.OuterPairs.{rest_circles, TouchNoSide}
+use Rattle.kinks_and_fingers.specs.Fingers.{finger}
+use Rattle.kinks_and_fingers.proofs.StraightTerms.{straight_joined, straight_term}
 use Rattle.kinks_and_fingers.specs.FingerCodes.{IsWithFinger}
 use Rattle.gluing.proofs.Renamed.{renamed-same, class_count-renamed, AreBelow-renamed}
 use Rattle.gluing.proofs.KinkSums.{signed_by-next, int_sum-doubled}

@@ -1,7 +1,10 @@
 -- The table of the second Reidemeister move, computed.
 use Rattle.std.proofs.Common.{◌≡◌, ℕ, Bool, true, false, refl, ℤ, List, [], ◌∷◌}
-use Rattle.gluing.specs.Slides.{is_tied_throughout, have_one_sum, inside_sum}
-use Rattle.kinks_and_fingers.specs.Fingers.{finger, finger_terms, straight_term}
+use Rattle.gluing.specs.Slides.{inside_sum}
+use Rattle.gluing.proofs.Ties.{is_tied_throughout}
+use Rattle.gluing.proofs.Tallies.{have_one_sum}
+use Rattle.kinks_and_fingers.specs.Fingers.{finger}
+use Rattle.kinks_and_fingers.proofs.StraightTerms.{finger_terms, straight_term}
 use Rattle.gluing.proofs.SlideSums.{inside_sum-same}
 
 pub is_tied-finger : (is_positive in_order : Bool) → is_tied_throughout (finger is_positive in_order) ≡ true

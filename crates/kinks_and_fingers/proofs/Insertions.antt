@@ -10,7 +10,7 @@ use Rattle.kh_types.specs.Bits.{bit, ones}
 use Rattle.kh_types.specs.StateSum.{int_sum}
 use Rattle.kh_types.proofs.BitLemmas.{ones-more}
 use Rattle.kh_types.proofs.EdgeBits.{bit-set_there, bit-set_other}
-use Rattle.kinks_and_fingers.specs.Insertions.{with_bit}
+use Rattle.kinks_and_fingers.proofs.InsertedBits.{with_bit}
 use Rattle.kinks_and_fingers.specs.Pulls.{early}
 use Rattle.gluing.proofs.KinkSums.{int_sum-doubled}
 use Rattle.gluing.proofs.CodeCircles.{bit-highest, bit-above}

@@ -19,7 +19,7 @@ use Rattle.kh_types.proofs.RangeImages.{map_range-agree}
 use Rattle.kinks_and_fingers.specs.Strands.{slots_at, name_at, dart_name, sign_at}
 use Rattle.kinks_and_fingers.specs.Drops.{straight_pairs, straight_names, renamed_slots, kept_places, kept_crossings, kept_signs}
 use Rattle.kinks_and_fingers.specs.Pulls.{early}
-use Rattle.kinks_and_fingers.specs.Dropping.{dartwise, class_name}
+use Rattle.kinks_and_fingers.proofs.DroppedDarts.{dartwise, class_name}
 
 -- all places but one
 

@@ -12,7 +12,8 @@ use Rattle.face_walk.specs.AddedArcs.{with_arc, IsPart, IsPlanar}
 use Rattle.face_walk.proofs.AddedArcs.{HasArcMore-with_arc, IsPairing-more, JoinsPieces-apart, ends_or_not}
 use Rattle.face_walk.proofs.OpenFaces.{turned-below, crossing-below, AreCycles-open_faces, IsNamed-open_pieces, piece_pairs-below}
 use Rattle.face_walk.proofs.PartArcs.{IsPlanar-part, planar-together}
-use Rattle.kinks_and_fingers.specs.Pulls.{with_bare, with_bare_cut, kinked, AreNew, AreKinked, IsClosedPlanar}
+use Rattle.kinks_and_fingers.specs.Pulls.{with_bare_cut, kinked, AreNew, IsClosedPlanar}
+use Rattle.kinks_and_fingers.proofs.PulledDarts.{with_bare, AreKinked}
 use Rattle.kinks_and_fingers.proofs.Steps.{all_of}
 use Rattle.kinks_and_fingers.proofs.MoreCrossings.{IsPlanar-added, IsPlanar-bare, turned_from, turned_last}
 

@@ -22,7 +22,8 @@ use Rattle.kinks_and_fingers.proofs.TwiceCounts.{HasTwoPlaces}
 use Rattle.kinks_and_fingers.proofs.Passed.{HasPass, IsPassed, HasRuns, HasTwoPlaces-darts}
 use Rattle.kinks_and_fingers.proofs.FingerSlots.{HasPasses}
 use Rattle.kinks_and_fingers.specs.KinkAdds.{raised, kink_crossing}
-use Rattle.kinks_and_fingers.specs.KinkCodes.{kinked_crossings, IsKinkable}
+use Rattle.kinks_and_fingers.proofs.KinkEnds.{kinked_crossings}
+use Rattle.kinks_and_fingers.proofs.MovableArcs.{IsKinkable}
 use Rattle.kinks_and_fingers.proofs.Numbers.{last, low, raised-own, last-own, last-other, number-cases, raised-suc, raised-le, raised-zero, raised-from, last-within, raised-le-last, low-within, low-past, low-positive}
 use Rattle.kinks_and_fingers.proofs.KinkSlots.{length-kinked, slots_of-new, arc_of-head, arc_of-tail, start_slot, end_slot, inner_slot, outer_slot, HasKinkSlots-new, AreFour-kink}
 use Rattle.kinks_and_fingers.proofs.KinkRuns.{first_number, first_number-raised, first_number-last, first_number-part, HasPasses-new, HasSteps-kinked, crossing-cases}

@@ -17,12 +17,13 @@ use Rattle.kh_types.proofs.AcceptedLemmas.{HasArcsTwice-accepted}
 use Rattle.kh_types.proofs.Heads.{HasNoSingleArcs-accepted}
 use Rattle.kh_types.proofs.Lists.{count_by-map}
 use Rattle.kh_types.proofs.RangeCounts.{count_by-alike, count_by-one_more}
-use Rattle.gluing.specs.Terms.{term_at, signed_by_count}
+use Rattle.gluing.proofs.Terms.{term_at, signed_by_count}
 use Rattle.kinks_and_fingers.specs.Strands.{enters}
 use Rattle.kinks_and_fingers.specs.Drops.{kept_places, kept_signs, kept_crossings, without_kink}
-use Rattle.kinks_and_fingers.specs.Dropping.{HasKinkAt, is_code_head}
+use Rattle.kinks_and_fingers.specs.Dropping.{HasKinkAt}
+use Rattle.kinks_and_fingers.proofs.DroppedDarts.{is_code_head}
 use Rattle.kinks_and_fingers.specs.DropCircles.{strand_circle_count, strand_plus, strand_minus, strand_term, strand_sum}
-use Rattle.kinks_and_fingers.specs.Insertions.{with_bit}
+use Rattle.kinks_and_fingers.proofs.InsertedBits.{with_bit}
 use Rattle.kinks_and_fingers.specs.Pulls.{dart_in, early}
 use Rattle.kinks_and_fingers.proofs.Smoothed.{dart_in-below, dart_in-place}
 use Rattle.kinks_and_fingers.proofs.OldDarts.{heads-partner, dart_in-slot}

@@ -12,7 +12,8 @@ use Rattle.kh_types.proofs.Heads.{HasNoSingleArcs-accepted}
 use Rattle.kinks_and_fingers.specs.Strands.{name_at, dart_name}
 use Rattle.kinks_and_fingers.specs.Drops.{straight_names}
 use Rattle.kinks_and_fingers.specs.Pulls.{dart_in, late, early, early_dart, smoothed, IsClosedPlanar}
-use Rattle.kinks_and_fingers.specs.Dropping.{is_code_head, is_colour, class_name, HasKinkAt, IsDropped}
+use Rattle.kinks_and_fingers.specs.Dropping.{HasKinkAt}
+use Rattle.kinks_and_fingers.proofs.DroppedDarts.{is_code_head, is_colour, class_name, IsDropped}
 use Rattle.kinks_and_fingers.proofs.OldDarts.{IsClosedPlanar-accepted, dart_name-partner, partner-named, heads-partner, colours-partner, on_arcs, on_arcs-at, dart_name-below, dart_name-in, across_cases, heads-across, colours-next, dart_in-next}
 use Rattle.kinks_and_fingers.proofs.KeptCodes.{block_place, places-but, straight-joined, straight-finest}
 use Rattle.kinks_and_fingers.proofs.Smoothed.{IsClosedPlanar-smoothed, smoothed-named, dart_in-below, dart_in-place, dart_cases, IsPermutation-late, IsPermutation-dartwise, dart_in-apart}

@@ -19,10 +19,12 @@ use Rattle.kh_types.proofs.RangeImages.{map_range-agree}
 use Rattle.kinks_and_fingers.specs.FingerAdd.{dart_with}
 use Rattle.face_walk.proofs.Board.{IsCheckerboard-planar}
 use Rattle.kinks_and_fingers.specs.KinkAdds.{raised, with_kink}
-use Rattle.kinks_and_fingers.specs.Pulls.{kinked, AreNew, AreKinked}
+use Rattle.kinks_and_fingers.specs.Pulls.{kinked, AreNew}
+use Rattle.kinks_and_fingers.proofs.PulledDarts.{AreKinked}
 use Rattle.kinks_and_fingers.proofs.OldDarts.{IsClosedPlanar-accepted}
 use Rattle.kinks_and_fingers.proofs.KinkAdded.{AreKinked-kinked, IsClosedPlanar-kinked}
-use Rattle.kinks_and_fingers.specs.KinkCodes.{kinked_crossings, IsKinkable}
+use Rattle.kinks_and_fingers.proofs.KinkEnds.{kinked_crossings}
+use Rattle.kinks_and_fingers.proofs.MovableArcs.{IsKinkable}
 use Rattle.kinks_and_fingers.proofs.Numbers.{last-own, raised-own}
 use Rattle.kinks_and_fingers.proofs.KinkSlots.{length-kinked, start_slot, end_slot, inner_slot, outer_slot, HasKinkSlots-new, AreFour-kink}
 use Rattle.kinks_and_fingers.proofs.KinkDirected.{IsDart-old, IsDart-new, tail_dart, head_dart, old_or_new, slots_apart}

@@ -15,7 +15,8 @@ use Rattle.kinks_and_fingers.proofs.Passed.{IsStep, IsStep-inside}
 use Rattle.kinks_and_fingers.proofs.FingerSlots.{over_from, over_to, HasPasses}
 use Rattle.kinks_and_fingers.proofs.FingerRuns.{HasSteps, HasSteps-passes}
 use Rattle.kinks_and_fingers.specs.KinkAdds.{raised}
-use Rattle.kinks_and_fingers.specs.KinkCodes.{kinked_crossings, IsKinkable}
+use Rattle.kinks_and_fingers.proofs.KinkEnds.{kinked_crossings}
+use Rattle.kinks_and_fingers.proofs.MovableArcs.{IsKinkable}
 use Rattle.kinks_and_fingers.proofs.Numbers.{last, low, low-raised, low-last, low-part, raised-suc, raised-injective}
 use Rattle.kinks_and_fingers.proofs.KinkSlots.{length-kinked, slots_of-new, arc_of-head, arc_of-tail, under_start, under_end, over_start, over_end, HasPasses-kink}
 

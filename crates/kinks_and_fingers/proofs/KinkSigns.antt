@@ -23,7 +23,9 @@ use Rattle.kinks_and_fingers.proofs.Numbered.{components-numbered}
 use Rattle.kinks_and_fingers.proofs.Passed.{IsNumbering-runs}
 use Rattle.kinks_and_fingers.proofs.FingerSigns.{sign-large, find-within, find-longer, one_choice, small_test}
 use Rattle.kinks_and_fingers.specs.KinkAdds.{raised}
-use Rattle.kinks_and_fingers.specs.KinkCodes.{kinked_crossings, IsKinkable, one_where}
+use Rattle.kinks_and_fingers.specs.KinkCodes.{one_where}
+use Rattle.kinks_and_fingers.proofs.KinkEnds.{kinked_crossings}
+use Rattle.kinks_and_fingers.proofs.MovableArcs.{IsKinkable}
 use Rattle.kinks_and_fingers.proofs.Numbers.{last-other, raised-injective, raised-less, raised-le}
 use Rattle.kinks_and_fingers.proofs.KinkSlots.{length-kinked, arc_of-head, arc_of-tail, over_start, over_end}
 use Rattle.kinks_and_fingers.proofs.KinkRuns.{first_number, first_number-raised, first_number-last, IsStep-across, IsStep-over, HasPasses-new}

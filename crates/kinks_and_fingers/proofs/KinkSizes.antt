@@ -19,7 +19,8 @@ use Rattle.kinks_and_fingers.proofs.Numbered.{arcs_in-places, next-numbered, com
 use Rattle.kinks_and_fingers.proofs.Passed.{IsStep, IsNumbering-runs, IsDirected-runs}
 use Rattle.kinks_and_fingers.proofs.FingerSizes.{count_by-places, size-two_at_least}
 use Rattle.kinks_and_fingers.specs.KinkAdds.{raised}
-use Rattle.kinks_and_fingers.specs.KinkCodes.{kinked_crossings, IsKinkable}
+use Rattle.kinks_and_fingers.proofs.KinkEnds.{kinked_crossings}
+use Rattle.kinks_and_fingers.proofs.MovableArcs.{IsKinkable}
 use Rattle.kinks_and_fingers.proofs.Numbers.{low, low-raised, low-last, raised-injective, raised-le-last, last-within, low-within}
 use Rattle.kinks_and_fingers.proofs.KinkSlots.{arc_of-head}
 use Rattle.kinks_and_fingers.proofs.KinkRuns.{first_number, first_number-raised, first_number-last, first_number-part, crossing-cases}

@@ -11,7 +11,7 @@ use Rattle.kh_types.specs.Directions.{is_head, is_positive, positive_at}
 use Rattle.kinks_and_fingers.proofs.FingerSlots.{HasPasses}
 use Rattle.kinks_and_fingers.specs.Strands.{enters, slots_at}
 use Rattle.kinks_and_fingers.specs.KinkAdds.{raised, kinked_name, kinked_slots, kink_crossing, moved_crossings}
-use Rattle.kinks_and_fingers.specs.KinkCodes.{kinked_crossings}
+use Rattle.kinks_and_fingers.proofs.KinkEnds.{kinked_crossings}
 use Rattle.kinks_and_fingers.proofs.Numbers.{last}
 
 pub length-moved : (crossings : List (List ℕ)) (a : ℕ) → length (moved_crossings a crossings) ≡ length crossings

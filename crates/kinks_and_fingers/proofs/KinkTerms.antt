@@ -10,14 +10,16 @@ use Rattle.kh_types.specs.Circles.{smoothing_of, smoothings_of, circles_of, circ
 use Rattle.kh_types.specs.Generators.{one_count}
 use Rattle.kh_types.specs.StateSum.{int_sum, term_with, sum_with}
 use Rattle.gluing.specs.Glue.{renamed}
-use Rattle.gluing.specs.Terms.{term_at}
-use Rattle.gluing.specs.Codes.{dart_smoothings, arc_of_dart, name_count, HoldsArcs}
+use Rattle.gluing.proofs.Terms.{term_at}
+use Rattle.gluing.specs.Codes.{arc_of_dart, name_count, HoldsArcs}
+use Rattle.gluing.proofs.DartPairs.{dart_smoothings}
 use Rattle.gluing.proofs.Renamed.{AreBelow-renamed, AreBelow-append}
 use Rattle.gluing.proofs.KinkSums.{term_of-positive_kink, term_of-negative_kink, int_sum-doubled}
 use Rattle.gluing.proofs.SlidSums.{term_with-is}
 use Rattle.gluing.proofs.CodeCircles.{smoothings_of-darts, dart_smoothings-below, Places-darts, class_count-circles, bit-above, bit-highest, ones-highest, ones-not_highest, dart_smoothings-highest, smoothings_of-more}
 use Rattle.kinks_and_fingers.specs.KinkAdds.{kink_crossing}
-use Rattle.kinks_and_fingers.specs.KinkCodes.{closing, through, HasKink, IsWithKink, one_where}
+use Rattle.kinks_and_fingers.specs.KinkCodes.{IsWithKink, one_where}
+use Rattle.kinks_and_fingers.proofs.KinkEnds.{closing, through, HasKink}
 use Rattle.kinks_and_fingers.proofs.KinkedCircles.{kink-below, Places-kink, class_count-closing, class_count-through}
 
 -- the ends at the old crossings, on the arcs before and after

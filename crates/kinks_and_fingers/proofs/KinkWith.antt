@@ -12,7 +12,8 @@ use Rattle.gluing.specs.Codes.{HoldsArcs}
 use Rattle.kinks_and_fingers.specs.FingerAdd.{dart_with}
 use Rattle.kinks_and_fingers.specs.Strands.{slots_at, enters}
 use Rattle.kinks_and_fingers.specs.KinkAdds.{raised, kinked_name, moved_crossings, with_kink}
-use Rattle.kinks_and_fingers.specs.KinkCodes.{IsWithKink, IsKinkable}
+use Rattle.kinks_and_fingers.specs.KinkCodes.{IsWithKink}
+use Rattle.kinks_and_fingers.proofs.MovableArcs.{IsKinkable}
 use Rattle.kinks_and_fingers.proofs.KinkSlots.{length-moved, slots_at-moved, arc_in-kinked}
 use Rattle.kinks_and_fingers.proofs.KinkSizes.{IsKinkable-accepted}
 use Rattle.kinks_and_fingers.proofs.KinkSigns.{plus_count-kinked, minus_count-kinked}

@@ -10,7 +10,7 @@ use Rattle.kh_types.proofs.ClassLemmas.{slice_index-joined, length-joined}
 use Rattle.kh_types.proofs.JoinedClasses.{IsNamed-joined, IsNamed-range, slice_index-range, classes_of-same, class_count-joined, class_count-joined_together}
 use Rattle.gluing.specs.Glue.{renamed, Places, JoinAlike}
 use Rattle.kinks_and_fingers.specs.KinkAdds.{raised, kink_crossing}
-use Rattle.kinks_and_fingers.specs.KinkCodes.{closing, through, HasKink}
+use Rattle.kinks_and_fingers.proofs.KinkEnds.{closing, through, HasKink}
 use Rattle.gluing.proofs.Glued.{class_count-glued_parts}
 use Rattle.gluing.proofs.Renamed.{class_count-range, AreBelow-renamed, classes_of-turned}
 

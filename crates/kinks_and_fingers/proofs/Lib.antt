@@ -1,3 +1,9 @@
+pub mod PulledDarts
+pub mod InsertedBits
+pub mod StraightTerms
+pub mod KinkEnds
+pub mod MovableArcs
+pub mod DroppedDarts
 pub mod Opened
 pub mod Numbered
 pub mod TwiceCounts

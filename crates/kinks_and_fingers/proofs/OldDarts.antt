@@ -14,7 +14,7 @@ use Rattle.kh_types.proofs.Heads.{is_head-partner}
 use Rattle.face_walk.proofs.FewFaces.{IsPlanar-accepted}
 use Rattle.kinks_and_fingers.specs.Strands.{name_at, dart_name, enters}
 use Rattle.kinks_and_fingers.specs.Pulls.{IsClosedPlanar, dart_in}
-use Rattle.kinks_and_fingers.specs.Dropping.{is_code_head, is_colour}
+use Rattle.kinks_and_fingers.proofs.DroppedDarts.{is_code_head, is_colour}
 
 pub dart_name-arc_of : (crossings : List (List ℕ)) (x : ℕ) → arc_of crossings (dart_at x) ≡ dart_name crossings x
 dart_name-arc_of crossings x =

@@ -11,7 +11,8 @@ use Rattle.face_walk.specs.AddedArcs.{with_arc, HasArcMore, IsPart, IsPlanar}
 use Rattle.face_walk.proofs.AddedArcs.{HasArcMore-with_arc, IsPairing-more, JoinsPieces-apart, ends_or_not}
 use Rattle.face_walk.proofs.OpenFaces.{turned-crossing, crossing-below, AreCycles-open_faces, IsNamed-open_pieces, open_faces-in_pieces}
 use Rattle.face_walk.proofs.PartArcs.{IsPlanar-part, planar-together}
-use Rattle.kinks_and_fingers.specs.Pulls.{pulled, cut}
+use Rattle.kinks_and_fingers.specs.Pulls.{pulled}
+use Rattle.kinks_and_fingers.proofs.PulledDarts.{cut}
 use Rattle.kinks_and_fingers.proofs.MoreCrossings.{IsPlanar-added}
 
 -- what a place is, whose partner is q: one of the two darts, one of the other ends, or none of these

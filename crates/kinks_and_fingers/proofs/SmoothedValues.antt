@@ -3,7 +3,8 @@ use Rattle.std.proofs.Common.{◌≡◌, ◌≢◌, ℕ, ◌⊎◌, inl, inr, �
 use Rattle.std.proofs.lemmas.Bool.{cases_eq}
 use Rattle.std.proofs.lemmas.Bool.Decides.{nat_tests}
 use Rattle.kh_types.specs.Darts.{IsPairing}
-use Rattle.kinks_and_fingers.specs.Pulls.{pulled, bared, dart_in, late, early, late_dart, early_dart, smoothed, IsClosedPlanar, taken_back}
+use Rattle.kinks_and_fingers.specs.Pulls.{pulled, bared, dart_in, late, early, late_dart, early_dart, smoothed, IsClosedPlanar}
+use Rattle.kinks_and_fingers.proofs.PulledDarts.{taken_back}
 use Rattle.kinks_and_fingers.proofs.Pulls.{AreHeld, pull_cases, pulled-to_first, pulled-to_second, pulled-else, IsPairing-pulled}
 use Rattle.kinks_and_fingers.proofs.Smoothed.{holds-twice, dart_in-apart, dart_in-place, IsBared-closed, IsPermutation-late, IsPermutation-dartwise, block_place, place_below}
 

@@ -1,8 +1,5 @@
 -- A second Reidemeister move: the two crossings of a finger, cut out of their diagram at its four ends.
-use Rattle.std.specs.Prelude.{◌≡◌, ◌≢◌, ◌⊎◌, ◌<◌, ◌≤◌, ℕ, ◌-◌, ◌%◌, pos, List, [], ◌∷◌, map, nat_eq, Bool, true, not, if◌then◌else◌}
-use Rattle.std.specs.List.{flat_map, range_with_len}
-use Rattle.kh_types.specs.Bits.{ones}
-use Rattle.gluing.specs.Slides.{InsideTerm, ends_joined, closed_inside, term_exponents}
+use Rattle.std.specs.Prelude.{◌≡◌, ◌≢◌, ◌⊎◌, ◌<◌, ◌≤◌, ℕ, List, [], ◌∷◌, Bool, not, if◌then◌else◌}
 
 -- the ends are numbered as those of a triangle: 1 and 2 are the tail and the head of the over arc, 3 and 4 those of the under arc, 5
 -- and 6 stand for nothing; of the sides 7 is the over arc's middle, 8 the under arc's, and 9 is a number that nothing touches
@@ -18,22 +15,6 @@ finger is_positive in_order =
     crossing_of is_positive (if in_order then 3 else 8) (if in_order then 8 else 4) 1 7
     ∷ crossing_of (not is_positive) (if in_order then 8 else 3) (if in_order then 4 else 8) 7 2
     ∷ []
-
--- the terms of the four states, in which the number 9 is no circle
-abbrev pub finger_terms : List (List ℕ) → List InsideTerm
-finger_terms crossings =
-    flat_map
-    (λ state. map (λ shift. record { is_minus = nat_eq (ones 2 state % 2) 1; joined = ends_joined crossings state; shift = shift })
-    (term_exponents (closed_inside crossings state - 1) (pos (ones 2 state))))
-    (range_with_len 0 4)
-
--- without the finger both arcs go straight on
-abbrev pub straight_joined : List ℕ
-straight_joined = 1 ∷ 1 ∷ 3 ∷ 3 ∷ 5 ∷ 6 ∷ []
-
--- the one term that is left, -q
-abbrev pub straight_term : InsideTerm
-straight_term = record { is_minus = true; joined = straight_joined; shift = pos 1 }
 
 -- two numbers are among two others
 abbrev pub AreAmong : ℕ → ℕ → ℕ → ℕ → Type 0

@@ -2,7 +2,6 @@ pub mod FingerAdd
 pub mod Fingers
 pub mod FingerCodes
 pub mod Strands
-pub mod Insertions
 pub mod DropCircles
 pub mod DropComponents
 pub mod Drops

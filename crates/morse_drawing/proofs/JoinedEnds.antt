@@ -6,7 +6,8 @@ use Rattle.std.specs.Option.{option_or}
 use Rattle.std.proofs.lemmas.Bool.{both_ways, cases_Bool}
 use Rattle.std.proofs.lemmas.List.{get_or-map, get_or-replicate, length-map, length-replicate}
 use Rattle.morse_drawing.specs.Joins.{JoinedDarts, answer_by, ends_fault, ends_of, fault_where, first_slice_fault, is_outside, joined_in, joined_within, loop_count, slice_fault}
-use Rattle.morse_drawing.specs.OpenEnds.{OpenEnds, after_slice, found_joins, is_drawn, joined_by_ends, joins_from, joins_go, no_strands, strands_ends, strands_fault}
+use Rattle.morse_drawing.specs.OpenEnds.{OpenEnds, after_slice, found_joins, is_drawn, no_strands, strands_ends, strands_fault}
+use Rattle.morse_drawing.proofs.JoinedBySteps.{joined_by_ends, joins_from, joins_go}
 use Rattle.morse_drawing.specs.Sketches.{Sketch, is_met, no_sketch, sketched}
 use Rattle.morse_drawing.specs.declared.fault.SliceFault.{SliceFault}
 use Rattle.morse_drawing.specs.declared.fault.SliceFault.TheVariants.{Ends as EndsLeft, Label, Loops, Place}

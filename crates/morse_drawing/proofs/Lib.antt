@@ -1,3 +1,8 @@
+pub mod PlacedSlices
+pub mod JoinedSegments
+pub mod JoinedBySteps
+pub mod RowPlaces
+pub mod NextPages
 mod Parts
 mod Helpers
 mod Links

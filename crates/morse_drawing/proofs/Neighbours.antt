@@ -6,7 +6,8 @@ use Rattle.std.proofs.lemmas.List.{length-append}
 use Rattle.kh_types.specs.Darts.{IsPairing, turned}
 use Rattle.kh_types.specs.Faces.{open_faces, open_pieces}
 use Rattle.face_walk.specs.AddedArcs.{IsPart, IsPlanar, with_arc}
-use Rattle.morse_drawing.specs.DartRows.{AreLinked, AreDifferent, IsIn, IsDartRow, HasNeighbours}
+use Rattle.morse_drawing.specs.DartRows.{AreLinked, AreDifferent, IsIn, IsDartRow}
+use Rattle.morse_drawing.proofs.RowPlaces.{HasNeighbours}
 use Rattle.face_walk.proofs.OpenFaces.{open_faces-in_pieces}
 use Rattle.face_walk.proofs.AddedArcs.{HasArcMore-with_arc, IsPairing-more}
 use Rattle.face_walk.proofs.PartArcs.{planar-together, planar-split}

@@ -2,12 +2,11 @@
 use Rattle.std.proofs.Common.{◌≡◌, ℕ, zero, suc, ◌⊎◌, inl, inr, ◌+◌, ◌*◌, ◌/◌, ◌<◌, ◌≤◌, ◌∙◌, List, [], ◌∷◌, length, refl, sym, ap, subst, arith, Bool, true, false, cond}
 use Rattle.kh_types.specs.Classes.{classes_of}
 use Rattle.kh_types.proofs.ClassLemmas.{classes-finest, classes-together}
-use Rattle.std.specs.Prelude.{◌↔◌, min, slice_index, not, None}
+use Rattle.std.specs.Prelude.{◌↔◌, min, slice_index, not, None, IsTrue}
 use Rattle.std.specs.List.{count_by, range_with_len}
 use Rattle.std.proofs.lemmas.Bool.{both_ways}
 use Rattle.std.proofs.lemmas.List.Sums.{sum_by-cons}
 use Rattle.std.proofs.lemmas.List.FromFn.{length-range_with_len}
-use Rattle.std.specs.Prelude.{IsTrue}
 use Rattle.kh_types.specs.Acceptance.{accepted}
 use Rattle.kh_types.specs.Code.{Code}
 use Rattle.kh_types.specs.Darts.{partner_at}
@@ -17,8 +16,10 @@ use Rattle.face_walk.proofs.FewFaces.{IsPlanar-accepted}
 use Rattle.face_walk.specs.AddedArcs.{bare}
 use Rattle.morse_drawing.specs.DartRows.{IsDrawing, IsIn}
 use Rattle.morse_drawing.specs.Pages.{Page, blank_page, by_crossing, is_in, page_of, next_page, next_page_by, pages_on, undrawn}
-use Rattle.morse_drawing.specs.Sketches.{MeetJoined, IsSketched, segment_met, sketch_of}
-use Rattle.morse_drawing.specs.Progress.{IsDrawn, IsLastPage, IsPage, IsWholeSphere, left_over, undrawn_count}
+use Rattle.morse_drawing.specs.Sketches.{IsSketched, segment_met, sketch_of}
+use Rattle.morse_drawing.proofs.JoinedSegments.{MeetJoined}
+use Rattle.morse_drawing.specs.Progress.{IsPage, undrawn_count}
+use Rattle.morse_drawing.proofs.NextPages.{IsDrawn, IsLastPage, IsWholeSphere, left_over}
 use Rattle.morse_drawing.proofs.RowRules.{IsDrawing-none, IsDrawing-whole}
 use Rattle.morse_drawing.proofs.PieceCounts.{pieces-same}
 use Rattle.morse_drawing.proofs.Faults.{in-range, none-counted}

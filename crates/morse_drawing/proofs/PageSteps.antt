@@ -15,7 +15,8 @@ use Rattle.morse_drawing.specs.declared.slice.Slice.TheVariants.{Cap, Cup, Cross
 use Rattle.morse_drawing.proofs.BegunSketches.{sketched-begun}
 use Rattle.morse_drawing.proofs.CupSketches.{sketched-closed}
 use Rattle.morse_drawing.proofs.CrossSketches.{sketched-crossed}
-use Rattle.morse_drawing.specs.Progress.{IsPage, IsNextPage, IsWholeSphere, undrawn_count}
+use Rattle.morse_drawing.specs.Progress.{IsPage, undrawn_count}
+use Rattle.morse_drawing.proofs.NextPages.{IsNextPage, IsWholeSphere}
 use Rattle.morse_drawing.proofs.RowRules.{HasNeighbours-drawing, IsDrawing-closed, IsDrawing-crossed, IsDrawing-first}
 use Rattle.morse_drawing.proofs.Parts.{parts-one, parts-two}
 use Rattle.morse_drawing.proofs.Neighbours.{all_in}

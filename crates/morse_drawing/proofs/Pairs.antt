@@ -1,6 +1,6 @@
 -- The pairs of darts that are read of a finished drawing are its arcs.
 use Rattle.std.proofs.Common.{◌≡◌, ℕ, zero, suc, ◌⊎◌, inl, inr, ◌+◌, ◌-◌, ◌*◌, ◌<◌, ◌≤◌, ◌∙◌, List, [], ◌∷◌, ◌++◌, length, map, min, refl, sym, ap, subst, arith, Bool, true, false, cond}
-use Rattle.std.specs.Prelude.{◌&&◌, nat_eq, nat_lt, slice_index, Some, None, Ok, Err, Result}
+use Rattle.std.specs.Prelude.{◌&&◌, nat_eq, nat_lt, slice_index, Some, None, Ok, Err, Result, IsTrue}
 use Rattle.std.specs.List.{count_by, filter, flat_map, fold, range_with_len}
 use Rattle.std.specs.Option.{option_or}
 use Rattle.std.proofs.lemmas.Bool.{cases_Bool, cases_eq, both_ways, eq-eqb, eqb-true}
@@ -10,7 +10,6 @@ use Rattle.std.proofs.lemmas.List.{append-nil, length-append, length-map}
 use Rattle.std.proofs.lemmas.List.FromFn.{length-range_with_len}
 use Rattle.std.proofs.lemmas.List.Concat.{flat_map-cons}
 use Rattle.std.proofs.lemmas.List.Sums.{fold-append, sum_by-cons}
-use Rattle.std.specs.Prelude.{IsTrue}
 use Rattle.kh_types.specs.Acceptance.{accepted}
 use Rattle.kh_types.specs.Code.{Code}
 use Rattle.kh_types.specs.Darts.{partner_at}
@@ -25,7 +24,7 @@ use Rattle.morse_drawing.specs.Sketches.{Sketch, is_met, no_sketch, segment_met,
 use Rattle.morse_drawing.specs.declared.fault.SliceFault.{SliceFault}
 use Rattle.morse_drawing.specs.Joins.{JoinedDarts, answer_by, arc_from, arc_pairs, are_ends, class_met, ends_fault, ends_of, fault_where, first_slice_fault, is_first, is_outside, joined_in, joined_within, loop_count, slice_fault, pair_with, pairs_from, pairs_of, segment_classes}
 use Rattle.morse_drawing.specs.declared.fault.SliceFault.TheVariants.{Ends, Loops, Place}
-use Rattle.morse_drawing.specs.Progress.{IsWholeSphere}
+use Rattle.morse_drawing.proofs.NextPages.{IsWholeSphere}
 use Rattle.morse_drawing.specs.ReadBack.{IsAlike, code_read, crossing_read, is_cross}
 use Rattle.morse_drawing.proofs.ReadBack.{arcs-sketched}
 use Rattle.morse_drawing.specs.Pages.{loop_slices, page_of, slices_with}

@@ -9,7 +9,7 @@ use Rattle.kh_types.specs.Darts.{HasArcsTwice, arc_of, dart_at, partner_at}
 use Rattle.kh_types.specs.declared.dart.Dart.{Dart}
 use Rattle.kh_types.proofs.DartPairs.{IsOtherPlace-partner_at, dart_place-at, partner_at-only}
 use Rattle.morse_drawing.specs.Joins.{arc_from, arc_pairs, ends_of, is_first}
-use Rattle.morse_drawing.specs.Progress.{IsWholeSphere}
+use Rattle.morse_drawing.proofs.NextPages.{IsWholeSphere}
 use Rattle.morse_drawing.specs.ReadBack.{crossing_read, has_dart, pair_number}
 
 -- whether a pair has a dart

@@ -4,7 +4,8 @@ use Rattle.std.specs.Prelude.{slice_index_or, Option, Some, None, Err}
 use Rattle.std.proofs.lemmas.List.{length-map}
 use Rattle.kh_types.specs.declared.limits.TheConstants.{CROSSINGS}
 use Rattle.morse_drawing.specs.Joins.{joined_by}
-use Rattle.morse_drawing.specs.OpenEnds.{ArePaired, OpenEnds, after_slice, joins_from, joins_go, no_strands, other_of, strands_ends, strands_fault}
+use Rattle.morse_drawing.specs.OpenEnds.{ArePaired, OpenEnds, after_slice, no_strands, other_of, strands_ends, strands_fault}
+use Rattle.morse_drawing.proofs.JoinedBySteps.{joins_from, joins_go}
 use Rattle.morse_drawing.specs.Sketches.{Sketch, no_sketch, sketched}
 use Rattle.morse_drawing.specs.declared.fault.SliceFault.{SliceFault}
 use Rattle.morse_drawing.specs.declared.slice.Slice.{Slice}

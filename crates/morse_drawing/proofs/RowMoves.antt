@@ -4,7 +4,8 @@ use Rattle.std.specs.List.{AllByRecursion}
 use Rattle.std.proofs.lemmas.List.{append_assoc, append-nil}
 use Rattle.kh_types.specs.Darts.{turned, face_step}
 use Rattle.face_walk.specs.AddedArcs.{HasArcMore}
-use Rattle.morse_drawing.specs.DartRows.{IsLink, AreLinked, AreRound, AreDifferent, IsDartRow, IsBare, turned_back, other_three}
+use Rattle.morse_drawing.specs.DartRows.{IsLink, AreLinked, AreRound, AreDifferent, IsDartRow, turned_back, other_three}
+use Rattle.morse_drawing.proofs.RowPlaces.{IsBare}
 use Rattle.morse_drawing.proofs.Links.{all_append, all_map, all_two, IsLink-through, IsLink-moved, AreLinked-append, AreLinked-from, AreLinked-moved}
 
 -- a row is turned round: its first dart goes to its end

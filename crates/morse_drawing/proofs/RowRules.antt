@@ -3,7 +3,8 @@ use Rattle.std.proofs.Common.{◌≡◌, ◌≢◌, ℕ, inl, inr, ◌*◌, ◌/
 use Rattle.std.specs.List.{AllByRecursion}
 use Rattle.kh_types.specs.Darts.{IsPairing}
 use Rattle.face_walk.specs.AddedArcs.{IsPlanar, with_arc, bare}
-use Rattle.morse_drawing.specs.DartRows.{IsIn, AreDifferent, IsDrawing, HasNeighbours, turned_back, other_three}
+use Rattle.morse_drawing.specs.DartRows.{IsIn, AreDifferent, IsDrawing, turned_back, other_three}
+use Rattle.morse_drawing.proofs.RowPlaces.{HasNeighbours}
 use Rattle.face_walk.proofs.BareCrossings.{IsPairing-bare}
 use Rattle.face_walk.proofs.AddedArcs.{HasArcMore-with_arc, IsPairing-more}
 use Rattle.morse_drawing.proofs.Helpers.{same_or_other, IsPart-more}

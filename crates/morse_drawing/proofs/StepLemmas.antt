@@ -12,7 +12,8 @@ use Rattle.kh_types.specs.declared.limits.TheConstants.{CROSSINGS}
 use Rattle.kh_types.proofs.Ranges.{range_around, range_more}
 use Rattle.morse_drawing.specs.DartRows.{IsIn}
 use Rattle.morse_drawing.specs.Pages.{Page, are_paired, blank_page, is_in, leading, leads_on, loop_slices, next_page, page_of, pages_on, paired, undrawn}
-use Rattle.morse_drawing.specs.Progress.{IsPage, IsPageAfter, IsPageOf, IsWholeSphere}
+use Rattle.morse_drawing.specs.Progress.{IsPage, IsPageOf}
+use Rattle.morse_drawing.proofs.NextPages.{IsPageAfter, IsWholeSphere}
 use Rattle.morse_drawing.specs.declared.limits.TheConstants.{DRAWN_STRANDS}
 use Rattle.morse_drawing.specs.declared.slice.Slice.{Slice}
 use Rattle.morse_drawing.specs.declared.slice.Slice.TheVariants.{Cap, Cup}

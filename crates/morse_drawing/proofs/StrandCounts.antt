@@ -6,7 +6,8 @@ use Rattle.std.proofs.lemmas.List.{length-append, length-drop, length-take-le}
 use Rattle.std.proofs.lemmas.List.Sums.{fold-append}
 use Rattle.morse_drawing.specs.DartRows.{other_three}
 use Rattle.morse_drawing.specs.Pages.{Page, are_paired, begun, blank_page, by_crossing, by_pair, by_row, closed, crossed_by, is_in, leads_on, loop_slices, next_page, next_page_by, page_of, pages_on, paired, slices_with}
-use Rattle.morse_drawing.specs.Progress.{IsPage, IsWholeSphere}
+use Rattle.morse_drawing.specs.Progress.{IsPage}
+use Rattle.morse_drawing.proofs.NextPages.{IsWholeSphere}
 use Rattle.morse_drawing.specs.Texts.{strands_after, strands_behind}
 use Rattle.morse_drawing.specs.declared.slice.Slice.{Slice}
 use Rattle.morse_drawing.specs.declared.slice.Slice.TheVariants.{Cap, Cross, Cup}

@@ -10,7 +10,8 @@ use Rattle.std.proofs.lemmas.List.{append_assoc, append-nil, length-append, leng
 use Rattle.kh_types.specs.declared.limits.TheConstants.{CROSSINGS}
 use Rattle.morse_drawing.specs.Joins.{IsFaultless, JoinedDarts, answer_by, ends_fault, fault_where, first_slice_fault, is_outside, joined_in, slice_fault}
 use Rattle.morse_drawing.specs.Sketches.{Sketch, no_sketch, sketch_of, sketched}
-use Rattle.morse_drawing.specs.Texts.{ArePlaced, IsPlaced, bar, cells, drawing_text, line_text, lines_below, slice_cell, strands_after}
+use Rattle.morse_drawing.specs.Texts.{IsPlaced, bar, cells, drawing_text, line_text, lines_below, slice_cell, strands_after}
+use Rattle.morse_drawing.proofs.PlacedSlices.{ArePlaced}
 use Rattle.morse_drawing.specs.declared.fault.SliceFault.{SliceFault}
 use Rattle.morse_drawing.specs.declared.limits.TheConstants.{CAP_STRANDS}
 use Rattle.morse_drawing.specs.declared.slice.Slice.{Slice}

@@ -1,5 +1,5 @@
 -- The row of a drawing: the open darts of one face, in their order round it (this project's rule).
-use Rattle.std.specs.Prelude.{◌≡◌, ◌≢◌, ℕ, ◌⊎◌, ◌+◌, ◌*◌, ◌/◌, ◌%◌, ◌<◌, List, [], ◌∷◌, ◌++◌}
+use Rattle.std.specs.Prelude.{◌≡◌, ◌≢◌, ℕ, ◌⊎◌, ◌+◌, ◌*◌, ◌/◌, ◌%◌, ◌<◌, List, [], ◌∷◌}
 use Rattle.std.specs.List.{AllByRecursion}
 use Rattle.kh_types.specs.Darts.{IsPairing, face_step}
 use Rattle.face_walk.specs.AddedArcs.{IsPart}
@@ -40,21 +40,6 @@ pub record IsDartRow (n : ℕ) (partner : ℕ → ℕ) (row : List ℕ) : Type 0
   pub round : AreRound n partner row
   pub are_open : AllByRecursion (λ z. (z < 4 * n) × (partner z ≡ z)) row
   pub once : AreDifferent row
-
--- two neighbours in the row are partners in the whole
-pub record HasNeighbours (whole : ℕ → ℕ) (row : List ℕ) : Type 0 where
-  pub front : List ℕ
-  pub dart : ℕ
-  pub other : ℕ
-  pub back : List ℕ
-  pub is_row : row ≡ front ++ dart ∷ other ∷ back
-  pub are_partners : whole dart ≡ other
-
--- the darts of a crossing have no arcs, and none of them is in the row; one of them is given
-pub record IsBare (n : ℕ) (partner : ℕ → ℕ) (row : List ℕ) (dart : ℕ) : Type 0 where
-  pub below : dart < 4 * n
-  pub alone : (x : ℕ) → x / 4 ≡ dart / 4 → partner x ≡ x
-  pub beside : AllByRecursion (λ z. z / 4 ≢ dart / 4) row
 
 -- the dart at the slot after, round the same crossing
 abbrev pub turned_back : ℕ → ℕ

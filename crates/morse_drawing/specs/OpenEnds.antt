@@ -1,6 +1,6 @@
 -- The same by one row of open ends (this project's rule). A strand of the row that leads back to a dart is an end at that dart; the two
 -- strands that are ends of one line without darts have the number of that line, which no other strand has.
-use Rattle.std.specs.Prelude.{◌≡◌, ℕ, ◌+◌, ◌-◌, ◌*◌, ◌<◌, List, [], ◌∷◌, length, map, get_or, set, replicate, nat_eq, nat_lt, Bool, true, false, not, ◌||◌, Option, Some, None, Err, Result, if◌then◌else◌, unwrap_or}
+use Rattle.std.specs.Prelude.{◌≡◌, ℕ, ◌+◌, ◌-◌, ◌*◌, ◌<◌, List, [], length, map, get_or, set, replicate, nat_eq, nat_lt, Bool, true, false, not, ◌||◌, Option, Some, None, Result, if◌then◌else◌, unwrap_or}
 use Rattle.std.specs.List.{filter, find, insert, list_any, range_with_len, remove}
 use Rattle.std.specs.Option.{option_or}
 use Rattle.kh_types.specs.declared.dart.Dart.{Dart}
@@ -167,17 +167,3 @@ ArePaired limit others =
 -- what is joined behind the last slice, where no strand is left
 abbrev pub strands_ends : ℕ → OpenEnds → Result JoinedDarts SliceFault
 strands_ends limit s = answer_by (fault_where (nat_lt 0 (length s.row)) (Ends (length s.row))) (found_joins limit s)
-
--- the first fault is answered
-abbrev pub joins_go : Option SliceFault → Result JoinedDarts SliceFault → Result JoinedDarts SliceFault
-joins_go None later = later
-joins_go (Some fault) later = Err fault
-
--- what slices join, behind others, or the first fault
-abbrev pub joins_from : ℕ → OpenEnds → ℕ → List Slice → Result JoinedDarts SliceFault
-joins_from limit s number [] = strands_ends limit s
-joins_from limit s number (slice ∷ slices) = joins_go (strands_fault limit s number slice) (joins_from limit (after_slice s slice) (number + 1) slices)
-
--- what slices join, by the row of open ends
-abbrev pub joined_by_ends : ℕ → List Slice → Result JoinedDarts SliceFault
-joined_by_ends limit slices = joins_from limit (no_strands limit) 1 slices

@@ -1,8 +1,8 @@
 -- What slices join (this project's rule). The segments of strands are numbered as they begin. A cap joins the two that it begins, a cup the
 -- two that it ends; a crossing ends two and begins two, and each of its darts meets one.
-use Rattle.std.specs.Prelude.{◌≡◌, ℕ, ◌+◌, ◌-◌, ◌*◌, ◌/◌, ◌%◌, ◌<◌, min, List, [], ◌∷◌, ◌++◌, get_or, map, take, drop, nat_eq, slice_index, if◌then◌else◌, Bool, true}
+use Rattle.std.specs.Prelude.{◌≡◌, ℕ, ◌+◌, ◌-◌, ◌*◌, ◌/◌, ◌%◌, ◌<◌, min, List, [], ◌∷◌, ◌++◌, get_or, map, take, drop, nat_eq, if◌then◌else◌, Bool, true}
 use Rattle.std.specs.List.{AllByRecursion, fold, list_any}
-use Rattle.kh_types.specs.Classes.{AreBelow, Respects, classes_of}
+use Rattle.kh_types.specs.Classes.{AreBelow, Respects}
 use Rattle.morse_drawing.specs.DartRows.{IsIn}
 use Rattle.morse_drawing.specs.declared.slice.Slice.{Slice}
 use Rattle.morse_drawing.specs.declared.slice.Slice.TheVariants.{Cap, Cup, Cross}
@@ -95,8 +95,3 @@ pub record IsSketched (n : ℕ) (part whole : ℕ → ℕ) (drawn row : List ℕ
   pub colour : ℕ → ℕ
   pub respects : Respects colour r.joins
   pub named : (x : ℕ) → x < 4 * n → IsIn (x / 4) drawn → colour (segment_met r.met x) ≡ min x (whole x)
-
--- two darts meet joined segments
-abbrev pub MeetJoined : Sketch → ℕ → ℕ → Type 0
-MeetJoined r x y =
-    slice_index (classes_of r.next r.joins) (segment_met r.met x) ≡ slice_index (classes_of r.next r.joins) (segment_met r.met y)

@@ -76,8 +76,3 @@ lines_below strands (slice ∷ slices) = line_text strands slice ++ lines_below 
 -- the text of a drawing
 abbrev pub drawing_text : List Slice → List ℕ
 drawing_text slices = lines_below 0 slices
-
--- each slice has its place, below a row of some strands
-abbrev pub ArePlaced : ℕ → List Slice → Type 0
-ArePlaced strands [] = Unit {0}
-ArePlaced strands (slice ∷ slices) = IsPlaced strands slice × ArePlaced (strands_after strands slice) slices

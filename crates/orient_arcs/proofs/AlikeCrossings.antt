@@ -31,7 +31,7 @@ use Rattle.orient_arcs.proofs.Members.{neq-eqb}
 use Rattle.gluing.proofs.Glued.{class_count-glued_parts}
 use Rattle.orient_arcs.proofs.DartSmoothings.{arc_of_dart, smoothings_of-darts, dart_passes, passes_of-darts, dart_passes-below}
 use Rattle.kh_types.proofs.IntSums.{int_sum-alike}
-use Rattle.gluing.specs.Codes.{dart_smoothings}
+use Rattle.gluing.proofs.DartPairs.{dart_smoothings}
 use Rattle.gluing.proofs.CodeCircles.{dart_smoothings-below}
 
 pub AreAlike-back : (crossings others : List (List ℕ)) → AreAlike crossings others → AreAlike others crossings

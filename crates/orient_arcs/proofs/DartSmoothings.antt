@@ -9,7 +9,7 @@ use Rattle.kh_types.specs.Classes.{AreBelow}
 use Rattle.kh_types.specs.Components.{passes_of}
 use Rattle.kh_types.specs.Circles.{smoothing_of, smoothings_of}
 use Rattle.gluing.specs.Glue.{renamed}
-use Rattle.gluing.specs.Codes.{dart_smoothings}
+use Rattle.gluing.proofs.DartPairs.{dart_smoothings}
 use Rattle.gluing.proofs.CodeCircles.{smoothing_by, smoothing_by-below, smoothing_by-same, smoothing_by-renamed, smoothing_of-darts, smoothings-from, dart_smoothings-from, dart_smoothings-below}
 use Rattle.gluing.proofs.Renamed.{AreBelow-append}
 

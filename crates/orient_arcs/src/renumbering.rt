@@ -1,11 +1,11 @@
 //! Renumbering: crossings over arc names as a code.
 
-ghost use Rattle.std.specs.Prelude.{◌≡◌, ◌≤◌, ◌<◌, ◌+◌, ◌*◌, ◌++◌, ◌∷◌, [], length, map, max, nat_eq};
+ghost use Rattle.std.specs.Prelude.{◌≡◌, ◌≤◌, ◌<◌, ◌+◌, ◌*◌, ◌++◌, ◌∷◌, [], List, length, map, max, nat_eq, ℕ};
 ghost use Rattle.std.specs.List.{find, position_or_len, list_any};
 ghost use Rattle.kh_types.specs.declared.limits.TheConstants.{ARCS, CROSSINGS};
 ghost use Rattle.code_passes.specs.Passes.{Pass, no_pass};
 ghost use Rattle.orient_arcs.specs.Parts.{ArePaired, is_positive_at, over_pass, passes_at, passes_through, slots_in, under_pass};
-ghost use Rattle.orient_arcs.specs.Renumbered.{bound_of, entering, follows, is_in, label_entered, number_in, order_of, renamed_crossing, renumber, walk};
+ghost use Rattle.orient_arcs.specs.Renumbered.{AreInOrder, bound_of, entering, follows, is_in, label_entered, number_in, order_of, renamed_crossing, renumber, walk};
 ghost use Rattle.orient_arcs.specs.Steps.{is_new, is_turned, order_below, start_of};
 
 use crate::parts::Parts;
@@ -18,7 +18,9 @@ use kh_types::{ARCS, CROSSINGS, Crossing, RawCode};
 /// the arc that enters the first listed of them. Source: this project's rule.
 pub fn renumber(parts: &Parts) -> RawCode
     requires { ArePaired parts.now }
-    ensures { result ≡ renumber parts.now }
+    ensures code { result ≡ renumber parts.now }
+    ensures order { (order : List ℕ) × AreInOrder parts.now order ×
+        (result.crossings ≡ map (renamed_crossing (number_in order)) parts.now.crossings) }
 {
     let passes = passes_through(parts);
     let order = order_of(parts, &passes);

@@ -26,9 +26,9 @@ IsScanReply-some field bytes =
     (IsDiagramReply-some (IsTableReply field) (λ code. (reply_of Done (homology_text field code), refl)) bytes)
 
 IsScanReply-one : (field : ℕ) (bytes : List ℕ) (a b : Reply) → IsScanReply field bytes a → IsScanReply field bytes b → a ≡ b
-IsScanReply-one field bytes =
-    IsLimitedReply-one (Some INPUT_BYTES) bytes (IsDiagramReply (IsTableReply field) bytes)
-    (IsDiagramReply-one (IsTableReply field) (same_table field) bytes)
+IsScanReply-one field bytes a b =
+    IsLimitedReply-one (Some INPUT_BYTES) bytes (IsDiagramReply (IsTableReply field) bytes) a b
+    (IsDiagramReply-one (IsTableReply field) (same_table field) bytes a b)
 
 pub IsScanAnswer-some : (words : List (List ℕ)) (bytes : List ℕ) → (reply : Reply) × IsScanAnswer words bytes reply
 unfolding IsScanAnswer

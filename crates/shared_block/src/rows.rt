@@ -1,8 +1,8 @@
 //! The rows of one block, once it is cancelled to zero.
 
-ghost use Rattle.std.specs.Prelude.{◌≡◌, ◌+◌, ◌*◌, ◌<◌, ◌++◌, pos, ◌-ℤ◌, length, OnOk};
-ghost use Rattle.kh_types.specs.Table.{row_at, rows_at};
-ghost use Rattle.shared_block.specs.AllBlocks.{IsFinished};
+ghost use Rattle.std.specs.Prelude.{◌≡◌, ◌+◌, ◌*◌, ◌<◌, ◌++◌, pos, ◌-ℤ◌, length, List, OnOk};
+ghost use Rattle.kh_types.specs.Table.{Row as RowFacts, row_at, rows_at};
+ghost use Rattle.shared_block.specs.AllBlocks.{AddsAllOrNone, IsFinished};
 
 use crate::SharedBlock;
 use crate::laws::block_laws;
@@ -11,11 +11,27 @@ use kh_types::NoMemory;
 use prime_field::PrimeField;
 
 /// Adds the rows of the quantum degree of a block that is cancelled to zero, ascending by degree.
-#[tactic(auto, using(crate::proofs::BlockRows::steps))]
+/// What memory it takes is that in which `rows` grow; where it runs out they are as before.
 pub fn push_rows<F: PrimeField>(rows: &mut Vec<Row>, block: &SharedBlock<F>) -> Result<(), NoMemory>
     requires { IsFinished F.P block.now }
-    ensures { OnOk result
+    ensures { AddsAllOrNone result rows.old.items rows.new.items
+        (rows_at F.P block.now.diagram block.now.degree) }
+{
+    let before = rows.len();
+    let added = push_each(rows, block);
+    if added.is_err() {
+        rows.truncate(before);
+    }
+    added
+}
+
+/// Adds the rows one by one; where memory runs out those that were added stay.
+#[tactic(auto, using(crate::proofs::BlockRows::steps))]
+fn push_each<F: PrimeField>(rows: &mut Vec<Row>, block: &SharedBlock<F>) -> Result<(), NoMemory>
+    requires { IsFinished F.P block.now }
+    ensures all { OnOk result
         (rows.new.items ≡ rows.old.items ++ rows_at F.P block.now.diagram block.now.degree) }
+    ensures some { (more : List RowFacts) × (rows.new.items ≡ rows.old.items ++ more) }
 {
     block_laws(block);
     'degrees: for k in 0..2 * block.diagram().crossings().len() + 1 {

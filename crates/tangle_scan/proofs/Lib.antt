@@ -4,3 +4,12 @@ pub mod RowLemmas
 pub mod FirstLemmas
 pub mod LastLemmas
 pub mod CountLemmas
+pub mod ZippedLists
+pub mod ChildPlaces
+pub mod NewObjects
+pub mod NewEntries
+pub mod NewColumns
+pub mod ColumnTargets
+pub mod MoreColumns
+pub mod ReadySites
+pub mod AddedScan

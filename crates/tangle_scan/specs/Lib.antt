@@ -2,3 +2,4 @@ pub mod Held
 pub mod Scanned
 pub mod Tallies
 pub mod CountedRows
+pub mod Additions

@@ -2,6 +2,7 @@
 //! theorem alone, and the table that it counts at its end.
 #![tactic(auto)]
 
+mod adding;
 mod circle_numbers;
 mod column;
 mod complex;
@@ -18,6 +19,7 @@ mod table;
 mod tally;
 mod tallying;
 
+pub use adding::add_crossing;
 pub use column::{Column, Entry};
 pub use complex::TangleComplex;
 pub use ending::{finished_scans_are_last, table_of_finished};

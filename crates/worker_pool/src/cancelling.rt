@@ -62,7 +62,7 @@ pub fn cancel_kinds_alone<F: PrimeField>(
 }
 
 /// Cancels all blocks of a diagram to zero, by so many workers that share them. With one worker the
-/// caller does all the work. This project's rule.
+/// caller does all the work, and no commit is counted. This project's rule.
 pub fn cancel_all<R: Threads + Wait + Sync, F: PrimeField + Send + Sync, G: Gate + Sync>(
     rt: &R,
     alloc: Global,
@@ -76,6 +76,8 @@ pub fn cancel_all<R: Threads + Wait + Sync, F: PrimeField + Send + Sync, G: Gate
     ensures table { IfOk result (λ made. made.table ≡ table F.P diagram.now) }
     ensures blocks { IfOk result (λ made.
         AreCancelled F.P diagram.now made.blocks.items made.committed.items) }
+    ensures alone { workers ≡ 1 → IfOk result (λ made.
+        All (λ count. count ≡ 0) made.committed.items) }
 {
     cancel_kinds(rt, alloc, &StateKinds::of_diagram(diagram), workers, gate)
 }
@@ -94,6 +96,8 @@ pub fn cancel_kinds<R: Threads + Wait + Sync, F: PrimeField + Send + Sync, G: Ga
     ensures table { IfOk result (λ made. made.table ≡ table F.P kinds.now) }
     ensures blocks { IfOk result (λ made.
         AreCancelled F.P kinds.now made.blocks.items made.committed.items) }
+    ensures alone { workers ≡ 1 → IfOk result (λ made.
+        All (λ count. count ≡ 0) made.committed.items) }
 {
     if workers == 1 {
         return cancel_kinds_alone(alloc, kinds);

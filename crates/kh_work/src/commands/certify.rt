@@ -4,8 +4,7 @@ ghost use Rattle.std.specs.Prelude.{◌≤◌, IfOk, length};
 ghost use Rattle.circle_smoothing.specs.GeneratorCounts.{generator_count};
 ghost use Rattle.circle_smoothing.specs.declared.limits.TheConstants.{GENERATORS};
 ghost use Rattle.kh_types.specs.declared.limits.TheConstants.{LOOPS};
-ghost use Rattle.kh_lex.specs.Lines.{lines_of};
-ghost use Rattle.cancel_log.specs.Verdicts.{IsLogOf};
+ghost use Rattle.cancel_log.specs.Verdicts.{IsLog};
 ghost use Rattle.cancel_log.specs.declared.limits.TheConstants.{LOG_BYTES};
 ghost use Rattle.kh_work.specs.Certify.{IsCertifyReply};
 
@@ -36,7 +35,7 @@ pub fn reply_to_certify(
 fn log_over(alloc: Global, field: FieldSize, diagram: &Diagram) -> Result<Vec<u8>, NoMemory>
     requires size { generator_count diagram.now ≤ GENERATORS }
     requires loops { diagram.now.loops ≤ LOOPS }
-    ensures log { IfOk result (λ text. IsLogOf field diagram.now (lines_of text.items)) }
+    ensures log { IfOk result (λ text. IsLog field diagram.now text.items) }
     ensures few { IfOk result (λ text. length text.items ≤ LOG_BYTES) }
 {
     match field.elements() {

@@ -12,7 +12,7 @@ renumber-requires c =
     subst (λ (parts : Parts). ArePaired parts) (sym c.closure_parts.ensures) (ArePaired-closure c.args.strands c.args.letters.now)
 
 pub returns-clause-code : goal.returns-clause-code
-returns-clause-code c = c.renumber.ensures ∙ ap renumber c.closure_parts.ensures
+returns-clause-code c = c.renumber.ensures.code ∙ ap renumber c.closure_parts.ensures
 
 pub returns-clause-accepted : goal.returns-clause-accepted
 returns-clause-accepted c =

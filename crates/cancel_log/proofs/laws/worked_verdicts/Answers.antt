@@ -17,6 +17,7 @@ use Rattle.cancel_log.specs.declared.line.LogLine.TheVariants.{Begin, Cancel, Cl
 use Rattle.cancel_log.proofs.LineTexts.{pivot-cut, said-no_degree, said-no_pivot, words-no_degree}
 use Rattle.cancel_log.proofs.NumberTexts.{degree-unprinted}
 use Rattle.cancel_log.proofs.StartLines.{names-refused, names-unread, prime-none}
+use Rattle.cancel_log.proofs.WholeLogs.{verdict-start}
 use Rattle.cancel_log.proofs.WorkedVerdicts.{curl-starts, loop-starts, other-by, table-by, wrong-by}
 use Rattle.cancel_log.proofs.laws.worked_verdicts.Goals as goal
 
@@ -25,14 +26,14 @@ unlike : (line other : List ℕ) → bytes_eq line other ≡ false → line ≢ 
 unlike line other is = not_from_Decides (bytes_eq line other) (bytes_eq-Decides line other) is
 
 pub returns-clause-nothing : goal.returns-clause-nothing
-returns-clause-nothing c = inl (inl (refl, λ others is. absurd (cc (is))))
+returns-clause-nothing c = verdict-start _ _ (inl (refl, λ others is. absurd (cc (is))))
 
 pub returns-clause-no_diagram : goal.returns-clause-no_diagram
 returns-clause-no_diagram c =
-    inl (inr (inl (refl, record { others = []; parts = refl; long = λ text later is. absurd (cc (is)) })))
+    verdict-start _ _ (inr (inl (refl, record { others = []; parts = refl; long = λ text later is. absurd (cc (is)) })))
 
 pub returns-clause-unread : goal.returns-clause-unread
-returns-clause-unread c = inl (
+returns-clause-unread c = verdict-start _ _ (
   refl,
   record {
     text = codes "PD[Loop[1]";
@@ -45,7 +46,7 @@ returns-clause-unread c = inl (
 
 pub returns-clause-refused : goal.returns-clause-refused
 unfolding accepted first_fault
-returns-clause-refused c = inl (
+returns-clause-refused c = verdict-start _ _ (
   refl,
   record {
     text = codes "PD[X[1,2,1,2]]";
@@ -58,7 +59,7 @@ returns-clause-refused c = inl (
 )
 
 pub returns-clause-field : goal.returns-clause-field
-returns-clause-field c = inl (inr (inr (
+returns-clause-field c = verdict-start _ _ (inr (inr (
   refl,
   record {
     text = codes "PD[Loop[1]]";

@@ -1,5 +1,5 @@
 use Rattle.std.proofs.Common.{◌≡◌, ◌≤◌, ◌*◌, length}
-use Rattle.diagram_moves.specs.DropSteps.{straight_to}
+use Rattle.diagram_moves.proofs.MadeSoFar.{straight_to}
 use Rattle.diagram_moves.proofs.drops.straight_pairs.Given as goal
 
 abbrev pub invariant-places : goal.invariant-places

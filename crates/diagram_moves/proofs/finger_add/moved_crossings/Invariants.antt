@@ -1,5 +1,5 @@
 use Rattle.std.proofs.Common.{◌≡◌}
-use Rattle.diagram_moves.specs.AddSteps.{fingered_to}
+use Rattle.diagram_moves.proofs.MadeSoFar.{fingered_to}
 use Rattle.diagram_moves.proofs.finger_add.moved_crossings.Given as goal
 
 abbrev pub invariant-crossings : goal.invariant-crossings

@@ -1,5 +1,5 @@
 use Rattle.std.proofs.Common.{◌≡◌}
-use Rattle.diagram_moves.specs.AddSteps.{kinked_to}
+use Rattle.diagram_moves.proofs.MadeSoFar.{kinked_to}
 use Rattle.diagram_moves.proofs.kink_add.moved_crossings.Given as goal
 
 abbrev pub invariant-crossings : goal.invariant-crossings

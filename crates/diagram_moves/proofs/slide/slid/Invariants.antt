@@ -1,5 +1,5 @@
 use Rattle.std.proofs.Common.{◌≡◌}
-use Rattle.diagram_moves.specs.SlideSteps.{slid_to}
+use Rattle.diagram_moves.proofs.MadeSoFar.{slid_to}
 use Rattle.diagram_moves.proofs.slide.slid.Given as goal
 
 abbrev pub invariant-places : goal.invariant-places

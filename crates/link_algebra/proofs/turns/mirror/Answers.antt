@@ -20,11 +20,11 @@ renumber-requires c =
 
 pub of_accepted-requires : goal.of_accepted-requires
 of_accepted-requires c =
-    subst (λ (code : Code). IsTrue (accepted code)) (sym (c.renumber.ensures ∙ ap renumber c.mirror_parts.ensures))
+    subst (λ (code : Code). IsTrue (accepted code)) (sym (c.renumber.ensures.code ∙ ap renumber c.mirror_parts.ensures))
     (mirror-accepted c.args.diagram.now c.crossings-crossings.ensures.accepted)
 
 pub returns-clause-code : goal.returns-clause-code
-returns-clause-code c = c.of_accepted.ensures ∙ c.renumber.ensures ∙ ap renumber c.mirror_parts.ensures
+returns-clause-code c = c.of_accepted.ensures ∙ c.renumber.ensures.code ∙ ap renumber c.mirror_parts.ensures
 
 pub returns-clause-dimensions : goal.returns-clause-dimensions
 returns-clause-dimensions c = λ p prime i j.

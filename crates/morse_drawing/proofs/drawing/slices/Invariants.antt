@@ -1,4 +1,4 @@
-use Rattle.morse_drawing.specs.Progress.{IsPageAfter}
+use Rattle.morse_drawing.proofs.NextPages.{IsPageAfter}
 use Rattle.morse_drawing.proofs.drawing.slices.Given as goal
 
 abbrev pub invariant-steps : goal.invariant-steps

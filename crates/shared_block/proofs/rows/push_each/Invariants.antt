@@ -1,6 +1,6 @@
 use Rattle.std.proofs.Common.{◌≡◌, ◌++◌}
 use Rattle.shared_block.proofs.BlockRows.{rows_to}
-use Rattle.shared_block.proofs.rows.push_rows.Given as goal
+use Rattle.shared_block.proofs.rows.push_each.Given as goal
 
 abbrev pub invariant-degrees : goal.invariant-degrees
 invariant-degrees g l =

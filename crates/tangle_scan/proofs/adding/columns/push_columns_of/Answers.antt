@@ -1,0 +1,22 @@
+use Rattle.std.proofs.Common.{arith, subst, sym}
+use Rattle.crossing_maps.specs.declared.splitting.Split.{Split}
+use Rattle.tangle_scan.specs.Additions.{IsSplitAt}
+use Rattle.tangle_scan.proofs.ChildPlaces.{chosen-split}
+use Rattle.tangle_scan.proofs.MoreColumns.{columns-all, columns-more}
+use Rattle.tangle_scan.proofs.adding.columns.push_columns_of.Goals as goal
+
+pub labels-preserved : goal.labels-preserved
+labels-preserved g c = λ from all.
+    columns-more g.F.PrimeField.P c.args.links.now.adding.now from c.args.parent.now.place c.args.smoothing c.labels.label
+    c.child_of-child.result c.labels.made.items c.push.new.self.items c.in_ok-column_from.field-0 c.child_of-child.ensures.parent
+    c.child_of-child.ensures.smoothing c.child_of-child.ensures.label (c.labels.invariant from all) c.in_ok-column_from.ensures
+    c.in_ok-push.ensures.items
+
+pub returns : goal.returns
+returns g c = λ from all.
+    let adding = c.args.links.now.adding.now in
+    let parent = c.args.parent.now in
+    columns-all g.F.PrimeField.P adding from parent.place c.args.smoothing c.labels.label c.split.result.now c.labels.made.items
+    (subst (λ (s : Split). IsSplitAt adding parent.place c.args.smoothing s) (sym c.split.ensures)
+    (chosen-split adding parent.place c.args.smoothing parent.successors.now c.requires.smoothing c.requires.parent.successors))
+    (omega (arith, c.labels-test.false, c.labels.auto.label-end, c.label_count-label-end.ensures)) (c.labels.invariant from all)

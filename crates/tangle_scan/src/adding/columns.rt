@@ -1,0 +1,133 @@
+//! The new columns.
+
+ghost use Rattle.std.specs.Prelude.{◌≡◌, ℕ, ◌+◌, ◌<◌, List, [], ◌++◌, length, map, take, IfOk, OnOk};
+ghost use Rattle.std.specs.List.{flat_map};
+ghost use Rattle.scan_laws.specs.Adding.{Origin, origins_with};
+ghost use Rattle.tangle_scan.specs.Additions.{AreColumnsFrom, AreLinks, HasEntriesTo, IsChild, IsColumnFrom, IsParent};
+ghost use Rattle.tangle_scan.specs.Additions.{all_origins, code_in, head_of, objects_in, origin_in, origins_to, scan_in, targets_along};
+ghost use Rattle.tangle_scan.specs.Held.{column_at};
+
+use crate::adding::children::{Child, Links, Parent, child_of, parent_at};
+use crate::adding::entries::{Arrow, push_along, push_saddles};
+use crate::adding::successors::label_count;
+use crate::column::{Column, Entry};
+use kh_types::NoMemory;
+use prime_field::PrimeField;
+
+/// The columns of all new objects, in their order.
+pub fn columns_of<F: PrimeField>(links: &Links<'_>) -> Result<Vec<Column>, NoMemory>
+    requires links { AreLinks F.P links.now }
+    ensures { IfOk result (λ columns. AreColumnsFrom F.P links.now.adding.now
+        (all_origins links.now.adding.now) columns.items) }
+{
+    let mut made = Vec::with_capacity(links.alloc, links.count)?;
+    'places: for place in 0..links.successors.len() {
+        push_columns::<F>(&mut made, links, place)?;
+    }
+    Ok(made)
+}
+
+/// Adds the columns of the successors of the object at a place, if it is there.
+fn push_columns<'a, F: PrimeField>(
+    made: &mut Vec<Column>,
+    links: &Links<'a>,
+    place: usize,
+) -> Result<(), NoMemory>
+    requires links { AreLinks F.P links.now }
+    requires place { place < length (objects_in links.now.adding.now) }
+    requires made { AreColumnsFrom F.P links.now.adding.now
+        (origins_to links.now.adding.now place) made.old.items }
+    ensures { OnOk result (AreColumnsFrom F.P links.now.adding.now
+        (origins_to links.now.adding.now (place + 1)) made.new.items) }
+{
+    match parent_at(links, place) {
+        None => Ok(()),
+        Some(parent) => push_both::<F>(made, links, &parent),
+    }
+}
+
+/// Adds the columns of the successors of an object, with one smoothing and with the other.
+fn push_both<'a, F: PrimeField>(
+    made: &mut Vec<Column>,
+    links: &Links<'a>,
+    parent: &Parent<'a>,
+) -> Result<(), NoMemory>
+    requires links { AreLinks F.P links.now }
+    requires parent { IsParent links.now.adding.now parent.now }
+    requires made { AreColumnsFrom F.P links.now.adding.now
+        (origins_to links.now.adding.now parent.now.place) made.old.items }
+    ensures { OnOk result (AreColumnsFrom F.P links.now.adding.now
+        (origins_to links.now.adding.now (parent.now.place + 1)) made.new.items) }
+{
+    push_columns_of::<F>(made, links, parent, 0)?;
+    push_columns_of::<F>(made, links, parent, 1)
+}
+
+/// Adds the columns of the successors of an object that have a smoothing.
+fn push_columns_of<'a, F: PrimeField>(
+    made: &mut Vec<Column>,
+    links: &Links<'a>,
+    parent: &Parent<'a>,
+    smoothing: u8,
+) -> Result<(), NoMemory>
+    requires links { AreLinks F.P links.now }
+    requires parent { IsParent links.now.adding.now parent.now }
+    requires smoothing { smoothing < 2 }
+    ensures { (from : List Origin) → AreColumnsFrom F.P links.now.adding.now from made.old.items
+        → OnOk result (AreColumnsFrom F.P links.now.adding.now (from
+        ++ origins_with (code_in links.now.adding.now) (scan_in links.now.adding.now)
+        parent.now.place smoothing) made.new.items) }
+{
+    'labels: for label in 0..label_count(parent.split(smoothing)) {
+        let child = child_of(links, parent, smoothing, label);
+        made.push(column_from::<F>(links, &child, parent)?)?;
+    }
+    Ok(())
+}
+
+/// The column of a new object, with what comes from maps out of the old one, and with its saddles.
+fn column_from<'a, F: PrimeField>(
+    links: &'a Links<'a>,
+    child: &'a Child<'a>,
+    parent: &Parent<'a>,
+) -> Result<Column, NoMemory>
+    requires links { AreLinks F.P links.now }
+    requires child { IsChild links.now.adding.now child.now }
+    requires parent { IsParent links.now.adding.now parent.now }
+    requires same { child.now.parent ≡ parent.now.place }
+    ensures { IfOk result (λ column. IsColumnFrom F.P links.now.adding.now
+        (origin_in child.now) column.items) }
+{
+    let mut column = Vec::new(links.alloc);
+    let entries = &links.adding.complex.columns[child.parent];
+    push_all::<F>(&mut column, links, child, entries)?;
+    push_saddles::<F>(&mut column, links, child, parent)?;
+    Ok(column)
+}
+
+/// Adds the entries of a new object's column along all maps out of the old one.
+fn push_all<'a, F: PrimeField>(
+    column: &mut Column,
+    links: &'a Links<'a>,
+    child: &'a Child<'a>,
+    entries: &'a [Entry],
+) -> Result<(), NoMemory>
+    requires links { AreLinks F.P links.now }
+    requires child { IsChild links.now.adding.now child.now }
+    requires within { child.now.parent < length (objects_in links.now.adding.now) }
+    requires none { column.old.items ≡ [] }
+    requires entries { entries.now
+        ≡ column_at links.now.adding.now.complex.now child.now.parent }
+    ensures { OnOk result (HasEntriesTo F.P links.now.adding.now (origin_in child.now)
+        (flat_map (targets_along links.now.adding.now child.now.side.smoothing)
+        (map head_of entries.now)) column.new.items) }
+{
+    'entries: for entry in entries {
+        let arrow = Arrow {
+            from: child,
+            terms: entry.terms.as_slice(),
+        };
+        push_along::<F>(column, links, &arrow, entry.head)?;
+    }
+    Ok(())
+}
