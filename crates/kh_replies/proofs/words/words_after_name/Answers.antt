@@ -3,7 +3,7 @@ use Rattle.std.specs.Vec.Iter.{into_iter_items, into_iter_len}
 use Rattle.std.proofs.lemmas.Iterator.Adapters.{YieldsList-from_vec, YieldsList-from_skip}
 use Rattle.std.proofs.lemmas.Iterator.Consumers.{YieldsList-end}
 use Rattle.std.proofs.lemmas.List.{map-id}
-use Rattle.kh_main.proofs.words.words_after_name.Goals as goal
+use Rattle.kh_replies.proofs.words.words_after_name.Goals as goal
 
 -- where the arguments end, they have given all but the first
 pub returns : goal.returns

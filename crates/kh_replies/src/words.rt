@@ -3,8 +3,8 @@
 ghost use Rattle.std.specs.Prelude.{◌≡◌, ◌≢◌, ◌⊎◌, IfOk, IfErr, map, drop, string_bytes};
 ghost use Rattle.std.specs.Vec.Iter.{into_iter_items};
 
+use crate::status::Status;
 use kh_types::{NoMemory, Words};
-use kh_work::Status;
 use std::alloc::Global;
 use std::env;
 use std::env::Args;
