@@ -4,12 +4,14 @@ ghost use Rattle.std.specs.Prelude.{◌+◌, ◌<◌, length, ◌≡◌, IfOk, I
 ghost use Rattle.kh_types.specs.Acceptance.{accepted};
 ghost use Rattle.scan_laws.specs.Adding.{IsAdding};
 ghost use Rattle.scan_laws.specs.Scans.{IsScanOf};
+ghost use Rattle.scan_laws.specs.Steps.{LeadsTo};
 ghost use Rattle.tangle_scan.specs.Held.{HasNoPivot};
 ghost use Rattle.tangle_scan.specs.Scanned.{IsBehind, IsFirstComplex, IsScanned, scan_of};
 
 use crate::adding::add_crossing;
 use crate::column::Column;
 use crate::complex::TangleComplex;
+use crate::eliminating::eliminate_all;
 use crate::front::Front;
 use crate::object::Object;
 use arrayvec::ArrayVec;
@@ -75,6 +77,27 @@ impl<F: PrimeField> Scan<F> {
             front,
             complex,
             field: PhantomData,
+        })
+    }
+
+    /// The scan after maps that are a number times the identity are cancelled, until none is left.
+    pub fn eliminated(self, alloc: Global) -> Result<Scan<F>, NoMemory>
+        ensures steps { IfOk result (λ next.
+            LeadsTo F.P self.front.diagram (scan_of self) (scan_of next)) }
+        ensures none { IfOk result (λ next. HasNoPivot next.complex) }
+        ensures behind { IfOk result (IsBehind self.front.diagram self.front.done) }
+    {
+        self.laws();
+        let Scan {
+            front,
+            complex,
+            field,
+        } = self;
+        let complex = eliminate_all::<F>(alloc, &front, complex)?;
+        Ok(Scan {
+            front,
+            complex,
+            field,
         })
     }
 
