@@ -4,6 +4,7 @@
 
 mod adding;
 mod circle_numbers;
+mod clearing;
 mod column;
 mod complex;
 mod counted;
@@ -14,7 +15,9 @@ mod finished;
 mod front;
 mod object;
 mod order;
+mod pivots;
 mod reordering;
+mod rows;
 mod scan;
 mod scan_count;
 mod scanning;
@@ -25,6 +28,7 @@ mod tallying;
 pub use adding::add_crossing;
 pub use column::{Column, Entry};
 pub use complex::TangleComplex;
+pub use eliminating::eliminate_all;
 pub use ending::{finished_scans_are_last, table_of_finished};
 pub use finished::finished_scan;
 pub use front::Front;
