@@ -3,10 +3,10 @@
 
     tests/scan_hostile.py PROGRAM [WORD]
 
-PROGRAM is that of `kh`; that of scans stands in `crates/scan_main/out`, or where KH_SCAN_PROGRAM says. Each allocation, read and write fails
-in turn; inputs can not be read, outputs not be written, and signals come; there are limits of the system, and little memory: a run ends
-whole, or with its status and nothing. And words and inputs that are drawn at random come to what the plain readings of `homology` say. The
-last line is 'N passed, M failed'.
+PROGRAM is that of `kh`; that of scans stands in `crates/scan_main/out`, or where KH_SCAN_PROGRAM says. Each allocation, read and write
+fails in turn; inputs can not be read, outputs not be written, and signals come; there are limits of the system, and little memory: a run
+ends whole, or with its status and nothing. And words and inputs that are drawn at random come to what the plain readings of `homology`
+say. The last line is 'N passed, M failed'.
 """
 import dataclasses
 import functools
