@@ -21,8 +21,9 @@ use prime_field::PrimeField;
 use std::alloc::Global;
 use std::mem;
 
-/// Cancels maps that are a number times the identity until none is left, one degree after the other,
-/// in each column that whose row is shortest. Source: Bar-Natan 2007.
+/// Cancels maps that are a number times the identity until none is left. Which comes first no clause
+/// says: it goes degree by degree, and takes in each column the entry whose row is the shortest.
+/// Source: Bar-Natan 2007.
 pub fn eliminate_all<F: PrimeField>(
     alloc: Global,
     front: &Front,

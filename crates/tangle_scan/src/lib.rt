@@ -24,6 +24,8 @@ mod scanning;
 mod table;
 mod tally;
 mod tallying;
+#[cfg(test)]
+mod tests;
 
 pub use adding::add_crossing;
 pub use column::{Column, Entry};

@@ -1,5 +1,5 @@
-//! For each object the columns that lead to it, and perhaps some that did, or one twice: a column
-//! that gains an entry is noted, and none is taken out again.
+//! For each object that is there the columns that lead to it, and perhaps some that did, or one
+//! twice: a column that gains an entry is noted, and only with its object a list is given up.
 
 ghost use Rattle.std.specs.Prelude.{◌≡◌, ◌≢◌, ℕ, ◌<◌, List, length, true, All, IfOk, OnOk};
 ghost use Rattle.std.specs.List.{Contains};

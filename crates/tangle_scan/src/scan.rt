@@ -119,7 +119,7 @@ impl<F: PrimeField> Scan<F> {
         &self.front.diagram
     }
 
-    /// The objects.
+    /// The objects, with those that are cancelled.
     pub fn objects(&self) -> &[Object]
         ensures { result.now ≡ self.now.complex.objects.items }
     {
