@@ -115,7 +115,8 @@ def table_section(grid):
     groups = alike(sheet.tables)
     notes = [
         "A row is a quantum degree j, a column a homological degree i; χ is the sum of a row with signs, the coefficient of q<sup>j</sup> in "
-        "the Jones polynomial."
+        "the Jones polynomial. A dimension depends on the numbers that one counts with: a field of 2, 3, 5 or 7 elements; in that of 2 "
+        "elements 1 + 1 = 0."
     ]
     if len(groups) > 1:
         notes.append("A coloured cell with a star has not the same dimension over all four fields: torsion.")
@@ -152,6 +153,14 @@ def cube_section(figure, states):
     )
     scroll = f'<div class="scroll" tabindex="0" role="region" aria-label="the cube, which scrolls">{cube_of(figure, states)}</div>'
     return f'{scroll}<p class="note">{legend if figure.count else ""} {note}</p>'
+
+
+def undrawn_section(count):
+    """What stands instead of a cube that is not drawn."""
+    return (
+        f'<p class="note">{count} crossings: 2<sup>{count}</sup> = {2 ** count:,} states; cubes are drawn of up to {MOST_DRAWN} crossings. '
+        "The buttons below the drawing, which need JavaScript, show one state at a time, with the edges out of it.</p>"
+    )
 
 
 def joins_told(one, other):
@@ -210,7 +219,7 @@ def section(name, title, inside):
 CHOSEN = (
     '<figure id="preview" class="screen" hidden><img alt=""><figcaption class="note"></figcaption></figure>'
     '<section id="chosen" aria-live="polite" aria-label="what is chosen"><div id="told"><p>Choose a crossing of the drawing, a cell of the '
-    "table or a state of the cube.</p></div></section>"
+    "table or a state.</p></div></section>"
 )
 
 
@@ -229,6 +238,8 @@ def page_of(sheet, before="", between="", head="", first=""):
     parts = [section("table", "Table", table_section(grid)), section("polynomials", "Polynomials", polynomial_section(sheet))]
     if count <= MOST_DRAWN:
         parts.append(section("cube", "Cube of states", cube_section(figure, sheet.states)))
+    else:
+        parts.append(section("cube", "Cube of states", undrawn_section(count)))
     lists = [section("crossings", "Crossings", crossing_section(figure))] if count else []
     if grid.rows:
         lists.append(section("cells", "Cells of the table", cell_section(grid)))
@@ -238,7 +249,7 @@ def page_of(sheet, before="", between="", head="", first=""):
     meta = head or f'<meta http-equiv="Content-Security-Policy" content="{policy()}">'
     return whole(name, meta, [
         f"<header>{first}<h1>{escape(name)}</h1>{before}</header>",
-        f'<main>\n<div class="left">\n{left}\n</div>\n<div class="right">', between, *parts, "</div>", *lists, "</main>",
+        f'<main>\n<div class="left">\n{left}\n</div>\n<div class="right">', between, *parts, *lists, "</div>\n</main>",
         f'<script type="application/json" id="data">{data_of(sheet)}</script>',
     ])
 

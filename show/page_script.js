@@ -60,7 +60,7 @@
   function generatorsOf(bits, circles) {
     const found = [];
     for (let minuses = circles, many = 1; minuses >= 0; many = (many * minuses) / (circles - minuses + 1), minuses--) {
-      found.push(`${many} at ${signed(circles - 2 * minuses + ones(bits) + data.plus - 2 * data.minus)}`);
+      found.push(`${many} at\u00a0${signed(circles - 2 * minuses + ones(bits) + data.plus - 2 * data.minus)}`);
     }
     return found.join(", ");
   }
@@ -147,7 +147,7 @@
         go(`state-${changed(state && state[1].length === count ? state[1] : zero, at)}`);
       }).classList.add("choice");
     }
-    addButton("the link", close).classList.add("none");
+    addButton("uncut", close).classList.add("none");
   }
 
   function addButton(text, act) {

@@ -18,7 +18,7 @@ HOW = f"""<section id="how" aria-labelledby="how-title"><h2 id="how-title">The c
 link go on with the next component.</li>
 <li>At each crossing write the four arcs around it. Begin with the one on which you come in below, and go on counterclockwise. At the crossing
 1 of this drawing that is <code>X[1, 4, 2, 5]</code>.</li>
-<li>All of them together are the code: <code>{TREFOIL}</code>.</li></ol></section>"""
+<li>All of them together are the code: <code>{TREFOIL}</code>. Its title may stand before it: <code>mine: PD[X[..], ..]</code>.</li></ol></section>"""
 # The lists of moves that are open at first.
 OPEN = ("slide", "bigon", "unkink")
 

@@ -22,6 +22,10 @@ MOST_LETTERS, MOST_SAID = 80, 2_000
 # The words behind the names of buttons that make another diagram.
 TURNS = {"mirror": MIRROR, "reverse": REVERSE}
 NUMBERED = re.compile(r"code \d+|")
+# Crossings alone, as one writes them beside a drawing, with nothing around them; and where a text that has one line says what it says.
+CROSSING = re.compile(r"X\[[\d\s,]*\]")
+BARE = re.compile(rf"\s*(?:{CROSSING.pattern}[\s,]*)+")
+PLACE = re.compile(r"^line 1: (?:code 1: )?", re.M)
 
 
 class Step(NamedTuple):
@@ -79,7 +83,10 @@ class Session:
         return kept(self.moves, code, accepted(self.kh, self.sheet(code)) if found is None else found, MOST_SHEETS)
 
     def typed(self, text, known=""):
-        """The step of a text in any form that `kh-codes` reads, of this name where it has none; of several codes that of the first."""
+        """The step of a text in any form that `kh-codes` reads, or of crossings alone; of this name where it has none. Of several codes it
+        is that of the first."""
+        if BARE.fullmatch(text):
+            text = f"PD[{', '.join(CROSSING.findall(text))}]"
         came = ran([sys.executable, KH_CODES, "--names"], text, self.kh.seconds)
         said = re.sub(r"^input: .*\n", "", re.sub(r"^input:(?=\d)", "line ", came.said, flags=re.M), flags=re.M)
         if not came.wrote:
@@ -93,6 +100,8 @@ class Session:
         except Refusal as fault:
             raise Unreadable("\n".join(filter(None, (said.strip(), str(fault))))) from fault
         name = known if NUMBERED.fullmatch(name) else name
+        if "\n" not in text.strip():
+            said = PLACE.sub("", said)
         return self.add(Step(name[:MOST_LETTERS], start, (), start, said.strip()[:MOST_SAID]))
 
     def moved(self, number, line):

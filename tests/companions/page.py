@@ -218,6 +218,7 @@ def large_faults(program):
         right = (status, said) == (0, "") and not list(root.all("svg", class_="cube")) and words in root.one("main").text()
         right = right and root.one("head").one("title").text() == root.one("h1").text() == "<a & b>"
         right = right and len(list(root.all("a", class_="target"))) == crossings
+        right = right and f"= {2 ** crossings:,} states" in root.one("section", id="cube").text()
         yield f"{name}", (form_fault(root) or named_fault(root)) if right else f"{status}, {said}"
 
 

@@ -100,6 +100,9 @@ def click_faults(tab):
     yield "a state that is not listed", None if told == "State 00000001" and circles == 2 else f"{told}, {circles}"
     tab.load(address("hopf") + "#state-10")
     yield "an address with a state", None if tab.text("#told h3") == "State 10" else tab.text("#told")
+    tab.click(".grid a")
+    pale = tab.value("getComputedStyle(document.querySelector('#strands')).opacity")
+    yield "a cell behind an address with a state", None if pale == "1" and tab.text("#told h3").startswith("j =") else f"{pale}"
     for wrong in ("#state-1", "#state-xx", "#cell_9_9", "#crossing-9", "#%", "#data"):
         tab.load(address("hopf") + wrong)
         right = tab.text("#told").startswith("Choose") and not tab.faults()
@@ -148,6 +151,21 @@ def size_faults(tab):
         )
         yield f"{name} on {width} by {height}", None if broad <= width and 0 <= left < right <= width else f"{broad}, {left} to {right}"
     tab.screen(1300, 900)
+
+
+def scrolled_faults(tab):
+    """However far a page is scrolled, the drawing with what stands below it covers nothing else."""
+    script = """(() => {
+      const box = (it) => it.getBoundingClientRect(), left = box(document.querySelector('.left'));
+      return Array.from(document.querySelectorAll('main section')).filter((it) => !it.closest('.left') && box(it).left < left.right
+        && box(it).top < left.bottom && box(it).bottom > left.top).map((it) => it.id).join();
+    })()"""
+    for name in LINKS:
+        tab.load(address(name))
+        for part in (0, 0.25, 0.5, 0.75, 1):
+            tab.value(f"scrollTo({{top: {part} * document.documentElement.scrollHeight, behavior: 'instant'}})")
+            covered = tab.value(f"new Promise((done) => requestAnimationFrame(() => done({script})))")
+            yield f"{name}, scrolled by {part}", f"covered: {covered}" if covered else None
 
 
 def colour_faults(tab):
@@ -287,6 +305,7 @@ def faults(program):
         yield "the keyboard", keyboard_fault(tab)
         yield "without a script", plain_fault(tab)
         yield from size_faults(tab)
+        yield from scrolled_faults(tab)
         yield from colour_faults(tab)
         yield from served_faults(tab, program)
         yield "the lessons", lessons_fault(tab, program)

@@ -28,6 +28,9 @@ TYPED = [
     ("a DT code", "DT: [(4, 6, 2)]", "A diagram", "3 crossings (3 positive, 0 negative)"),
     ("JSON", "[[1,4,2,5],[3,6,4,1],[5,2,6,3]]", "A diagram", "3 crossings (0 positive, 3 negative)"),
     ("a loop", "unknot", "unknot", "1 loop"),
+    ("crossings alone", "X[1,4,2,5], X[3,6,4,1], X[5,2,6,3]", "A diagram", "PD[X[1, 4, 2, 5], X[3, 6, 4, 1], X[5, 2, 6, 3]]"),
+    ("crossings in lines", "X[1,4,2,5]\nX[3,6,4,1]\n X[5,2,6,3]\n", "A diagram", "3 crossings"),
+    ("what is said of a line", "DT: 4 6 2", "A diagram", '<p class="note said">a DT code: the mirror image'),
     ("a long name", "n" * 300 + ": 4_1", "n" * 80, "4 crossings"),
     ("two codes", TREFOIL + "\n4_1", "A diagram", "Of 2 codes the first is shown."),
     ("a code with a tag in its name", "<script>alert(1)</script>: 4_1", "<script>alert(1)</script>", "4 crossings"),
@@ -36,6 +39,7 @@ TYPED = [
 WRONG = [
     ("a letter that is none", "braid: 1 1 x", "a letter of a braid is a number\n  braid: 1 1 x\n             ^"),
     ("a crossing of three arcs", "PD[X[1,4,2]]", "a crossing has four arcs, and this one has 3\n  PD[X[1,4,2]]\n     ^"),
+    ("crossings alone, one of three arcs", "X[1,4,2]", "a crossing has four arcs, and this one has 3\n  PD[X[1,4,2]]\n     ^"),
     ("a virtual trefoil", "PD[X[3,1,4,2], X[4,2,1,3]]", "refused checkerboard at arc 2"),
     ("a name that is none", "8_77", "the reference has no link of this name"),
     ("nothing", "", "there is no code in this text"),
