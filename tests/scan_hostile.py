@@ -22,7 +22,7 @@ from rows.stream import SIZES
 from shared import known_diagrams, stored_links
 from shared.pool import tell_parts
 from shared.running import Child
-from shared.scanning import HOMOLOGY, ScanChild, is_there, scan_of, words_behind
+from shared.scanning import HOMOLOGY, ScanChild, has_row_of_scan, is_there, row_of_scan, scan_of, words_behind
 
 INPUTS, SHARES = 1_200, 4
 SEED = "the gate scans"
@@ -67,8 +67,9 @@ def limits(scan):
 def rows_of_streams():
     """The rows on where inputs come from and outputs go, and on little memory, of `homology`, as rows of `kh-scan`."""
     for row in runs.all_rows():
-        if row.words[:1] == [HOMOLOGY] and (row.sizes or (row.source, row.sink) != ("pipe", "kept")):
-            yield dataclasses.replace(row, name=f"kh-scan, {row.name}", words=words_behind(row.words), sizes=row.sizes and SIZES)
+        if has_row_of_scan(row) and (row.sizes or (row.source, row.sink) != ("pipe", "kept")):
+            # (there is one thread)
+            yield dataclasses.replace(row_of_scan(row), sizes=row.sizes and SIZES)
 
 
 def row_faults(scan, some):

@@ -2,6 +2,7 @@
 
 So a run of `kh` whose first word is `homology` is one of `kh-scan` without that word.
 """
+import dataclasses
 import functools
 import os
 
@@ -37,6 +38,16 @@ def is_there(scan):
 def words_behind(words):
     """The words for `kh-scan`, where `homology` is the first word."""
     return words[1:] if words[:1] == [HOMOLOGY] else None
+
+
+def has_row_of_scan(row):
+    """Whether a row of `kh` says what `kh-scan` has to write too: it is one of `homology`, and not about the limit that a scan has not."""
+    return words_behind(row.words) is not None and not row.wrote.startswith(LIMIT_OF_CUBES.encode())
+
+
+def row_of_scan(row):
+    """A row of `kh homology` as one of `kh-scan`."""
+    return dataclasses.replace(row, name=f"kh-scan, {row.name}", words=words_behind(row.words))
 
 
 class ScanChild(Child):
