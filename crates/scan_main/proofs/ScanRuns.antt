@@ -1,11 +1,8 @@
 -- A run of the program of scans keeps the headline.
-use Rattle.std.proofs.Common.{◌≡◌, ℕ, ◌≤◌, ◌++◌, inl, inr, List, length, refl, sym, ap, subst, ◌∙◌, Result, Ok, Err, None, Some}
-use Rattle.std.specs.Prelude.{IfOk, IfSome, IsTrue, OnOk}
+use Rattle.std.proofs.Common.{◌≡◌, ℕ, inl, inr, List, refl, sym, subst, ◌∙◌, Result, Ok, Err, None, Some}
+use Rattle.std.specs.Prelude.{IfOk, IfSome, OnOk}
 use Rattle.std.specs.declared.option.Option.{Option}
-use Rattle.std.specs.Io.KnownBytes.{Appends}
 use Rattle.kh_types.specs.Code.{Code}
-use Rattle.kh_types.specs.StateSum.{polynomial_text, state_sum}
-use Rattle.kh_types.specs.Table.{table, table_text}
 use Rattle.kh_types.specs.declared.limits.TheConstants.{INPUT_BYTES}
 use Rattle.word_line.specs.declared.command.Command.{Command}
 use Rattle.word_line.specs.Commands.{IsCommand, IsUsage}
@@ -13,7 +10,7 @@ use Rattle.word_line.proofs.Readings.{IsCommand-sizes}
 use Rattle.kh_replies.specs.declared.status.Status.{Status}
 use Rattle.kh_replies.specs.declared.status.Status.TheVariants.{Done, CodeRefused, Usage, ReadFault, WriteFault, NoMemory, Limit, MoveRefused}
 use Rattle.kh_replies.specs.DiagramReplies.{IsDiagramReply}
-use Rattle.kh_replies.specs.Inputs.{IsDiagramText}
+use Rattle.kh_replies.specs.Inputs.{IsDiagramRead, IsDiagramText}
 use Rattle.kh_replies.specs.Jones.{jones_line}
 use Rattle.kh_replies.specs.Refusals.{usage}
 use Rattle.kh_replies.specs.Replies.{Reply, reply_of}
@@ -23,7 +20,6 @@ use Rattle.kh_replies.specs.Told.{Gives, IsReadOut, Seen}
 use Rattle.kh_replies.proofs.RunLemmas.{whole-undisturbed}
 use Rattle.kh_replies.proofs.TextFaults.{few_crossings-read}
 use Rattle.kh_work.specs.Homology.{homology_text}
-use Rattle.kh_work.specs.Runs.{HasWrittenHomology}
 use Rattle.kh_work.proofs.AnswerLemmas.{first_fault-accepted}
 use Rattle.kh_work.proofs.Headlines.{headline_text, written-headline}
 use Rattle.scan_main.specs.Scans.{IsScanAnswer, IsScanReply, IsScanRun, IsTableReply, KeepsScanHeadline, ReadsUpTo, request_of, words_of_kh}
@@ -75,10 +71,23 @@ pub usage-replied : {E : Type 0} (result : Result Reply E) (P : Type 0) → IfOk
 usage-replied (Ok reply) P is = λ is_usage. absurd (subst IsReplyStatus is_usage is)
 usage-replied (Err stop) P is = tt
 
+pub usage-reads-nothing : {P : Type 0} (words : List (List ℕ)) (limit : ℕ) → IsUsage (words_of_kh words) → ReadsUpTo words limit → P
+usage-reads-nothing words limit none reads = absurd (none reads.command reads.meant)
+
 pub IsReadOut-command : {E : Type 0} (result : Result Reply E) (words : List (List ℕ)) (before after : Option (List ℕ))
     → OnOk result (IsReadOut INPUT_BYTES before after) → (limit : ℕ) → ReadsUpTo words limit → OnOk result (IsReadOut limit before after)
 IsReadOut-command result words before after read limit reads =
     subst (λ (n : ℕ). OnOk result (IsReadOut n before after)) (sym reads.limited) read
+
+-- a text that is read as a diagram, or refused
+pub IsDiagramReply-scanned : {E : Type 0} (result : Result Reply E) (field : ℕ) (text : List ℕ) (code : Code)
+    → IsDiagramRead text (Ok code) → IfOk result (IsTableReply field code) → IfOk result (IsDiagramReply (IsTableReply field) text)
+IsDiagramReply-scanned (Ok reply) field text code read answered = record { outcome = Ok code; read = read; answered = answered }
+IsDiagramReply-scanned (Err stop) field text code read answered = tt
+
+pub IsDiagramReply-refused : (field : ℕ) (text : List ℕ) (refusal : Reply) → IsDiagramRead text (Err refusal)
+    → IsDiagramReply (IsTableReply field) text refusal
+IsDiagramReply-refused field text refusal read = record { outcome = Err refusal; read = read; answered = refl }
 
 -- the answer to the text of an accepted diagram is its table and the Jones line
 table-answer : (words : List (List ℕ)) (bytes : List ℕ) (command : Command) (code : Code) → IsCommand (words_of_kh words) command
@@ -95,9 +104,7 @@ table-answer words bytes command code meant text =
     ))
 
 text-headline : (field : ℕ) (code : Code) → reply_of Done (homology_text field code) ≡ reply_of Done (headline_text field code)
-unfolding homology_text
-
-unfolding jones_line
+unfolding homology_text jones_line
 text-headline field code = refl
 
 pub headline-run : (words : List (List ℕ)) (source_before source_after sink_before sink_after : Seen)
