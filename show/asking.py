@@ -1,4 +1,5 @@
-"""Asks `kh`: runs it with words of a table and an input, for a bounded time, and gives what it answered.
+"""Asks `kh`, and `kh-scan` beyond the limit on generators: runs them with words of a table and an input, for a bounded time, and gives
+what was answered.
 
 No shell is used, and no words are passed on but those of the table.
 """
@@ -12,13 +13,15 @@ from typing import NamedTuple
 from answers import Unreadable
 
 TOP = os.path.dirname(os.path.dirname(os.path.abspath(__file__)))
-KH, KH_SCAN, KH_CODES = (os.path.join(TOP, *path) for path in (["kh"], ["kh-scan"], ["tools", "kh-codes"]))
-BUILT = os.path.join(TOP, "crates", "kh_main", "out", "kh_main")
+KH, KH_CODES = (os.path.join(TOP, *path) for path in (["kh"], ["tools", "kh-codes"]))
+BUILT, BUILT_SCAN = (os.path.join(TOP, "crates", it, "out", it) for it in ("kh_main", "scan_main"))
 FIELDS = (2, 3, 5, 7)
 CHECK, CONVERT, GAUSS, DRAW, JONES, EDIT, MIRROR, REVERSE = (
     ("check",), ("convert",), ("convert", "--to", "gauss"), ("draw",), ("jones",), ("edit",), ("mirror",), ("reverse",)
 )
 HOMOLOGY = {field: ("homology", "--field", str(field)) for field in FIELDS}
+# The words of `kh-scan`, which takes no command.
+SCANNED = {field: words[1:] for field, words in HOMOLOGY.items()}
 COMMANDS = {CHECK, CONVERT, GAUSS, DRAW, JONES, EDIT, MIRROR, REVERSE, *HOMOLOGY.values()}
 ANSWERED, TOO_LARGE, MOVE_REFUSED = 0, 6, 7
 # The most bytes that `kh` takes as a code.
@@ -79,10 +82,10 @@ def ran(words, given, seconds):
 
 
 class Kh:
-    """The program, and how long a run may take."""
+    """The program, that of scans, which need not be there, and how long a run may take."""
 
-    def __init__(self, program=KH, seconds=600):
-        self.program, self.seconds = os.path.abspath(program), seconds
+    def __init__(self, program=KH, seconds=600, scan=BUILT_SCAN):
+        self.program, self.seconds, self.scan = os.path.abspath(program), seconds, os.path.abspath(scan)
 
     def ask(self, words, given):
         """What the program answers."""
@@ -97,13 +100,22 @@ class Kh:
             raise Refusal(answer)
         return answer.wrote
 
+    def scanned(self, field, given):
+        """What `kh-scan` answers, if it is there, and has a table in time."""
+        if not os.access(self.scan, os.X_OK):
+            return None
+        try:
+            answer = ran([self.scan, *SCANNED[field]], given, self.seconds)
+        except Unreadable:
+            return None
+        return answer if answer.status == ANSWERED else None
+
     def table(self, field, given):
         """The table over a field as text; beyond the limit that of `kh-scan`, if there is one, else the line of the limit, and whether it
         is a table."""
         answer = self.ask(HOMOLOGY[field], given)
-        if answer.status == TOO_LARGE and os.access(KH_SCAN, os.X_OK):
-            scanned = ran([KH_SCAN, *HOMOLOGY[field]], given, self.seconds)
-            answer = scanned if scanned.status == ANSWERED else answer
+        if answer.status == TOO_LARGE:
+            answer = self.scanned(field, given) or answer
         if answer.status not in (ANSWERED, TOO_LARGE):
             raise Refusal(answer)
         return answer.wrote, answer.status == ANSWERED

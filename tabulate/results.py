@@ -9,12 +9,14 @@ import os
 import pathlib
 import sqlite3
 
-COLUMNS = ("name", "code", "field", "status", "table_rows", "jones", "refusal", "seconds")
+COLUMNS = ("name", "code", "field", "status", "table_rows", "jones", "refusal", "seconds", "program")
 LISTED = ", ".join(COLUMNS)
+# What results of an older version, which do not say their program, were made by.
+OLDER = "kh"
 RESULTS = """
 create table results (
     id integer primary key,
-    name text, code text, field integer, status integer, table_rows text, jones text, refusal text, seconds real,
+    name text, code text, field integer, status integer, table_rows text, jones text, refusal text, seconds real, program text,
     unique (name, code, field)
 )
 """
@@ -41,7 +43,7 @@ class Fault(Exception):
 
 
 def open_database(path):
-    """A database to write to, made where there is none; one of an older version gets its dimensions."""
+    """A database to write to, made where there is none; one of an older version gets its dimensions and programs."""
     database = sqlite3.connect(path, PATIENCE)
     if not is_whole(database):
         with together(database):
@@ -58,9 +60,23 @@ def open_old_database(path):
     return sqlite3.connect(pathlib.Path(path).absolute().as_uri() + "?mode=rw", uri=True)
 
 
+def has_table(database, name):
+    return database.execute("select count(*) from sqlite_master where name = ?", (name,)).fetchone()[0] > 0
+
+
+def has_programs(database):
+    """Whether results say by which program they were made."""
+    return database.execute("select count(*) from pragma_table_info('results') where name = 'program'").fetchone()[0] > 0
+
+
 def is_whole(database):
-    """Whether the table of dimensions is there: it is the last that is made."""
-    return database.execute("select count(*) from sqlite_master where name = 'dimensions'").fetchone()[0] > 0
+    """Whether results say their programs, and the table of dimensions is there, which is the last that is made."""
+    return has_programs(database) and has_table(database, "dimensions")
+
+
+def listed(database):
+    """The columns of results as they are asked for, also of an older version."""
+    return LISTED if has_programs(database) else LISTED.replace("program", f"'{OLDER}'")
 
 
 @contextlib.contextmanager
@@ -72,10 +88,15 @@ def together(database):
 
 
 def set_up(database):
-    """Makes the tables; results of an older version, which had no numbers, get them in their order."""
-    is_older = database.execute("select count(*) from sqlite_master where name = 'results'").fetchone()[0]
+    """Makes the tables; results of an older version get programs, and where they had no numbers they get them in their order."""
+    is_older = has_table(database, "results")
+    if is_older and has_table(database, "dimensions"):
+        database.execute("alter table results add column program text")
+        database.execute("update results set program = ?", (OLDER,))
+        return
     if is_older:
-        database.execute(f"create temporary table older as select {LISTED} from results order by rowid")
+        database.execute(f"create temporary table older ({LISTED})")
+        database.execute(f"insert into older select {listed(database)} from results order by rowid")
         database.execute("drop table results")
     database.execute(RESULTS)
     if is_older:
@@ -128,6 +149,7 @@ def insert(database, rows):
             insert_dimensions(database, number, row[0], row[2], row[4])
 
 
-def statuses(database):
-    """The status of each result, by name, code and field."""
-    return {(name, code, field): status for name, code, field, status in database.execute("select name, code, field, status from results")}
+def known_results(database):
+    """The status and the line of a refusal of each result, by name, code and field."""
+    rows = database.execute("select name, code, field, status, refusal from results")
+    return {row[:3]: row[3:] for row in rows}

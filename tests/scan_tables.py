@@ -4,7 +4,7 @@
     tests/scan_tables.py PROGRAM [WORD]
     KH_SCANS=2000 tests/scan_tables.py PROGRAM drawn
 
-PROGRAM is that of `kh`; that of scans stands in `crates/scan_main/out`, or where `KH_SCAN_PROGRAM` says. Each row on `homology` is run
+PROGRAM is that of `kh`; that of scans stands in `crates/scan_main/out`, or where KH_SCAN_PROGRAM says. Each row on `homology` is run
 again, then random diagrams over four fields. At up to 20 crossings the Euler characteristic of a table is the polynomial that `kh jones`
 writes, a mirror image turns the table round, the table of a union over two elements is the product (Künneth), and Reidemeister moves
 leave it. `tests/program` runs these cases behind its rows. The last line is 'N passed, M failed'.
@@ -25,24 +25,17 @@ from shared import known_diagrams, stored_links
 from shared.places import TOP
 from shared.pool import tell_parts
 from shared.running import Child, fault_of
+from shared.scanning import LIMIT_OF_CUBES, is_there, scan_of, words_behind
 
-SCAN = os.path.join(TOP, "crates", "scan_main", "out", "scan_main")
 FIELDS = "2357"
 DRAWN = int(os.environ.get("KH_SCANS", "120"))
 LEAST_AT_MOST = 15  # (crossings of random diagrams that `kh homology` is asked about)
 MOVED = 12
-BY_RATTLE = ".by-rattle"
-LIMIT_OF_CUBES = "limit generators"
-
-
-def scan_of(program):
-    """The program of scans that goes with one of `kh`: built by the same compiler."""
-    return os.environ.get("KH_SCAN_PROGRAM") or SCAN + (BY_RATTLE if program.endswith(BY_RATTLE) else "")
-
-
-def words_behind(words):
-    """The words for `kh-scan`, where `homology` is the first word."""
-    return words[1:] if words[:1] == ["homology"] else None
+# Words that name another command, or options of others, or none.
+OTHER_WORDS = (
+    [], ["homology"], ["jones"], ["--", "--field", "3"], ["--mark", "1"], ["--number", "7"], ["--field", "5", "--workers", "64"],
+    ["--to", "gauss"],
+)  # fmt: skip
 
 
 def rows(scan, program):
@@ -63,7 +56,7 @@ def rows(scan, program):
 def other_words(scan, program):
     """Words that name another command, or none, are those of `kh homology` with them behind it."""
     child, whole = Child(scan), Child(program)
-    for words in ([], ["homology"], ["jones"], ["--", "--field", "3"], ["--mark", "1"], ["--number", "7"], ["--field", "5", "--workers", "64"], ["--to", "gauss"]):
+    for words in OTHER_WORDS:
         came, wanted = child.run(words, b"PD[X[1,1,2,2]]"), whole.run(["homology", *words], b"PD[X[1,1,2,2]]")
         yield f"kh-scan, the words {words}", None if came[:3] == wanted[:3] else f"{came[:3]} and not {wanted[:3]}"
 
@@ -123,7 +116,8 @@ def mirrors(scan, program):
     for name, text in list(known_diagrams.large())[:8]:
         image = algebra.text_of(algebra.mirrored(known_diagrams.diagram_of(text)))
         for field in "23":
-            yield f"kh-scan, the mirror image of {name}", wrong(table_of(child, image, field)[0], algebra.turned(table_of(child, text, field)[0]))
+            came, wanted = table_of(child, image, field)[0], algebra.turned(table_of(child, text, field)[0])
+            yield f"kh-scan, the mirror image of {name}", wrong(came, wanted)
 
 
 def unions(scan, program):
@@ -151,18 +145,26 @@ def moved(scan, program, seed):
         yield f"kh-scan, behind moves over {field}", wrong(table_of(child, text, field)[0], tables[field])
 
 
+GROUPS = (rows, other_words, stored, euler_characteristics, mirrors, unions)
+
+
+def named(scan, cases):
+    """These cases, with the program before the name of each."""
+    return ((f"{os.path.relpath(scan, TOP)}: {name}", fault) for name, fault in cases())
+
+
 def parts(program, word=""):
     """The parts of these tests: a name, and what gives the name of each case and what is wrong with it, if anything is."""
     scan = scan_of(program)
-    if not os.path.isfile(scan):
-        print(f"left out, since there is no {os.path.relpath(scan, TOP)}: the tests of kh-scan")
+    if not is_there(scan):
         return
-    for group in (rows, other_words, stored, euler_characteristics, mirrors, unions):
-        yield f"kh-scan, {group.__name__}", functools.partial(group, scan, program)
+    found = {group.__name__: functools.partial(group, scan, program) for group in GROUPS}
     for at in range(0, DRAWN, 30):
-        yield f"kh-scan, drawn {at}", functools.partial(compared, scan, program, f"scans {at}", min(30, DRAWN - at))
+        found[f"drawn {at}"] = functools.partial(compared, scan, program, f"scans {at}", min(30, DRAWN - at))
     for seed in range(MOVED):
-        yield f"kh-scan, moved {seed}", functools.partial(moved, scan, program, seed)
+        found[f"moved {seed}"] = functools.partial(moved, scan, program, seed)
+    for name, cases in found.items():
+        yield f"kh-scan, {name}", functools.partial(named, scan, cases)
 
 
 if __name__ == "__main__":

@@ -1,9 +1,9 @@
 """Says what the line of a refusal or a limit of `kh` means, with carets below the place that it names, and what to do next.
 
-    explain.py STATUS START ANSWER COMMAND WORD..
+    explain.py SCRIPT STATUS START ANSWER COMMAND WORD..
 
-`tools/kh-help` calls it. Standard input is the file that `kh` has read with these words, from the byte START on. ANSWER is a file that has
-what `kh` wrote; where it is empty the built program is asked once more. Where it can say nothing it ends with 1.
+`tools/kh-help` calls it. SCRIPT is kh or kh-scan. Standard input is the file that this has read with these words, from the byte START on.
+ANSWER is a file that has what it wrote; where it is empty the built program is asked once more. Where it can say nothing it ends with 1.
 """
 import os
 import re
@@ -16,7 +16,8 @@ import refusals
 from pointing import MARGIN, is_plain, pointed, wrapped
 
 TOP = os.path.dirname(os.path.dirname(os.path.realpath(__file__)))
-PROGRAM = os.path.join(TOP, "crates", "kh_main", "out", "kh_main")
+# The built programs of both scripts.
+PROGRAMS = {name: os.path.join(TOP, "crates", it, "out", it) for name, it in (("kh", "kh_main"), ("kh-scan", "scan_main"))}
 KH_CODES = os.path.join(TOP, "tools", "kh-codes")
 KH_SCAN = os.path.join(TOP, "kh-scan")
 # The most bytes of a code and of a log with which the program is asked once more, the most of a code that `kh-codes` is asked about, and
@@ -32,12 +33,13 @@ WHICH_FIT = "docs/KNOTS.md, \"Which diagrams fit\", says more"
 
 
 class Input(NamedTuple):
-    """What was read, the name of its file, the command and the words."""
+    """What was read, the name of its file, the command and the words, and which of both read it."""
 
     given: bytes
     file: str
     command: str
     words: list
+    name: str = "kh"
 
     def part(self, is_second, refusal):
         """The part that a refusal is about: where this command reads something behind a ;, what stands before it or behind it."""
@@ -54,11 +56,12 @@ class Input(NamedTuple):
         return f"{MARGIN}{called('kh')} {command} < {self.file}"
 
 
-def called(name):
-    """A program of this repository, as it is called from here."""
+def called(name, words=()):
+    """A program of this repository, as it is called from here, with words."""
     path = os.path.join(TOP, name)
     is_near = os.path.samefile(os.getcwd(), TOP) or not is_plain(path)
-    return (name if "/" in name else f"./{name}") if is_near else shlex.quote(path)
+    program = (name if "/" in name else f"./{name}") if is_near else shlex.quote(path)
+    return " ".join([program, *map(shlex.quote, words)])
 
 
 def file_name(start):
@@ -96,7 +99,7 @@ def answer(status, kept, source):
         with open(kept, "rb") as file:
             came, wrote = status, file.read(CODE_BYTES)
     else:
-        came, wrote = ended([PROGRAM, *source.words], source.given)
+        came, wrote = ended([PROGRAMS[source.name], *source.words], source.given)
     found = ANSWER.fullmatch(wrote.decode(errors="replace"))
     return (bool(found[1]), found[2], found[3]) if found and came == status == STATUSES[found[2]] else None
 
@@ -113,7 +116,7 @@ def in_another_form(source, part, refusal):
         yield from wrapped("tools/kh-codes reads this code: give it the code alone, and write what comes of it in its place")
     elif count:
         yield from wrapped("tools/kh-codes reads it:")
-        yield f"{MARGIN}{called('tools/kh-codes')} {source.file} | {called('kh')} {shlex.join(source.words)}"
+        yield f"{MARGIN}{called('tools/kh-codes')} {source.file} | {called(source.name, source.words)}"
     elif refusals.is_foreign(part) and part == source.given:
         yield from wrapped("tools/kh-codes does not read it either, and says why:")
         yield f"{MARGIN}{called('tools/kh-codes')} {source.file}"
@@ -135,6 +138,18 @@ def refused(source, is_second, refusal):
         yield from in_another_form(source, part, refusal)
 
 
+def scanned(source):
+    """That the scan, where there is one, has no limit on generators, and how it is called."""
+    if not (os.path.isfile(KH_SCAN) and os.access(KH_SCAN, os.X_OK)):
+        return
+    if source.command != "homology":
+        yield from wrapped("the table, without this limit, is written by ./kh-scan, which reads a code")
+        return
+    options = [it for it in source.words if it != source.command]
+    yield from wrapped("./kh-scan writes the same table without this limit:")
+    yield f"{MARGIN}{called('kh-scan', options)} < {source.file}"
+
+
 def generators_limit(source, ratio):
     """What the limit on generators is, which commands have it, and what answers without it."""
     times = f"{ratio:,.0f}" if ratio > 10 else f"{ratio:.1f}"
@@ -144,8 +159,7 @@ def generators_limit(source, ratio):
         "mirror, reverse, union and edit answer"
     )
     yield from [] if source.command in ("schedule", "verify") else [source.given_to("jones")]
-    if os.path.isfile(KH_SCAN) and os.access(KH_SCAN, os.X_OK):
-        yield from wrapped("./kh-scan answers without this limit")
+    yield from scanned(source)
     yield from wrapped(f"another diagram of the link may fit: {WHICH_FIT}")
 
 
@@ -177,9 +191,9 @@ def limited(source, limit):
         yield from wrapped(f"every command that reads a code has this limit on circles that meet no crossing{both}: {WHICH_FIT}")
 
 
-def main(status, start, kept, command, *words):
+def main(name, status, start, kept, command, *words):
     given = read(int(start), LOG_BYTES + 1 if command == "verify" else CODE_BYTES)
-    source = Input(given, file_name(int(start)), command, list(words))
+    source = Input(given, file_name(int(start)), command, list(words), name)
     found = answer(int(status), kept, source) if len(given) <= LOG_BYTES else None
     if not found:
         return 1

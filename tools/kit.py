@@ -94,11 +94,14 @@ class Crate(rtlib.Crate):
 rtlib.Crate = Crate
 
 
-def unfinished(folder):
-    """The crates that are not proved as they stand, of a crate and those below it, the lowest first. Until this process ends no `rt` works
-    in any of them, and when it ends, however it does, so do the commands that it has started."""
+def unfinished(folders):
+    """The crates that are not proved as they stand, of some crates and those below them, the lowest first. Until this process ends no `rt`
+    works in any of them, and when it ends, however it does, so do the commands that it has started."""
     rtlib.guarded()  # (the first call handles a signal, which only the first thread may)
-    crates = rtlib.crates_below(folder)
+    found = {}
+    for it in (it for folder in folders for it in rtlib.crates_below(folder)):
+        found.setdefault(it.name, it)
+    crates = [*found.values()]
     rtlib.lock(crates)
     with each_read_once():
         return [it for it in crates if not it.is_done()]

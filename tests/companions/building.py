@@ -16,10 +16,14 @@ from shared.places import TOP
 from shared.running import PATIENCE
 
 TOOLS = os.path.join(TOP, "tools")
-# What each crate stands on, the lowest first, and the seconds that it takes by the file of times. The program does not stand on the last.
-BELOW = {"kh_types": "", "long": "kh_types", "short": "kh_types", "top": "long", "kh_main": "top short", "laws": "kh_types"}
-SECONDS = {"kh_types": 240, "long": 180, "short": 60, "top": 120, "kh_main": 60, "laws": 900}
-PROVED = [*BELOW][:-1]
+# What each crate stands on, the lowest first, and the seconds that it takes by the file of times. The programs, kh_main and scan_main, do
+# not stand on the last; and `scan` is below one of them alone.
+BELOW = {
+    "kh_types": "", "long": "kh_types", "short": "kh_types", "top": "long", "kh_main": "top short", "scan": "kh_types",
+    "scan_main": "scan short", "laws": "kh_types",
+}
+SECONDS = {"kh_types": 240, "long": 180, "short": 60, "top": 120, "kh_main": 60, "scan": 30, "scan_main": 30, "laws": 900}
+PROVED, PROGRAMS = [*BELOW][:-1], ("kh_main", "scan_main")
 sys.path.append(TOOLS)
 import lanes
 
@@ -103,7 +107,7 @@ def each_behind_those_below(kit):
     fault = order_fault(kit.told(), 2)
     told = [re.fullmatch(LEFT, line) for line in lines[1:-1]]
     numbers = [it and it.group(2, 3) for it in told]
-    return (status, fault, numbers), (0, None, [(str(at), "5") for at in range(1, 6)])
+    return (status, fault, numbers), (0, None, [(str(at), str(len(PROVED))) for at in range(1, len(PROVED) + 1)])
 
 
 def the_longest_chain_first(kit):
@@ -169,12 +173,35 @@ def nothing_to_do(kit):
 
 
 def nothing_to_prove(kit):
-    """A source that the program does not stand on is newer: the program becomes newer still."""
+    """A source that a program does not stand on is newer: both programs become newer still."""
     kit.build()
-    program, source = (os.path.join(kit.copy.folder, "crates", *it) for it in (("kh_main", "out", "kh_main"), ("laws", "src", "lib.rt")))
-    os.utime(program, (1, 1))
-    status, _ = kit.build()
-    return (status, len(kit.begun()), os.stat(program).st_mtime >= os.stat(source).st_mtime), (0, len(PROVED), True)
+    programs = [os.path.join(kit.copy.folder, "crates", it, "out", it) for it in PROGRAMS]
+    source = os.path.join(kit.copy.folder, "crates", "laws", "src", "lib.rt")
+    found = []
+    for old in programs:
+        os.utime(old, (1, 1))
+        status, _ = kit.build()
+        found.append((status, len(kit.begun()), all(os.stat(it).st_mtime >= os.stat(source).st_mtime for it in programs)))
+    return found, [(0, len(PROVED), True)] * len(PROGRAMS)
+
+
+def one_program_is_missing(kit):
+    """Where one program is not there, its crate alone is taken anew."""
+    kit.build()
+    found = []
+    for name in PROGRAMS:
+        before = len(kit.begun())
+        for ending in ("", ".stamp"):
+            os.remove(os.path.join(kit.copy.folder, "crates", name, "out", name + ending))
+        found.append((kit.build()[0], kit.begun()[before:]))
+    return found, [(0, [name]) for name in PROGRAMS]
+
+
+def without_scans(kit):
+    """Where there is no crate of a second program the first alone is built."""
+    shutil.rmtree(os.path.join(kit.copy.folder, "crates", "scan_main"))
+    status, lines = kit.build()
+    return (status, sorted(kit.begun()), lines[-1].endswith("see ./kh")), (0, sorted({*PROVED} - {"scan", "scan_main"}), True)
 
 
 def the_file_of_times(kit):
@@ -235,7 +262,7 @@ def kh_meanwhile(kit):
     started.terminate()
     started.communicate(timeout=PATIENCE)
     said = "is at work" in before, "is at work" in errors
-    return (meanwhile.returncode, wrote, *said), (6, "tried try --seconds 600 -- homology\n", False, True)
+    return (meanwhile.returncode, wrote, *said), (6, "tried kh_main try --seconds 600 -- homology\n", False, True)
 
 
 TRIED = (
@@ -248,6 +275,8 @@ TRIED = (
     two_at_once,
     nothing_to_do,
     nothing_to_prove,
+    one_program_is_missing,
+    without_scans,
     the_file_of_times,
     kh_meanwhile,
 )

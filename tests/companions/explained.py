@@ -1,5 +1,5 @@
-"""Tries what `./kh` says of refusals and limits, around the program: rows with carets, codes of other programs, inputs that are drawn at
-random; and where less is known, from a pipe or without Python. `companions/spoken.py` runs these.
+"""Tries what `./kh` and `./kh-scan` say of refusals and limits, around the program: rows with carets, codes of other programs, inputs that
+are drawn at random; and where less is known, from a pipe or without Python. `companions/spoken.py` runs these.
 """
 import os
 import random
@@ -29,25 +29,31 @@ FILE, COLUMNS = "code", 100
 DRAWN = 300
 WRONG, WRONG_LINE = b"PD[X[1,1,2,2]!]", "refused text at 13\n"
 WRONG_SAID = "kh: no code has the sign !\n  PD[X[1,1,2,2]!]\n               ^\n"
-SCAN = "kh: ./kh-scan answers without this limit\n"
+SCAN = "kh: ./kh-scan writes the same table without this limit:\n  ./kh-scan --field=3 < code\n"
+SCAN_OF_A_PIPE = "kh: ./kh-scan < FILE writes the table without this limit, with the options of homology\n"
+SCAN_FOR_OTHERS = "kh: the table, without this limit, is written by ./kh-scan, which reads a code\n"
+# What stands in for the program of scans: it answers as `kh homology` does.
+STAND_IN = '#!/bin/sh\nexec "${0%/*}/../../kh_main/out/kh_main" homology "$@"\n'
 MOVES = 'kh: docs/FORMATS.md, "Answers", lists when a move can not be made, and "Scripts" what each move does\n'
 PAGE = re.compile(r'((?:docs|examples)/[\w-]+\.md)(?:, "([^"]+)")?')
 AT_A_CROSSING = re.compile(r"(?:under pass|over pass|two-arc component|arc range) at crossing (\d+)(?: slot (\d))?")
 
 
 def furnished(folder, program):
-    """A copy of the repository in a folder, with the tools and the program."""
+    """A copy of the repository in a folder, with the tools, the program, and what stands in for that of scans."""
     copy = scripts.Copy(folder)
     tools, ignored = os.path.join(folder, "tools"), shutil.ignore_patterns("__pycache__")
     shutil.copytree(os.path.join(TOP, "tools"), tools, ignore=ignored, dirs_exist_ok=True)
     os.symlink(os.path.join(TOP, "reference"), os.path.join(folder, "reference"))
     os.makedirs(os.path.join(folder, "crates", "kh_main", "out"))
     os.symlink(os.path.abspath(program), os.path.join(folder, "crates", "kh_main", "out", "kh_main"))
+    copy.write(os.path.join("crates", "scan_main", "out", "scan_main"), STAND_IN)
+    os.chmod(os.path.join(folder, "crates", "scan_main", "out", "scan_main"), 0o755)
     return copy
 
 
 def run(copy, words, given, name=FILE, start=0, columns=COLUMNS, **settings):
-    """The status of `./kh` on a file with these bytes, from a place on, what it wrote and what it said."""
+    """The status of a script, `./kh` where no other is named, on a file with these bytes, from a place on, what it wrote and said."""
     with open(os.path.join(os.fsencode(copy.folder), os.fsencode(name)), "wb+") as file:
         file.write(given)
         file.flush()
@@ -55,10 +61,10 @@ def run(copy, words, given, name=FILE, start=0, columns=COLUMNS, **settings):
         return ended(copy, words, stdin=file, columns=columns, **settings)
 
 
-def ended(copy, words, columns=COLUMNS, path=None, **streams):
+def ended(copy, words, columns=COLUMNS, path=None, script="./kh", **streams):
     settings = dict(os.environ, COLUMNS=str(columns), PATH=path or os.environ.get("PATH", os.defpath))
     streams = {"stdout": subprocess.PIPE, "stderr": subprocess.PIPE, **streams}
-    came = subprocess.run(["./kh", *words], cwd=copy.folder, env=settings, timeout=PATIENCE, **streams)
+    came = subprocess.run([script, *words], cwd=copy.folder, env=settings, timeout=PATIENCE, **streams)
     return came.returncode, came.stdout.decode(), (came.stderr or b"").decode()
 
 
@@ -168,15 +174,30 @@ def scan_faults(copy):
     """The scan is named where it stands beside `./kh` and can be run, and only where the limit is one that it has not."""
     path = os.path.join(copy.folder, "kh-scan")
     large, wide = curls(9).encode(), curls(21).encode()
-    for mode in (None, 0o644, 0o755):
-        if mode is not None:
-            copy.write("kh-scan", "#!/bin/sh\n")
-            os.chmod(path, mode)
-        wanted = [mode == 0o755] * 2 + [False] * 2
-        came = [SCAN in run(copy, HOMOLOGY, large)[2], SCAN in ended(copy, HOMOLOGY, input=large)[2]]
-        came += [SCAN in run(copy, HOMOLOGY, wide)[2], SCAN in ended(copy, JONES, input=wide)[2]]
+    for mode in (0o755, 0o644, None):
+        os.chmod(path, mode) if mode else os.remove(path)
+        wanted = [mode == 0o755] * 3 + [False] * 2
+        came = [SCAN in run(copy, ["homology", "--field=3"], large)[2], SCAN_OF_A_PIPE in ended(copy, HOMOLOGY, input=large)[2]]
+        came.append(SCAN_FOR_OTHERS in run(copy, ["certify"], large)[2])
+        came += ["kh-scan" in run(copy, HOMOLOGY, wide)[2], "kh-scan" in ended(copy, JONES, input=wide)[2]]
         yield f"./kh-scan with the mode {mode}", None if came == wanted else f"{came} and not {wanted}"
-    os.remove(path)
+    shutil.copy(os.path.join(TOP, "kh-scan"), path)
+
+
+def faults_of_scan(copy):
+    """What `./kh-scan` says is what `./kh homology` says, but for what is typed next."""
+    for name, words, given in (
+        ("a place", [], WRONG), ("an arc", ["--field", "3"], b"PD[X[1,1,2,3]]"), ("crossings", ["--workers", "2"], curls(21).encode()),
+        ("loops", [], b"PD[Loop[1]" + b",Loop[1]" * 8 + b"]"), ("bytes", [], b" " * 65_537), ("a log", [], said.LOG),
+    ):
+        whole, came = run(copy, ["homology", *words], given), run(copy, words, given, script="./kh-scan")
+        yield f"what ./kh-scan says of {name}", plain_fault(came[2]) if came == whole and came[0] else f"{came} and not {whole}"
+    told = run(copy, ["--field=3"], said.FOREIGN[0].encode(), script="./kh-scan")[2]
+    line = "tools/kh-codes code | ./kh-scan --field=3"
+    right = f"kh: tools/kh-codes reads it:\n  {line}\n" in told and wrote_in(copy, line).startswith("table 2\nfield 3\n")
+    yield "what ./kh-scan offers for another form", plain_fault(told) if right else told
+    came = ended(copy, [], input=b"braid: 1", script="./kh-scan")
+    yield "what ./kh-scan says of a pipe", None if "tools/kh-codes FILE | ./kh-scan\n" in came[2] and came[0] == REFUSED else str(came)
 
 
 def claim_faults(copy):
@@ -238,10 +259,13 @@ def elsewhere_faults(copy):
 
 def unproved_faults(copy):
     """Where the interpreter answers, the place is known from its answer, which is not asked for again."""
-    os.remove(os.path.join(copy.folder, "crates", "kh_main", "out", "kh_main"))
     copy.write(os.path.join("bin", "rt"), f"#!/bin/sh\ncat >/dev/null\necho {WRONG_LINE}echo run=ended status=1 >&2\nexit 1\n")
-    came = run(copy, CHECK, WRONG, path=f"{copy.folder}/bin:{os.environ.get('PATH', os.defpath)}")
-    yield "an unproved answer", None if came[:2] == (REFUSED, WRONG_LINE) and came[2].endswith("\n" + WRONG_SAID) else str(came)
+    path = f"{copy.folder}/bin:{os.environ.get('PATH', os.defpath)}"
+    for script, crate, words in (("./kh", "kh_main", CHECK), ("./kh-scan", "scan_main", [])):
+        os.remove(os.path.join(copy.folder, "crates", crate, "out", crate))
+        came = run(copy, words, WRONG, path=path, script=script)
+        right = came[:2] == (REFUSED, WRONG_LINE) and came[2].endswith("\n" + WRONG_SAID)
+        yield f"an unproved answer of {script}", None if right else str(came)
 
 
 def drawn_fault(number):
@@ -304,8 +328,10 @@ def faults(program):
         copy = furnished(folder, program)
         for name, words, marked, line, texts in said.ROWS:
             yield f"what is said of {name}", row_fault(copy, words, marked, line, texts)
-        for tests in (foreign_faults, name_faults, window_faults, scan_faults, claim_faults, general_faults, elsewhere_faults):
+        for tests in (foreign_faults, name_faults, window_faults, scan_faults, faults_of_scan, claim_faults):
             yield from tests(copy)
+        yield from general_faults(copy)
+        yield from elsewhere_faults(copy)
         yield from unproved_faults(copy)
     yield from drawn_faults()
     yield from page_faults()

@@ -211,9 +211,9 @@ def page_faults(program, name, text):
 
 def large_faults(program):
     """Larger diagrams: above six crossings no cube is drawn and states are counted, above the limit a line says that there is no table."""
-    for name, crossings, words in (("8_19", 8, "generators, in"), ("braid-20", 20, "limit generators 35161506 of 4194304")):
+    for name, crossings, words in (("8_19", 8, "generators, in"), ("braid-20", 20, BEYOND)):
         with open(os.path.join(TOP, "examples", f"{name}.pd"), encoding="utf-8") as file:
-            status, wrote, said = made(program, file.read(), "--title", "<a & b>")
+            status, wrote, said = made(program, file.read(), "--title", "<a & b>", "--scan", os.path.join(TOP, "no scan"))
         root = documents.read(wrote)
         right = (status, said) == (0, "") and not list(root.all("svg", class_="cube")) and words in root.one("main").text()
         right = right and root.one("head").one("title").text() == root.one("h1").text() == "<a & b>"
@@ -291,29 +291,32 @@ def slow_fault():
     return "what it began is still there"
 
 
+BEYOND = "limit generators 35161506 of 4194304"
 SCAN = """\
 #!/bin/sh
 echo "$*" >> "$0.words"
-printf 'table 2\\nfield %s\\nj 0 i 0 dim 1\\njones 1*q^0\\n' "$3"
+[ ! -e "$0.slow" ] || exec sleep 1000
+printf 'table 2\\nfield %s\\nj 0 i 0 dim 1\\njones 1*q^0\\n' "$2"
 """
 
 
 def scan_fault(program):
-    """Beyond the limit the tables are those of `kh-scan`, where there is one, asked with the same words."""
-    kh, before = asking.Kh(program), asking.KH_SCAN
+    """Beyond the limit the tables are those of `kh-scan`, where there is one and it ends in time, asked with the words for the field."""
     with open(os.path.join(TOP, "examples", "braid-20.pd"), encoding="utf-8") as file, tempfile.TemporaryDirectory() as folder:
-        code, asking.KH_SCAN = file.read(), os.path.join(folder, "kh-scan")
-        try:
-            without = sheets.tables_of(kh, code)
-            with open(asking.KH_SCAN, "w", encoding="utf-8") as made_of:
-                made_of.write(SCAN)
-            os.chmod(asking.KH_SCAN, 0o755)
-            tables, limit = sheets.tables_of(kh, code)
-            words = open(asking.KH_SCAN + ".words", encoding="utf-8").read().splitlines()
-        finally:
-            asking.KH_SCAN = before
-    right = without == ([], "limit generators 35161506 of 4194304") and ([it.field for it in tables], limit) == (list(FIELDS), "")
-    return None if right and words == [f"homology --field {field}" for field in FIELDS] else f"{without}, {tables}, {limit}, {words}"
+        code, kh = file.read(), asking.Kh(program, scan=os.path.join(folder, "kh-scan"))
+        without = sheets.tables_of(kh, code)
+        with open(kh.scan, "w", encoding="utf-8") as made_of:
+            made_of.write(SCAN)
+        os.chmod(kh.scan, 0o755)
+        tables, limit = sheets.tables_of(kh, code)
+        words = open(kh.scan + ".words", encoding="utf-8").read().splitlines()
+        status, page, said = made(program, code, "--scan", kh.scan)
+        open(kh.scan + ".slow", "w", encoding="utf-8").close()
+        late = sheets.tables_of(asking.Kh(program, 5, kh.scan), code)
+    if (status, said) != (0, "") or list(documents.read(page).all("p", class_="limit")):
+        return f"{status}, {said}"
+    right = without == late == ([], BEYOND) and ([it.field for it in tables], limit) == (list(FIELDS), "")
+    return None if right and words == [f"--field {field}" for field in FIELDS] else f"{without}, {tables}, {limit}, {words}, {late}"
 
 
 def stored_fault(program):

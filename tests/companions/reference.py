@@ -1,6 +1,6 @@
 """Tries `reference/`: determinants and signatures are the published ones, and a part of the vectors is made anew.
 
-`tests/program` runs these behind its rows, with the first of its programs.
+`tests/program` runs these behind its rows, with the first of its programs, and with the program of scans beside it, if it is there.
 """
 import json
 import os
@@ -11,10 +11,14 @@ from collections import Counter
 from rows.compare import ROWS
 from shared.places import TOP
 from shared.running import PATIENCE
+from shared.scanning import is_there, scan_of
 
 MAKE = os.path.join(TOP, "reference", "make")
 COMPARE = os.path.join(TOP, "reference", "compare")
-VECTORS = os.path.join(TOP, "reference", "vectors.jsonl")
+VECTORS, LARGE_VECTORS = (os.path.join(TOP, "reference", name) for name in ("vectors.jsonl", "large.jsonl"))
+FIELDS = (2, 3, 5, 7)
+# The most bytes of the file of large links, and how many crossings these have.
+MOST_BYTES, CROSSINGS = 1_000_000, range(14, 21)
 
 
 def fault_of(*words):
@@ -132,9 +136,59 @@ def collection_faults():
     yield "reference/compare --all: the reference itself", whole
 
 
-def lines_of_reference():
-    with open(VECTORS, encoding="utf-8") as file:
+def lines_of_reference(path=VECTORS):
+    with open(path, encoding="utf-8") as file:
         return [json.loads(line) for line in file.read().splitlines()[1:]]
+
+
+def halved(rows):
+    """The table whose double, one step of j up and one down, is that of these rows, by j and i; nothing where there is none."""
+    left, half = {(j, i): dimension for j, i, dimension in rows}, {}
+    for j, i in sorted(left):
+        count = left[j, i]
+        if count:
+            half[j + 1, i] = count
+            left[j + 2, i] = left.get((j + 2, i), 0) - count
+        if count < 0 or left.get((j + 2, i), 0) < 0:
+            return None
+    return half
+
+
+def two_strands(turns):
+    """The reduced table of the torus link T(2, n) over two elements, by j and i: q^(n - 1) (1 + q^4 t^2 + .. + q^2n t^n)."""
+    return {(turns - 1 + 2 * i, i): 1 for i in (0, *range(2, turns + 1))}
+
+
+def large_fault(it):
+    """What is wrong with a line on a large link, if anything is: its Euler characteristic is its Jones line, and over two elements it is
+    the double of a table, which of a torus link on two strands is known."""
+    sums = Counter()
+    for j, i, dimension in it["rows"]:
+        sums[j] += (-1) ** i * dimension
+    if [[at, sums[at]] for at in sorted(sums) if sums[at]] != it["jones"]:
+        return "its Jones line is another one"
+    if it["plus"] + it["minus"] != it["pd"].count("X") or it["pd"].count("X") not in CROSSINGS or it["field"] not in FIELDS:
+        return "its numbers are other ones"
+    if it["field"] != 2:
+        return None
+    half, torus = halved(it["rows"]), it["name"].removeprefix("T(2,").rstrip(")")
+    return None if half and (not torus.isdigit() or half == two_strands(int(torus))) else f"it is the double of {half}"
+
+
+def large_faults(scan):
+    """The name of each test of the large links, and what is wrong, if anything is."""
+    lines = lines_of_reference(LARGE_VECTORS)
+    faults = [f"{it['name']} over {it['field']}: {large_fault(it)}" for it in lines if large_fault(it)]
+    counts = Counter(it["name"] for it in lines)
+    jones = {(it["name"], str(it["jones"]), it["pd"]) for it in lines}
+    faults += [] if set(counts.values()) == {len(FIELDS)} and len(jones) == len(counts) else ["not each link has one line over each field"]
+    yield "reference: large links", "; ".join(faults)[:600] or None
+    size = os.path.getsize(LARGE_VECTORS)
+    yield "reference: the size of the large links", None if size <= MOST_BYTES else f"{size} bytes"
+    said = f"{len(lines)} of {len(lines)} answers agree\n"
+    yield "reference/compare --all: the large links", compare_fault(["--all", LARGE_VECTORS, "--vectors", LARGE_VECTORS], "", 0, said)
+    if is_there(scan):
+        yield "reference: a part of the large links", fault_of("--test", "--large", "--kh", scan)
 
 
 def halving_faults():
@@ -167,3 +221,5 @@ def faults(program):
         yield f"reference/{name} --help", help_fault(name)
     yield "reference: determinants and signatures", fault_of("--published")
     yield "reference: a part of the vectors", fault_of("--test", "--kh", program)
+    if os.path.isfile(LARGE_VECTORS):
+        yield from large_faults(scan_of(program))

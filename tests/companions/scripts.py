@@ -1,4 +1,5 @@
-"""Tries `./kh` and `./build` in a small copy of the repository, with a toolchain of its own that proves nothing and takes no time.
+"""Tries `./kh`, `./kh-scan` and `./build` in a small copy of the repository, with a toolchain of its own that proves nothing and takes no
+time.
 
 On the path are that toolchain and the commands that both call, and no others, so that no `rt` of this machine is found. `tests/program`
 runs these behind its rows.
@@ -15,33 +16,34 @@ from shared.running import PATIENCE
 
 CANNOT_RUN = 70
 COMMANDS = "cat chmod cp dirname env flock mkdir mktemp find readlink rm seq sh sleep tail".split()
-TOOLS = ("kit.py", "lanes.py", "proving.py", "build-times.txt")
+TOOLS = ("kit.py", "lanes.py", "proving.py", "program.sh", "build-times.txt")
+CRATES = {"kh_types": "", "kh_main": "kh_types", "scan_main": "kh_types"}
 
-# What stands in for `rt`: it writes its words down, "proves" two crates, "builds" a program that says its words, and "tries" one.
+# What stands in for `rt`: it writes its words down, "proves" two crates, "builds" a program that says its name and words, and "tries" one.
 TOOLCHAIN = """\
 #!/bin/sh
 echo "$*" >>"$TOLD"
 case $1 in
-all) sleep 0.2; echo "== kh_types"; echo "== kh_main"; [ -z "$REFUSED" ] ;;
-run) mkdir -p out && printf '#!/bin/sh\\necho built "$@"\\n' >out/kh_main && chmod +x out/kh_main ;;
-try) echo "tried $*"; echo "run=${REFUSED:-ended status=6} runners=1" >&2; exit 6 ;;
+all) sleep 0.2; echo "== kh_types"; echo "== ${PWD##*/}"; [ -z "$REFUSED" ] ;;
+run) name=${PWD##*/}; mkdir -p out && printf '#!/bin/sh\\necho built "${0##*/}" "$@"\\n' >"out/$name" && chmod +x "out/$name" ;;
+try) echo "tried ${PWD##*/} $*"; echo "run=${REFUSED:-ended status=6} runners=1" >&2; exit 6 ;;
 esac
 """
 
 
 class Copy:
-    """A folder with the two scripts, two crates, and the toolchain above on the path, or none."""
+    """A folder with the scripts, three crates, and the toolchain above on the path, or none."""
 
     def __init__(self, folder):
         self.folder, self.told = folder, os.path.join(folder, "told")
         os.mkdir(os.path.join(folder, "tools"))
-        for path in ("kh", "build", *(os.path.join("tools", name) for name in TOOLS)):
+        for path in ("kh", "kh-scan", "build", *(os.path.join("tools", name) for name in TOOLS)):
             shutil.copy(os.path.join(TOP, path), os.path.join(folder, path))
-        for name in ("kh_types", "kh_main"):
+        for name in CRATES:
             os.makedirs(os.path.join(folder, "crates", name, "src"))
             self.write(os.path.join("crates", name, "src", "lib.rt"), "")
-        self.write("crates.txt", "kh_types:\nkh_main: kh_types\n")
-        self.write(os.path.join("crates", "kh_main", "stdin"), "")
+            self.write(os.path.join("crates", name, "stdin"), "")
+        self.write("crates.txt", "".join(f"{name}: {below}\n" for name, below in CRATES.items()))
         self.write(os.path.join("bin", "rt"), TOOLCHAIN)
         os.chmod(os.path.join(folder, "bin", "rt"), 0o755)
         os.mkdir(os.path.join(folder, "commands"))
@@ -76,16 +78,39 @@ class Copy:
             return [line.split()[0] for line in file]
 
 
+def of_both(copy, *words, **settings):
+    """What comes of both scripts with words: of `./kh` behind a command."""
+    return [copy.run("kh", "homology", *words, **settings), copy.run("kh-scan", *words, **settings)]
+
+
 def without_a_toolchain(copy):
-    return copy.run("kh", "homology", toolchain=False), (CANNOT_RUN, "", True)
+    return of_both(copy, toolchain=False), [(CANNOT_RUN, "", True)] * 2
 
 
 def before_it_is_built(copy):
-    return copy.run("kh", "homology", "--field", "3"), (6, "tried try --seconds 600 -- homology --field 3\n", True)
+    tried = ["kh_main try --seconds 600 -- homology --field 3", "scan_main try --seconds 600 -- --field 3"]
+    return of_both(copy, "--field", "3"), [(6, f"tried {it}\n", True) for it in tried]
 
 
 def where_the_interpreter_has_no_answer(copy):
-    return copy.run("kh", "homology", refused="none"), (CANNOT_RUN, "", True)
+    return of_both(copy, refused="none"), [(CANNOT_RUN, "", True)] * 2
+
+
+def without_the_steps(copy):
+    """Where the file with the steps of both is not there nothing is run."""
+    os.remove(os.path.join(copy.folder, "tools", "program.sh"))
+    return of_both(copy), [(CANNOT_RUN, "", False)] * 2
+
+
+def by_links(copy):
+    """A link from elsewhere leads to the repository, whatever its name is."""
+    copy.run("build")
+    came = []
+    for name in ("kh", "kh-scan"):
+        link = os.path.join(copy.folder, "commands", f"my {name}")
+        os.symlink(os.path.join(copy.folder, name), link)
+        came.append(copy.run(link, "a b", "c"))
+    return came, [(0, f"built {it} a b c\n", False) for it in ("kh_main", "scan_main")]
 
 
 def where_a_crate_is_refused(copy):
@@ -97,12 +122,13 @@ def two_builds_at_once(copy):
     ended = [it.wait(PATIENCE) for it in both]
     for it in both:
         it.communicate()
-    return (ended, copy.calls()), ([0, 0], ["all", "run"])
+    return (ended, copy.calls()), ([0, 0], ["all", "run"] * 2)
 
 
 def once_it_is_built(copy):
     copy.run("build")
-    return (copy.run("kh", "check", "a b"), copy.run("build")), ((0, "built check a b\n", False), (0, "", False))
+    came = copy.run("kh", "check", "a b"), copy.run("kh-scan", "a b"), copy.run("build")
+    return came, ((0, "built kh_main check a b\n", False), (0, "built scan_main a b\n", False), (0, "", False))
 
 
 def where_a_source_is_newer(copy):
@@ -111,13 +137,16 @@ def where_a_source_is_newer(copy):
     copy.write(source, "//")
     built = os.stat(os.path.join(copy.folder, "crates", "kh_main", "out", "kh_main")).st_mtime
     os.utime(os.path.join(copy.folder, source), (built + 1, built + 1))
-    return copy.run("kh", "jones"), (6, "tried try --seconds 600 -- jones\n", True)
+    tried = ["kh_main try --seconds 600 -- homology", "scan_main try --seconds 600 --"]
+    return of_both(copy), [(6, f"tried {it}\n", True) for it in tried]
 
 
 TRIED = (
     without_a_toolchain,
     before_it_is_built,
     where_the_interpreter_has_no_answer,
+    without_the_steps,
+    by_links,
     where_a_crate_is_refused,
     two_builds_at_once,
     once_it_is_built,
@@ -130,5 +159,5 @@ def faults():
     for case in TRIED:
         with tempfile.TemporaryDirectory() as folder:
             came, wanted = case(Copy(folder))
-        yield f"./kh and ./build {case.__name__.replace('_', ' ')}", None if came == wanted else f"{came} and not {wanted}"
+        yield f"./kh, ./kh-scan and ./build {case.__name__.replace('_', ' ')}", None if came == wanted else f"{came} and not {wanted}"
     yield from building.faults(Copy)

@@ -1,5 +1,5 @@
-"""Tries what `./kh` says on standard error: `tools/kh-help` alone, `./kh` around a program that ends as it is told, and, in
-`companions/explained.py`, around the program.
+"""Tries what `./kh` and `./kh-scan` say on standard error: `tools/kh-help` alone, the scripts around a program that ends as it is told,
+and, in `companions/explained.py`, around the program.
 
 `tests/program` runs these behind its rows.
 """
@@ -9,6 +9,7 @@ import re
 import shutil
 import subprocess
 import tempfile
+from typing import NamedTuple
 
 from companions import explained, scripts
 from shared.places import TOP
@@ -54,6 +55,21 @@ WRONG = [
     (["w" * 700], f"`{'w' * 60}` is no command"),
     (["a\nb"], "`ab` is no command"),
 ]
+# Words that `./kh-scan` does not take, and the first line that is said.
+WRONG_OF_SCAN = [
+    (["homology"], "`homology` is a command of kh, and kh-scan takes none"),
+    (["--field", "3", "jones"], "`jones` is a command of kh, and kh-scan takes none"),
+    (["README.md"], "the file `README.md` is not named, but read: kh-scan < FILE"),
+    (["missing.pd"], "`missing.pd` is no option, and kh-scan takes no command"),
+    (["Homology"], "`Homology` is no option, and kh-scan takes no command"),
+    ([""], "a word is empty"),
+    (["--field", "4"], "--field takes 2, 3, 5 or 7, and not `4`"),
+    (["--field", "3", "--field=3"], "--field stands twice"),
+    (["--workers"], "--workers lacks its value"),
+    (["--", "--field", "3"], "`--field` is no option, and kh-scan takes no command"),
+    (["-x"], "`-x` is no option"),
+]
+RIGHT_OF_SCAN = [[], ["--"], ["--field", "3"], ["--field=7", "--workers", "2"]]
 RIGHT = [["homology"], ["--", "homology"], ["homology", "--"], ["--field", "3", "check"], ["bench", "--number=7"]]
 RIGHT += [["reduced", "--mark", "7"], ["certify", "--field", "7"], ["verify"]]
 LONG = [["--help"], ["-h"], ["help"], ["homology", "--help"], ["--version"], ["version"], ["-V"]]
@@ -65,8 +81,19 @@ STATUSES = [
     (3, ["kh: standard input can not be read"]),
     (4, ["kh: standard output did not take the whole answer"]),
     (5, ["kh: out of memory"]),
-    (6, ["kh: homology, reduced, schedule, certify and verify alone have a limit", "  convert, draw,", "  are those of all commands"]),
+    (6, ["kh: homology, reduced, schedule, certify and verify alone have a limit", "  convert, draw,", "  are those of all commands",
+         "kh: ./kh-scan < FILE writes the table without this limit"]),
     (7, ['kh: docs/FORMATS.md, "Answers", lists when a move can not be made']),
+    (8, []),
+]
+STATUSES_OF_SCAN = [
+    (0, []),
+    (1, ['kh: docs/FORMATS.md, "What is accepted"', "kh: where the input is a file its place is shown: ./kh-scan < FILE",
+         "kh: tools/kh-codes reads", "  tools/kh-codes FILE | ./kh-scan"]),
+    (3, ["kh: standard input can not be read; kh-scan < FILE"]),
+    (4, ["kh: standard output did not take the whole answer"]),
+    (5, ["kh: out of memory"]),
+    (6, ["kh: no command takes more than 20 crossings or 8 loops", "  an input of more than 65536 bytes"]),
     (8, []),
 ]
 PROGRAM = "#!/bin/sh\necho answer\nexit %d\n"
@@ -76,62 +103,85 @@ WAITS = [
     (["homology"], "a code"), (["--field", "3", "certify"], "a code"), (["edit"], "a code"), (["verify"], "a log"),
     (["--workers=2", "--", "verify"], "a log"), (["bench", "--number", "7"], ""), (["homologies"], ""), (["homology", "verify"], ""),
 ]
+WAITS_OF_SCAN = [([], "a code"), (["--field", "3"], "a code"), (["homology"], "")]
 
 
-def said(status, words):
+class Script(NamedTuple):
+    """One of the scripts: its name, the crate of its program, words, and what it has to say of words, of statuses and at a terminal."""
+
+    name: str
+    crate: str
+    words: list
+    listed: list
+    wrong: list
+    right: list
+    statuses: list
+    waits: list
+
+
+OF_KH = [*COMMANDS, "--field", "--workers", "--to", "--number", "--mark", "kh homology --field 3 < examples/trefoil.pd"]
+OF_SCAN = ["--field", "--workers", "kh-scan --field 3 < examples/trefoil.pd"]
+SCRIPTS = (
+    Script("kh", "kh_main", ["homology"], OF_KH, WRONG, RIGHT, STATUSES, WAITS),
+    Script("kh-scan", "scan_main", [], OF_SCAN, WRONG_OF_SCAN, RIGHT_OF_SCAN, STATUSES_OF_SCAN, WAITS_OF_SCAN),
+)
+
+
+def said(script, status, words):
     nothing = subprocess.DEVNULL
-    came = subprocess.run([HELP, str(status), "", "", *words], stdin=nothing, capture_output=True, cwd=TOP, timeout=PATIENCE)
+    came = subprocess.run([HELP, script.name, str(status), "", "", *words], stdin=nothing, capture_output=True, cwd=TOP, timeout=PATIENCE)
     return came.stdout.decode("latin-1"), came.stderr.decode("latin-1")
 
 
-def list_fault(text):
+def list_fault(script, text):
     """What a list of all words lacks, if anything: a command, an option, the example."""
-    wanted = [*COMMANDS, "--field", "--workers", "--to", "--number", "--mark", "kh homology --field 3 < examples/trefoil.pd"]
-    return next((f"{it} is missing" for it in wanted if it not in text), None)
+    return next((f"{it} is missing" for it in script.listed if it not in text), None)
 
 
-def word_faults():
-    for words, first in WRONG:
-        wrote, errors = said(2, words)
+def word_faults(script):
+    for words, first in script.wrong:
+        wrote, errors = said(script, 2, words)
         is_said = (wrote.split("\n")[0], errors) == (f"kh: {first}", "")
-        yield f"kh-help: {words}"[:80], list_fault(wrote) if is_said else f"{wrote[:200]!r} and not {first!r}"
-    for words in RIGHT:
-        wrote, _ = said(2, words)
-        yield f"kh-help: {words}", None if wrote.startswith("kh: these words give no command\n") else wrote[:200]
+        yield f"kh-help {script.name}: {words}"[:80], list_fault(script, wrote) if is_said else f"{wrote[:200]!r} and not {first!r}"
+    for words in script.right:
+        wrote, _ = said(script, 2, words)
+        yield f"kh-help {script.name}: {words}", None if wrote.startswith("kh: these words give no command\n") else wrote[:200]
     for words in LONG:
-        wrote, _ = said(2, words)
-        is_long = "Statuses:" in wrote and wrote.startswith("kh: ")
-        yield f"kh-help: {words} at length", list_fault(wrote) or (None if is_long else wrote[:99])
+        wrote, _ = said(script, 2, words)
+        is_long = "Statuses:" in wrote and "Sizes:" in wrote and wrote.startswith("kh: ")
+        yield f"kh-help {script.name}: {words} at length", list_fault(script, wrote) or (None if is_long else wrote[:99])
 
 
-def status_faults(copy):
+def status_faults(script, copy):
     """Around a program that ends with each status the answer and the status stay, whatever is said."""
-    program = os.path.join(copy.folder, "crates", "kh_main", "out", "kh_main")
-    for status, begins in STATUSES:
-        copy.write(os.path.relpath(program, copy.folder), PROGRAM % status)
-        os.chmod(program, 0o755)
-        came = subprocess.run([os.path.join(copy.folder, "kh"), "homology"], stdin=subprocess.DEVNULL, capture_output=True, text=True)
+    path = os.path.join(copy.folder, script.name)
+    program = os.path.join("crates", script.crate, "out", script.crate)
+    for status, begins in script.statuses:
+        copy.write(program, PROGRAM % status)
+        os.chmod(os.path.join(copy.folder, program), 0o755)
+        came = subprocess.run([path, *script.words], stdin=subprocess.DEVNULL, capture_output=True, text=True)
         lines = came.stderr.splitlines()
         right = (came.returncode, came.stdout) == (status, "answer\n") and len(lines) == len(begins)
-        yield f"./kh with status {status}", None if right and all(map(str.startswith, lines, begins)) else str(came)
-    for words, waits in WAITS:
+        yield f"./{script.name} with status {status}", None if right and all(map(str.startswith, lines, begins)) else str(came)
+    for words, waits in script.waits:
         try:
             ours, theirs = pty.openpty()
         except OSError as stop:
-            print(f"./kh {words} at a terminal: not tried, since there is none to be had: {stop}")
+            print(f"./{script.name} {words} at a terminal: not tried, since there is none to be had: {stop}")
             continue
-        came = subprocess.run([os.path.join(copy.folder, "kh"), *words], stdin=theirs, capture_output=True, text=True)
+        came = subprocess.run([path, *words], stdin=theirs, capture_output=True, text=True)
         os.close(ours), os.close(theirs)
-        said_of, file = re.match(r"(?:kh: (a \w+) is waited for; .*: kh (\w+) < FILE\n)?", came.stderr).groups("")
-        right = (said_of, file) == (waits, words[-1] if waits else "")
-        yield f"./kh {words} at a terminal", None if right else str(came)
+        said_of, call = re.match(r"(?:kh: (a \w+) is waited for; .*: (kh.*) < FILE\n)?", came.stderr).groups("")
+        wanted = " ".join([script.name, *words[-1:] * (script.name == "kh")]) if waits else ""
+        yield f"./{script.name} {words} at a terminal", None if (said_of, call) == (waits, wanted) else str(came)
 
 
 def faults(program):
     """The name of each test, and what is wrong, if anything is."""
-    yield from word_faults()
-    with tempfile.TemporaryDirectory() as folder:
-        copy = scripts.Copy(folder)
-        shutil.copy(HELP, os.path.join(folder, "tools"))
-        yield from status_faults(copy)
+    for script in SCRIPTS:
+        yield from word_faults(script)
+        with tempfile.TemporaryDirectory() as folder:
+            copy = scripts.Copy(folder)
+            shutil.copy(HELP, os.path.join(folder, "tools"))
+            yield from status_faults(script, copy)
     yield from explained.faults(program)

@@ -16,9 +16,9 @@ from shared.tabulating import COUNT, HEAD, ON_MANY, TABULATE, Folder
 def wanted():
     for field in (2, 3):
         for k in range(COUNT):
-            yield f"link {k}", f"PD[Loop[{k}]]", field, 0, "-1 0 1; 1 0 1", "1*q^-1 1*q^1", ""
-        yield "wrong", "bad", field, 1, "", "", "refused text at 0"
-        yield "huge", "large", field, 6, "", "", "limit generators 6630936 of 4194304"
+            yield f"link {k}", f"PD[Loop[{k}]]", field, 0, "-1 0 1; 1 0 1", "1*q^-1 1*q^1", "", "kh"
+        yield "wrong", "bad", field, 1, "", "", "refused text at 0", "kh"
+        yield "huge", "large", field, 6, "", "", "limit generators 6630936 of 4194304", "kh"
 
 
 def kept_fault(folder):
@@ -91,6 +91,7 @@ def what_is_missing(folder):
     there, none = folder.at("list"), folder.at("none")
     calls = [("write", none), ("run", none, none + ".db"), ("store", none + ".db", none), ("work", none, none + ".out")]
     calls += [("run", there, none, "--kh", program) for program in (none, "/bin/true", folder.path)]
+    calls += [("run", there, none, "--program", "scan", "--scan", program) for program in (none, "/bin/true", folder.path)]
     calls += [("work", there, none, "--kh", none), ("write", there), ("store", none, there)]
     calls += [("write", folder.at("results.db"), "--list", none), ("query", "same", none), ("rebuild", none), ("rebuild", there)]
     folder.run("run", there, folder.at("results.db"))
@@ -181,7 +182,7 @@ def older_database(folder):
     folder.select(OLDER)
     rows = [row for row in wanted() if row[0] not in ("link 1", "link 2")]
     for row in reversed(rows):
-        folder.select(f"insert into results values {(*row, 0.5)}")
+        folder.select(f"insert into results values {(*row[:-1], 0.5)}")
     before = folder.run("write", folder.at("results.db"))[1], folder.run("query", "torsion", folder.at("results.db"))[0]
     status, _, errors = folder.run("rebuild", folder.at("results.db"))
     kept, said = folder.dimensions()
@@ -189,6 +190,69 @@ def older_database(folder):
         return f"status {status}, {errors}, {kept} and not {said}"
     folder.run("run", folder.at("list"), folder.at("results.db"))
     return kept_fault(folder) or (None if folder.calls() == 4 else f"{folder.calls()} calls")
+
+
+def without_programs(folder):
+    """A database of a version without programs is read as it is, and gets them where it is written to; lines of JSON too."""
+    folder.run("run", folder.at("list"), folder.at("results.db"))
+    before = folder.run("write", folder.at("results.db"))[1]
+    folder.select("alter table results drop column program")
+    read = folder.run("write", folder.at("results.db"))[1]
+    folder.run("run", folder.at("list"), folder.at("results.db"))
+    if not (read == before == folder.run("write", folder.at("results.db"))[1] and folder.calls() == 2 * (COUNT + 2)):
+        return f"{read}, and {folder.calls()} calls"
+    lines = folder.run("write", "--json", folder.at("results.db"))[1].replace(', "program": "kh"', "")
+    folder.run("store", folder.at("other.db"), folder.write("lines", lines))
+    return kept_fault(folder) or (None if folder.run("write", folder.at("other.db"))[1] == before else "other lines")
+
+
+SCANNED = "huge\tlarge\nsmall\tPD[]\nwide\twide\nwrong\tbad\n"
+
+
+def programs_of(folder):
+    """The name, the field, the status and the program of each result."""
+    return sorted(it[:1] + it[2:4] + it[-1:] for it in folder.results())
+
+
+def beyond_the_limit(folder):
+    """Where `kh` tells its limit on generators the scan is asked, and no other time; the results say so."""
+    folder.asked, path = ("--scan", folder.scan), folder.write("some", SCANNED)
+    rows = [("huge", 0, "scan"), ("small", 0, "kh"), ("wide", 6, "kh"), ("wrong", 1, "kh")]
+    wanted_rows = sorted((name, field, status, program) for name, status, program in rows for field in (2, 3))
+    for words in (("run", path, folder.at("results.db")), ("work", path, folder.at("out"))):
+        status, _, errors = folder.run(*words)
+        counted = "4 answered, 2 refused, 2 too large, of 8" in errors
+        if status or not counted or words[0] == "run" and programs_of(folder) != wanted_rows:
+            return f"{words}: status {status}, {errors}, {programs_of(folder)}"
+    with open(folder.at("out"), encoding="utf-8") as file:
+        found = sorted((it["name"], it["field"], it["status"], it["program"]) for it in map(json.loads, file))
+    return None if found == wanted_rows and sorted(folder.scans()) == [2, 2, 3, 3] else f"{found}, {folder.scans()}"
+
+
+def limits_before_scans(folder):
+    """Results that tell the limit are worked out again once there is a scan, in a database and in lines, and nothing else is."""
+    path = folder.write("some", SCANNED)
+    runs = ("run", path, folder.at("results.db")), ("work", path, folder.at("out"))
+    for words in runs * 2:
+        folder.run(*words)
+    calls, folder.asked = folder.calls(), ("--scan", folder.scan)
+    for words in runs * 2:
+        status, _, errors = folder.run(*words)
+        if status or "4 answered, 2 refused, 2 too large, of 8" not in errors:
+            return f"{words}: status {status}, {errors}"
+    folder.run("store", folder.at("other.db"), folder.at("out"))
+    huge = [folder.run("write", folder.at(it), "--list", path)[1].splitlines()[1:3] for it in ("results.db", "other.db")]
+    right = all(line.split("\t")[3] == "0" and line.endswith("scan") for lines in huge for line in lines)
+    return None if right and (calls, folder.calls(), len(folder.scans())) == (16, 20, 4) else f"{calls}, {folder.calls()}, {huge}"
+
+
+def scans_alone(folder):
+    """With `--program scan` nothing else is asked, nor has to be there; where it gives no answer that is said."""
+    folder.asked = ("--program", "scan", "--scan", folder.scan)
+    path = folder.write("some", SCANNED + "gone\tlost\n")
+    status, _, errors = folder.run("run", path, folder.at("results.db"), "--kh", folder.at("none"))
+    right = status == 1 and "gone over 3: no answer" in errors and {it[-1] for it in folder.results()} == {"scan"}
+    return None if right and len(folder.results()) == 8 and not folder.calls() else f"status {status}, {errors}, {folder.results()}"
 
 
 def dropped_results(folder):
@@ -303,8 +367,8 @@ def none_by_parallel(folder):
 
 TESTS = (
     killed_run, interrupted_run, ended_run, killed_work, ended_work, options_on_both_sides, what_is_missing, lost_answers, rows_of_a_list,
-    tabs_in_codes, counts, none_answered, older_database, dropped_results, questions, helps, by_parallel, lost_by_parallel,
-    none_by_parallel,
+    tabs_in_codes, counts, none_answered, older_database, without_programs, beyond_the_limit, limits_before_scans, scans_alone,
+    dropped_results, questions, helps, by_parallel, lost_by_parallel, none_by_parallel,
 )  # fmt: skip
 
 

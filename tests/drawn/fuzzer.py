@@ -11,6 +11,7 @@ import plain.diagrams
 import plain.words
 from plain.codes import Ended
 from shared.running import PATIENCE, Child, known_commands, least_seconds, slowness
+from shared.scanning import HOMOLOGY, LIMIT_OF_CUBES, ScanChild
 
 REFUSED_SECONDS = 0.5
 REFUSED_KILOBYTES = 96 * 1024
@@ -19,6 +20,11 @@ NO_TEXT = answers.Answer(answers.USAGE, "")
 # What builds the whole cube, and how many generators make most of such inputs go to another command.
 CUBE_TASKS = ("homology", "schedule", "reduced", "certify")
 LARGE_CUBE = 20_000
+
+
+def is_beyond(answer):
+    """Whether an answer is the limit on generators."""
+    return answer is not None and answer.text.startswith(LIMIT_OF_CUBES)
 
 
 def is_large(given):
@@ -70,7 +76,7 @@ class Fuzzer:
 
     def cost_fault(self, number, came, words, given):
         """Whether a refused input, but for its count of generators, took much time or memory; what took most is kept."""
-        if came.status not in (1, 2, 6) or came.wrote.startswith(b"limit generators "):
+        if came.status not in (1, 2, 6) or came.wrote.startswith(LIMIT_OF_CUBES.encode()):
             return None
         self.slowest = max(self.slowest, (came.seconds, number))
         self.largest = max(self.largest, (came.kilobytes, number))
@@ -79,3 +85,24 @@ class Fuzzer:
         if seconds > bound * slowness() or self.child.takes_more(came, REFUSED_KILOBYTES):
             return f"{seconds:.3f} seconds and {came.kilobytes} KB for a refusal"
         return None
+
+
+class ScanFuzzer(Fuzzer):
+    """What is drawn for a program of scans: words with `homology` before them, which it does not get."""
+
+    def __init__(self, program, scan, seed, slower=1):
+        super().__init__(program, seed, slower)
+        self.child = ScanChild(scan, PATIENCE * slower)
+
+    def drawn(self, number):
+        draw = random.Random(f"{self.seed} {number}")
+        given = drawn.inputs.some_input(draw, HOMOLOGY)
+        words = drawn.words.some_words(draw, HOMOLOGY, self.options, self.stored)
+        if HOMOLOGY in words:
+            words.remove(HOMOLOGY)
+        return [HOMOLOGY, *words], given, draw.random() < 0.2
+
+    def fault_of(self, number):
+        """The same; an input with more generators than `kh` takes is left out."""
+        words, given, _ = self.drawn(number)
+        return None if is_beyond(self.wanted(words, given)) else super().fault_of(number)

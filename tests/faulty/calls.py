@@ -32,9 +32,9 @@ class Shim:
         self.child, self.folder = child, folder
         self.library, self.file = os.path.join(folder, "faults.so"), os.path.join(folder, "counts")
 
-    def is_built(self):
+    def is_built(self, case):
         """Whether the shim was compiled and is heard when the program, which is no script, runs; where it is not, that is told."""
-        built = self.compiled() and self.run(cases.ALL[0]) and self.counts()["read"] > 0
+        built = self.compiled() and self.run(case) and self.counts()["read"] > 0
         if not built:
             print("no call is made to fail, since nothing can be loaded before the program, or there is no C compiler")
         return built
@@ -151,12 +151,12 @@ def case_faults(shim, case, most=None, all_numbers=False):
     yield from thread_faults(shim, case, wanted, count["thread"])
 
 
-def faults(child, chosen, all_numbers=False, most=None):
-    """The name of each case in which a call fails, and what is wrong with it, if anything is."""
+def faults(child, chosen, all_numbers=False, most=None, has_threads=True):
+    """The name of each case in which a call fails, and what is wrong with it, if anything is; of a program that has threads, or none."""
     with tempfile.TemporaryDirectory() as folder:
         shim = Shim(child, folder)
-        if shim.is_built():
-            yield from thread_counts(shim)
+        if shim.is_built(cases.ALL[0]):
+            yield from thread_counts(shim) if has_threads else ()
             for case in chosen:
                 yield from case_faults(shim, case, most, all_numbers)
 

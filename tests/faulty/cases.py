@@ -86,4 +86,4 @@ def known(commands):
 
 def reads(case):
     """Whether the program has to read for a case."""
-    return case.words[0] not in ("bench", "--help")
+    return case.words[:1] not in (["bench"], ["--help"])

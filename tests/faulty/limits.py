@@ -207,12 +207,16 @@ def faults(program, chosen):
 
 
 def few(program):
-    """A small part of these cases, for the gate: threads that can not be started, small stacks, other places, runs side by side."""
-    workers: Case = ALL[2]
-    chosen = [ALL[0], workers, *named("certify", "verify", "verify of another long log")]
+    """A small part of these cases, for the gate."""
+    yield from some(program, [ALL[2], ALL[0], *named("certify", "verify", "verify of another long log")])
+
+
+def some(program, chosen):
+    """Threads that can not be started, small stacks and other places for the first of these cases, and all of them side by side."""
+    first: Case = chosen[0]
     wanted = [run(program, case) for case in chosen]
     with tempfile.TemporaryDirectory() as folder:
-        yield from stack_limits(program, workers, wanted[1])
-        yield from places(program, workers, wanted[1], folder)
-        yield from process_limits(program, workers, wanted[1], folder)
+        yield from stack_limits(program, first, wanted[0])
+        yield from places(program, first, wanted[0], folder)
+        yield from process_limits(program, first, wanted[0], folder)
     yield from side_by_side(program, chosen, wanted)

@@ -189,6 +189,18 @@ def faults(program, chosen, ask):
             yield from held_runs(program, case, folder, wanted)
 
 
+def some(program, chosen, slow, ask):
+    """These cases of a program whose answers are short, and a run that lasts while signals come."""
+    with tempfile.TemporaryDirectory() as folder:
+        for case in chosen:
+            yield from unreadable(program, case, folder)
+            yield from unwritable(program, case, folder)
+            yield from cut_inputs(program, case, folder, ask)
+        wanted = tuple(ask(slow.words, slow.given)[:2])
+        yield from signals(program, slow, folder, wanted)
+        yield from held_runs(program, slow, folder, wanted)
+
+
 def few(program, ask):
     """A small part of these cases, for the gate."""
     with tempfile.TemporaryDirectory() as folder:

@@ -134,10 +134,11 @@ HAVE_IT_NOT = ("jones", "check", "convert", "draw", "mirror", "reverse", "union"
 CUBE = f"{', '.join(HAVE_IT[:-1])} and {HAVE_IT[-1]} make all of them, and only they have this limit: "
 CUBE += f"{', '.join(HAVE_IT_NOT[:-1])} and {HAVE_IT_NOT[-1]} answer"
 FIT = 'docs/KNOTS.md, "Which diagrams fit", says more'
+SCANNED = "$./kh-scan < code"
 NINE_CURLS = "limit generators 10077696 of 4194304"
 EVERY = "every command has this limit"
 LIMITS = [
-    ("generators of homology", HOMOLOGY, curls(9), NINE_CURLS, ("here are 2.4 times as many as fit", CUBE, "$./kh jones < code", FIT)),
+    ("generators of homology", HOMOLOGY, curls(9), NINE_CURLS, ("here are 2.4 times", CUBE, "$./kh jones < code", SCANNED, FIT)),
     ("generators of certify", ["certify"], curls(20), MANY_GENERATORS.strip(), (CUBE, "$./kh jones < code", FIT)),
     ("generators of reduced", MARKED, curls(9), NINE_CURLS, (CUBE, "$./kh jones < code", FIT)),
     ("generators of a schedule", SCHEDULE, curls(9) + ";look 1 1", NINE_CURLS, (CUBE, FIT)),

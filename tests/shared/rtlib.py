@@ -62,7 +62,7 @@ def crates_below(folder):
 class Crate:
     def __init__(self, folder, deps):
         self.folder, self.name, self.deps, self.said = folder, os.path.basename(folder), deps, {}
-        self.is_program = self.name == "kh_main"
+        self.is_program = self.name in ("kh_main", "scan_main")
 
     def stream(self, name):
         return None

@@ -17,7 +17,7 @@ from shared.running import PATIENCE
 TABULATE, ON_MANY = (os.path.join(TOP, "tabulate", name) for name in ("kh-tabulate", "on-many"))
 COUNT = 24
 GRACE = 30
-HEAD = ["name", "code", "field", "status", "table_rows", "jones", "refusal", "seconds"]
+HEAD = ["name", "code", "field", "status", "table_rows", "jones", "refusal", "seconds", "program"]
 PROGRAM = """\
 #!/bin/sh
 [ "$1" = homology ] || { echo accepted; exit 0; }
@@ -37,12 +37,25 @@ slow)
     ;;
 bad) echo "refused text at 0"; exit 1 ;;
 large) echo "limit generators 6630936 of 4194304"; exit 6 ;;
+wide) echo "limit crossings 21 of 20"; exit 6 ;;
 trefoil*)
     printf 'table 2\\nfield %s\\nj 1 i 0 dim 1\\nj 3 i 0 dim 1\\nj 5 i 2 dim 1\\n' "$3"
     [ "$3" != 2 ] || printf 'j 7 i 2 dim 1\\nj 7 i 3 dim 1\\n'
     printf 'j 9 i 3 dim 1\\njones 1*q^1 1*q^3 1*q^5 -1*q^9\\n'
     ;;
 *) printf 'table 2\\nfield %s\\nj -1 i 0 dim 1\\nj 1 i 0 dim 1\\njones 1*q^-1 1*q^1\\n' "$3" ;;
+esac
+"""
+# The program of scans: it writes down each call, and answers what is too large for the other.
+SCAN = """\
+#!/bin/sh
+echo "$2" >>"$TOLD.scan"
+read -r code
+case $code in
+lost) exit 70 ;;
+bad) echo "refused text at 0"; exit 1 ;;
+wide) echo "limit crossings 21 of 20"; exit 6 ;;
+*) printf 'table 2\\nfield %s\\nj 0 i 0 dim 2\\njones 2*q^0\\n' "${2:-2}" ;;
 esac
 """
 
@@ -75,10 +88,13 @@ class Folder:
 
     def __init__(self, path):
         self.path, self.told, self.said = path, os.path.join(path, "told"), ""
-        self.program = os.path.join(path, "kh")
-        with open(self.program, "w", encoding="utf-8") as file:
-            file.write(PROGRAM)
-        os.chmod(self.program, 0o755)
+        self.program, self.scan = os.path.join(path, "kh"), os.path.join(path, "kh-scan")
+        for program, text in ((self.program, PROGRAM), (self.scan, SCAN)):
+            with open(program, "w", encoding="utf-8") as file:
+                file.write(text)
+            os.chmod(program, 0o755)
+        # (what says which programs are asked; that of scans is no other than this folder's)
+        self.asked = ("--program", "kh")
         self.write("list", "# a list\n" + "".join(f"link {k}\tPD[Loop[{k}]]\n" for k in range(COUNT)) + "wrong\tbad\nhuge\tlarge\n")
 
     def at(self, name):
@@ -92,14 +108,14 @@ class Folder:
 
     def start(self, *words, held=None):
         """Begins these words, whose program is held after so many calls in all."""
-        settings = dict(os.environ, TOLD=self.told, KH=self.program, FIELDS="2,3", **({"HELD": str(held)} if held else {}))
+        settings = dict(os.environ, TOLD=self.told, KH=self.program, FIELDS="2,3", PROGRAM="kh", **({"HELD": str(held)} if held else {}))
         pipe = subprocess.PIPE
         return subprocess.Popen(
             words, env=settings, stdout=pipe, stderr=pipe, start_new_session=True, text=True, preexec_fn=heeds_signals
         )
 
     def tabulated(self, *words):
-        return (TABULATE, "--kh", self.program, "--fields", "2,3", *words)
+        return (TABULATE, "--kh", self.program, *self.asked, "--fields", "2,3", *words)
 
     def run(self, *words):
         started = self.start(*self.tabulated(*words))
@@ -132,6 +148,10 @@ class Folder:
     def calls(self):
         """How often the program has been called for homology."""
         return len(lines_of(self.told))
+
+    def scans(self):
+        """The fields over which the program of scans has been called, but for its tries."""
+        return [int(it) for it in lines_of(self.told + ".scan") if it]
 
     def kept(self):
         """How many results are kept so far, in the database and in lines."""

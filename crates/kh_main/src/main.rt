@@ -4,20 +4,19 @@
 
 #[cfg(test)]
 mod tests;
-mod words;
 
 ghost use Rattle.std.specs.Prelude.{◌≡◌};
 ghost use Rattle.std.specs.Process.{exit_status};
 ghost use Rattle.kh_replies.specs.Statuses.{status_number};
 
 use kh_io::{StdSink, StdSource};
+use kh_replies::words_of;
 use kh_work::{Status, run};
 use std::io;
 use std::process::ExitCode;
 use std::rt::Env;
 use std::sync::Wait;
 use std::thread::Threads;
-use words::words_of;
 use worker_pool::Free;
 
 fn main(rt: HostRuntime) -> ExitCode {

@@ -5,8 +5,8 @@ mod gates;
 mod system;
 
 use crate::exit_of;
-use crate::words::words_of;
 use kh_io::{MemSink, MemSource};
+use kh_replies::words_of;
 use kh_types::Words;
 use kh_work::{Status, run, run_alone};
 use std::process::{Abort, ExitCode};

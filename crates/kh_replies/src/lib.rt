@@ -18,6 +18,7 @@ mod status;
 mod stop;
 mod turns;
 mod union;
+mod words;
 
 pub use check::reply_to_check;
 pub use convert::reply_to_convert;
@@ -40,3 +41,4 @@ pub use status::Status;
 pub use stop::ReplyStop;
 pub use turns::{reply_to_mirror, reply_to_reverse};
 pub use union::reply_to_union;
+pub use words::words_of;

@@ -50,7 +50,7 @@ jones_line-euler field code is_field is_accepted few =
     polynomial_text-agree (state_sum code) (euler (table field code)) (λ exponent within. sum-table field code is_field is_accepted few exponent)
 
 -- the text of the table and the Jones line
-abbrev headline_text : ℕ → Code → List ℕ
+abbrev pub headline_text : ℕ → Code → List ℕ
 headline_text field code = table_text (table field code) ++ polynomial_text (state_sum code)
 
 jones_line-sum : (field : ℕ) (code : Code)
@@ -69,7 +69,7 @@ headline-answer words bytes command code reply is_command is_homology text is_an
     ∙ jones_line-sum command.field code
 
 -- what a run has written is this text
-written-headline : (status : Status) (before after : Option (List ℕ)) (field : ℕ) (code : Code) (reply : Reply)
+pub written-headline : (status : Status) (before after : Option (List ℕ)) (field : ℕ) (code : Code) (reply : Reply)
     → IsFieldSize field → IsTrue (accepted code) → length code.crossings ≤ CROSSINGS → reply ≡ reply_of Done (headline_text field code)
     → Gives reply status before after → HasWrittenHomology field code status before after
 written-headline status before after field code reply is_field is_accepted few is_reply gives =

@@ -147,12 +147,12 @@ IsLimitedReply-size limit bytes Answers some true is_long =
 IsLimitedReply-size limit bytes Answers some false is_long =
     let few : length bytes ≤ limit = grind (arith, common_steps) in (some.0, inr (few, some.1))
 
-IsLimitedReply-some : (limit : Option ℕ) (bytes : List ℕ) (Answers : Reply → Type 0) → ((reply : Reply) × Answers reply)
+pub IsLimitedReply-some : (limit : Option ℕ) (bytes : List ℕ) (Answers : Reply → Type 0) → ((reply : Reply) × Answers reply)
     → (reply : Reply) × IsLimitedReply limit bytes Answers reply
 IsLimitedReply-some None bytes Answers some = some
 IsLimitedReply-some (Some limit) bytes Answers some = IsLimitedReply-size limit bytes Answers some (nat_lt limit (length bytes)) refl
 
-IsLimitedReply-one : (limit : Option ℕ) (bytes : List ℕ) (Answers : Reply → Type 0) (a b : Reply) → (Answers a → Answers b → a ≡ b)
+pub IsLimitedReply-one : (limit : Option ℕ) (bytes : List ℕ) (Answers : Reply → Type 0) (a b : Reply) → (Answers a → Answers b → a ≡ b)
     → IsLimitedReply limit bytes Answers a → IsLimitedReply limit bytes Answers b → a ≡ b
 IsLimitedReply-one None bytes Answers a b one is_a is_b = one is_a is_b
 IsLimitedReply-one (Some limit) bytes Answers a b one (inl is_a) (inl is_b) = is_a.1 ∙ sym is_b.1

@@ -13,3 +13,14 @@ pub mod ColumnTargets
 pub mod MoreColumns
 pub mod ReadySites
 pub mod AddedScan
+pub mod StepLemmas
+pub mod Columns
+pub mod Ways
+pub mod Turns
+pub mod OpenSizes
+pub mod Killed
+pub mod Eliminated
+pub mod PivotLemmas
+pub mod Passes
+pub mod Cancels
+pub mod NotedRows

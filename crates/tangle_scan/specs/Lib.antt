@@ -3,3 +3,4 @@ pub mod Scanned
 pub mod Tallies
 pub mod CountedRows
 pub mod Additions
+pub mod Eliminations

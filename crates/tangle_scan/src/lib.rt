@@ -4,28 +4,39 @@
 
 mod adding;
 mod circle_numbers;
+mod clearing;
 mod column;
 mod complex;
 mod counted;
 mod counting;
+mod eliminating;
 mod ending;
+mod finished;
 mod front;
 mod object;
 mod order;
+mod pivots;
+mod reordering;
+mod rows;
 mod scan;
 mod scan_count;
 mod scanning;
 mod table;
 mod tally;
 mod tallying;
+#[cfg(test)]
+mod tests;
 
 pub use adding::add_crossing;
 pub use column::{Column, Entry};
 pub use complex::TangleComplex;
+pub use eliminating::eliminate_all;
 pub use ending::{finished_scans_are_last, table_of_finished};
+pub use finished::finished_scan;
 pub use front::Front;
 pub use object::Object;
 pub use order::ordered;
+pub use reordering::reordered;
 pub use scan::Scan;
 pub use scanning::{scan_table, scan_table_by};
 pub use table::{ScanRow, ScanTable};

@@ -1,5 +1,5 @@
-//! An order of crossings in which few arcs are open at once. Any order is right, and this one is
-//! mostly fast: it is this project's rule.
+//! An order of crossings that is mostly fast. Any order is right, so contracts say no more than
+//! that it is one; which one is this project's rule.
 
 ghost use Rattle.std.specs.Prelude.{◌≡◌, ◌<◌, ◌≤◌, length};
 ghost use Rattle.cell_complexes.specs.Cubes.{IsReordered};

@@ -1,17 +1,24 @@
 //! A scan, whose type keeps what the theorem asks.
 
-ghost use Rattle.std.specs.Prelude.{◌≡◌, IfOk, IsTrue};
+ghost use Rattle.std.specs.Prelude.{◌+◌, ◌<◌, length, ◌≡◌, IfOk, IsTrue};
 ghost use Rattle.kh_types.specs.Acceptance.{accepted};
+ghost use Rattle.scan_laws.specs.Adding.{IsAdding};
+ghost use Rattle.scan_laws.specs.Scans.{IsScanOf};
+ghost use Rattle.scan_laws.specs.Steps.{LeadsTo};
 ghost use Rattle.tangle_scan.specs.Held.{HasNoPivot};
-ghost use Rattle.tangle_scan.specs.Scanned.{IsBehind, IsScanned, IsFirstComplex};
+ghost use Rattle.tangle_scan.specs.Scanned.{IsBehind, IsFirstComplex, IsScanned, scan_of};
 
+use crate::adding::add_crossing;
 use crate::column::Column;
 use crate::complex::TangleComplex;
+use crate::eliminating::eliminate_all;
 use crate::front::Front;
 use crate::object::Object;
 use arrayvec::ArrayVec;
 use kh_types::{Diagram, NoMemory};
 use prime_field::PrimeField;
+use prime_field::laws::element_laws;
+use scan_laws::laws::reached_scans;
 use std::alloc::Global;
 use std::marker::{Model, PhantomData};
 use tangle_maps::Pairing;
@@ -56,11 +63,52 @@ impl<F: PrimeField> Scan<F> {
         })
     }
 
+    /// The scan with one crossing more.
+    pub fn with_crossing(self, alloc: Global) -> Result<Scan<F>, NoMemory>
+        requires { self.front.done < length self.front.diagram.crossings }
+        ensures adding { IfOk result (λ next.
+            IsAdding F.P self.front.diagram (scan_of self) (scan_of next)) }
+        ensures behind { IfOk result (IsBehind self.front.diagram (self.front.done + 1)) }
+    {
+        self.laws();
+        let front = self.front.next();
+        let complex = add_crossing::<F>(alloc, &self.front, &front, &self.complex)?;
+        Ok(Scan {
+            front,
+            complex,
+            field: PhantomData,
+        })
+    }
+
+    /// The scan after maps that are a number times the identity are cancelled, until none is left.
+    pub fn eliminated(self, alloc: Global) -> Result<Scan<F>, NoMemory>
+        ensures steps { IfOk result (λ next.
+            LeadsTo F.P self.front.diagram (scan_of self) (scan_of next)) }
+        ensures none { IfOk result (λ next. HasNoPivot next.complex) }
+        ensures behind { IfOk result (IsBehind self.front.diagram self.front.done) }
+    {
+        self.laws();
+        let Scan {
+            front,
+            complex,
+            field,
+        } = self;
+        let complex = eliminate_all::<F>(alloc, &front, complex)?;
+        Ok(Scan {
+            front,
+            complex,
+            field,
+        })
+    }
+
     /// What the type keeps. It does nothing: a function calls it, and its proof then has the facts.
     pub fn laws(&self)
         ensures kept { IsScanned F.P self.now }
         ensures accepted { IsTrue (accepted self.now.front.diagram) }
+        ensures of { IsScanOf self.now.front.diagram (scan_of self.now) }
     {
+        element_laws::<F>();
+        reached_scans();
         let _ = self.front.diagram.crossings();
     }
 
@@ -71,7 +119,7 @@ impl<F: PrimeField> Scan<F> {
         &self.front.diagram
     }
 
-    /// The objects.
+    /// The objects, with those that are cancelled.
     pub fn objects(&self) -> &[Object]
         ensures { result.now ≡ self.now.complex.objects.items }
     {

@@ -1,0 +1,125 @@
+-- One way that is taken off a column in memory: at an entry that is there, or as a new one.
+use Rattle.std.proofs.Common.{◌≡◌, ℕ, zero, suc, ◌<◌, ◌∙◌, List, [], ◌∷◌, get_or, set, length, sym, subst, subst₂, ap, arith}
+use Rattle.std.specs.Prelude.{All}
+use Rattle.std.proofs.lemmas.List.{get_or-map}
+use Rattle.std.proofs.lemmas.List.Elements.{All-head, All-tail}
+use Rattle.dotted_maps.specs.declared.term.Term.{Term}
+use Rattle.tangle_maps.specs.declared.way.Way.{Way}
+use Rattle.tangle_maps.specs.Pairings.{paired_arcs}
+use Rattle.tangle_maps.specs.Sums.{AreReduced}
+use Rattle.tangle_maps.specs.Ways.{IsCancelledAlong, IsWay}
+use Rattle.tangle_scan.specs.declared.clearing.Turn.{Turn}
+use Rattle.tangle_scan.specs.declared.column.Entry.{Entry}
+use Rattle.tangle_scan.specs.declared.object.Object.{Object}
+use Rattle.tangle_scan.specs.Held.{partners_at, terms_to}
+use Rattle.tangle_scan.specs.Eliminations.{HasHead, HasHeadsOf, HasOneEach, IsChanged, IsLess, IsLessOver, IsTrimmed, IsTurn, head_at}
+use Rattle.tangle_scan.proofs.Columns.{column-set, heads-kept_set, once-heads, heads-set, terms-at, terms-none}
+use Rattle.tangle_scan.proofs.Ways.{changed-as, changed-trimmed, less-along}
+
+head-read : (column : List Entry) (at : ℕ) (entry : Entry) → at < length column → entry ≡ get_or column at entry
+    → entry.head ≡ head_at column at
+head-read column at entry within is =
+    ap (λ (e : Entry). e.head) is ∙ sym (get_or-map (λ (e : Entry). e.head) column at entry 0 within)
+
+-- an entry that was read, and written with other terms
+pub record IsWritten (column : List Entry) (at : ℕ) (entry written : Entry) (middle : List Entry) : Type 0 where
+  pub within : at < length column
+  pub once : HasOneEach column
+  pub read : entry ≡ get_or column at entry
+  pub head : written.head ≡ entry.head
+  pub made : middle ≡ set column at written
+
+written-head : (column : List Entry) (at : ℕ) (entry written : Entry) (middle : List Entry) → IsWritten column at entry written middle
+    → written.head ≡ head_at column at
+written-head column at entry written middle is = is.head ∙ head-read column at entry is.within is.read
+
+pub written-once : (column : List Entry) (at : ℕ) (entry written : Entry) (middle : List Entry)
+    → IsWritten column at entry written middle → HasOneEach middle
+written-once column at entry written middle is =
+    subst HasOneEach (sym is.made)
+    (once-heads column (set column at written) (heads-set column at written (written-head column at entry written middle is)) is.once)
+
+pub written-heads : (p : ℕ) (column : List Entry) (at : ℕ) (entry written : Entry) (middle new : List Entry)
+    → IsWritten column at entry written middle → IsTrimmed p middle new → HasHeadsOf column new
+written-heads p column at entry written middle new is trimmed z has =
+    heads-kept_set column at written (written-head column at entry written middle is) z
+    (subst (λ (es : List Entry). HasHead es z) is.made (trimmed.heads z has))
+
+pub changed-in : (Next : List Term → List Term → Type 0) (p : ℕ) (column : List Entry) (at : ℕ) (entry written : Entry) (middle new : List Entry)
+    → IsWritten column at entry written middle → AreReduced p written.terms.items → Next entry.terms.items written.terms.items
+    → IsTrimmed p middle new → IsChanged Next (Unit {0}) p (head_at column at) column new
+changed-in Next p column at entry written middle new is reduced next trimmed =
+    let is_head = written-head column at entry written middle is in
+    let old_terms : terms_to column (head_at column at) ≡ entry.terms.items =
+    terms-at column at entry is.within is.once ∙ ap (λ (e : Entry). e.terms.items) (sym is.read) in
+    let set_there : IsChanged (λ old new. new ≡ written.terms.items) (Unit {0}) p (head_at column at) column (set column at written) =
+    subst (λ (y : ℕ). IsChanged (λ old new. new ≡ written.terms.items) (Unit {0}) p y column (set column at written)) is_head
+    (column-set p column at written is.within is.once is_head reduced) in
+    changed-trimmed Next p (head_at column at) column (set column at written) new
+    (changed-as (λ old new. new ≡ written.terms.items) Next p (head_at column at) column (set column at written)
+    (λ made. subst₂ (λ (old new : List Term). Next old new) (sym old_terms) (sym made) next) set_there)
+    (subst (λ (es : List Entry). IsTrimmed p es new) is.made trimmed)
+
+pub changed-new : (Next : List Term → List Term → Type 0) (p y : ℕ) (column new : List Entry) (terms : List Term)
+    → (HasHead column y → ⊥) → Next [] terms
+    → IsChanged (λ old made. made ≡ terms) (Unit {0}) p y column new → IsChanged Next (Unit {0}) p y column new
+changed-new Next p y column new terms none next is =
+    changed-as (λ old made. made ≡ terms) Next p y column new
+    (λ made. subst₂ (λ (old after : List Term). Next old after) (sym (terms-none column y none)) (sym made) next) is
+
+-- nothing is reduced
+pub reduced-none : (p : ℕ) → AreReduced p []
+reduced-none p = record {
+  some = λ k d within. absurd (omega (arith, within));
+  below = λ k d within. absurd (omega (arith, within));
+  once = λ dots. omega arith;
+}
+
+pub arcs-at : (opened : List ℕ) (objects : List Object) (x : ℕ)
+    → All (λ (object : Object). opened ≡ paired_arcs object.pairing.partners) objects → x < length objects
+    → opened ≡ paired_arcs (partners_at objects x)
+arcs-at opened [] x all within = absurd (omega (arith, within))
+arcs-at opened (object ∷ objects) zero all within =
+    All-head (λ (o : Object). opened ≡ paired_arcs o.pairing.partners) object objects all
+arcs-at opened (object ∷ objects) (suc x) all within =
+    arcs-at opened objects x (All-tail (λ (o : Object). opened ≡ paired_arcs o.pairing.partners) object objects all) (omega (arith, within))
+
+-- a way through the pivot of a turn, from the object at x to that at z
+pub record IsThrough (turn : Turn) (x z : ℕ) (first second : List Term) (way : Way) : Type 0 where
+  pub opened : way.opened.now ≡ turn.opened.now
+  pub source : way.from.now.partners ≡ partners_at turn.objects.now x
+  pub middle : way.over.now.partners ≡ partners_at turn.objects.now turn.pivot.tail
+  pub target : way.to.now.partners ≡ partners_at turn.objects.now z
+  pub front : way.first.now ≡ first
+  pub back : way.second.now ≡ second
+
+pub way-through : (p : ℕ) (turn : Turn) (x z : ℕ) (first second : List Term) (way : Way) → IsTurn p turn → x < length turn.objects.now
+    → z < length turn.objects.now → IsThrough turn x z first second way → IsWay way
+way-through p turn x z first second way is x_below z_below through =
+    let arcs = λ (y : ℕ) (below : y < length turn.objects.now). arcs-at turn.opened.now turn.objects.now y is.pairs below in
+    record {
+      source = through.opened ∙ arcs x x_below ∙ ap paired_arcs (sym through.source);
+      middle = through.opened ∙ arcs turn.pivot.tail is.tail ∙ ap paired_arcs (sym through.middle);
+      target = through.opened ∙ arcs z z_below ∙ ap paired_arcs (sym through.target);
+    }
+
+pub less-through : (p c : ℕ) (turn : Turn) (x z : ℕ) (first second : List Term) (way : Way) (old new : List Term)
+    → c ≡ turn.pivot.number → IsThrough turn x z first second way → IsCancelledAlong p c way old new
+    → IsLess p turn x z first second old new
+less-through p c turn x z first second way old new same through is =
+    let P = partners_at turn.objects.now in
+    let less : IsLessOver p turn.pivot.number way.opened.now way.from.now.partners way.over.now.partners way.to.now.partners
+    way.first.now way.second.now old new =
+    subst
+    (λ (n : ℕ).
+    IsLessOver p n way.opened.now way.from.now.partners way.over.now.partners way.to.now.partners way.first.now way.second.now old new)
+    same (less-along p c way old new is) in
+    subst₂ (λ (a b : List Term). IsLessOver p turn.pivot.number turn.opened.now (P x) (P turn.pivot.tail) (P z) a b old new)
+    through.front through.back
+    (subst₂
+    (λ (o t : List ℕ). IsLessOver p turn.pivot.number o (P x) (P turn.pivot.tail) t way.first.now way.second.now old new)
+    through.opened through.target
+    (subst₂
+    (λ (f v : List ℕ).
+    IsLessOver p turn.pivot.number way.opened.now f v way.to.now.partners way.first.now way.second.now old new)
+    through.source through.middle less))

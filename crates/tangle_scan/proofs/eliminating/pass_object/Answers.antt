@@ -1,0 +1,10 @@
+use Rattle.tangle_scan.proofs.Passes.{from-eliminated, indexed}
+use Rattle.tangle_scan.proofs.eliminating.pass_object.Goals as goal
+
+pub pivot_of-requires-clause-indexed : goal.pivot_of-requires-clause-indexed
+pivot_of-requires-clause-indexed g c = indexed g.F.PrimeField.P c.args.front.now c.args.rowed c.requires.rowed
+
+pub returns-in-Some : goal.returns-in-Some
+returns-in-Some g c =
+    from-eliminated g.F.PrimeField.P c.args.front.now c.args.rowed c.eliminate.result c.eliminate.ensures.step
+    c.eliminate.ensures.rowed

@@ -1,0 +1,325 @@
+//! One turn of the elimination: a column is cleared of a pivot's head. The way from the column's
+//! object to that head, by the inverse of the pivot's number back to its tail, and on to each object
+//! there is taken off the column's map to it.
+
+ghost use Rattle.std.specs.Prelude.{◌≡◌, ◌≢◌, ℕ, ◌<◌, List, length, false, true, IfOk, IfSome, None, OnOk};
+ghost use Rattle.std.specs.List.{position};
+ghost use Rattle.tangle_maps.specs.Sums.{AreReduced};
+ghost use Rattle.tangle_maps.specs.Ways.{HasReducedMaps, IsCancelledAlong, IsWay};
+ghost use Rattle.tangle_scan.specs.Held.{IsColumn, has_head, is_alive_at, partners_at};
+ghost use Rattle.tangle_scan.specs.Eliminations.{AreCleared, AreColumns, AreMore, AreTaken, HasHead};
+ghost use Rattle.tangle_scan.specs.Eliminations.{HasHeadsOf, HasOneEach, IsChanged, IsCleared};
+ghost use Rattle.tangle_scan.specs.Eliminations.{IsClearStep, IsLess, IsLessIf, IsNext, IsNoted};
+ghost use Rattle.tangle_scan.specs.Eliminations.{IsStart, IsTrimmed, IsTurn, head_at};
+
+use crate::column::{Column, Entry};
+use crate::object::Object;
+use crate::pivots::Pivot;
+use crate::rows::{Rows, note_if};
+use dotted_maps::term::Term;
+use kh_types::NoMemory;
+use prime_field::PrimeField;
+use prime_field::laws::element_laws;
+use smallvec::SmallVec;
+use tangle_maps::{Pairing, Terms, Way, cancel, is_zero};
+
+/// A pivot that is being cancelled: the opened arcs, the objects, of which its tail and its head are
+/// not there any more, and the column that was taken out at its tail.
+#[derive(Clone, Copy)]
+pub(crate) struct Turn<'a> {
+    pub(crate) opened: &'a [u8],
+    pub(crate) objects: &'a [Object],
+    pub(crate) pivot: Pivot,
+    pub(crate) column: &'a [Entry],
+}
+
+/// The first map of a way: from the object at a place to the pivot's head.
+#[derive(Clone, Copy)]
+struct Start<'a> {
+    place: usize,
+    first: &'a [Term],
+}
+
+/// Clears the columns that are named.
+pub(crate) fn clear_all<F: PrimeField>(
+    columns: &mut Vec<Column>,
+    rows: &mut Rows,
+    turn: &Turn<'_>,
+    named: &[usize],
+) -> Result<(), NoMemory>
+    requires turn { IsTurn F.P turn.now }
+    requires columns { AreColumns F.P turn.now.objects.now columns.old.items rows.old.items }
+    ensures cleared { OnOk result
+        (AreCleared F.P turn.now named.now columns.old.items columns.new.items) }
+    ensures columns { OnOk result
+        (AreColumns F.P turn.now.objects.now columns.new.items rows.new.items) }
+{
+    'columns: for place in named {
+        clear_at::<F>(columns, rows, turn, *place)?;
+    }
+    Ok(())
+}
+
+/// Clears the column at a place, if there is one.
+fn clear_at<F: PrimeField>(
+    columns: &mut Vec<Column>,
+    rows: &mut Rows,
+    turn: &Turn<'_>,
+    place: usize,
+) -> Result<(), NoMemory>
+    requires turn { IsTurn F.P turn.now }
+    requires columns { AreColumns F.P turn.now.objects.now columns.old.items rows.old.items }
+    ensures step { OnOk result (IsClearStep F.P turn.now place columns.old.items columns.new.items) }
+    ensures columns { OnOk result
+        (AreColumns F.P turn.now.objects.now columns.new.items rows.new.items) }
+{
+    if place >= columns.len() {
+        return Ok(());
+    }
+    clear::<F>(&mut columns[place], rows, turn, place)?;
+    Ok(())
+}
+
+/// Clears a column, out of the object at a place.
+fn clear<F: PrimeField>(
+    column: &mut Column,
+    rows: &mut Rows,
+    turn: &Turn<'_>,
+    place: usize,
+) -> Result<(), NoMemory>
+    requires turn { IsTurn F.P turn.now }
+    requires place { place < length turn.now.objects.now }
+    requires column { IsColumn F.P (length turn.now.objects.now) column.old.items }
+    requires rows { length rows.old.items ≡ length turn.now.objects.now }
+    requires noted { IsNoted turn.now.objects.now rows.old.items place column.old.items }
+    ensures cleared { OnOk result
+        (IsCleared F.P turn.now place column.old.items column.new.items) }
+    ensures idle { OnOk result ((HasHead column.old.items turn.now.pivot.head → ⊥)
+        → column.new.items ≡ column.old.items) }
+    ensures column { OnOk result
+        (IsColumn F.P (length turn.now.objects.now) column.new.items) }
+    ensures rows { OnOk result (AreMore rows.old.items rows.new.items) }
+    ensures noted { OnOk result
+        (IsNoted turn.now.objects.now rows.new.items place column.new.items) }
+{
+    match place_of(column, turn.pivot.head) {
+        Some(at) => {
+            let entry = column.remove(at);
+            let first = entry.terms.as_slice();
+            take_ways::<F>(column, rows, turn, &Start { place, first })
+        }
+        None => Ok(()),
+    }
+}
+
+/// Takes the ways through the pivot off a column, from which the map to the pivot's head was taken.
+fn take_ways<F: PrimeField>(
+    column: &mut Column,
+    rows: &mut Rows,
+    turn: &Turn<'_>,
+    start: &Start<'_>,
+) -> Result<(), NoMemory>
+    requires turn { IsTurn F.P turn.now }
+    requires start { IsStart F.P turn.now start.now }
+    requires column { IsColumn F.P (length turn.now.objects.now) column.old.items }
+    requires rows { length rows.old.items ≡ length turn.now.objects.now }
+    requires noted { IsNoted turn.now.objects.now rows.old.items start.now.place column.old.items }
+    ensures taken { OnOk result (AreTaken F.P turn.now start.now.place start.now.first.now
+        turn.now.column.now column.old.items column.new.items) }
+    ensures column { OnOk result
+        (IsColumn F.P (length turn.now.objects.now) column.new.items) }
+    ensures rows { OnOk result (AreMore rows.old.items rows.new.items) }
+    ensures noted { OnOk result
+        (IsNoted turn.now.objects.now rows.new.items start.now.place column.new.items) }
+{
+    let entries = turn.column;
+    'entries: for entry in entries {
+        take_if_alive::<F>(column, rows, turn, start, entry)?;
+    }
+    Ok(())
+}
+
+/// Takes the way over an entry of the pivot's column off a column, if its head is there.
+fn take_if_alive<F: PrimeField>(
+    column: &mut Column,
+    rows: &mut Rows,
+    turn: &Turn<'_>,
+    start: &Start<'_>,
+    entry: &Entry,
+) -> Result<(), NoMemory>
+    requires turn { IsTurn F.P turn.now }
+    requires start { IsStart F.P turn.now start.now }
+    requires entry { IsNext F.P turn.now entry.now }
+    requires column { IsColumn F.P (length turn.now.objects.now) column.old.items }
+    requires rows { length rows.old.items ≡ length turn.now.objects.now }
+    requires noted { IsNoted turn.now.objects.now rows.old.items start.now.place column.old.items }
+    ensures changed { OnOk result (IsChanged
+        (IsLessIf F.P turn.now start.now.place start.now.first.now entry.now)
+        (is_alive_at turn.now.objects.now entry.now.head ≡ true) F.P entry.now.head
+        column.old.items column.new.items) }
+    ensures rows { OnOk result (AreMore rows.old.items rows.new.items) }
+    ensures noted { OnOk result
+        (IsNoted turn.now.objects.now rows.new.items start.now.place column.new.items) }
+{
+    if !turn.objects[entry.head].is_alive {
+        return Ok(());
+    }
+    take_noted::<F>(column, rows, turn, start, entry)
+}
+
+/// Takes the way over an entry off a column, and notes the column if it leads to a new head.
+fn take_noted<F: PrimeField>(
+    column: &mut Column,
+    rows: &mut Rows,
+    turn: &Turn<'_>,
+    start: &Start<'_>,
+    entry: &Entry,
+) -> Result<(), NoMemory>
+    requires turn { IsTurn F.P turn.now }
+    requires start { IsStart F.P turn.now start.now }
+    requires entry { IsNext F.P turn.now entry.now }
+    requires column { IsColumn F.P (length turn.now.objects.now) column.old.items }
+    requires rows { length rows.old.items ≡ length turn.now.objects.now }
+    requires noted { IsNoted turn.now.objects.now rows.old.items start.now.place column.old.items }
+    ensures changed { OnOk result (IsChanged
+        (IsLess F.P turn.now start.now.place entry.now.head start.now.first.now
+        entry.now.terms.items) (Unit {0}) F.P entry.now.head column.old.items column.new.items) }
+    ensures rows { OnOk result (AreMore rows.old.items rows.new.items) }
+    ensures noted { OnOk result
+        (IsNoted turn.now.objects.now rows.new.items start.now.place column.new.items) }
+{
+    let is_new = take_way::<F>(column, turn, start, entry)?;
+    note_if(is_new, rows, entry.head, start.place)?;
+    Ok(())
+}
+
+/// Takes the way over an entry off a column, and tells whether the column leads to a new head.
+fn take_way<F: PrimeField>(
+    column: &mut Column,
+    turn: &Turn<'_>,
+    start: &Start<'_>,
+    entry: &Entry,
+) -> Result<bool, NoMemory>
+    requires turn { IsTurn F.P turn.now }
+    requires start { IsStart F.P turn.now start.now }
+    requires entry { IsNext F.P turn.now entry.now }
+    requires column { IsColumn F.P (length turn.now.objects.now) column.old.items }
+    ensures changed { OnOk result (IsChanged
+        (IsLess F.P turn.now start.now.place entry.now.head start.now.first.now
+        entry.now.terms.items) (Unit {0}) F.P entry.now.head column.old.items column.new.items) }
+    ensures same_heads { IfOk result (λ is_new. is_new ≡ false
+        → HasHeadsOf column.old.items column.new.items) }
+{
+    element_laws::<F>();
+    let way = Way {
+        opened: turn.opened,
+        from: pairing_at(turn.objects, start.place),
+        over: pairing_at(turn.objects, turn.pivot.tail),
+        to: pairing_at(turn.objects, entry.head),
+        first: start.first,
+        second: entry.terms.as_slice(),
+    };
+    let number = F::of(turn.pivot.number);
+    match place_of(column, entry.head) {
+        Some(at) => {
+            cancel_in(column, at, &way, number)?;
+            Ok(false)
+        }
+        None => cancel_new(column, entry.head, &way, number),
+    }
+}
+
+/// The pairing of the object at a place.
+fn pairing_at(objects: &[Object], place: usize) -> &Pairing
+    requires { place < length objects.now }
+    ensures { result.now.partners ≡ partners_at objects.now place }
+{
+    &objects[place].pairing
+}
+
+/// The place of the entry with a head.
+fn place_of(column: &Column, head: usize) -> Option<usize>
+    ensures some { IfSome result (λ at. (at < length column.now.items)
+        × (head_at column.now.items at ≡ head)) }
+    ensures none { result ≡ None → HasHead column.now.items head → ⊥ }
+{
+    first_place(column.as_slice(), head)
+}
+
+/// The first place of a head.
+fn first_place(column: &[Entry], head: usize) -> Option<usize>
+    ensures { result ≡ position (has_head head) column.now }
+{
+    column.iter().position(|entry| entry.head == head)
+}
+
+/// Takes a way off the entry at a place, which goes if it becomes 0.
+fn cancel_in<F: PrimeField>(
+    column: &mut Column,
+    at: usize,
+    way: &Way<'_>,
+    number: F,
+) -> Result<(), NoMemory>
+    requires at { at < length column.old.items }
+    requires column { (n : ℕ) × IsColumn F.P n column.old.items }
+    requires way { IsWay way.now }
+    requires maps { HasReducedMaps F.P way.now }
+    requires number { F.value_of number ≢ 0 }
+    ensures changed { OnOk result (IsChanged (IsCancelledAlong F.P (F.value_of number) way.now) (Unit {0})
+        F.P (head_at column.old.items at) column.old.items column.new.items) }
+    ensures same_heads { OnOk result (HasHeadsOf column.old.items column.new.items) }
+{
+    cancel(&mut column[at].terms, way, number)?;
+    trim(column, at);
+    Ok(())
+}
+
+/// Takes the entry at a place out, if it is 0.
+fn trim(column: &mut Column, at: usize)
+    requires at { at < length column.old.items }
+    requires once { HasOneEach column.old.items }
+    ensures { (p : ℕ) → IsTrimmed p column.old.items column.new.items }
+{
+    if is_zero(column[at].terms.as_slice()) {
+        column.remove(at);
+    }
+}
+
+/// Takes a way off 0, for a head to which a column does not lead, and tells whether it leads there
+/// then.
+fn cancel_new<F: PrimeField>(
+    column: &mut Column,
+    head: usize,
+    way: &Way<'_>,
+    number: F,
+) -> Result<bool, NoMemory>
+    requires column { (n : ℕ) × IsColumn F.P n column.old.items }
+    requires new { HasHead column.old.items head → ⊥ }
+    requires way { IsWay way.now }
+    requires maps { HasReducedMaps F.P way.now }
+    requires number { F.value_of number ≢ 0 }
+    ensures changed { OnOk result (IsChanged (IsCancelledAlong F.P (F.value_of number) way.now) (Unit {0})
+        F.P head column.old.items column.new.items) }
+    ensures same_heads { IfOk result (λ is_new. is_new ≡ false
+        → HasHeadsOf column.old.items column.new.items) }
+{
+    let alloc = *column.allocator();
+    let mut terms: Terms = SmallVec::new(alloc);
+    cancel(&mut terms, way, number)?;
+    add_map(column, Entry { head, terms })
+}
+
+/// Adds a map to a column, if it is not 0, and tells whether it is not.
+fn add_map(column: &mut Column, entry: Entry) -> Result<bool, NoMemory>
+    requires { HasHead column.old.items entry.head → ⊥ }
+    ensures changed { OnOk result ((p : ℕ) → AreReduced p entry.terms.items → IsChanged
+        (λ old new. new ≡ entry.terms.items) (Unit {0}) p entry.head column.old.items column.new.items) }
+    ensures same_heads { IfOk result (λ is_new. is_new ≡ false
+        → HasHeadsOf column.old.items column.new.items) }
+{
+    if is_zero(entry.terms.as_slice()) {
+        return Ok(false);
+    }
+    column.push(entry)?;
+    Ok(true)
+}

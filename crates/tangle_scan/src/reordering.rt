@@ -1,0 +1,34 @@
+//! A diagram with its crossings in another order.
+
+ghost use Rattle.std.specs.Prelude.{◌≡◌, ◌≤◌, length};
+ghost use Rattle.cell_complexes.specs.Cubes.{IsReordered, listed_by};
+ghost use Rattle.kh_types.specs.declared.limits.TheConstants.{CROSSINGS};
+
+use arrayvec::ArrayVec;
+use cell_complexes::laws::orders::reordered_codes_are_accepted;
+use kh_types::{CROSSINGS, Crossing, Diagram, RawCode};
+
+/// The diagram with its crossings in another order.
+pub fn reordered(diagram: &Diagram, crossings: &[Crossing]) -> Diagram
+    requires { IsReordered diagram.now.crossings crossings.now }
+    ensures { result ≡ listed_by diagram.now crossings.now }
+{
+    reordered_codes_are_accepted();
+    // (what the type of a diagram keeps)
+    let _ = diagram.crossings();
+    Diagram::of_accepted(&RawCode {
+        crossings: list_of(crossings),
+        loops: diagram.loops(),
+    })
+}
+
+fn list_of(crossings: &[Crossing]) -> ArrayVec<Crossing, CROSSINGS>
+    requires { length crossings.now ≤ CROSSINGS }
+    ensures { result.items ≡ crossings.now }
+{
+    let mut list = ArrayVec::new();
+    for crossing in crossings {
+        list.push(*crossing);
+    }
+    list
+}

@@ -1,0 +1,58 @@
+"""The program of scans beside that of `kh`, and what is tried on it: `kh-scan WORDS` means what `kh homology WORDS` means.
+
+So a run of `kh` whose first word is `homology` is one of `kh-scan` without that word.
+"""
+import dataclasses
+import functools
+import os
+
+from shared.places import TOP
+from shared.running import Child
+
+SCAN = os.path.join(TOP, "crates", "scan_main", "out", "scan_main")
+BY_RATTLE = ".by-rattle"
+HOMOLOGY = "homology"
+# The line of the limit that a scan has not.
+LIMIT_OF_CUBES = "limit generators "
+
+
+def scan_of(program):
+    """The program of scans that goes with one of `kh`: the one that the environment names; else the one that the same compiler has built,
+    or none where the environment names a program of `kh` alone."""
+    named = os.environ.get("KH_SCAN_PROGRAM")
+    if named or "KH_PROGRAM" in os.environ:
+        return named and os.path.abspath(named)
+    return SCAN + (BY_RATTLE if program.endswith(BY_RATTLE) else "")
+
+
+@functools.lru_cache(maxsize=None)
+def is_there(scan):
+    """Whether there is a program of scans; where there is none, it is told once what is left out."""
+    if scan and os.path.isfile(scan):
+        return True
+    why = f"there is no {os.path.relpath(scan, TOP)}" if scan else "KH_PROGRAM is set, and KH_SCAN_PROGRAM is not"
+    print(f"left out, since {why}: the tests of kh-scan")
+    return False
+
+
+def words_behind(words):
+    """The words for `kh-scan`, where `homology` is the first word."""
+    return words[1:] if words[:1] == [HOMOLOGY] else None
+
+
+def has_row_of_scan(row):
+    """Whether a row of `kh` says what `kh-scan` has to write too: it is one of `homology`, and not about the limit that a scan has not."""
+    return words_behind(row.words) is not None and not row.wrote.startswith(LIMIT_OF_CUBES.encode())
+
+
+def row_of_scan(row):
+    """A row of `kh homology` as one of `kh-scan`."""
+    return dataclasses.replace(row, name=f"kh-scan, {row.name}", words=words_behind(row.words))
+
+
+class ScanChild(Child):
+    """What runs `kh-scan` as `kh` is run: of the words, of which the first is `homology`, it gets those behind."""
+
+    def run(self, words, given, by_pipe=False, environment=None):
+        behind = words_behind(words)
+        return super().run(words if behind is None else behind, given, by_pipe, environment)
