@@ -113,7 +113,8 @@ def each_behind_those_below(kit):
 def the_longest_chain_first(kit):
     kit.build()
     begun = kit.begun()
-    return (begun[:2], begun.index("long") < begun.index("short")), (["kh_types", "long"], True)
+    # (of two that begin at one moment either may be told first)
+    return (begun[0], "long" in begun[1:3], begun.index("long") < begun.index("scan")), ("kh_types", True, True)
 
 
 def a_crate_that_is_refused(kit):
