@@ -32,8 +32,10 @@ def plain():
         kept = {name: value for name, value in os.environ.items() if not CHANGING.match(name)}
         sys.stdout.flush()
         os.execve(sys.executable, [sys.executable, *sys.argv], {**kept, **PLAIN, MARK: "1"})
-    for it in (signal.SIGCHLD, signal.SIGINT, signal.SIGQUIT):  # (a shell has commands in the background pass the last two by)
-        signal.signal(it, signal.SIG_DFL)
+    signal.signal(signal.SIGCHLD, signal.SIG_DFL)
+    # (a shell has commands in the background pass these two by)
+    signal.signal(signal.SIGINT, signal.default_int_handler)
+    signal.signal(signal.SIGQUIT, signal.SIG_DFL)
     signal.pthread_sigmask(signal.SIG_SETMASK, ())
     os.umask(0o022)
     limits()
