@@ -15,7 +15,7 @@ use crate::{LogCause, LogStop};
 use cube_signs::check_size;
 use jones_sum::Table;
 use kh_types::Diagram;
-use prime_field::{Elements, F2, F3, F5, F7, FieldSize, PrimeField};
+use prime_field::{FieldSize, PrimeField, over_field};
 use shared_block::whole_table;
 use std::alloc::Global;
 use table_text::print_table;
@@ -46,12 +46,7 @@ fn table_behind(
     ensures { result ≢ Err LogStop.NoMemory
         → IsVerdictBehind field diagram.now lines.old.rest result }
 {
-    match field.elements() {
-        Elements::Two => table_over::<F2>(alloc, diagram, lines),
-        Elements::Three => table_over::<F3>(alloc, diagram, lines),
-        Elements::Five => table_over::<F5>(alloc, diagram, lines),
-        Elements::Seven => table_over::<F7>(alloc, diagram, lines),
-    }
+    over_field!(field, table_over(alloc, diagram, lines))
 }
 
 /// What the lines from the fourth on come to, over a field.

@@ -22,9 +22,9 @@ use Rattle.kh_types.proofs.CircleBound.{ArcsBelow-slots, circle_count-within, sm
 use Rattle.kh_types.proofs.ClassCounts.{class_count-append, class_count-circles, class_count-wider}
 use Rattle.kh_types.proofs.QuantumDegrees.{one_count-le}
 use Rattle.circle_smoothing.specs.Branches.{HaveArcsBelow, branch_count, count_place, joins_of}
-use Rattle.circle_smoothing.specs.Kinds.{AreKinds, code_of_kinds, is_of_kind, kind_circles, kind_count, kind_of, kind_ones, arc_and_loop_count, state_kind, state_place}
+use Rattle.circle_smoothing.specs.Kinds.{IsCounted, code_of_counted, is_of_kind, kind_circles, kind_count, kind_of, kind_ones, arc_and_loop_count, state_kind, state_place}
 use Rattle.circle_smoothing.specs.declared.branches.TheConstants.{COUNTS, JOINS, MEMBERS}
-use Rattle.circle_smoothing.specs.declared.kinds.StateKinds.TheInside.{Inside}
+use Rattle.circle_smoothing.specs.declared.kinds.CountedDiagram.TheInside.{Inside}
 
 -- the arcs of an accepted code are numbers that are put into classes
 pub HaveArcsBelow-accepted : (code : Code) (crossings : List (List ℕ)) → crossings ≡ code.crossings → IsAccepted code
@@ -226,12 +226,12 @@ slice_index-zeros (suc n) zero = refl
 slice_index-zeros (suc n) (suc place) = slice_index-zeros n place
 
 -- what a walk over all branches has counted
-pub AreKinds-counted : (code : Code) (crossings : List (List ℕ)) (none counts : List ℕ) (taken : ℕ) (classes : List ℕ)
+pub IsCounted-counted : (code : Code) (crossings : List (List ℕ)) (none counts : List ℕ) (taken : ℕ) (classes : List ℕ)
     → IsTrue (accepted code) → crossings ≡ code.crossings → length crossings ≤ CROSSINGS → taken ≡ 0
     → classes ≡ range_with_len 0 MEMBERS → length counts ≡ COUNTS → ((place : ℕ) → slice_index none place ≡ 0)
     → ((place : ℕ) → place < COUNTS → slice_index counts place ≡ slice_index none place + branch_count crossings taken classes place)
-    → AreKinds (record { diagram = code; counts = counts })
-AreKinds-counted code crossings none counts taken classes is same few none_taken alone size zeros counted =
+    → IsCounted (record { diagram = code; counts = counts })
+IsCounted-counted code crossings none counts taken classes is same few none_taken alone size zeros counted =
     let small : length code.crossings ≤ CROSSINGS = omega (arith, few, ap length same) in
     record {
       code = is;
@@ -251,7 +251,7 @@ AreKinds-counted code crossings none counts taken classes is same few none_taken
     }
 
 -- what is kept at the place of a kind
-pub kind_count-kept : (code : Code) (kinds : Inside) (taken circles names : ℕ) → code_of_kinds kinds ≡ code → AreKinds kinds
+pub kind_count-kept : (code : Code) (kinds : Inside) (taken circles names : ℕ) → code_of_counted kinds ≡ code → IsCounted kinds
     → names ≡ arc_and_loop_count code → taken ≤ CROSSINGS → circles ≤ names → names - circles ≤ JOINS
     → get_or kinds.counts (taken * (JOINS + 1) + (names - circles)) 0 ≡ kind_count code taken circles
 kind_count-kept code kinds taken circles names view kept are_names few within joins =

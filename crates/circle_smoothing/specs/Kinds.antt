@@ -8,7 +8,7 @@ use Rattle.kh_types.specs.Generators.{one_count, states}
 use Rattle.kh_types.specs.declared.limits.TheConstants.{CIRCLES, CROSSINGS}
 use Rattle.circle_smoothing.specs.Branches.{count_place}
 use Rattle.circle_smoothing.specs.declared.branches.TheConstants.{COUNTS}
-use Rattle.circle_smoothing.specs.declared.kinds.StateKinds.TheInside.{Inside}
+use Rattle.circle_smoothing.specs.declared.kinds.CountedDiagram.TheInside.{Inside}
 
 -- whether a state is of a kind: so many crossings have their 1-smoothing, and there are so many circles
 abbrev pub is_of_kind : Code → ℕ → ℕ → ℕ → Bool
@@ -43,13 +43,13 @@ abbrev pub state_place : Code → ℕ → ℕ
 state_place code state = count_place (one_count code state) (arc_and_loop_count code - circle_count code state)
 
 -- contracts see the code of the diagram
-abbrev pub code_of_kinds : Inside → Code
-code_of_kinds kinds = kinds.diagram
+abbrev pub code_of_counted : Inside → Code
+code_of_counted counted = counted.diagram
 
 -- the diagram's code is accepted and within the limits, and its states are counted
-pub record AreKinds (kinds : Inside) : Type 0 where
-  pub code : IsTrue (accepted kinds.diagram)
-  pub few : length kinds.diagram.crossings ≤ CROSSINGS
-  pub size : length kinds.counts ≡ COUNTS
+pub record IsCounted (counted : Inside) : Type 0 where
+  pub code : IsTrue (accepted counted.diagram)
+  pub few : length counted.diagram.crossings ≤ CROSSINGS
+  pub size : length counted.counts ≡ COUNTS
   pub counts : (place : ℕ) → place < COUNTS
-      → slice_index kinds.counts place ≡ count_by (λ state. nat_eq (state_place kinds.diagram state) place) (states kinds.diagram)
+      → slice_index counted.counts place ≡ count_by (λ state. nat_eq (state_place counted.diagram state) place) (states counted.diagram)

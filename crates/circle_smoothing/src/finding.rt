@@ -8,7 +8,7 @@ ghost use Rattle.circle_smoothing.specs.Edges.{IsEdge};
 ghost use Rattle.circle_smoothing.specs.GeneratorCounts.{generator_count};
 
 use crate::change::Edge;
-use crate::kinds::StateKinds;
+use crate::kinds::CountedDiagram;
 use crate::numbered::Circles;
 use crate::prepared::Smoothings;
 use kh_types::Diagram;
@@ -40,5 +40,5 @@ pub fn generator_count(diagram: &Diagram) -> u128
     ensures count { result ≡ generator_count diagram.now }
     ensures within { result ≤ 2 ^ (CROSSINGS + CIRCLES) }
 {
-    StateKinds::of_diagram(diagram).generator_count()
+    CountedDiagram::of_diagram(diagram).generator_count()
 }

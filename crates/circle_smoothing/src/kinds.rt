@@ -1,4 +1,4 @@
-//! The kinds of the states of a diagram.
+//! Diagrams with their states counted by kind.
 
 ghost use Rattle.std.specs.Prelude.{◌≡◌, ◌+◌, ◌*◌, ◌^◌, ◌<◌, ◌≤◌, length, IsTrue};
 ghost use Rattle.kh_types.specs.Acceptance.{accepted};
@@ -17,36 +17,36 @@ pub const COLUMNS: usize = CIRCLES + 1;
 /// The number of kinds of states: by their ones, and by their circles.
 pub const KINDS: usize = (CROSSINGS + 1) * COLUMNS;
 
-/// How many states of a diagram there are of each kind: with so many crossings that have their
-/// 1-smoothing, and so many circles. All states are gone over once. Contracts see the kinds as the
+/// A diagram, and how many of its states there are of each kind: with so many crossings that have
+/// their 1-smoothing, and so many circles. All states are gone over once. Contracts see it as the
 /// diagram's `Code`.
 #[derive(Drop)]
-pub struct StateKinds {
+pub struct CountedDiagram {
     diagram: Diagram,
     // The states by their ones, then by how many more arcs and loops there are than circles.
     counts: [u32; COUNTS],
 }
 
-impl Model for StateKinds {
+impl Model for CountedDiagram {
     ghost use Rattle.kh_types.specs.Code.{Code};
 
     ghost Value = { Code };
 
-    ghost use Rattle.circle_smoothing.specs.Kinds.{code_of_kinds, AreKinds};
+    ghost use Rattle.circle_smoothing.specs.Kinds.{code_of_counted, IsCounted};
 
-    ghost view = { code_of_kinds };
+    ghost view = { code_of_counted };
 
-    ghost invariant = { AreKinds };
+    ghost invariant = { IsCounted };
 }
 
-impl StateKinds {
-    /// The kinds of the states of a diagram.
-    pub fn of_diagram(diagram: &Diagram) -> StateKinds
+impl CountedDiagram {
+    /// A diagram with its states counted.
+    pub fn of_diagram(diagram: &Diagram) -> CountedDiagram
         ensures { result ≡ diagram.now }
     {
         let mut counts = [0; COUNTS];
         count_branch(&mut counts, diagram.crossings(), &Branch::of_all());
-        StateKinds {
+        CountedDiagram {
             diagram: *diagram,
             counts,
         }

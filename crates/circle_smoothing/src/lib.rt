@@ -17,7 +17,7 @@ mod walk;
 
 pub use change::Edge;
 pub use finding::{circles, edge, generator_count};
-pub use kinds::{COLUMNS, KINDS, StateKinds};
+pub use kinds::{COLUMNS, CountedDiagram, KINDS};
 pub use limits::GENERATORS;
 pub use numbered::Circles;
 pub use prepared::Smoothings;

@@ -8,23 +8,23 @@ ghost use Rattle.circle_smoothing.specs.declared.kinds.TheConstants.{KINDS};
 ghost use Rattle.cube_signs.specs.KindShapes.{all_kind_shapes, shapes_of_kind};
 
 use crate::shape::{Shape, Signs, top};
-use circle_smoothing::{COLUMNS, KINDS, StateKinds};
+use circle_smoothing::{COLUMNS, CountedDiagram, KINDS};
 use kh_types::NoMemory;
 use std::alloc::Global;
 
 /// The shapes that the states of a diagram have, one for each kind that has states.
-pub fn kind_shapes(alloc: Global, kinds: &StateKinds) -> Result<Vec<Shape>, NoMemory>
-    ensures shapes { IfOk result (λ shapes. shapes.items ≡ all_kind_shapes kinds.now) }
-    ensures code { IsTrue (accepted kinds.now) }
-    ensures few { length kinds.now.crossings ≤ CROSSINGS }
+pub fn kind_shapes(alloc: Global, counted: &CountedDiagram) -> Result<Vec<Shape>, NoMemory>
+    ensures shapes { IfOk result (λ shapes. shapes.items ≡ all_kind_shapes counted.now) }
+    ensures code { IsTrue (accepted counted.now) }
+    ensures few { length counted.now.crossings ≤ CROSSINGS }
 {
-    let diagram = kinds.diagram();
+    let diagram = counted.diagram();
     // (what the type of a diagram keeps)
     let _ = diagram.crossings();
     let signs = Signs::of_diagram(diagram);
     let mut shapes = Vec::new(alloc);
     'kinds: for kind in 0..KINDS {
-        push_shape(&mut shapes, kinds, signs, kind)?;
+        push_shape(&mut shapes, counted, signs, kind)?;
     }
     Ok(shapes)
 }
@@ -32,18 +32,18 @@ pub fn kind_shapes(alloc: Global, kinds: &StateKinds) -> Result<Vec<Shape>, NoMe
 /// Adds the shape of a kind, where it has states.
 fn push_shape(
     shapes: &mut Vec<Shape>,
-    kinds: &StateKinds,
+    counted: &CountedDiagram,
     signs: Signs,
     kind: usize,
 ) -> Result<(), NoMemory>
     requires kind { kind < KINDS }
-    requires plus { signs.plus ≡ plus_count kinds.now.crossings }
-    requires minus { signs.minus ≡ minus_count kinds.now.crossings }
+    requires plus { signs.plus ≡ plus_count counted.now.crossings }
+    requires minus { signs.minus ≡ minus_count counted.now.crossings }
     ensures { OnOk result (shapes.new.items
-        ≡ shapes.old.items ++ shapes_of_kind kinds.now kind) }
+        ≡ shapes.old.items ++ shapes_of_kind counted.now kind) }
 {
     let (ones, circles) = (kind / COLUMNS, kind % COLUMNS);
-    if kinds.count(ones, circles) != 0 {
+    if counted.count(ones, circles) != 0 {
         shapes.push(Shape {
             circles: circles as u8,
             ones: ones as u8,

@@ -6,7 +6,7 @@ ghost use Rattle.cube_signs.specs.Shapes.{degrees_of, have_degree};
 
 use crate::by_kind::kind_shapes;
 use crate::shape::Shape;
-use circle_smoothing::StateKinds;
+use circle_smoothing::CountedDiagram;
 use kh_types::{Diagram, EXPONENT, NoMemory};
 use std::alloc::Global;
 
@@ -14,14 +14,14 @@ use std::alloc::Global;
 pub fn block_degrees(alloc: Global, diagram: &Diagram) -> Result<Vec<i16>, NoMemory>
     ensures { IfOk result (λ degrees. degrees.items ≡ block_degrees diagram.now) }
 {
-    kind_degrees(alloc, &StateKinds::of_diagram(diagram))
+    counted_degrees(alloc, &CountedDiagram::of_diagram(diagram))
 }
 
-/// The same, given the kinds of the diagram's states.
-pub fn kind_degrees(alloc: Global, kinds: &StateKinds) -> Result<Vec<i16>, NoMemory>
-    ensures { IfOk result (λ degrees. degrees.items ≡ block_degrees kinds.now) }
+/// The same, of a diagram with its states counted.
+pub fn counted_degrees(alloc: Global, counted: &CountedDiagram) -> Result<Vec<i16>, NoMemory>
+    ensures { IfOk result (λ degrees. degrees.items ≡ block_degrees counted.now) }
 {
-    let shapes = kind_shapes(alloc, kinds)?;
+    let shapes = kind_shapes(alloc, counted)?;
     degrees(alloc, &shapes)
 }
 

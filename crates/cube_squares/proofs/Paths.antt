@@ -142,9 +142,9 @@ ways-turned a_first b_second b_first a_second code head a b marked kind =
     let forth = λ (first second : Bool). ways first second code head a b marked in
     let back = λ (first second : Bool). ways first second code head b a marked in
     elim kind [
-      | inl same ↦ ap₂ forth same.0 (sym same.1) ∙ ways-same a_second b_first code head a b marked
-      | inr (inl is) ↦ ap₂ forth is.0 is.2 ∙ ways-two code head a b marked is.4 ∙ sym (ap₂ back is.1 is.3)
-      | inr (inr is) ↦ ap₂ forth is.0 is.2 ∙ ways-one code head a b marked is.4 ∙ sym (ap₂ back is.1 is.3)
+      | inl same ↦ ap₂ forth same.a (sym same.b) ∙ ways-same a_second b_first code head a b marked
+      | inr (inl is) ↦ ap₂ forth is.a_merges is.b_splits ∙ ways-two code head a b marked is.ends ∙ sym (ap₂ back is.b_merges is.a_splits)
+      | inr (inr is) ↦ ap₂ forth is.a_splits is.b_merges ∙ ways-one code head a b marked is.ends ∙ sym (ap₂ back is.b_splits is.a_merges)
     ]
 
 -- so as many labels lie between two generators along a and then b as along b and then a

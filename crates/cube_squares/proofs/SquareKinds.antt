@@ -90,23 +90,25 @@ kind-square a_first b_second b_first a_second code base by_a by_b last a b first
     elim (kinds a_first b_second b_first a_second (circle_count code base) (circle_count code by_a) (circle_count code by_b)
     (circle_count code last) (count-switch a_first code base by_a a first_a) (count-switch b_second code by_a last b then_b)
     (count-switch b_first code base by_b b first_b) (count-switch a_second code by_b last a then_a)) [
-      | inl same ↦ inl (same.0, sym same.1)
-      | inr (inl is) ↦ inr (inl (
-        is.0,
-        is.1,
-        is.2,
-        is.3,
-        split-same code base by_a by_b last a b (subst (Of base by_b b) is.1 first_b) (subst (Of by_b last a) is.3 then_a)
-            (subst (Of by_a last b) is.2 then_b),
-      ))
-      | inr (inr is) ↦ inr (inr (
-        is.0,
-        is.1,
-        is.2,
-        is.3,
-        merge-same code base by_a by_b last a b (subst (Of base by_a a) is.0 first_a) (subst (Of by_a last b) is.2 then_b)
-            (subst (Of by_b last a) is.3 then_a),
-      ))
+      | inl same ↦ inl (record { a = same.0; b = sym same.1 })
+      | inr (inl is) ↦ inr (inl (record {
+        a_merges = is.0;
+        b_merges = is.1;
+        b_splits = is.2;
+        a_splits = is.3;
+        ends =
+            split-same code base by_a by_b last a b (subst (Of base by_b b) is.1 first_b) (subst (Of by_b last a) is.3 then_a)
+            (subst (Of by_a last b) is.2 then_b);
+      }))
+      | inr (inr is) ↦ inr (inr (record {
+        a_splits = is.0;
+        b_splits = is.1;
+        b_merges = is.2;
+        a_merges = is.3;
+        ends =
+            merge-same code base by_a by_b last a b (subst (Of base by_a a) is.0 first_a) (subst (Of by_a last b) is.2 then_b)
+            (subst (Of by_b last a) is.3 then_a);
+      }))
     ]
 
 -- the four edges of the square at a state and two crossings, and its kind

@@ -33,13 +33,32 @@ pub record EndOnOne (code : Code) (state a b : ℕ) : Type 0 where
   pub second : circle_at_slot code state b 0 ≡ circle_at_slot code state b 2
   pub one : circle_at_slot code state a 0 ≡ circle_at_slot code state b 0
 
--- the kinds of squares, by which of the four edges merge: each crossing does the same in both orders; or both merge first and split
--- second, and they split the one circle into the same two; or both split first and merge second, and touch one circle in the end
+-- each crossing does the same in both orders
+pub record DoTheSame (a_first b_second b_first a_second : Bool) : Type 0 where
+  pub a : a_first ≡ a_second
+  pub b : b_first ≡ b_second
+
+-- both crossings merge first and split second, and they split the one circle into the same two
+pub record MergeAndSplit (code : Code) (last a b : ℕ) (a_first b_second b_first a_second : Bool) : Type 0 where
+  pub a_merges : a_first ≡ true
+  pub b_merges : b_first ≡ true
+  pub b_splits : b_second ≡ false
+  pub a_splits : a_second ≡ false
+  pub ends : EndOnTwo code last a b
+
+-- both crossings split first and merge second, and they touch one circle in the end
+pub record SplitAndMerge (code : Code) (last a b : ℕ) (a_first b_second b_first a_second : Bool) : Type 0 where
+  pub a_splits : a_first ≡ false
+  pub b_splits : b_first ≡ false
+  pub b_merges : b_second ≡ true
+  pub a_merges : a_second ≡ true
+  pub ends : EndOnOne code last a b
+
+-- the kinds of squares, by which of the four edges merge
 abbrev pub IsKind : Code → ℕ → ℕ → ℕ → Bool → Bool → Bool → Bool → Type 0
 IsKind code last a b a_first b_second b_first a_second =
-    ((a_first ≡ a_second) × (b_first ≡ b_second))
-    ⊎ ((a_first ≡ true) × (b_first ≡ true) × (b_second ≡ false) × (a_second ≡ false) × EndOnTwo code last a b)
-    ⊎ ((a_first ≡ false) × (b_first ≡ false) × (b_second ≡ true) × (a_second ≡ true) × EndOnOne code last a b)
+    DoTheSame a_first b_second b_first a_second ⊎ MergeAndSplit code last a b a_first b_second b_first a_second
+    ⊎ SplitAndMerge code last a b a_first b_second b_first a_second
 
 -- the square of the cube at a state and two crossings, by which of its four edges merge circles
 pub record IsSquare (code : Code) (state a b : ℕ) : Type 0 where

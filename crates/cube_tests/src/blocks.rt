@@ -2,7 +2,7 @@
 
 ghost use Rattle.std.specs.Prelude.{◌≡◌};
 
-use circle_smoothing::StateKinds;
+use circle_smoothing::CountedDiagram;
 use cube_signs::{
     Cube, Generator, SizeLimit, block_columns, block_degrees, check_kinds, check_size,
 };
@@ -165,9 +165,9 @@ fn twenty_curls_have_too_many_generators(rt: HostRuntime) -> Result<(), Fail> {
     }
     let generators = 3_656_158_440_062_976;
     let diagram = diagram_of(&crossings, 0)?;
-    let kinds = StateKinds::of_diagram(&diagram);
+    let counted = CountedDiagram::of_diagram(&diagram);
     assert!(rt; check_size(&diagram) == Err(SizeLimit { generators }));
-    assert!(rt; check_kinds(&kinds) == Err(SizeLimit { generators }));
+    assert!(rt; check_kinds(&counted) == Err(SizeLimit { generators }));
     assert!(rt; check_size(&diagram_of(TREFOIL, 0)?) == Ok(30));
     Ok(())
 }

@@ -2,7 +2,7 @@
 
 ghost use Rattle.std.specs.Prelude.{◌≡◌};
 
-use circle_smoothing::{Circles, Edge, StateKinds, circles, edge, generator_count};
+use circle_smoothing::{Circles, CountedDiagram, Edge, circles, edge, generator_count};
 use kh_types::{Diagram, bit};
 use known_links::diagram_of;
 use std::process::Abort;
@@ -220,13 +220,13 @@ fn has_curls(
         let arc = 2 * k as u8 + 1;
         arcs[k] = [arc, arc, arc + 1, arc + 1];
     }
-    let kinds = StateKinds::of_diagram(&diagram_of(&arcs[..count.min(20)], 0)?);
+    let counted = CountedDiagram::of_diagram(&diagram_of(&arcs[..count.min(20)], 0)?);
     for place in 0..4usize {
         let ones = [0, 1, 8, count][place];
         let circles = count.saturating_mul(2).saturating_sub(ones);
-        assert!(rt; kinds.count(ones, circles) == wanted[place]);
-        assert!(rt; kinds.count(ones, circles.saturating_add(1)) == 0);
+        assert!(rt; counted.count(ones, circles) == wanted[place]);
+        assert!(rt; counted.count(ones, circles.saturating_add(1)) == 0);
     }
-    assert!(rt; kinds.generator_count() == generators);
+    assert!(rt; counted.generator_count() == generators);
     Ok(())
 }

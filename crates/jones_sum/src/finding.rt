@@ -12,7 +12,7 @@ ghost use Rattle.circle_smoothing.specs.declared.kinds.TheConstants.{KINDS};
 use crate::kinds::state_counts;
 use crate::laurent::{COEFFICIENTS, Laurent};
 use crate::terms::{Signs, term};
-use circle_smoothing::{StateKinds, Triangle};
+use circle_smoothing::{CountedDiagram, Triangle};
 use kh_types::Diagram;
 
 /// The unnormalised Jones polynomial of a diagram: the sum over its states of
@@ -21,15 +21,15 @@ use kh_types::Diagram;
 pub fn jones(diagram: &Diagram) -> Laurent
     ensures { result ≡ coefficients_of (state_sum diagram.now) }
 {
-    state_sum(&StateKinds::of_diagram(diagram))
+    state_sum(&CountedDiagram::of_diagram(diagram))
 }
 
-/// The same, given the kinds of the diagram's states.
-pub fn state_sum(kinds: &StateKinds) -> Laurent
-    ensures { result ≡ coefficients_of (state_sum kinds.now) }
+/// The same, of a diagram with its states counted.
+pub fn state_sum(counted: &CountedDiagram) -> Laurent
+    ensures { result ≡ coefficients_of (state_sum counted.now) }
 {
-    let counts = state_counts(kinds);
-    let signs = Signs::of_kinds(kinds);
+    let counts = state_counts(counted);
+    let signs = Signs::of_counted(counted);
     let triangle = Triangle::new();
     let mut coefficients = [0; COEFFICIENTS];
     'places: for place in 0..COEFFICIENTS {

@@ -8,22 +8,22 @@ ghost use Rattle.kh_types.specs.StateSum.{state_sum};
 ghost use Rattle.circle_smoothing.specs.declared.kinds.TheConstants.{KINDS};
 ghost use Rattle.jones_sum.specs.Kinds.{counted_sum, kind_term};
 
-use circle_smoothing::{COLUMNS, KINDS, StateKinds};
+use circle_smoothing::{COLUMNS, CountedDiagram, KINDS};
 
 /// The number of states of each kind. So the state sum is the sum of the terms of all kinds, each
 /// as often as it is counted.
-pub fn state_counts(kinds: &StateKinds) -> [u32; KINDS]
+pub fn state_counts(counted: &CountedDiagram) -> [u32; KINDS]
     ensures sums { (exponent : ℤ) → counted_sum (kind_term
-        (plus_count kinds.now.crossings) (minus_count kinds.now.crossings) exponent) result
-        ≡ state_sum kinds.now exponent }
+        (plus_count counted.now.crossings) (minus_count counted.now.crossings) exponent) result
+        ≡ state_sum counted.now exponent }
     ensures all { sum result ≤ 2 ^ CROSSINGS }
     ensures kinds { length result ≡ KINDS }
 {
     // (what the type of a diagram keeps)
-    let _ = kinds.diagram().crossings();
+    let _ = counted.diagram().crossings();
     let mut counts = [0; KINDS];
     'kinds: for kind in 0..KINDS {
-        counts[kind] = kinds.count(kind / COLUMNS, kind % COLUMNS);
+        counts[kind] = counted.count(kind / COLUMNS, kind % COLUMNS);
     }
     counts
 }

@@ -9,7 +9,7 @@ ghost use Rattle.jones_sum.specs.declared.laurent.TheConstants.{COEFFICIENTS};
 ghost use Rattle.circle_smoothing.specs.declared.kinds.TheConstants.{KINDS};
 
 use crate::laurent::COEFFICIENTS;
-use circle_smoothing::{COLUMNS, StateKinds, Triangle};
+use circle_smoothing::{COLUMNS, CountedDiagram, Triangle};
 use kh_types::EXPONENT;
 
 /// The numbers of positive and of negative crossings.
@@ -20,12 +20,12 @@ pub struct Signs {
 }
 
 impl Signs {
-    /// Those of the diagram whose states have these kinds.
-    pub fn of_kinds(kinds: &StateKinds) -> Signs
-        ensures plus { result.plus ≡ plus_count kinds.now.crossings }
-        ensures minus { result.minus ≡ minus_count kinds.now.crossings }
+    /// Those of a diagram.
+    pub fn of_counted(counted: &CountedDiagram) -> Signs
+        ensures plus { result.plus ≡ plus_count counted.now.crossings }
+        ensures minus { result.minus ≡ minus_count counted.now.crossings }
     {
-        let diagram = kinds.diagram();
+        let diagram = counted.diagram();
         Signs {
             plus: diagram.plus(),
             minus: diagram.minus(),

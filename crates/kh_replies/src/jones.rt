@@ -5,7 +5,7 @@ ghost use Rattle.kh_replies.specs.Jones.{jones_line, jones_reply};
 
 use crate::reply::{Reply, reply_made};
 use crate::status::Status;
-use circle_smoothing::StateKinds;
+use circle_smoothing::CountedDiagram;
 use jones_sum::state_sum;
 use kh_types::{Diagram, NoMemory};
 use std::alloc::Global;
@@ -17,15 +17,15 @@ pub fn reply_to_jones(alloc: Global, diagram: &Diagram) -> Result<Reply, NoMemor
 {
     Ok(reply_made(
         Status::Done,
-        jones_line(alloc, &StateKinds::of_diagram(diagram))?,
+        jones_line(alloc, &CountedDiagram::of_diagram(diagram))?,
     ))
 }
 
 /// The text of this line, with its line feed, given the kinds of the diagram's states. Source: this
 /// project's rule.
-pub fn jones_line(alloc: Global, kinds: &StateKinds) -> Result<Vec<u8>, NoMemory>
-    ensures { IfOk result (λ text. text.items ≡ jones_line kinds.now) }
+pub fn jones_line(alloc: Global, counted: &CountedDiagram) -> Result<Vec<u8>, NoMemory>
+    ensures { IfOk result (λ text. text.items ≡ jones_line counted.now) }
 {
-    let line = print_jones(alloc, &state_sum(kinds))?;
+    let line = print_jones(alloc, &state_sum(counted))?;
     Ok(line)
 }

@@ -1,6 +1,6 @@
 //! Drafts of replies.
 
-use circle_smoothing::StateKinds;
+use circle_smoothing::CountedDiagram;
 use kh_replies::Reply;
 use prime_field::FieldSize;
 
@@ -15,7 +15,7 @@ pub enum Draft {
     Table {
         field: FieldSize,
         workers: u32,
-        kinds: StateKinds,
+        kinds: CountedDiagram,
     },
     /// The same table of the diagram of a number, for the counts and the dimension that `bench`
     /// writes.
@@ -23,6 +23,6 @@ pub enum Draft {
         field: FieldSize,
         workers: u32,
         number: u32,
-        kinds: StateKinds,
+        kinds: CountedDiagram,
     },
 }

@@ -69,3 +69,20 @@ impl FieldSize {
         self.elements
     }
 }
+
+/// The one choice of a field: `over_field!(size, call::<More>(first, second))` is
+/// `call::<F2, More>(first, second)` where the size is 2, and so on.
+#[macro_export]
+macro_rules! over_field {
+    ($size:expr, $call:ident::<$($more:ty),*>($($argument:expr),*)) => {
+        match $size.elements() {
+            $crate::Elements::Two => $call::<$crate::F2 $(, $more)*>($($argument),*),
+            $crate::Elements::Three => $call::<$crate::F3 $(, $more)*>($($argument),*),
+            $crate::Elements::Five => $call::<$crate::F5 $(, $more)*>($($argument),*),
+            $crate::Elements::Seven => $call::<$crate::F7 $(, $more)*>($($argument),*),
+        }
+    };
+    ($size:expr, $call:ident($($argument:expr),*)) => {
+        $crate::over_field!($size, $call::<>($($argument),*))
+    };
+}

@@ -8,7 +8,7 @@ ghost use Rattle.reduced_cube.specs.Degrees.{is_from_one, reduced_degrees_of};
 ghost use Rattle.reduced_cube.specs.Reduced.{reduced_degrees};
 ghost use Rattle.kh_types.specs.declared.limits.TheConstants.{EXPONENT};
 
-use circle_smoothing::StateKinds;
+use circle_smoothing::CountedDiagram;
 use cube_signs::{Shape, kind_shapes};
 use kh_types::{Diagram, EXPONENT, NoMemory};
 use std::alloc::Global;
@@ -22,7 +22,7 @@ pub fn reduced_degrees(alloc: Global, diagram: &Diagram, mark: u8) -> Result<Vec
 {
     // (the contract alone speaks of it)
     let _ = mark;
-    let shapes = kind_shapes(alloc, &StateKinds::of_diagram(diagram))?;
+    let shapes = kind_shapes(alloc, &CountedDiagram::of_diagram(diagram))?;
     degrees(alloc, &shapes)
 }
 

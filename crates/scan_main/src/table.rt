@@ -4,10 +4,10 @@ ghost use Rattle.std.specs.Prelude.{◌≡◌, ◌++◌, IfOk};
 ghost use Rattle.kh_types.specs.Table.{table, table_text};
 ghost use Rattle.scan_main.specs.Scans.{IsTableReply};
 
-use circle_smoothing::StateKinds;
+use circle_smoothing::CountedDiagram;
 use kh_replies::{Reply, Status, jones_line, reply_made};
 use kh_types::{Diagram, NoMemory};
-use prime_field::{Elements, F2, F3, F5, F7, FieldSize};
+use prime_field::{FieldSize, over_field};
 use std::alloc::Global;
 use table_text::{head_text, push_line};
 use tangle_scan::{ScanTable, scan_table};
@@ -24,7 +24,7 @@ pub fn reply_to_diagram(
 {
     let table = table_over(alloc, field, diagram)?;
     let mut text = text_of(alloc, &table)?;
-    text.extend_from_slice(&jones_line(alloc, &StateKinds::of_diagram(diagram))?)?;
+    text.extend_from_slice(&jones_line(alloc, &CountedDiagram::of_diagram(diagram))?)?;
     Ok(reply_made(Status::Done, text))
 }
 
@@ -32,12 +32,7 @@ pub fn reply_to_diagram(
 fn table_over(alloc: Global, field: FieldSize, diagram: &Diagram) -> Result<ScanTable, NoMemory>
     ensures { IfOk result (λ made. made ≡ table field diagram.now) }
 {
-    match field.elements() {
-        Elements::Two => scan_table::<F2>(alloc, diagram),
-        Elements::Three => scan_table::<F3>(alloc, diagram),
-        Elements::Five => scan_table::<F5>(alloc, diagram),
-        Elements::Seven => scan_table::<F7>(alloc, diagram),
-    }
+    over_field!(field, scan_table(alloc, diagram))
 }
 
 /// The text of a table.

@@ -15,8 +15,8 @@ use crate::finished::Finished;
 use crate::gate::Gate;
 use crate::outcome::{Cancelled, PoolStop};
 use crate::waves::{finished_alone, finished_in_waves};
-use circle_smoothing::StateKinds;
-use cube_signs::{Cube, check_kinds, kind_degrees};
+use circle_smoothing::CountedDiagram;
+use cube_signs::{Cube, SmallDiagram, counted_degrees};
 use kh_types::{Diagram, NoMemory};
 use prime_field::PrimeField;
 use shared_block::laws::block_laws;
@@ -38,27 +38,26 @@ pub fn cancel_alone<F: PrimeField>(
         AreCancelled F.P diagram.now made.blocks.items made.committed.items) }
     ensures alone { IfOk result (λ made. All (λ count. count ≡ 0) made.committed.items) }
 {
-    cancel_kinds_alone(alloc, &StateKinds::of_diagram(diagram))
+    let small = SmallDiagram::try_new(CountedDiagram::of_diagram(diagram))?;
+    Ok(cancel_small_alone(alloc, &small)?)
 }
 
-/// The same, given the kinds of the diagram's states. This project's rule.
+/// The same, of a diagram whose cube is known to be within the limit. This project's rule.
 #[tactic(auto, using(crate::proofs::DoneLemmas::none_stay))]
-pub fn cancel_kinds_alone<F: PrimeField>(
+pub fn cancel_small_alone<F: PrimeField>(
     alloc: Global,
-    kinds: &StateKinds,
-) -> Result<Cancelled<F>, PoolStop>
-    ensures limit { IsSizeLimit result ↔ (GENERATORS < generator_count kinds.now) }
-    ensures count { TellsCount (generator_count kinds.now) result }
-    ensures table { IfOk result (λ made. made.table ≡ table F.P kinds.now) }
+    small: &SmallDiagram,
+) -> Result<Cancelled<F>, NoMemory>
+    ensures table { IfOk result (λ made. made.table ≡ table F.P small.now) }
     ensures blocks { IfOk result (λ made.
-        AreCancelled F.P kinds.now made.blocks.items made.committed.items) }
+        AreCancelled F.P small.now made.blocks.items made.committed.items) }
     ensures alone { IfOk result (λ made. All (λ count. count ≡ 0) made.committed.items) }
 {
-    check_kinds(kinds)?;
-    let cube = Cube::new(alloc, kinds.diagram())?;
-    let degrees = kind_degrees(alloc, kinds)?;
+    let counted = small.counted();
+    let cube = Cube::new(alloc, counted.diagram())?;
+    let degrees = counted_degrees(alloc, counted)?;
     let done = finished_alone(alloc, &cube, &degrees)?;
-    Ok(with_table(alloc, cube.diagram(), done)?)
+    with_table(alloc, cube.diagram(), done)
 }
 
 /// Cancels all blocks of a diagram to zero, by so many workers that share them. With one worker the
@@ -79,40 +78,39 @@ pub fn cancel_all<R: Threads + Wait + Sync, F: PrimeField + Send + Sync, G: Gate
     ensures alone { workers ≡ 1 → IfOk result (λ made.
         All (λ count. count ≡ 0) made.committed.items) }
 {
-    cancel_kinds(rt, alloc, &StateKinds::of_diagram(diagram), workers, gate)
+    let small = SmallDiagram::try_new(CountedDiagram::of_diagram(diagram))?;
+    Ok(cancel_small(rt, alloc, &small, workers, gate)?)
 }
 
-/// The same, given the kinds of the diagram's states. This project's rule.
-pub fn cancel_kinds<R: Threads + Wait + Sync, F: PrimeField + Send + Sync, G: Gate + Sync>(
+/// The same, of a diagram whose cube is known to be within the limit. This project's rule.
+pub fn cancel_small<R: Threads + Wait + Sync, F: PrimeField + Send + Sync, G: Gate + Sync>(
     rt: &R,
     alloc: Global,
-    kinds: &StateKinds,
+    small: &SmallDiagram,
     workers: u32,
     gate: &G,
-) -> Result<Cancelled<F>, PoolStop>
+) -> Result<Cancelled<F>, NoMemory>
     requires workers { (1 ≤ workers) × (workers ≤ WORKERS) }
-    ensures limit { IsSizeLimit result ↔ (GENERATORS < generator_count kinds.now) }
-    ensures count { TellsCount (generator_count kinds.now) result }
-    ensures table { IfOk result (λ made. made.table ≡ table F.P kinds.now) }
+    ensures table { IfOk result (λ made. made.table ≡ table F.P small.now) }
     ensures blocks { IfOk result (λ made.
-        AreCancelled F.P kinds.now made.blocks.items made.committed.items) }
+        AreCancelled F.P small.now made.blocks.items made.committed.items) }
     ensures alone { workers ≡ 1 → IfOk result (λ made.
         All (λ count. count ≡ 0) made.committed.items) }
 {
     if workers == 1 {
-        return cancel_kinds_alone(alloc, kinds);
+        return cancel_small_alone(alloc, small);
     }
-    check_kinds(kinds)?;
-    let cube = Cube::new(alloc, kinds.diagram())?;
-    let degrees = kind_degrees(alloc, kinds)?;
+    let counted = small.counted();
+    let cube = Cube::new(alloc, counted.diagram())?;
+    let degrees = counted_degrees(alloc, counted)?;
     let crew = Crew {
         rt,
         alloc,
         workers,
         gate,
     };
-    let done = finished_in_waves(&crew, &cube, &degrees, kinds)?;
-    Ok(with_table(alloc, cube.diagram(), done)?)
+    let done = finished_in_waves(&crew, &cube, &degrees, counted)?;
+    with_table(alloc, cube.diagram(), done)
 }
 
 /// What blocks come to once they are cancelled to zero, with the table.

@@ -16,7 +16,7 @@ mod slots;
 mod turns;
 mod waves;
 
-pub use cancelling::{cancel_all, cancel_alone, cancel_kinds, cancel_kinds_alone};
+pub use cancelling::{cancel_all, cancel_alone, cancel_small, cancel_small_alone};
 pub use gate::{Free, Gate};
 pub use one_seat::cancel_by_one_seat;
 pub use outcome::{Cancelled, PoolStop};

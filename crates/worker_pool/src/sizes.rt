@@ -4,7 +4,7 @@
 ghost use Rattle.std.specs.Prelude.{◌≡◌, ◌^◌, ◌≤◌, ◌≤ℤ◌, neg_ℤ, pos, IfOk, length};
 ghost use Rattle.kh_types.specs.declared.limits.TheConstants.{CIRCLES, CROSSINGS};
 
-use circle_smoothing::StateKinds;
+use circle_smoothing::CountedDiagram;
 use kh_types::{CIRCLES, CROSSINGS, Diagram, NoMemory};
 use std::alloc::Global;
 
@@ -12,7 +12,7 @@ use std::alloc::Global;
 /// one before it.
 pub(crate) fn block_sizes(
     alloc: Global,
-    kinds: &StateKinds,
+    counted: &CountedDiagram,
     degrees: &[i16],
 ) -> Result<Vec<u64>, NoMemory>
     ensures { IfOk result (λ sizes. length sizes.items ≡ length degrees.now) }
@@ -21,9 +21,9 @@ pub(crate) fn block_sizes(
     let Some(first) = degrees.first() else {
         return Ok(sizes);
     };
-    let lift = lift(kinds.diagram(), *first);
+    let lift = lift(counted.diagram(), *first);
     'ones: for ones in 0..CROSSINGS + 1 {
-        add_states(&mut sizes, kinds, lift, ones);
+        add_states(&mut sizes, counted, lift, ones);
     }
     Ok(sizes)
 }
@@ -45,13 +45,13 @@ fn no_sizes(alloc: Global, count: usize) -> Result<Vec<u64>, NoMemory>
 }
 
 /// Adds the generators of the states with so many 1-smoothings.
-fn add_states(sizes: &mut [u64], kinds: &StateKinds, lift: i32, ones: usize)
+fn add_states(sizes: &mut [u64], counted: &CountedDiagram, lift: i32, ones: usize)
     requires { ones ≤ CROSSINGS }
     ensures { length sizes.new ≡ length sizes.old }
 {
     'circles: for circles in 0..CIRCLES + 1 {
         let top = i64::from(lift) + ones as i64 + circles as i64;
-        add_kind(sizes, u64::from(kinds.count(ones, circles)), circles, top);
+        add_kind(sizes, u64::from(counted.count(ones, circles)), circles, top);
     }
 }
 

@@ -17,7 +17,7 @@ use crate::rows::{Pool, opened, take_last};
 use crate::sharing::{Course, work_rows};
 use crate::sizes::block_sizes;
 use crate::slots::empty_slots;
-use circle_smoothing::StateKinds;
+use circle_smoothing::CountedDiagram;
 use cube_signs::Cube;
 use kh_types::NoMemory;
 use prime_field::PrimeField;
@@ -48,8 +48,8 @@ pub(crate) fn finished_alone<F: PrimeField>(
     Ok(done)
 }
 
-/// The blocks at some quantum degrees, cancelled to zero by workers in waves. The kinds of the
-/// states say how large the blocks are, which no clause rests on.
+/// The blocks at some quantum degrees, cancelled to zero by workers in waves. How many
+/// states there are of each kind says how large the blocks are, which no clause rests on.
 #[tactic(auto, using(crate::proofs::SlotLemmas::done_slots_empty))]
 pub(crate) fn finished_in_waves<
     R: Threads + Wait + Sync,
@@ -59,7 +59,7 @@ pub(crate) fn finished_in_waves<
     crew: &Crew<R, G>,
     cube: &Cube,
     degrees: &[i16],
-    kinds: &StateKinds,
+    counted: &CountedDiagram,
 ) -> Result<Finished<F>, NoMemory>
     requires degrees { AreDegreesOf cube.now degrees.now }
     requires workers { crew.now.workers ≤ WORKERS }
@@ -67,7 +67,7 @@ pub(crate) fn finished_in_waves<
     ensures done { IfOk result (λ done. AreDone F.P done.blocks.items done.committed.items) }
 {
     let alloc = crew.alloc;
-    let waves = waves_of(alloc, &block_sizes(alloc, kinds, degrees)?)?;
+    let waves = waves_of(alloc, &block_sizes(alloc, counted, degrees)?)?;
     let mut slots = empty_slots(alloc, degrees.len())?;
     'waves: for wave in &waves {
         let chosen = degrees_at(alloc, cube, degrees, &wave.places)?;

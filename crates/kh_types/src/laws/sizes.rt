@@ -2,7 +2,7 @@
 
 ghost use Rattle.std.specs.Prelude.{◌≡◌, ◌≢◌, ℕ, Some, ◌+◌, ◌*◌, ◌<◌, ◌≤◌, ℤ, List, [], length, IsTrue};
 ghost use Rattle.std.specs.List.{All, Contains};
-ghost use Rattle.kh_types.specs.declared.limits.TheConstants.{CROSSINGS, ARCS, COMPONENTS, CIRCLES, EXPONENT, LOOPS, WORKERS, INPUT_BYTES};
+ghost use Rattle.kh_types.specs.declared.limits.TheConstants.{CROSSINGS, ARCS, GREATEST_ARC, COMPONENTS, CIRCLES, EXPONENT, LOOPS, WORKERS, INPUT_BYTES};
 ghost use Rattle.kh_types.specs.Code.{Code};
 ghost use Rattle.kh_types.specs.declared.fault.CodeFault.TheVariants.{Components};
 ghost use Rattle.kh_types.specs.Acceptance.{accepted, first_fault};
@@ -17,6 +17,7 @@ ghost use Rattle.kh_types.specs.Table.{IsWithin, dimension, row_at, table};
 pub fn limits()
     ensures crossings { CROSSINGS ≡ 20 }
     ensures arcs { ARCS ≡ 2 * CROSSINGS }
+    ensures greatest_arc { GREATEST_ARC ≡ 255 }
     ensures components { COMPONENTS ≡ 28 }
     ensures circles { CIRCLES ≡ CROSSINGS + COMPONENTS }
     ensures exponent { EXPONENT ≡ CIRCLES + 2 * CROSSINGS }

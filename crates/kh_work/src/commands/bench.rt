@@ -13,7 +13,7 @@ ghost use Rattle.kh_replies.specs.declared.status.Status.{Status};
 use crate::draft::Draft;
 use braid_maker::from_number;
 use braid_maker::laws::numbers_give_small_diagrams;
-use circle_smoothing::StateKinds;
+use circle_smoothing::CountedDiagram;
 use jones_sum::Table;
 use kh_replies::{Reply, Status, jones_line, reply_made, too_large_number};
 use kh_types::NoMemory;
@@ -54,7 +54,7 @@ pub fn draft_of_bench(
             field,
             workers,
             number,
-            kinds: StateKinds::of_diagram(&diagram),
+            kinds: CountedDiagram::of_diagram(&diagram),
         }),
         Err(limit) => Ok(Draft::Made(too_large_number(alloc, limit.number)?)),
     }
@@ -65,28 +65,28 @@ pub fn draft_of_bench(
 pub fn reply_with_dimension(
     alloc: Global,
     number: u32,
-    kinds: &StateKinds,
+    counted: &CountedDiagram,
     table: &Table,
 ) -> Result<Reply, NoMemory>
     ensures { IfOk result (λ reply. reply ≡ reply_of Status.Done
-        (bench_lines (bench_counts number kinds.now (total_of table.now)) ++ jones_line kinds.now)) }
+        (bench_lines (bench_counts number counted.now (total_of table.now)) ++ jones_line counted.now)) }
 {
-    let counts = bench_counts(number, kinds, table.total());
+    let counts = bench_counts(number, counted, table.total());
     let mut text = bench_lines(alloc, counts)?.into_bytes();
-    text.extend_from_slice(&jones_line(alloc, kinds)?)?;
+    text.extend_from_slice(&jones_line(alloc, counted)?)?;
     Ok(reply_made(Status::Done, text))
 }
 
 /// The counts of a number and its diagram, and a dimension.
-fn bench_counts(number: u32, kinds: &StateKinds, dimension: u64) -> BenchCounts
-    ensures { result ≡ bench_counts number kinds.now dimension }
+fn bench_counts(number: u32, counted: &CountedDiagram, dimension: u64) -> BenchCounts
+    ensures { result ≡ bench_counts number counted.now dimension }
 {
-    let diagram = kinds.diagram();
+    let diagram = counted.diagram();
     BenchCounts {
         number,
         crossings: diagram.count(),
         loops: diagram.loops(),
-        generators: kinds.generator_count(),
+        generators: counted.generator_count(),
         dimension,
     }
 }

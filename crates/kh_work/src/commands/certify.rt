@@ -12,7 +12,7 @@ use cancel_log::write_log;
 use cube_signs::check_size;
 use kh_replies::{Reply, Status, reply_made, too_many_generators};
 use kh_types::{Diagram, NoMemory};
-use prime_field::{Elements, F2, F3, F5, F7, FieldSize};
+use prime_field::{FieldSize, over_field};
 use std::alloc::Global;
 
 /// The reply to a diagram: a log over the field of so many elements, made on the caller's thread.
@@ -38,10 +38,5 @@ fn log_over(alloc: Global, field: FieldSize, diagram: &Diagram) -> Result<Vec<u8
     ensures log { IfOk result (λ text. IsLog field diagram.now text.items) }
     ensures few { IfOk result (λ text. length text.items ≤ LOG_BYTES) }
 {
-    match field.elements() {
-        Elements::Two => write_log::<F2>(alloc, diagram),
-        Elements::Three => write_log::<F3>(alloc, diagram),
-        Elements::Five => write_log::<F5>(alloc, diagram),
-        Elements::Seven => write_log::<F7>(alloc, diagram),
-    }
+    over_field!(field, write_log(alloc, diagram))
 }

@@ -10,7 +10,7 @@ ghost use Rattle.kh_replies.specs.Replies.{reply_of};
 ghost use Rattle.kh_replies.specs.declared.status.Status.{Status};
 
 use crate::draft::Draft;
-use circle_smoothing::StateKinds;
+use circle_smoothing::CountedDiagram;
 use cube_signs::check_kinds;
 use jones_sum::Table;
 use kh_replies::{Reply, Status, jones_line, reply_made, too_many_generators};
@@ -31,12 +31,12 @@ pub fn draft_of_homology(
     ensures reply { IfOk result (λ draft. reply_in draft ≡ homology_reply field diagram.now) }
     ensures ready { IfOk result IsReady }
 {
-    let kinds = StateKinds::of_diagram(diagram);
-    match check_kinds(&kinds) {
+    let counted = CountedDiagram::of_diagram(diagram);
+    match check_kinds(&counted) {
         Ok(_) => Ok(Draft::Table {
             field,
             workers,
-            kinds,
+            counted,
         }),
         Err(limit) => Ok(Draft::Made(too_many_generators(alloc, limit.generators)?)),
     }
@@ -44,23 +44,23 @@ pub fn draft_of_homology(
 
 /// The reply with the text of a homology table of a diagram and the Jones line. Source: this
 /// project's rule.
-pub fn reply_with_table(alloc: Global, kinds: &StateKinds, table: &Table) -> Result<Reply, NoMemory>
+pub fn reply_with_table(alloc: Global, counted: &CountedDiagram, table: &Table) -> Result<Reply, NoMemory>
     ensures { IfOk result (λ reply. reply
-        ≡ reply_of Status.Done (table_text table.now ++ jones_line kinds.now)) }
+        ≡ reply_of Status.Done (table_text table.now ++ jones_line counted.now)) }
 {
-    Ok(reply_made(Status::Done, text_with_table(alloc, kinds, table)?))
+    Ok(reply_made(Status::Done, text_with_table(alloc, counted, table)?))
 }
 
 /// The text of a table of a diagram, and the Jones line behind it, which is read from the kinds of
 /// the diagram's states. Source: this project's rule.
 pub fn text_with_table(
     alloc: Global,
-    kinds: &StateKinds,
+    counted: &CountedDiagram,
     table: &Table,
 ) -> Result<Vec<u8>, NoMemory>
-    ensures { IfOk result (λ text. text.items ≡ table_text table.now ++ jones_line kinds.now) }
+    ensures { IfOk result (λ text. text.items ≡ table_text table.now ++ jones_line counted.now) }
 {
     let mut text = print_table(alloc, table)?;
-    text.extend_from_slice(&jones_line(alloc, kinds)?)?;
+    text.extend_from_slice(&jones_line(alloc, counted)?)?;
     Ok(text)
 }

@@ -13,11 +13,11 @@ ghost use Rattle.reduced_cube.specs.Reduced.{is_mark, reduced_table};
 ghost use Rattle.reduced_cube.specs.Stops.{IsReducedStop};
 
 use crate::commands::text_with_table;
-use circle_smoothing::StateKinds;
+use circle_smoothing::CountedDiagram;
 use jones_sum::Table;
 use kh_replies::{Reply, Status, refused_mark, reply_made, too_many_generators};
 use kh_types::{Diagram, NoMemory};
-use prime_field::{Elements, F2, F3, F5, F7, FieldSize};
+use prime_field::{FieldSize, over_field};
 use reduced_cube::{ReducedStop, reduced_table};
 use std::alloc::Global;
 
@@ -51,12 +51,7 @@ fn reduced_table_over(
     ensures size { IsOk result → generator_count diagram.now ≤ GENERATORS }
     ensures stop { IfErr result (IsReducedStop diagram.now mark) }
 {
-    match field.elements() {
-        Elements::Two => reduced_table::<F2>(alloc, diagram, mark),
-        Elements::Three => reduced_table::<F3>(alloc, diagram, mark),
-        Elements::Five => reduced_table::<F5>(alloc, diagram, mark),
-        Elements::Seven => reduced_table::<F7>(alloc, diagram, mark),
-    }
+    over_field!(field, reduced_table(alloc, diagram, mark))
 }
 
 /// The line of a mark, the text of a table, and the Jones line of a diagram.
@@ -69,9 +64,9 @@ fn reply_with_mark(
     ensures { IfOk result (λ reply. reply ≡ reply_of Status.Done
         (mark_line mark ++ (table_text table.now ++ jones_line diagram.now))) }
 {
-    let kinds = StateKinds::of_diagram(diagram);
+    let counted = CountedDiagram::of_diagram(diagram);
     let mut text = mark_line(alloc, mark)?.into_bytes();
-    text.extend_from_slice(&text_with_table(alloc, &kinds, table)?)?;
+    text.extend_from_slice(&text_with_table(alloc, &counted, table)?)?;
     Ok(reply_made(Status::Done, text))
 }
 

@@ -11,7 +11,7 @@ ghost use Rattle.kh_work.specs.Schedule.{IsScheduleReply, answer_line, answer_li
 ghost use Rattle.kh_types.specs.declared.limits.TheConstants.{WORKERS};
 ghost use Rattle.undo_stack.specs.Schedule.{HasWorker};
 
-use circle_smoothing::StateKinds;
+use circle_smoothing::CountedDiagram;
 use commit_core::{Answer, Event, run_events};
 use cube_signs::check_kinds;
 use jones_sum::Table;
@@ -19,7 +19,7 @@ use kh_replies::{
     Reply, Status, jones_line, refused_line, reply_made, too_many_generators, too_many_lines,
 };
 use kh_types::{Diagram, NoMemory, WORKERS};
-use prime_field::{Elements, F2, F3, F5, F7, FieldSize, PrimeField};
+use prime_field::{FieldSize, PrimeField, over_field};
 use std::alloc::Global;
 use table_text::print_table;
 use undo_stack::{SCRIPT_LINES, ScheduleLine, ScriptStop, read_schedule};
@@ -53,10 +53,10 @@ fn reply_to_script(
     requires workers { All HasWorker script.now }
     ensures { IfOk result (λ reply. reply ≡ schedule_reply field diagram.now script.now) }
 {
-    let kinds = StateKinds::of_diagram(diagram);
-    match check_kinds(&kinds) {
+    let counted = CountedDiagram::of_diagram(diagram);
+    match check_kinds(&counted) {
         Ok(_) => {
-            let text = schedule_text(alloc, field, &kinds, script)?;
+            let text = schedule_text(alloc, field, &counted, script)?;
             Ok(reply_made(Status::Done, text))
         }
         Err(limit) => too_many_generators(alloc, limit.generators),
@@ -68,15 +68,15 @@ fn reply_to_script(
 fn schedule_text(
     alloc: Global,
     field: FieldSize,
-    kinds: &StateKinds,
+    counted: &CountedDiagram,
     script: &[(u32, ScheduleLine)],
 ) -> Result<Vec<u8>, NoMemory>
-    requires size { generator_count kinds.now ≤ GENERATORS }
+    requires size { generator_count counted.now ≤ GENERATORS }
     requires workers { All HasWorker script.now }
-    ensures { IfOk result (λ text. text.items ≡ schedule_text field kinds.now script.now) }
+    ensures { IfOk result (λ text. text.items ≡ schedule_text field counted.now script.now) }
 {
-    let mut text = run_text(alloc, field, kinds.diagram(), script)?;
-    text.extend_from_slice(&jones_line(alloc, kinds)?)?;
+    let mut text = run_text(alloc, field, counted.diagram(), script)?;
+    text.extend_from_slice(&jones_line(alloc, counted)?)?;
     Ok(text)
 }
 
@@ -93,12 +93,7 @@ fn run_text(
         ≡ answer_lines script.now (answers field diagram.now WORKERS (events_of script.now))
         ++ table_text (table field diagram.now)) }
 {
-    match field.elements() {
-        Elements::Two => run_text_over::<F2>(alloc, diagram, script),
-        Elements::Three => run_text_over::<F3>(alloc, diagram, script),
-        Elements::Five => run_text_over::<F5>(alloc, diagram, script),
-        Elements::Seven => run_text_over::<F7>(alloc, diagram, script),
-    }
+    over_field!(field, run_text_over(alloc, diagram, script))
 }
 
 fn run_text_over<F: PrimeField>(

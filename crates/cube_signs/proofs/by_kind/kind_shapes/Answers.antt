@@ -14,10 +14,10 @@ push_shape-requires-clause-minus c =
 
 pub kinds-preserved : goal.kinds-preserved
 kinds-preserved c =
-    kind_shapes-more c.args.kinds.now c.kinds.shapes.items c.push_shape.new.shapes.items c.kinds.kind c.kinds.invariant
+    kind_shapes-more c.args.counted.now c.kinds.shapes.items c.push_shape.new.shapes.items c.kinds.kind c.kinds.invariant
     c.in_ok-push_shape.ensures
 
 pub returns-clause-shapes : goal.returns-clause-shapes
 returns-clause-shapes c =
-    kind_shapes-all c.args.kinds.now c.kinds.shapes.items c.kinds.kind c.kinds.invariant
+    kind_shapes-all c.args.counted.now c.kinds.shapes.items c.kinds.kind c.kinds.invariant
     (omega (arith, c.kinds-test.false, c.kinds.auto.kind-end))

@@ -3,4 +3,4 @@ use Rattle.cube_signs.specs.KindShapes.{kind_shapes}
 use Rattle.cube_signs.proofs.by_kind.kind_shapes.Given as goal
 
 abbrev pub invariant-kinds : goal.invariant-kinds
-invariant-kinds l = l.shapes.items ≡ kind_shapes l.kinds l.kind
+invariant-kinds l = l.shapes.items ≡ kind_shapes l.counted l.kind

@@ -12,7 +12,7 @@ accepted_too code same is holds = subst (λ (c : Code). IsAccepted c) is ((IsAcc
 
 pub returns-clause-sums : goal.returns-clause-sums
 returns-clause-sums c = λ exponent.
-    let code = c.args.kinds.now in
+    let code = c.args.counted.now in
     counted_sum-state_sum code c.kinds.counts exponent
     (accepted_too code c.diagram.result.now c.diagram.ensures c.crossings.ensures.accepted)
     (omega (
@@ -25,7 +25,7 @@ returns-clause-sums c = λ exponent.
 
 pub returns-clause-all : goal.returns-clause-all
 returns-clause-all c =
-    let code = c.args.kinds.now in
+    let code = c.args.counted.now in
     sum-counts code c.kinds.counts (accepted_too code c.diagram.result.now c.diagram.ensures c.crossings.ensures.accepted)
     (omega (
       arith,

@@ -6,6 +6,6 @@ use Rattle.jones_sum.proofs.kinds.state_counts.Given as goal
 abbrev pub invariant-kinds : goal.invariant-kinds
 invariant-kinds l =
     record {
-      counts : (kind : ℕ) → kind < l.kind → get_or l.counts kind 0 ≡ kind_count l.kinds (kind_ones kind) (kind_circles kind);
+      counts : (kind : ℕ) → kind < l.kind → get_or l.counts kind 0 ≡ kind_count l.counted (kind_ones kind) (kind_circles kind);
       size : length l.counts ≡ KINDS;
     }

@@ -7,5 +7,5 @@ use Rattle.worker_pool.proofs.cancelling.cancel_all.Goals as goal
 
 pub returns-clause-limit : goal.returns-clause-limit
 returns-clause-limit g c =
-    subst (λ (code : Code). IsSizeLimit c.cancel_kinds.result ↔ (GENERATORS < generator_count code)) c.of_diagram.ensures
-    c.cancel_kinds.ensures.limit
+    subst (λ (code : Code). IsSizeLimit c.cancel_small.result ↔ (GENERATORS < generator_count code)) c.of_diagram.ensures
+    c.cancel_small.ensures.limit

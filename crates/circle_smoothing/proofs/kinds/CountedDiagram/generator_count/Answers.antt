@@ -4,7 +4,7 @@ use Rattle.kh_types.proofs.AcceptedLemmas.{IsAccepted-is}
 use Rattle.circle_smoothing.specs.GeneratorCounts.{generator_count, kind_generators}
 use Rattle.circle_smoothing.specs.declared.kinds.TheConstants.{KINDS}
 use Rattle.circle_smoothing.proofs.GeneratorLemmas.{generator_count-le, generators-by_kinds}
-use Rattle.circle_smoothing.proofs.kinds.StateKinds.generator_count.Goals as goal
+use Rattle.circle_smoothing.proofs.kinds.CountedDiagram.generator_count.Goals as goal
 
 pub returns-clause-count : goal.returns-clause-count
 returns-clause-count c =

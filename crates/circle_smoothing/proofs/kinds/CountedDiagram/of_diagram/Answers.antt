@@ -4,8 +4,8 @@ use Rattle.std.proofs.Math.Pow.{pow_mono}
 use Rattle.kh_types.specs.declared.limits.TheConstants.{CROSSINGS}
 use Rattle.kh_types.proofs.AcceptedLemmas.{IsAccepted-is}
 use Rattle.circle_smoothing.specs.declared.branches.TheConstants.{COUNTS}
-use Rattle.circle_smoothing.proofs.KindLemmas.{HaveArcsBelow-accepted, AreKinds-counted, slice_index-zeros}
-use Rattle.circle_smoothing.proofs.kinds.StateKinds.of_diagram.Goals as goal
+use Rattle.circle_smoothing.proofs.KindLemmas.{HaveArcsBelow-accepted, IsCounted-counted, slice_index-zeros}
+use Rattle.circle_smoothing.proofs.kinds.CountedDiagram.of_diagram.Goals as goal
 
 pub count_branch-requires-clause-arcs : goal.count_branch-requires-clause-arcs
 count_branch-requires-clause-arcs c =
@@ -19,7 +19,7 @@ count_branch-requires-clause-room c = λ place within.
 
 pub invariant_of-result : goal.invariant_of-result
 invariant_of-result c =
-    AreKinds-counted c.args.diagram.now c.crossings.result.now (replicate COUNTS 0) c.count_branch.new.counts c.of_all.result.ones
+    IsCounted-counted c.args.diagram.now c.crossings.result.now (replicate COUNTS 0) c.count_branch.new.counts c.of_all.result.ones
     c.of_all.result.classes c.crossings.ensures.accepted c.crossings.ensures.crossings c.crossings.ensures.few
     c.of_all.ensures.ones c.of_all.ensures.classes c.count_branch.ensures.size (slice_index-zeros COUNTS)
     c.count_branch.ensures.counts

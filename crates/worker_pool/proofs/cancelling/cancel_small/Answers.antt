@@ -1,7 +1,7 @@
 use Rattle.std.proofs.Common.{◌∙◌, ap, sym}
 use Rattle.cube_signs.specs.Blocks.{block_degrees}
 use Rattle.worker_pool.proofs.DoneLemmas.{degrees_all}
-use Rattle.worker_pool.proofs.cancelling.cancel_kinds.Goals as goal
+use Rattle.worker_pool.proofs.cancelling.cancel_small.Goals as goal
 
 pub finished_in_waves-requires-clause-degrees : goal.finished_in_waves-requires-clause-degrees
 finished_in_waves-requires-clause-degrees g c κs within =

@@ -1,8 +1,8 @@
 use Rattle.std.proofs.Common.{arith}
 use Rattle.kh_types.proofs.AcceptedLemmas.{IsAccepted-is}
 use Rattle.circle_smoothing.proofs.KindLemmas.{kind_count-kept, kind_count-le, kind_count-nothing}
-use Rattle.circle_smoothing.proofs.kinds.StateKinds.count.Goals as goal
-use Rattle.circle_smoothing.proofs.kinds.StateKinds.count.Goals.{else-ones-le-CROSSINGS-via-then-ones-le-CROSSINGS+then-circles-names+else-names-circles-le-JOINS, else-ones-le-CROSSINGS-via-then-ones-le-CROSSINGS+else-circles-names, else-ones-le-CROSSINGS-via-else-ones-le-CROSSINGS}
+use Rattle.circle_smoothing.proofs.kinds.CountedDiagram.count.Goals as goal
+use Rattle.circle_smoothing.proofs.kinds.CountedDiagram.count.Goals.{else-ones-le-CROSSINGS-via-then-ones-le-CROSSINGS+then-circles-names+else-names-circles-le-JOINS, else-ones-le-CROSSINGS-via-then-ones-le-CROSSINGS+else-circles-names, else-ones-le-CROSSINGS-via-else-ones-le-CROSSINGS}
 
 pub returns-then-names-circles-le-JOINS-clause-count : goal.returns-then-names-circles-le-JOINS-clause-count
 returns-then-names-circles-le-JOINS-clause-count c =

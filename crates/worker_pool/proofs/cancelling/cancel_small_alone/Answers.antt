@@ -1,7 +1,7 @@
 use Rattle.std.proofs.Common.{◌∙◌, ap, sym}
 use Rattle.cube_signs.specs.Blocks.{block_degrees}
 use Rattle.worker_pool.proofs.DoneLemmas.{degrees_all}
-use Rattle.worker_pool.proofs.cancelling.cancel_kinds_alone.Goals as goal
+use Rattle.worker_pool.proofs.cancelling.cancel_small_alone.Goals as goal
 
 pub finished_alone-requires : goal.finished_alone-requires
 finished_alone-requires g c =
