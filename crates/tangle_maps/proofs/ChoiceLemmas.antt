@@ -23,7 +23,7 @@ use Rattle.dotted_maps.specs.Maps.{coefficient_in, scaled}
 use Rattle.dotted_maps.specs.Parts.{product_over}
 use Rattle.dotted_maps.proofs.LeastPoints.{all-themselves}
 use Rattle.std.proofs.lemmas.List.Sums.{sum_by-cons}
-use Rattle.tangle_maps.proofs.SumLemmas.{IsSum-alike, IsSum-chained, sums-alike}
+use Rattle.tangle_maps.proofs.SumLemmas.{IsSum-alike, IsSum-chained, coefficient-append, sums-alike}
 
 abbrev made : ℕ → ℕ → ℕ → ℕ → Term
 made dots place value s = term_of (dots + 2 ^ place * s) value
@@ -52,6 +52,31 @@ chosen-odd a j v (x ∷ xs) = ap₂ (λ (d : ℕ) (ts : List Term). term_of d v 
 chosen-even : (a j v : ℕ) (xs : List ℕ) → chosen a j v (map (λ s. 2 * s) xs) ≡ chosen a (j + 1) v xs
 chosen-even a j v [] = refl
 chosen-even a j v (x ∷ xs) = ap₂ (λ (d : ℕ) (ts : List Term). term_of d v ∷ ts) (even-dots a j x) (chosen-even a j v xs)
+
+-- terms with the coefficient 0 add nothing
+
+chosen-zero : (a j kept : ℕ) (xs : List ℕ) → coefficient_in (chosen a j 0 xs) kept ≡ 0
+chosen-zero a j kept [] = refl
+chosen-zero a j kept (x ∷ xs) =
+    sum_by-cons (λ term. cond (nat_eq term.dots kept) term.coefficient 0) (made a j 0 x) (chosen a j 0 xs)
+    ∙ ap₂ (λ b n. b + n) (nothing (nat_eq (a + 2 ^ j * x) kept)) (chosen-zero a j kept xs)
+  where
+    nothing : (b : Bool) → cond {A = ℕ} b 0 0 ≡ 0
+    nothing true = refl
+    nothing false = refl
+
+pub zero_added : (p value : ℕ) (sets : List ℕ) (terms : List Term) → value ≡ 0 → IsSum p terms (chosen 0 0 value sets) terms
+zero_added p value sets terms is_zero = record {
+  coefficients = λ kept.
+      ap (λ n. n % p)
+      (same (coefficient_in terms kept) (coefficient_in (chosen 0 0 value sets) kept)
+      (ap (λ v. coefficient_in (chosen 0 0 v sets) kept) is_zero ∙ chosen-zero 0 0 kept sets)
+      ∙ sym (coefficient-append terms (chosen 0 0 value sets) kept));
+  dots = λ limit below more. below;
+}
+  where
+    same : (a b : ℕ) → b ≡ 0 → a ≡ a + b
+    same a b none = omega (arith, none)
 
 -- choices depend on what is left at their names and discs alone, of which a fact P holds
 
