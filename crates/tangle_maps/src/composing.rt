@@ -1,7 +1,7 @@
 //! Compositions of maps.
 
 ghost use Rattle.std.specs.Prelude.{◌≡◌, ℕ, ◌<◌, ◌≤◌, ◌*◌, ◌-◌, ◌%◌, IfOk, OnOk, length, slice_index};
-ghost use Rattle.std.specs.List.{flat_map, Contains};
+ghost use Rattle.std.specs.List.{flat_map, AllByRecursion, Contains};
 ghost use Rattle.kh_types.specs.Residues.{Same};
 ghost use Rattle.dotted_maps.specs.Choices.{choices};
 ghost use Rattle.dotted_maps.specs.Maps.{scaled};
@@ -113,6 +113,7 @@ fn add_weighed<F: PrimeField>(
     requires reduced { AreReduced F.P terms.old.items }
     requires names { IsOpened names.now }
     requires discs { IsOpened discs.now }
+    requires named { AllByRecursion (λ k. Contains names.now k) discs.now }
     requires room { length discs.now ≤ POINTS }
     ensures sum { OnOk result (IsSum F.P terms.old.items
         (chosen 0 0 (F.value_of weighed) (choices names.now discs.now (slice_index left.now)))

@@ -1,5 +1,6 @@
-use Rattle.std.proofs.Common.{ℕ, List, ap₂, subst}
+use Rattle.std.proofs.Common.{ℕ, List, ap₂, subst, subst₂, sym}
 use Rattle.std.specs.Prelude.{slice_index}
+use Rattle.std.specs.List.{AllByRecursion, Contains}
 use Rattle.std.proofs.lemmas.Result.{on_ok_weaker}
 use Rattle.dotted_maps.specs.Choices.{choices}
 use Rattle.tangle_maps.specs.Chosen.{chosen}
@@ -19,3 +20,8 @@ returns-clause-sum g c =
     (subst (λ xs. IsSum p c.args.terms.now.items xs c.add_weighed.new.terms.items)
     (ap₂ (λ (xs ys : List ℕ). chosen 0 0 weighed (choices xs ys (slice_index left))) c.deref.ensures.0 c.deref-2.ensures.0) is))
     c.add_weighed.ensures.sum
+
+pub add_weighed-requires-clause-named : goal.add_weighed-requires-clause-named
+add_weighed-requires-clause-named g c =
+    subst₂ (λ (xs ys : List ℕ). AllByRecursion (λ k. Contains xs k) ys) (sym c.deref.ensures.0) (sym c.deref-2.ensures.0)
+    c.requires.seam.named
