@@ -6,7 +6,7 @@
 -- terms of the composition of two terms (`composed_added`).
 use Rattle.std.proofs.Common.{◌≡◌, ◌≢◌, ℕ, zero, suc, inl, inr, ◌+◌, ◌-◌, ◌*◌, ◌%◌, ◌^◌, ◌<◌, ◌∙◌, List, [], ◌∷◌, ◌++◌, length, map, set, refl, sym, subst, ap, ap₂, arith, Bool, true, false, cond, ◌&&◌, eq-eqb}
 use Rattle.std.specs.Prelude.{nat_eq, slice_index, get_or}
-use Rattle.std.specs.List.{list_all, AllByRecursion, Contains}
+use Rattle.std.specs.List.{count_by, list_all, AllByRecursion, Contains}
 use Rattle.std.proofs.Math.Nat.{pow-suc}
 use Rattle.std.proofs.lemmas.Bool.{cases_eq}
 use Rattle.std.proofs.lemmas.Bool.Decides.{nat_tests}
@@ -23,7 +23,7 @@ use Rattle.dotted_maps.specs.Maps.{coefficient_in, scaled}
 use Rattle.dotted_maps.specs.Parts.{product_over}
 use Rattle.dotted_maps.proofs.LeastPoints.{all-themselves}
 use Rattle.std.proofs.lemmas.List.Sums.{sum_by-cons}
-use Rattle.tangle_maps.proofs.SumLemmas.{IsSum-alike, IsSum-chained, sums-alike}
+use Rattle.tangle_maps.proofs.SumLemmas.{IsSum-alike, IsSum-chained, coefficient-append, sums-alike}
 
 abbrev made : ℕ → ℕ → ℕ → ℕ → Term
 made dots place value s = term_of (dots + 2 ^ place * s) value
@@ -52,6 +52,31 @@ chosen-odd a j v (x ∷ xs) = ap₂ (λ (d : ℕ) (ts : List Term). term_of d v 
 chosen-even : (a j v : ℕ) (xs : List ℕ) → chosen a j v (map (λ s. 2 * s) xs) ≡ chosen a (j + 1) v xs
 chosen-even a j v [] = refl
 chosen-even a j v (x ∷ xs) = ap₂ (λ (d : ℕ) (ts : List Term). term_of d v ∷ ts) (even-dots a j x) (chosen-even a j v xs)
+
+-- terms with the coefficient 0 add nothing
+
+chosen-zero : (a j kept : ℕ) (xs : List ℕ) → coefficient_in (chosen a j 0 xs) kept ≡ 0
+chosen-zero a j kept [] = refl
+chosen-zero a j kept (x ∷ xs) =
+    sum_by-cons (λ term. cond (nat_eq term.dots kept) term.coefficient 0) (made a j 0 x) (chosen a j 0 xs)
+    ∙ ap₂ (λ b n. b + n) (nothing (nat_eq (a + 2 ^ j * x) kept)) (chosen-zero a j kept xs)
+  where
+    nothing : (b : Bool) → cond {A = ℕ} b 0 0 ≡ 0
+    nothing true = refl
+    nothing false = refl
+
+pub zero_added : (p value : ℕ) (sets : List ℕ) (terms : List Term) → value ≡ 0 → IsSum p terms (chosen 0 0 value sets) terms
+zero_added p value sets terms is_zero = record {
+  coefficients = λ kept.
+      ap (λ n. n % p)
+      (same (coefficient_in terms kept) (coefficient_in (chosen 0 0 value sets) kept)
+      (ap (λ v. coefficient_in (chosen 0 0 v sets) kept) is_zero ∙ chosen-zero 0 0 kept sets)
+      ∙ sym (coefficient-append terms (chosen 0 0 value sets) kept));
+  dots = λ limit below more. below;
+}
+  where
+    same : (a b : ℕ) → b ≡ 0 → a ≡ a + b
+    same a b none = omega (arith, none)
 
 -- choices depend on what is left at their names and discs alone, of which a fact P holds
 
@@ -168,6 +193,64 @@ chosen_dotted p a j v k b i names discs ks left old new are none at_b at_i first
     ∙ ap₂ (λ xs ys. xs ++ ys) (ap₂ (λ x y. chosen x y v (choices names ks mine)) at_b at_i)
     (ap (λ c. chosen a j v (even_part names k ks mine c)) (sym (eq-eqb (mine k) 0 none)))
     ∙ sym (chosen-parted a j v k names ks mine) ∙ ap (λ xs. chosen a j v (choices names xs mine)) (sym are)) first
+
+-- where a named component is to have a disc without a dot, and has no disc, there is no choice
+
+not-done : (left : ℕ → ℕ) (names : List ℕ) (k : ℕ) → Contains names k → left k ≢ 0
+    → list_all (λ j. nat_eq (left j) 0) names ≡ false
+not-done left [] k has some = absurd (omega (arith, has.1))
+not-done left (name ∷ names) k has some = elim (cases_eq (left name) 0) [
+  | inl none ↦
+      ap₂ (λ a b. a && b) (eq-eqb (left name) 0 none)
+      (not-done left names k (behind (λ same. some (sym (ap left same) ∙ none))) some)
+  | inr here ↦ ap (λ b. b && list_all (λ j. nat_eq (left j) 0) names) (test-false (left name) here)
+]
+  where
+    later : (xs : List ℕ) → Contains (name ∷ xs) k → (name ≢ k) → Contains xs k
+    later xs (zero, within, is) apart = absurd (apart is)
+    later xs (suc i, within, is) apart = (i, omega (arith, within), is)
+
+    behind : (name ≢ k) → Contains names k
+    behind apart = later names has apart
+
+pub choices-none : (names ks : List ℕ) (left : ℕ → ℕ) (k : ℕ) → Contains names k → left k ≢ 0 → count_by (λ x. nat_eq x k) ks ≡ 0
+    → choices names ks left ≡ []
+choices-none names [] left k has some none = ap (λ b. cond b (0 ∷ []) []) (not-done left names k has some)
+choices-none names (j ∷ ks) left k has some none =
+    let split = sum_by-cons (λ x. cond (nat_eq x k) 1 0) j ks in
+    let rest : count_by (λ x. nat_eq x k) ks ≡ 0 = omega (arith, split, none) in
+    let apart : k ≢ j = λ same. absurd (omega (arith, split, none, ap {B = ℕ} (λ b. cond b 1 0) (eq-eqb j k (sym same)))) in
+    let later : fewer j left k ≢ 0 = λ is. some (sym (ap (λ b. cond b (left k - 1) (left k)) (apart-test k j apart)) ∙ is) in
+    ap₂ (λ xs ys. map (λ s. 1 + 2 * s) xs ++ cond (nat_eq (left j) 0) [] (map (λ s. 2 * s) ys)) (choices-none names ks left k has some rest)
+    (choices-none names ks (fewer j left) k has later rest)
+    ∙ nothing (nat_eq (left j) 0)
+  where
+    apart-test : (x y : ℕ) → x ≢ y → nat_eq x y ≡ false
+    apart-test x y apart = grind (arith, nat_tests)
+
+    nothing : (b : Bool) → cond {A = List ℕ} b [] [] ≡ []
+    nothing true = refl
+    nothing false = refl
+
+-- a disc that has none
+pub chosen_undotted : (p a j v k d e : ℕ) (names discs ks left fewer_left : List ℕ) (old new : List Term)
+    → AllByRecursion (λ x. Contains names x) discs → discs ≡ k ∷ ks
+    → (slice_index left k ≢ 0) × (count_by (λ x. nat_eq x k) ks ≡ 0) → d ≡ a → e ≡ j + 1
+    → fewer_left ≡ set left k (slice_index left k - 1)
+    → IsSum p old (chosen d e v (choices names ks (slice_index fewer_left))) new
+    → IsSum p old (chosen a j v (choices names discs (slice_index left))) new
+chosen_undotted p a j v k d e names discs ks left fewer_left old new named are needs at_d at_e set_left second =
+    let has : Contains names k = (subst (λ xs. AllByRecursion (λ x. Contains names x) xs) are named).0 in
+    let none = choices-none names ks (slice_index left) k has needs.0 needs.1 in
+    chosen_both p a j v k (a + 2 ^ j) (j + 1) d e names discs ks left fewer_left old old new are
+    (omega (arith, needs.0)) refl refl at_d at_e set_left
+    (subst (λ xs. IsSum p old (chosen (a + 2 ^ j) (j + 1) v xs) old) (sym none) (nothing-added p old)) second
+  where
+    nothing-added : (p : ℕ) (terms : List Term) → IsSum p terms [] terms
+    nothing-added p terms = record {
+      coefficients = λ dots. ap (λ xs. coefficient_in xs dots % p) (sym (append-nil terms));
+      dots = λ limit below more. below;
+    }
 
 -- the same sets with the same coefficient modulo p
 

@@ -9,4 +9,3 @@ pub mod WayLemmas
 pub mod LawLemmas
 pub mod SizeLemmas
 pub mod PartSizes
-pub mod ColumnLemmas

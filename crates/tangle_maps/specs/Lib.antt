@@ -3,4 +3,3 @@ pub mod Sums
 pub mod Chosen
 pub mod Seams
 pub mod Ways
-pub mod Columns

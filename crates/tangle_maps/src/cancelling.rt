@@ -1,8 +1,7 @@
 //! What cancelling a pivot, an entry that is a number times the identity, makes of other entries.
 
-ghost use Rattle.std.specs.Prelude.{◌≡◌, ◌≢◌, ◌<◌, OnOk, length, slice_set};
+ghost use Rattle.std.specs.Prelude.{◌≡◌, ◌≢◌, OnOk};
 ghost use Rattle.prime_field.specs.Residues.{inverse_mod, negative_mod};
-ghost use Rattle.tangle_maps.specs.Columns.{terms_at, terms_in};
 ghost use Rattle.tangle_maps.specs.Sums.{AreReduced};
 ghost use Rattle.tangle_maps.specs.Ways.{HasReducedMaps, IsCancelledAlong, IsWay};
 
@@ -35,25 +34,4 @@ fn minus_inverse<F: PrimeField>(pivot: F) -> F
 {
     element_laws::<F>();
     quotient(F::of(1), pivot).neg()
-}
-
-/// The same for the entry at a place of a column, from 0; the others stay.
-pub fn cancel_at<F: PrimeField>(
-    column: &mut [Terms],
-    place: usize,
-    way: &Way<'_>,
-    pivot: F,
-) -> Result<(), NoMemory>
-    requires place { place < length column.old }
-    requires column { AreReduced F.P (terms_at column.old place) }
-    requires way { IsWay way.now }
-    requires maps { HasReducedMaps F.P way.now }
-    requires pivot { F.value_of pivot ≢ 0 }
-    ensures entry { OnOk result (IsCancelledAlong F.P (F.value_of pivot) way.now
-        (terms_at column.old place) (terms_at column.new place)) }
-    ensures others { terms_in column.new
-        ≡ slice_set (terms_in column.old) place (terms_at column.new place) }
-    ensures reduced { AreReduced F.P (terms_at column.new place) }
-{
-    cancel(&mut column[place], way, pivot)
 }

@@ -1,7 +1,7 @@
 //! The dot sets that leave so many discs of each component without a dot.
 
-ghost use Rattle.std.specs.Prelude.{◌≡◌, ◌<◌, ◌≤◌, ◌+◌, ◌-◌, ◌^◌, OnOk, length, nat_eq, slice_index, slice_set};
-ghost use Rattle.std.specs.List.{list_all};
+ghost use Rattle.std.specs.Prelude.{◌≡◌, ◌≢◌, ◌<◌, ◌≤◌, ◌+◌, ◌-◌, ◌^◌, OnOk, length, nat_eq, false, slice_index, slice_set};
+ghost use Rattle.std.specs.List.{count_by, list_all, AllByRecursion, Contains};
 ghost use Rattle.tangle_maps.specs.declared.pairing.TheConstants.{POINTS};
 ghost use Rattle.dotted_maps.specs.Choices.{choices};
 ghost use Rattle.tangle_maps.specs.Pairings.{IsOpened};
@@ -9,6 +9,7 @@ ghost use Rattle.tangle_maps.specs.Sums.{AreReduced, IsSum};
 ghost use Rattle.tangle_maps.specs.Chosen.{chosen};
 
 use crate::names::{Names, at};
+use crate::seam::how_many;
 use crate::sum::{Terms, add_term};
 use kh_types::NoMemory;
 use prime_field::PrimeField;
@@ -33,6 +34,7 @@ pub(crate) fn add_choices<F: PrimeField>(
     requires reduced { AreReduced F.P terms.old.items }
     requires names { IsOpened names.now }
     requires discs { IsOpened discs.now }
+    requires named { AllByRecursion (λ k. Contains names.now k) discs.now }
     requires place { made.place + length discs.now ≤ POINTS }
     requires dots { made.dots < 2 ^ made.place }
     ensures sum { OnOk result (IsSum F.P terms.old.items
@@ -48,6 +50,10 @@ pub(crate) fn add_choices<F: PrimeField>(
             }
         }
         Some((component, rest)) => {
+            if !may_have_dot(rest, left, *component) {
+                let fewer = fewer(left, *component);
+                return add_choices(terms, names, rest, &fewer, undotted(made), value);
+            }
             add_choices(terms, names, rest, left, dotted(made), value)?;
             if at(left, *component) > 0 {
                 add_choices(
@@ -62,6 +68,16 @@ pub(crate) fn add_choices<F: PrimeField>(
         }
     }
     Ok(())
+}
+
+/// Whether a disc of a component may have a dot: there is another one among the rest, or none is to
+/// be left without a dot.
+fn may_have_dot(rest: &[u8], left: &Names, component: u8) -> bool
+    requires { component < POINTS }
+    ensures { result ≡ false → (slice_index left.now component ≢ 0)
+        × (count_by (λ x. nat_eq x component) rest.now ≡ 0) }
+{
+    at(left, component) == 0 || how_many(component, rest) > 0
 }
 
 /// Whether no disc is to be left without a dot any more.

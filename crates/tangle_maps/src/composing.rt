@@ -1,11 +1,13 @@
 //! Compositions of maps.
 
-ghost use Rattle.std.specs.Prelude.{◌≡◌, ℕ, ◌<◌, ◌≤◌, ◌*◌, ◌-◌, ◌%◌, IfOk, OnOk, slice_index};
-ghost use Rattle.std.specs.List.{flat_map, Contains};
+ghost use Rattle.std.specs.Prelude.{◌≡◌, ℕ, ◌<◌, ◌≤◌, ◌*◌, ◌-◌, ◌%◌, IfOk, OnOk, length, slice_index};
+ghost use Rattle.std.specs.List.{flat_map, AllByRecursion, Contains};
 ghost use Rattle.kh_types.specs.Residues.{Same};
+ghost use Rattle.dotted_maps.specs.Choices.{choices};
 ghost use Rattle.dotted_maps.specs.Maps.{scaled};
 ghost use Rattle.dotted_maps.specs.Parts.{product_over};
 ghost use Rattle.tangle_maps.specs.declared.pairing.TheConstants.{POINTS};
+ghost use Rattle.tangle_maps.specs.Chosen.{chosen};
 ghost use Rattle.tangle_maps.specs.Pairings.{IsOpened};
 ghost use Rattle.tangle_maps.specs.Seams.{CanCompose, factor_by, factor_for, left_by};
 ghost use Rattle.tangle_maps.specs.Seams.{load_by, seam_listed, seam_terms};
@@ -96,8 +98,33 @@ fn add_composed<F: PrimeField>(
     let mut left = [0; POINTS];
     let value = product(term, other, factor);
     let weighed = weigh(seam, term.dots, other.dots, &mut left, value);
+    add_weighed(terms, &seam.components, &seam.whole, &left, weighed)
+}
+
+/// Adds a term for each choice of discs, of which these are the components, that leaves so many of
+/// each of the named components without a dot; nothing, where their coefficient is 0.
+fn add_weighed<F: PrimeField>(
+    terms: &mut Terms,
+    names: &[u8],
+    discs: &[u8],
+    left: &Names,
+    weighed: F,
+) -> Result<(), NoMemory>
+    requires reduced { AreReduced F.P terms.old.items }
+    requires names { IsOpened names.now }
+    requires discs { IsOpened discs.now }
+    requires named { AllByRecursion (λ k. Contains names.now k) discs.now }
+    requires room { length discs.now ≤ POINTS }
+    ensures sum { OnOk result (IsSum F.P terms.old.items
+        (chosen 0 0 (F.value_of weighed) (choices names.now discs.now (slice_index left.now)))
+        terms.new.items) }
+    ensures reduced { AreReduced F.P terms.new.items }
+{
+    if weighed.value() == 0 {
+        return Ok(());
+    }
     let none = Dots { dots: 0, place: 0 };
-    add_choices(terms, &seam.components, &seam.whole, &left, none, weighed)
+    add_choices(terms, names, discs, left, none, weighed)
 }
 
 /// The product of two terms' coefficients, times a factor.

@@ -113,14 +113,15 @@ fn add_multiple<F: PrimeField>(terms: &mut Terms, term: &Term, factor: F) -> Res
     add_term(terms, term.dots, factor.mul(F::of(term.coefficient)))
 }
 
-/// Whether a sum is 0.
+/// Whether a reduced sum is 0.
 pub fn is_zero(terms: &[Term]) -> bool
     ensures { result ≡ nat_eq (length terms.now) 0 }
 {
     terms.is_empty()
 }
 
-/// The number that a map from a pairing to itself is, times the identity, if it is one.
+/// The number that a map from a pairing to itself is, times the identity, if it is one: the map is
+/// a reduced sum.
 pub fn number_of(terms: &[Term]) -> Option<u8>
     ensures { result ≡ number_in terms.now }
 {

@@ -15,6 +15,8 @@ mod finished;
 mod front;
 mod object;
 mod order;
+#[cfg(test)]
+mod order_tests;
 mod pivots;
 mod reordering;
 mod rows;

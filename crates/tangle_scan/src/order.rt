@@ -1,7 +1,7 @@
 //! An order of crossings that is mostly fast. Any order is right, so contracts say no more than
 //! that it is one; which one is this project's rule.
 
-ghost use Rattle.std.specs.Prelude.{◌≡◌, ◌<◌, ◌≤◌, length};
+ghost use Rattle.std.specs.Prelude.{◌≡◌, ◌⊎◌, ◌<◌, ◌≤◌, length};
 ghost use Rattle.cell_complexes.specs.Cubes.{IsReordered};
 
 use arrayvec::ArrayVec;
@@ -13,21 +13,64 @@ type Crossings = ArrayVec<Crossing, CROSSINGS>;
 /// For each number of an arc, whether one of its ends has been met.
 type Ends = [bool; 256];
 
+/// An order of crossings, and how much work it may be: the sum of 2 to the number of arcs that are
+/// open behind each crossing.
+#[derive(Drop)]
+struct Order {
+    crossings: Crossings,
+    work: u64,
+}
+
 /// The crossings of a diagram, in an order where each next one leaves the fewest arcs open: of those
-/// equal one that touches most open arcs, else the first.
-#[tactic(auto, using(crate::proofs::OrderLemmas::steps))]
+/// equal one that touches most open arcs, else the first. Each crossing is tried as the first of
+/// all, and the order taken that may be least work.
 pub fn ordered(diagram: &Diagram) -> ArrayVec<Crossing, CROSSINGS>
     ensures { IsReordered diagram.now.crossings result.items }
+{
+    let mut best = ordered_from(diagram, 0);
+    'starts: for start in 1..diagram.crossings().len() {
+        best = lighter(best, ordered_from(diagram, start));
+    }
+    best.crossings
+}
+
+/// Of two orders that which may be less work.
+fn lighter(one: Order, other: Order) -> Order
+    ensures { (result ≡ one) ⊎ (result ≡ other) }
+{
+    if other.work < one.work { other } else { one }
+}
+
+/// The order that begins with the crossing at a place, or the last.
+#[tactic(auto, using(crate::proofs::OrderLemmas::steps))]
+fn ordered_from(diagram: &Diagram, start: usize) -> Order
+    ensures { IsReordered diagram.now.crossings result.crossings.items }
 {
     let mut left = diagram.to_raw().crossings;
     let mut made: Crossings = ArrayVec::new();
     let mut ends = [false; 256];
+    let mut work = 0u64;
     'crossings: while !left.is_empty() {
-        let crossing = left.remove(next_place(&left, &ends));
+        let place = if made.is_empty() {
+            start.min(left.len() - 1)
+        } else {
+            next_place(&left, &ends)
+        };
+        let crossing = left.remove(place);
         meet(&mut ends, crossing);
         made.push(crossing);
+        work = work.saturating_add(work_of(&ends));
     }
-    made
+    Order {
+        crossings: made,
+        work,
+    }
+}
+
+/// 2 to the number of arcs of which one end has been met.
+fn work_of(ends: &Ends) -> u64 {
+    let opened = ends.iter().filter(|met| **met).count();
+    1 << opened.min(63)
 }
 
 /// The place of the crossing that comes next.

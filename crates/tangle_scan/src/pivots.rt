@@ -104,13 +104,13 @@ fn candidate_of(objects: &[Object], rows: &Rows, tail: usize, entry: &Entry) -> 
         → IsCandidate objects.now tail entry.now head number → ⊥ }
 {
     let head = entry.head;
-    if !can_cancel(objects, tail, head) {
-        return None;
-    }
-    let size = rows[head].len();
     match number_of(entry.terms.as_slice()) {
-        Some(number) => Some(Candidate { head, number, size }),
-        None => None,
+        Some(number) if can_cancel(objects, tail, head) => Some(Candidate {
+            head,
+            number,
+            size: rows[head].len(),
+        }),
+        _ => None,
     }
 }
 

@@ -1,6 +1,7 @@
 use Rattle.std.proofs.Common.{arith, sym, ◌∙◌}
 use Rattle.std.specs.Prelude.{slice_index}
-use Rattle.tangle_maps.proofs.ChoiceLemmas.{chosen_last, chosen_both, chosen_dotted}
+use Rattle.std.proofs.lemmas.Result.{on_ok_weaker}
+use Rattle.tangle_maps.proofs.ChoiceLemmas.{chosen_last, chosen_both, chosen_dotted, chosen_undotted}
 use Rattle.tangle_maps.proofs.choices.+add_choices.Goals as goal
 
 pub returns-in_ok-add_term-in-None-clause-sum : goal.returns-in_ok-add_term-in-None-clause-sum
@@ -13,10 +14,10 @@ pub returns-in_ok-add_choices-in-Some-2-clause-sum :
     goal.returns-in_ok-add_choices-in-Some-2-clause-sum
 returns-in_ok-add_choices-in-Some-2-clause-sum g t c =
     chosen_both g.F.PrimeField.P c.args.made.dots c.args.made.place (g.F.PrimeField.value_of c.args.value) c.in-Some.component.now
-    c.dotted.result.dots c.dotted.result.place c.undotted.result.dots c.undotted.result.place
+    c.dotted.result.dots c.dotted.result.place c.undotted-then-at-gt0.result.dots c.undotted-then-at-gt0.result.place
     c.args.names.now c.args.discs.now c.in-Some.rest.now c.args.left.now c.fewer.result
-    c.args.terms.now.items c.add_choices.new.terms.items c.add_choices-then-at-gt0.new.terms.items
-    c.in-Some.ensures.cases.0 (omega (arith, c.if-at-gt0.true, c.at.ensures)) c.dotted.ensures.dots c.dotted.ensures.place c.undotted.ensures.dots c.undotted.ensures.place
+    c.args.terms.now.items c.add_choices-in-Some.new.terms.items c.add_choices-then-at-gt0.new.terms.items
+    c.in-Some.ensures.cases.0 (omega (arith, c.if-at-gt0.true, c.at.ensures)) c.dotted.ensures.dots c.dotted.ensures.place c.undotted-then-at-gt0.ensures.dots c.undotted-then-at-gt0.ensures.place
     c.fewer.ensures c.in_ok-add_choices-in-Some.ensures.sum c.in_ok-add_choices-in-Some-2.ensures.sum
 
 pub returns-else-at-gt0-clause-sum : goal.returns-else-at-gt0-clause-sum
@@ -24,5 +25,14 @@ returns-else-at-gt0-clause-sum g t c =
     chosen_dotted g.F.PrimeField.P c.args.made.dots c.args.made.place (g.F.PrimeField.value_of c.args.value) c.in-Some.component.now
     c.dotted.result.dots c.dotted.result.place
     c.args.names.now c.args.discs.now c.in-Some.rest.now c.args.left.now
-    c.args.terms.now.items c.add_choices.new.terms.items
+    c.args.terms.now.items c.add_choices-in-Some.new.terms.items
     c.in-Some.ensures.cases.0 (omega (arith, c.if-at-gt0.false, c.at.ensures)) c.dotted.ensures.dots c.dotted.ensures.place c.in_ok-add_choices-in-Some.ensures.sum
+
+pub returns-then-not-may_have_dot-clause-sum : goal.returns-then-not-may_have_dot-clause-sum
+returns-then-not-may_have_dot-clause-sum g t c =
+    on_ok_weaker c.add_choices.result
+    (chosen_undotted g.F.PrimeField.P c.args.made.dots c.args.made.place (g.F.PrimeField.value_of c.args.value) c.in-Some.component.now
+    c.undotted.result.dots c.undotted.result.place c.args.names.now c.args.discs.now c.in-Some.rest.now c.args.left.now c.fewer-fewer.result
+    c.args.terms.now.items c.add_choices.new.terms.items c.requires.named c.in-Some.ensures.cases.0
+    (c.may_have_dot.ensures c.if-not-may_have_dot.true) c.undotted.ensures.dots c.undotted.ensures.place c.fewer-fewer.ensures)
+    c.add_choices.ensures.sum

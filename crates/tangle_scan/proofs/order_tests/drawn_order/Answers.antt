@@ -1,7 +1,7 @@
 use Rattle.std.proofs.Common.{length, sym}
 use Rattle.std.proofs.lemmas.Bool.{eqb-true}
 use Rattle.tangle_scan.proofs.OrderLemmas.{taken-all}
-use Rattle.tangle_scan.proofs.order.ordered.Goals as goal
+use Rattle.tangle_scan.proofs.order_tests.drawn_order.Goals as goal
 
 pub returns : goal.returns
 returns c =
