@@ -20,14 +20,16 @@ pub record Origin : Type 0 where
 abbrev pub origin_of : ℕ → ℕ → ℕ → Origin
 origin_of object smoothing label = record { object = object; smoothing = smoothing; label = label }
 
--- all origins
+-- the origins of what comes from an object with a smoothing: one for each labelling of the circles that this closes
 abbrev pub origins_with : Code → Scan → ℕ → ℕ → List Origin
 origins_with code scan x smoothing =
     map (origin_of x smoothing) (range_with_len 0 (2 ^ length (closed_at code scan.done smoothing (pairs_of scan x))))
 
+-- with either smoothing
 abbrev pub origins_of : Code → Scan → ℕ → List Origin
 origins_of code scan x = flat_map (origins_with code scan x) (range_with_len 0 2)
 
+-- those of all objects
 abbrev pub origins : Code → Scan → List Origin
 origins code scan = flat_map (origins_of code scan) scan.numbers
 

@@ -38,10 +38,11 @@ IsTalliedWith object old new = (value : ℕ → ℤ → ℕ) → tallied value n
 abbrev pub is_tally_of : ℕ → ℤ → Tally → Bool
 is_tally_of degree shift tally = nat_eq tally.degree degree && int_eq tally.shift shift
 
--- one more of the tally at a place
+-- the tally of a degree and a shift with a count
 abbrev pub tally_of : ℕ → ℤ → ℕ → Tally
 tally_of degree shift count = record { degree = degree; shift = shift; count = count }
 
+-- a tally that counts one more
 abbrev pub raised : Tally → Tally
 raised tally = tally_of tally.degree tally.shift (tally.count + 1)
 

@@ -6,7 +6,7 @@ use Rattle.std.proofs.lemmas.Bool.Decides.{nat_tests}
 use Rattle.kh_types.specs.Classes.{merged, joined, is_least, IsNamed}
 use Rattle.kh_types.specs.Permutations.{AreJoined}
 use Rattle.kh_types.proofs.ClassLemmas.{slice_index-joined}
-use Rattle.kh_types.proofs.JoinedClasses.{max-fixed, min-fixed}
+use Rattle.kh_types.proofs.JoinedClasses.{greater_fails, max-fixed, min-fixed, other_same}
 use Rattle.kh_types.proofs.RangeCounts.{count_by-alike}
 use Rattle.tangle_surfaces.specs.Orbits.{is_in, count_in, parts_in}
 use Rattle.tangle_surfaces.proofs.Counts.{counted, count_by-one_less, count_by-either}
@@ -16,12 +16,6 @@ abbrev pub AreFiner : ℕ → List ℕ → List ℕ → Type 0
 AreFiner n parts classes = (x : ℕ) → x < n → slice_index classes (slice_index parts x) ≡ slice_index classes x
 
 -- one class number, after two have become one
-greater_fails : (x y class z : ℕ) → x ≢ y → z ≡ max x y → class ≡ z → nat_eq (merged x y class) z ≡ false
-greater_fails x y class z apart is_max own = grind (arith, nat_tests)
-
-other_same : (x y class z : ℕ) → z ≢ max x y → (z ≡ min x y → class ≡ z) → nat_eq (merged x y class) z ≡ nat_eq class z
-other_same x y class z other own = grind (arith, nat_tests)
-
 max-below : (x y n : ℕ) → x < n → y < n → max x y < n
 max-below x y n x_below y_below = grind (arith, nat_tests)
 

@@ -3,9 +3,9 @@
 use Rattle.std.proofs.Common.{◌≡◌, ◌≢◌, ℕ, ◌⊎◌, inl, inr, ◌<◌, ◌∙◌, List, refl, sym, ap, subst, length, arith, Bool, true, false, not, ◌&&◌, cond, eq-eqb}
 use Rattle.std.specs.Prelude.{nat_eq, slice_index, unwrap_or}
 use Rattle.std.proofs.lemmas.Bool.{cases_Bool, cases_eq, eqb-true, false_from_ne_true}
-use Rattle.std.proofs.lemmas.Bool.Decides.{nat_tests}
 use Rattle.kh_types.specs.Classes.{merged, joined, classes_of, Respects}
 use Rattle.kh_types.proofs.ClassLemmas.{slice_index-joined, merged-both, classes-together, classes-finest}
+use Rattle.kh_types.proofs.Exchanges.{merged-same}
 use Rattle.kh_types.proofs.RangeCounts.{but, count_by-but, found-counted}
 use Rattle.tangle_surfaces.specs.Surfaces.{Lead, other_than, is_open}
 use Rattle.tangle_surfaces.specs.Pairings.{JoinOpen, seek}
@@ -29,9 +29,6 @@ pub but-passes : (b : Bool) (x m : ℕ) → b ≡ true → x ≢ m → (b && not
 but-passes true x m is other =
     ap (λ t. not t) (false_from_ne_true (nat_eq x m) (λ same. other (eqb-true x m same)))
 but-passes false x m is other = is
-
-merged-same : (a b c d : ℕ) → merged a b c ≡ merged a b d → (c ≡ d) ⊎ (((c ≡ a) × (d ≡ b)) ⊎ ((c ≡ b) × (d ≡ a)))
-merged-same a b c d same = grind (arith, nat_tests)
 
 -- a free end and a free start are joined, and are free no more
 pub ArePaths-joined : (n : ℕ) (classes : List ℕ) (free other : ℕ → Bool) (a b : ℕ) → length classes ≡ n → a < n → b < n
