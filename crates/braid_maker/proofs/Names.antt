@@ -7,12 +7,11 @@ use Rattle.std.proofs.lemmas.List.{get_or-map, length-map}
 use Rattle.kh_types.specs.Code.{arc_in}
 use Rattle.kh_types.specs.Darts.{arc_of, dart_at}
 use Rattle.kh_types.proofs.DartPairs.{IsDart-at}
-use Rattle.orient_arcs.specs.Alike.{AreAlike}
+use Rattle.gluing.specs.Alike.{AreAlike}
 use Rattle.braid_maker.specs.Words.{closed_crossings, touches}
 use Rattle.orient_arcs.specs.Renumbered.{renamed_crossing}
 use Rattle.braid_maker.specs.Closures.{bottom_arc, is_bottom, arc_name, named_parts}
 use Rattle.braid_maker.proofs.Partners.{HasArcsTwice-braid}
-use Rattle.orient_arcs.proofs.AlikeCrossings.{AreAlike-then}
 
 -- what a search in a range says
 data Search (test : ℕ → Bool) (a n : ℕ) : Type 0 where

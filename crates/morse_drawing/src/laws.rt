@@ -10,7 +10,7 @@ ghost use Rattle.kh_types.specs.WorkedCodes.{curl, slots_with, trefoil, without_
 ghost use Rattle.kh_types.specs.declared.limits.TheConstants.{CROSSINGS};
 ghost use Rattle.morse_drawing.specs.Joins.{JoinedDarts, arc_pairs, ends_of, joined_by};
 ghost use Rattle.morse_drawing.specs.Pages.{blank_page, is_in, leading, loop_slices, page_of, pages_on, paired, slices_of};
-ghost use Rattle.morse_drawing.specs.ReadBack.{IsAlike, code_read};
+ghost use Rattle.morse_drawing.specs.ReadBack.{AreAlikeCodes, code_read};
 ghost use Rattle.morse_drawing.specs.Texts.{IsPlaced, cells, drawing_text, strands_after, strands_behind};
 ghost use Rattle.morse_drawing.specs.declared.limits.TheConstants.{CAP_STRANDS, DRAWN_STRANDS, JOINED_LOOPS};
 ghost use Rattle.morse_drawing.specs.declared.slice.Slice.{Slice};
@@ -74,7 +74,7 @@ pub fn neighbours_are_partners()
 /// numbers of its arcs.
 pub fn drawings_tell_codes()
     ensures { (code : Code) (joins : JoinedDarts) → IsTrue (accepted code) → length code.crossings ≤ CROSSINGS
-        → joined_by (slices_of code) ≡ Ok joins → IsAlike code (code_read (slices_of code) joins) }
+        → joined_by (slices_of code) ≡ Ok joins → AreAlikeCodes code (code_read (slices_of code) joins) }
 {}
 
 /// Loops alone: up to 255 are joined, and of more the slice is named that closes the 256th.
