@@ -59,3 +59,4 @@ pub mod KinkFaces
 pub mod KinkedCircles
 pub mod KinkTerms
 pub mod KinkWith
+pub mod DropRules

@@ -10,3 +10,4 @@ pub mod Dropping
 pub mod KinkAdds
 pub mod WorkedDrops
 pub mod KinkCodes
+pub mod DropRule
