@@ -16,7 +16,8 @@ use Rattle.morse_drawing.specs.DartRows.{IsDrawing, IsIn}
 use Rattle.morse_drawing.specs.Pages.{Page, blank_page, by_crossing, is_in, page_of, next_page, next_page_by, pages_on, undrawn}
 use Rattle.morse_drawing.specs.Sketches.{IsSketched, segment_met, sketch_of}
 use Rattle.morse_drawing.specs.Progress.{IsPage, undrawn_count}
-use Rattle.morse_drawing.proofs.NextPages.{IsDrawn, IsLastPage, IsWholeSphere, left_over}
+use Rattle.morse_drawing.specs.PageRules.{IsLastPage}
+use Rattle.morse_drawing.proofs.NextPages.{IsDrawn, IsWholeSphere, left_over}
 use Rattle.morse_drawing.proofs.RowRules.{IsDrawing-none, IsDrawing-whole}
 use Rattle.morse_drawing.proofs.PieceCounts.{pieces-same}
 use Rattle.morse_drawing.proofs.Faults.{in-range, none-counted}
@@ -39,7 +40,7 @@ none-undrawn n drawn all = elim (Search-is (λ c. not (is_in drawn c)) 0 n) [
   | missing fails found ↦ found
 ]
 
-finished-next_page : (n : ℕ) (whole : ℕ → ℕ) (page : Page) → IsLastPage n page → next_page n whole page ≡ page
+pub finished-next_page : (n : ℕ) (whole : ℕ → ℕ) (page : Page) → IsLastPage n page → next_page n whole page ≡ page
 finished-next_page n whole page is =
     ap (next_page_by n whole page) is.row ∙ ap (by_crossing page) (none-undrawn n page.drawn is.all)
 

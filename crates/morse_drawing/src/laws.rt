@@ -1,6 +1,6 @@
 //! What drawings are, on known diagrams and in general.
 
-ghost use Rattle.std.specs.Prelude.{◌≡◌, ◌≢◌, ◌≤◌, ◌<◌, ◌+◌, ◌*◌, ℕ, [], ◌∷◌, IsTrue, Ok, Err, None, codes, length, map, max, take};
+ghost use Rattle.std.specs.Prelude.{◌≡◌, ◌≢◌, ◌≤◌, ◌<◌, ◌+◌, ◌*◌, ◌++◌, ℕ, List, [], ◌∷◌, IsTrue, Ok, Err, None, codes, length, map, max, take};
 ghost use Rattle.std.specs.Option.{IsSome};
 ghost use Rattle.kh_types.specs.Acceptance.{accepted};
 ghost use Rattle.kh_types.specs.Code.{Code};
@@ -9,7 +9,8 @@ ghost use Rattle.kh_types.specs.Faces.{piece_count};
 ghost use Rattle.kh_types.specs.WorkedCodes.{curl, slots_with, trefoil, without_loops};
 ghost use Rattle.kh_types.specs.declared.limits.TheConstants.{CROSSINGS};
 ghost use Rattle.morse_drawing.specs.Joins.{JoinedDarts, arc_pairs, ends_of, joined_by};
-ghost use Rattle.morse_drawing.specs.Pages.{blank_page, is_in, leading, loop_slices, page_of, pages_on, paired, slices_of};
+ghost use Rattle.morse_drawing.specs.Pages.{Page, blank_page, is_in, leading, loop_slices, page_of, pages_on, paired, slices_of};
+ghost use Rattle.morse_drawing.specs.PageRules.{ArePages, last_page};
 ghost use Rattle.morse_drawing.specs.ReadBack.{AreAlikeCodes, code_read};
 ghost use Rattle.morse_drawing.specs.Texts.{IsPlaced, cells, drawing_text, strands_after, strands_behind};
 ghost use Rattle.morse_drawing.specs.declared.limits.TheConstants.{CAP_STRANDS, DRAWN_STRANDS, JOINED_LOOPS};
@@ -43,6 +44,20 @@ pub fn drawings_finish()
     ensures later { (code : Code) (count : ℕ) → IsTrue (accepted code) → 5 * length code.crossings ≤ count
         → pages_on (length code.crossings) (partner_at code.crossings) count blank_page
         ≡ page_of (length code.crossings) (partner_at code.crossings) }
+{}
+
+/// The pages of a drawing are given by the rules alone: there is one list of pages of which the
+/// first follows the blank one, each follows the one before it, and the last has an empty row and
+/// all crossings. The slices are those of the last page, and then those of the loops.
+pub fn pages_follow_the_rules()
+    ensures all { (code : Code) → IsTrue (accepted code) → (pages : List Page) × ArePages code pages
+        × (last_page blank_page pages
+        ≡ page_of (length code.crossings) (partner_at code.crossings)) }
+    ensures one { (code : Code) (pages others : List Page) → ArePages code pages
+        → ArePages code others → pages ≡ others }
+    ensures slices { (code : Code) (pages : List Page) → IsTrue (accepted code)
+        → ArePages code pages
+        → slices_of code ≡ (last_page blank_page pages).slices ++ loop_slices code.loops }
 {}
 
 /// Between any two slices of an accepted code there are at most two strands for each crossing, and
