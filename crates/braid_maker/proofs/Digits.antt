@@ -1,5 +1,5 @@
 -- The letters of the digits of a number, one after another.
-use Rattle.std.proofs.Common.{refl, ◌≡◌, ℕ, zero, suc, ◌+◌, ◌/◌, ◌%◌, ◌∙◌, List, [], ◌∷◌, ◌++◌, length, ap, sym, subst, arith, append_assoc, append-nil, length-append, ℤ}
+use Rattle.std.proofs.Common.{refl, ◌≡◌, ℕ, suc, ◌+◌, ◌/◌, ◌%◌, ◌∙◌, List, [], ◌∷◌, ◌++◌, length, ap, sym, arith, append_assoc, append-nil, length-append, ℤ}
 use Rattle.braid_maker.specs.Closures.{letter_of, letters_of}
 
 -- letters are those of the first digits of a number, and the rest of the number has the other digits

@@ -20,3 +20,4 @@ pub mod Digits
 pub mod NamedParts
 pub mod LetterTests
 pub mod Signs
+pub mod Bottoms

@@ -1,8 +1,8 @@
 -- The parts of a closure, crossing by crossing.
-use Rattle.std.proofs.Common.{◌≡◌, ℕ, ◌∙◌, List, length, map, ap, sym, refl, subst, Bool, ℤ}
+use Rattle.std.proofs.Common.{◌≡◌, ℕ, ◌∙◌, List, length, map, ap, sym, Bool, ℤ}
 use Rattle.std.specs.List.{range_with_len}
 use Rattle.std.proofs.lemmas.Simd.{map-map}
-use Rattle.orient_arcs.specs.Parts.{Parts}
+use Rattle.code_passes.specs.Parts.{Parts}
 use Rattle.orient_arcs.specs.Renumbered.{renamed_crossing}
 use Rattle.braid_maker.specs.Words.{crossing_of_letter}
 use Rattle.braid_maker.specs.Braids.{left_of, lower_left_is_over}

@@ -7,19 +7,18 @@ use Rattle.std.proofs.lemmas.List.{get_or-map, length-map}
 use Rattle.kh_types.specs.Code.{arc_in}
 use Rattle.kh_types.specs.Darts.{arc_of, dart_at}
 use Rattle.kh_types.proofs.DartPairs.{IsDart-at}
-use Rattle.orient_arcs.specs.Alike.{AreAlike}
+use Rattle.gluing.specs.Alike.{AreAlike}
 use Rattle.braid_maker.specs.Words.{closed_crossings, touches}
 use Rattle.orient_arcs.specs.Renumbered.{renamed_crossing}
 use Rattle.braid_maker.specs.Closures.{bottom_arc, is_bottom, arc_name, named_parts}
 use Rattle.braid_maker.proofs.Partners.{HasArcsTwice-braid}
-use Rattle.orient_arcs.proofs.AlikeCrossings.{AreAlike-then}
 
 -- what a search in a range says
-data Search (test : ℕ → Bool) (a n : ℕ) : Type 0 where
+pub data Search (test : ℕ → Bool) (a n : ℕ) : Type 0 where
   some : (x : ℕ) → a ≤ x → x < a + n → test x ≡ true → find test (range_with_len a n) ≡ Some x → Search test a n
   missing : find test (range_with_len a n) ≡ None → Search test a n
 
-Search-is : (test : ℕ → Bool) (a n : ℕ) → Search test a n
+pub Search-is : (test : ℕ → Bool) (a n : ℕ) → Search test a n
 Search-is test a zero = missing refl
 Search-is test a (suc n) = elim (cases_Bool (test a)) [
   | inl passes ↦
@@ -34,11 +33,11 @@ Search-is test a (suc n) = elim (cases_Bool (test a)) [
 ]
 
 -- an arc's name is a position, through whose bottom the arc goes, or greater than all positions
-data Named (n : ℕ) (left : ℕ → ℕ) (strands arc : ℕ) : Type 0 where
+pub data Named (n : ℕ) (left : ℕ → ℕ) (strands arc : ℕ) : Type 0 where
   position : (q : ℕ) → q ≤ strands → bottom_arc n left q ≡ arc → arc_name n left strands arc ≡ q → Named n left strands arc
   greater : arc_name n left strands arc ≡ strands + arc → Named n left strands arc
 
-Named-is : (n : ℕ) (left : ℕ → ℕ) (strands arc : ℕ) → Named n left strands arc
+pub Named-is : (n : ℕ) (left : ℕ → ℕ) (strands arc : ℕ) → Named n left strands arc
 Named-is n left strands arc = elim (Search-is (is_bottom n left arc) 1 strands) [
   | some q from below passes is ↦
       let parts = and_parts (list_any (touches left q) (range_with_len 0 n)) (nat_eq (bottom_arc n left q) arc) passes in

@@ -8,7 +8,7 @@ use Rattle.std.proofs.lemmas.List.FromFn.{get_or-map-range_with_len}
 use Rattle.kh_types.specs.Code.{arc_in}
 use Rattle.kh_types.proofs.Ranges.{sum_by-range_more}
 use Rattle.code_passes.specs.Passes.{Pass}
-use Rattle.orient_arcs.specs.Parts.{ArePaired, Parts, head_count, is_positive_at, passes_at, over_pass, slots_in, tail_count, under_pass}
+use Rattle.code_passes.specs.Parts.{ArePaired, Parts, head_count, is_positive_at, passes_at, over_pass, slots_in, tail_count, under_pass}
 use Rattle.braid_maker.specs.Closures.{named_parts}
 use Rattle.braid_maker.proofs.CircleJoins.{arc_at, arc_at-slot}
 use Rattle.braid_maker.proofs.Corners.{corner_of, corner_of-place, corner_place, corner_place-crossing, length-crossings}

@@ -8,7 +8,7 @@ use Rattle.kh_types.specs.Code.{IsCrossing, arc_in}
 use Rattle.kh_types.specs.Darts.{arc_of, dart_at}
 use Rattle.kh_types.specs.Directions.{is_positive}
 use Rattle.orient_arcs.proofs.Bridge.{sign-kept}
-use Rattle.orient_arcs.specs.Parts.{Parts}
+use Rattle.code_passes.specs.Parts.{Parts}
 use Rattle.orient_arcs.specs.Renumbered.{renamed_crossing}
 use Rattle.braid_maker.specs.Words.{arc_below, closed_crossings, crossing_of_letter, previous, touches}
 use Rattle.braid_maker.specs.Braids.{left_of, lower_left_is_over}

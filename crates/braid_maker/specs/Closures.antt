@@ -4,7 +4,7 @@ use Rattle.std.specs.List.{count_by, find, list_all, list_any, range_with_len}
 use Rattle.kh_types.specs.Code.{Code}
 use Rattle.braid_maker.specs.Words.{arc_above, closed_crossings, crossing_of_letter, last_below, touches}
 use Rattle.braid_maker.specs.Braids.{lower_left_is_over, is_straight, left_of}
-use Rattle.orient_arcs.specs.Parts.{Parts}
+use Rattle.code_passes.specs.Parts.{Parts}
 use Rattle.orient_arcs.specs.Renumbered.{renamed_crossing, renumber}
 
 -- the arc through the bottom of a position: it leaves the last crossing there

@@ -1,12 +1,12 @@
 //! What closed braids are as codes, and how many generators those of numbers have.
 
-ghost use Rattle.std.specs.Prelude.{◌≡◌, ◌<◌, ◌≤◌, ◌+◌, ◌-◌, ◌*◌, ◌^◌, ℕ, ℤ, List, Bool, [], ◌∷◌, pos, neg_ℤ, codes, int_lt, length, true, IsTrue};
+ghost use Rattle.std.specs.Prelude.{◌≡◌, ◌<◌, ◌≤◌, ◌+◌, ◌-◌, ◌*◌, ◌^◌, ℕ, ℤ, List, Bool, [], ◌∷◌, pos, neg_ℤ, codes, int_lt, length, slice_index_or, true, IsTrue};
 ghost use Rattle.kh_types.specs.declared.limits.TheConstants.{COMPONENTS};
 ghost use Rattle.kh_types.specs.Checkerboard.{IsCheckerboard};
 ghost use Rattle.kh_types.specs.Code.{IsCrossing};
 ghost use Rattle.kh_types.specs.Darts.{HasArcsTwice};
 ghost use Rattle.kh_types.specs.Directions.{is_positive};
-ghost use Rattle.orient_arcs.specs.Alike.{AreAlike};
+ghost use Rattle.gluing.specs.Alike.{AreAlike};
 ghost use Rattle.kh_types.specs.Acceptance.{accepted, first_fault, checkerboard_fault, genus_fault, arc_times_fault};
 ghost use Rattle.kh_types.specs.Faces.{face_count, piece_count, planar_face_count};
 ghost use Rattle.kh_types.specs.Components.{component_count};
@@ -17,7 +17,10 @@ ghost use Rattle.circle_smoothing.specs.declared.limits.TheConstants.{GENERATORS
 ghost use Rattle.braid_maker.specs.declared.limits.TheConstants.{LETTERS, NUMBERS, STRANDS};
 ghost use Rattle.braid_maker.specs.Words.{closed_crossings};
 ghost use Rattle.braid_maker.specs.Braids.{braid_crossings, braid_code, letter_at};
-ghost use Rattle.braid_maker.specs.Closures.{closure, code_of_number, letters_of, AreLetters};
+ghost use Rattle.code_passes.specs.Parts.{passes_through};
+ghost use Rattle.orient_arcs.specs.Renumbered.{name_in_component, named_components};
+ghost use Rattle.braid_maker.specs.Bottoms.{HasBottom, IsLeastBottom, bottom_name};
+ghost use Rattle.braid_maker.specs.Closures.{closure, closure_parts, code_of_number, letters_of, AreLetters};
 
 /// Closures worked out: how many pieces, faces and loops, the trefoil, the figure eight knot, and
 /// the number 0.
@@ -81,6 +84,19 @@ pub fn closures_have_the_signs_of_their_letters()
         → IsCrossing (closure strands letters).crossings crossing
         → is_positive (closure strands letters).crossings crossing
         ≡ int_lt (pos 0) (letter_at letters (crossing - 1)) }
+{}
+
+/// The arc through the bottom of a position has that position as its name, before the arcs are
+/// numbered; and each component of a closure begins with the least bottom that it passes.
+pub fn components_of_closures_begin_at_their_least_bottoms()
+    ensures names { (strands : ℕ) (letters : List ℤ) (position : ℕ)
+        → HasBottom strands letters position → bottom_name strands letters position ≡ position }
+    ensures least { (strands : ℕ) (letters : List ℤ) (at : ℕ) → AreLetters strands letters
+        → at < length (named_components (passes_through (closure_parts strands letters)))
+        → IsLeastBottom strands letters
+        (slice_index_or (named_components (passes_through (closure_parts strands letters))) at [])
+        (name_in_component (named_components (passes_through (closure_parts strands letters))) at
+        0) }
 {}
 
 /// The code of each number is accepted, and its generators are within the limit.

@@ -1,3 +1,4 @@
 pub mod Labels
 pub mod Passes
 pub mod ComponentLabels
+pub mod Parts

@@ -12,7 +12,8 @@ use Rattle.kh_types.specs.declared.limits.TheConstants.{CROSSINGS}
 use Rattle.kinks_and_fingers.specs.Drops.{is_bigon, is_kink, without_finger, without_kink}
 use Rattle.kinks_and_fingers.specs.FingerAdd.{with_finger, differ}
 use Rattle.kinks_and_fingers.specs.KinkAdds.{with_kink}
-use Rattle.kinks_and_fingers.specs.Strands.{slots_at}
+use Rattle.code_passes.specs.Parts.{slots_in}
+use Rattle.orient_arcs.specs.Renumbered.{renumber}
 use Rattle.kinks_and_fingers.proofs.FingerAccepted.{AreFingerable-accepted, component_count-fingered}
 use Rattle.kinks_and_fingers.proofs.KinkSizes.{IsKinkable-accepted, component_count-kinked}
 use Rattle.kinks_and_fingers.proofs.FingerPlanar.{planar-two_pieces}
@@ -22,7 +23,6 @@ use Rattle.diagram_moves.specs.declared.change.Move.{Move}
 use Rattle.diagram_moves.specs.declared.change.Move.TheVariants.{KinkAdd, KinkDrop, FingerAdd, FingerDrop, Slide}
 use Rattle.diagram_moves.specs.declared.fault.MoveFault.{MoveFault}
 use Rattle.diagram_moves.specs.declared.fault.MoveFault.TheVariants.{NoArc, NoCrossing, CrossingLimit, OnLoop, SameArc, NoKink, NoBigon, NoTriangle, Heights, Genus}
-use Rattle.diagram_moves.specs.Joinable.{numbered}
 use Rattle.diagram_moves.proofs.KeptComponents.{HasComponents}
 use Rattle.diagram_moves.specs.Moved.{answered, is_left, moved, slid_at, HasWrongFaces, JoinsPieces, LeavesSphere}
 use Rattle.diagram_moves.specs.MoveFaults.{no_arc, no_crossing, crossing_limit_fault, on_loop, same_arc, no_kink, no_bigon, no_triangle, no_heights, wrong_genus, refused_where, kink_add_fault, kink_drop_fault, finger_place_fault, finger_add_fault, finger_drop_fault, slide_fault}
@@ -47,7 +47,7 @@ moves_keep_the_state_sum code (KinkAdd arc under_first positive) holds =
     answered-keeps (HasSum code) (kink_add_fault code arc) (with_kink (not under_first) positive arc code)
     (λ none exponent. state_sum-kinked code arc (not under_first) positive holds (kinks_are_taken code arc none).is_arc exponent)
 moves_keep_the_state_sum code (KinkDrop crossing) holds =
-    answered-keeps (HasSum code) (kink_drop_fault code crossing) (numbered (without_kink code (place_of crossing)))
+    answered-keeps (HasSum code) (kink_drop_fault code crossing) (renumber (without_kink code (place_of crossing)))
     (λ none exponent. kink-dropped code crossing holds none exponent)
 moves_keep_the_state_sum code (FingerAdd over over_side under under_side) holds =
     answered-keeps (HasSum code) (finger_add_fault code over (is_left over_side) under (is_left under_side))
@@ -59,7 +59,7 @@ moves_keep_the_state_sum code (FingerAdd over over_side under under_side) holds 
     sum-fingered code over under (is_left over_side) (is_left under_side) holds taken exponent)
 moves_keep_the_state_sum code (FingerDrop first second) holds =
     answered-keeps (HasSum code) (finger_drop_fault code first second)
-    (numbered (without_finger code (place_of first) (place_of second)))
+    (renumber (without_finger code (place_of first) (place_of second)))
     (λ none exponent. finger-dropped code first second holds none exponent)
 moves_keep_the_state_sum code (Slide first second third) holds =
     answered-keeps (HasSum code) (slide_fault code first second third) (slid_at code first second third)
@@ -74,7 +74,7 @@ moves_keep_components code (KinkAdd arc under_first positive) holds =
     let can = IsKinkable-accepted code arc holds (kinks_are_taken code arc none).is_arc in
     ap (λ (k : ℕ). k + code.loops) (component_count-kinked code.crossings arc (not under_first) positive can))
 moves_keep_components code (KinkDrop crossing) holds =
-    answered-keeps (HasComponents code) (kink_drop_fault code crossing) (numbered (without_kink code (place_of crossing)))
+    answered-keeps (HasComponents code) (kink_drop_fault code crossing) (renumber (without_kink code (place_of crossing)))
     (components-kink_dropped code crossing holds)
 moves_keep_components code (FingerAdd over over_side under under_side) holds =
     answered-keeps (HasComponents code) (finger_add_fault code over (is_left over_side) under (is_left under_side))
@@ -88,7 +88,7 @@ moves_keep_components code (FingerAdd over over_side under under_side) holds =
     (component_count-fingered code.crossings over under (is_left under_side) (differ (is_left over_side) (is_left under_side)) can))
 moves_keep_components code (FingerDrop first second) holds =
     answered-keeps (HasComponents code) (finger_drop_fault code first second)
-    (numbered (without_finger code (place_of first) (place_of second)))
+    (renumber (without_finger code (place_of first) (place_of second)))
     (components-finger_dropped code first second holds)
 moves_keep_components code (Slide first second third) holds =
     answered-keeps (HasComponents code) (slide_fault code first second third) (slid_at code first second third)
@@ -204,9 +204,9 @@ moves_leave_the_sphere code (KinkAdd arc under_first positive) faces wanted =
     (neither-fault (no_arc code arc) (option_or (crossing_limit_fault code 1) (on_loop code arc)) (Genus faces wanted)
     (arc-other code arc faces wanted) last)
 moves_leave_the_sphere code (KinkDrop crossing) faces wanted =
-    no-genus (kink_drop_fault code crossing) (numbered (without_kink code (place_of crossing))) faces wanted
+    no-genus (kink_drop_fault code crossing) (renumber (without_kink code (place_of crossing))) faces wanted
     (neither-fault (no_crossing code crossing) (no_kink code crossing) (Genus faces wanted) (crossing-other code crossing faces wanted)
-    (other-fault (not (is_kink (slots_at code.crossings (place_of crossing)))) (NoKink crossing) faces wanted (λ same. absurd (cc))))
+    (other-fault (not (is_kink (slots_in code.crossings (place_of crossing)))) (NoKink crossing) faces wanted (λ same. absurd (cc))))
 moves_leave_the_sphere code (FingerAdd over over_side under under_side) faces wanted =
     finger-leaves code over under (is_left over_side) (is_left under_side) faces wanted
 moves_leave_the_sphere code (FingerDrop first second) faces wanted =
@@ -214,7 +214,7 @@ moves_leave_the_sphere code (FingerDrop first second) faces wanted =
     (crossing-other code second faces wanted)
     (other-fault (not (is_bigon code.crossings (place_of first) (place_of second))) (NoBigon first second) faces wanted
     (λ same. absurd (cc))) in
-    no-genus (finger_drop_fault code first second) (numbered (without_finger code (place_of first) (place_of second))) faces wanted
+    no-genus (finger_drop_fault code first second) (renumber (without_finger code (place_of first) (place_of second))) faces wanted
     (neither-fault (no_crossing code first) (option_or (no_crossing code second) (no_bigon code first second)) (Genus faces wanted)
     (crossing-other code first faces wanted) last)
 moves_leave_the_sphere code (Slide first second third) faces wanted =

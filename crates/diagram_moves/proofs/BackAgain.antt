@@ -9,15 +9,15 @@ use Rattle.kh_types.specs.Components.{component_count}
 use Rattle.kh_types.specs.Darts.{HasArcsTwice}
 use Rattle.kh_types.proofs.Heads.{HasNoSingleArcs-accepted}
 use Rattle.kh_types.proofs.JoinedClasses.{IsNamed-classes_of}
-use Rattle.kinks_and_fingers.specs.Strands.{name_at, slots_at}
+use Rattle.gluing.specs.Arcs.{arc_by_place}
+use Rattle.code_passes.specs.Parts.{slots_in, ArePaired}
+use Rattle.orient_arcs.specs.Renumbered.{renumber}
 use Rattle.kinks_and_fingers.specs.Drops.{dropped, kept_places, straight_names, straight_pairs}
 use Rattle.kinks_and_fingers.proofs.KeptCodes.{kept-sign, kept-slots, length-kept, renamed_slots-at, straight-below, straight-finest}
-use Rattle.orient_arcs.specs.Parts.{ArePaired}
 use Rattle.orient_arcs.specs.OtherNames.{IsNamedBy}
 use Rattle.orient_arcs.proofs.AscendingNames.{KeepsComponents-ascending}
 use Rattle.orient_arcs.proofs.KeptOrder.{own-crossings}
 use Rattle.diagram_moves.specs.declared.fault.MoveFault.{MoveFault}
-use Rattle.diagram_moves.specs.Joinable.{numbered, parts_in}
 use Rattle.diagram_moves.proofs.KeptComponents.{HasComponents}
 use Rattle.diagram_moves.specs.Moved.{answered}
 
@@ -33,7 +33,7 @@ answered-ok (Some fault) code new is = absurd (cc)
 -- an arc is in its class and not above it
 pub straight_names-are : (crossings : List (List ℕ)) (gone : ℕ → Bool) (f : ℕ → ℕ) → HasArcsTwice crossings
     → ((place : ℕ) → place < length crossings → gone place ≡ true
-    → (f (name_at crossings place 0) ≡ f (name_at crossings place 2)) × (f (name_at crossings place 1) ≡ f (name_at crossings place 3)))
+    → (f (arc_by_place crossings place 0) ≡ f (arc_by_place crossings place 2)) × (f (arc_by_place crossings place 1) ≡ f (arc_by_place crossings place 3)))
     → ((x : ℕ) → f x ≤ x)
     → ((x : ℕ) → x < arc_count crossings + 1
     → slice_index (straight_names crossings gone) (f x) ≡ slice_index (straight_names crossings gone) x)
@@ -54,30 +54,30 @@ pub dropped-is : (old new : Code) (gone : ℕ → Bool) (kept name : ℕ → ℕ
     → kept_places new.crossings gone ≡ map kept (range_with_len 0 (length old.crossings))
     → ((place : ℕ) → place < length old.crossings → kept place ≡ place)
     → ((place slot : ℕ) → place < length old.crossings → slot < 4
-    → slice_index (straight_names new.crossings gone) (name_at new.crossings place slot) ≡ name (name_at old.crossings place slot))
+    → slice_index (straight_names new.crossings gone) (arc_by_place new.crossings place slot) ≡ name (arc_by_place old.crossings place slot))
     → ((place : ℕ) → place < length old.crossings → positive_at new.crossings place ≡ positive_at old.crossings place)
     → ((x y : ℕ) → x < y → name x < name y)
-    → ArePaired (parts_in (dropped new gone))
-    → HasComponents new (numbered (dropped new gone)) → HasComponents old new
-    → numbered (dropped new gone) ≡ old
+    → ArePaired ((dropped new gone))
+    → HasComponents new (renumber (dropped new gone)) → HasComponents old new
+    → renumber (dropped new gone) ≡ old
 dropped-is old new gone kept name holds four places stay names signs ascends paired dropped_components added_components =
     let n = length old.crossings in
     let alone = HasNoSingleArcs-accepted old holds in
-    let named : IsNamedBy name old (parts_in (dropped new gone)) = record {
+    let named : IsNamedBy name old ((dropped new gone)) = record {
       size = length-kept new.crossings gone kept n places;
       names = λ place slot below slot_below.
           ap (λ slots. arc_in slots slot) (kept-slots new.crossings gone kept n place places below)
-          ∙ renamed_slots-at (straight_names new.crossings gone) (slots_at new.crossings (kept place)) slot slot_below
-          ∙ ap (λ p. slice_index (straight_names new.crossings gone) (name_at new.crossings p slot)) (stay place below)
+          ∙ renamed_slots-at (straight_names new.crossings gone) (slots_in new.crossings (kept place)) slot slot_below
+          ∙ ap (λ p. slice_index (straight_names new.crossings gone) (arc_by_place new.crossings p slot)) (stay place below)
           ∙ names place slot below slot_below;
       signs = λ place below.
           kept-sign new.crossings gone kept n place places below ∙ ap (positive_at new.crossings) (stay place below) ∙ signs place below;
     } in
-    let crossings : (numbered (dropped new gone)).crossings ≡ old.crossings =
-    own-crossings old alone.0 alone.1 (parts_in (dropped new gone)) paired name named
+    let crossings : (renumber (dropped new gone)).crossings ≡ old.crossings =
+    own-crossings old alone.0 alone.1 ((dropped new gone)) paired name named
     (KeepsComponents-ascending name old.crossings alone.0 ascends) four in
     let components = ap component_count crossings in
-    let loops : (numbered (dropped new gone)).loops ≡ old.loops = omega (arith, dropped_components, added_components, components) in
+    let loops : (renumber (dropped new gone)).loops ≡ old.loops = omega (arith, dropped_components, added_components, components) in
     ap₂ (λ (xs : List (List ℕ)) (k : ℕ). code_with xs k) crossings loops
   where
     code_with : List (List ℕ) → ℕ → Code

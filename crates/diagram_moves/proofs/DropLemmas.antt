@@ -4,7 +4,7 @@ use Rattle.std.specs.Prelude.{None, nat_eq, ◌||◌, if◌then◌else◌}
 use Rattle.std.specs.Option.{option_or}
 use Rattle.std.specs.List.{count_by, filter, flat_map, range_with_len}
 use Rattle.kh_types.specs.Directions.{positive_at}
-use Rattle.orient_arcs.specs.Parts.{Parts}
+use Rattle.code_passes.specs.Parts.{Parts, slots_in}
 use Rattle.std.proofs.Math.Path.{fun_ext}
 use Rattle.kh_types.specs.Acceptance.{accepted}
 use Rattle.kh_types.specs.Code.{Code, arcs, place_of}
@@ -14,17 +14,16 @@ use Rattle.std.proofs.lemmas.Grind.{flat_map-append}
 use Rattle.kh_types.proofs.Ranges.{filter-range_more}
 use Rattle.kinks_and_fingers.specs.Drops.{dropped, is_bigon, is_kink, is_of_two, kept_crossings, kept_signs, renamed_slots, straight_names, without_finger, without_kink}
 use Rattle.kinks_and_fingers.specs.Dropping.{HasBigonAt, HasKinkAt}
-use Rattle.kinks_and_fingers.specs.Strands.{Strands, slots_at}
+use Rattle.orient_arcs.specs.Renumbered.{renumber}
 use Rattle.kinks_and_fingers.proofs.Sound.{HasBigonAt-found, HasKinkAt-found, IsSound-finger, IsSound-kink}
 use Rattle.diagram_moves.specs.DropSteps.{is_ring_in, kept_to, passes_there, renamed_there, signs_to, stays}
 use Rattle.diagram_moves.proofs.MadeSoFar.{straight_to}
-use Rattle.diagram_moves.specs.Joinable.{AreReady, numbered, parts_in}
+use Rattle.diagram_moves.specs.Joinable.{AreReady}
 use Rattle.diagram_moves.proofs.KeptComponents.{HasComponents}
 use Rattle.diagram_moves.specs.MoveFaults.{finger_drop_fault, kink_drop_fault, no_bigon, no_crossing, no_kink}
 use Rattle.diagram_moves.specs.declared.fault.MoveFault.TheVariants.{NoBigon, NoCrossing, NoKink}
 use Rattle.diagram_moves.proofs.DroppedCodes.{IsKept-finger, IsKept-kink}
 use Rattle.diagram_moves.proofs.FaultLemmas.{both-none, none-not, none-within}
-use Rattle.diagram_moves.proofs.Paired.{ArePaired-strands}
 
 -- one more number that is asked
 map-filter_more : {X : Type 0} (f : ℕ → X) (p : ℕ → Bool) (k : ℕ)
@@ -57,13 +56,13 @@ flat_map-filter_more f p k =
 
 pub straight_more : (crossings : List (List ℕ)) (first second k : ℕ)
     → straight_to crossings first second (k + 1)
-    ≡ straight_to crossings first second k ++ (if is_of_two first second k then passes_of (slots_at crossings k) else [])
+    ≡ straight_to crossings first second k ++ (if is_of_two first second k then passes_of (slots_in crossings k) else [])
 straight_more crossings first second k = flat_map-filter_more (passes_there crossings) (is_of_two first second) k
 
 pub kept_more : (crossings : List (List ℕ)) (names : List ℕ) (first second k : ℕ)
     → kept_to crossings names first second (k + 1)
     ≡ kept_to crossings names first second k
-    ++ (if stays first second k then renamed_slots names (slots_at crossings k) ∷ [] else [])
+    ++ (if stays first second k then renamed_slots names (slots_in crossings k) ∷ [] else [])
 kept_more crossings names first second k = map-filter_more (renamed_there crossings names) (stays first second) k
 
 pub signs_more : (crossings : List (List ℕ)) (first second k : ℕ)
@@ -88,7 +87,7 @@ pub kink-found : (code : Code) (crossing : ℕ) → kink_drop_fault code crossin
 kink-found code crossing none =
     let both = both-none (no_crossing code crossing) (no_kink code crossing) none in
     let within = none-within crossing (length code.crossings) (NoCrossing crossing) both.0 in
-    let kinked = none-not (is_kink (slots_at code.crossings (place_of crossing))) (NoKink crossing) both.1 in
+    let kinked = none-not (is_kink (slots_in code.crossings (place_of crossing))) (NoKink crossing) both.1 in
     HasKinkAt-found code.crossings (place_of crossing) (omega (arith, within)) kinked
 
 -- the slots at which two crossings that are dropped meet in a bigon
@@ -103,33 +102,32 @@ bigon-found code first second none =
     HasBigonAt-found code.crossings (place_of first) (place_of second) (omega (arith, first_within)) (omega (arith, second_within)) met
 
 pub kinks_are_ready : (code : Code) (crossing : ℕ) → IsTrue (accepted code) → kink_drop_fault code crossing ≡ None
-    → AreReady (parts_in (without_finger code (place_of crossing) (place_of crossing)))
+    → AreReady (without_finger code (place_of crossing) (place_of crossing))
 kinks_are_ready code crossing holds none =
     let found = kink-found code crossing none in
-    let ready : AreReady (parts_in (without_kink code (place_of crossing))) = record {
-      paired = ArePaired-strands (without_kink code (place_of crossing)) (IsSound-kink code (place_of crossing) found.0 holds found.1).ends;
+    let ready : AreReady (without_kink code (place_of crossing)) = record {
+      paired = (IsSound-kink code (place_of crossing) found.0 holds found.1).paired;
       accepted_code = (IsKept-kink code (place_of crossing) found.0 holds found.1).accepted_too;
     } in
-    subst (λ (s : Strands). AreReady (parts_in s)) (sym (without_one code (place_of crossing))) ready
+    subst (λ (s : Parts). AreReady (s)) (sym (without_one code (place_of crossing))) ready
 
 pub fingers_are_ready : (code : Code) (first second : ℕ) → IsTrue (accepted code) → finger_drop_fault code first second ≡ None
-    → AreReady (parts_in (without_finger code (place_of first) (place_of second)))
+    → AreReady (without_finger code (place_of first) (place_of second))
 fingers_are_ready code first second holds none =
     let found = bigon-found code first second none in
     record {
-      paired = ArePaired-strands (without_finger code (place_of first) (place_of second))
-          (IsSound-finger code (place_of first) (place_of second) found.0 found.1 holds found.2).ends;
+      paired = (IsSound-finger code (place_of first) (place_of second) found.0 found.1 holds found.2).paired;
       accepted_code = (IsKept-finger code (place_of first) (place_of second) found.0 found.1 holds found.2).accepted_too;
     }
 
 pub kink-dropped : (code : Code) (crossing : ℕ) → IsTrue (accepted code) → kink_drop_fault code crossing ≡ None → (exponent : ℤ)
-    → state_sum (numbered (without_kink code (place_of crossing))) exponent ≡ state_sum code exponent
+    → state_sum (renumber (without_kink code (place_of crossing))) exponent ≡ state_sum code exponent
 kink-dropped code crossing holds none exponent =
     let found = kink-found code crossing none in (IsKept-kink code (place_of crossing) found.0 holds found.1).sums exponent
 
 pub finger-dropped : (code : Code) (first second : ℕ) → IsTrue (accepted code) → finger_drop_fault code first second ≡ None
     → (exponent : ℤ)
-    → state_sum (numbered (without_finger code (place_of first) (place_of second))) exponent ≡ state_sum code exponent
+    → state_sum (renumber (without_finger code (place_of first) (place_of second))) exponent ≡ state_sum code exponent
 finger-dropped code first second holds none exponent =
     let found = bigon-found code first second none in
     (IsKept-finger code (place_of first) (place_of second) found.0 found.1 holds found.2).sums exponent
@@ -145,7 +143,7 @@ pub dropped_is : (code : Code) (first second : ℕ) (names seen seen_again : Lis
     → crossings ≡ kept_to code.crossings seen first second (length code.crossings) → seen_crossings ≡ crossings
     → signs ≡ signs_to code.crossings first second (length code.crossings) → loops ≡ code.loops
     → rings ≡ count_by (is_ring_in seen_again seen_crossings) (arcs code.crossings)
-    → parts_made crossings signs (loops + rings) ≡ parts_in (without_finger code first second)
+    → parts_made crossings signs (loops + rings) ≡ without_finger code first second
 dropped_is code first second names seen seen_again crossings seen_crossings signs loops rings names_are seen_is again_is crossings_are
     seen_crossings_are signs_are loops_are rings_are =
     let n = length code.crossings in
@@ -159,12 +157,12 @@ dropped_is code first second names seen seen_again crossings seen_crossings sign
     (ap₂ (λ (a b : ℕ). a + b) loops_are ring_number)
 
 pub components-kink_dropped : (code : Code) (crossing : ℕ) → IsTrue (accepted code) → kink_drop_fault code crossing ≡ None
-    → HasComponents code (numbered (without_kink code (place_of crossing)))
+    → HasComponents code (renumber (without_kink code (place_of crossing)))
 components-kink_dropped code crossing holds none =
     let found = kink-found code crossing none in (IsKept-kink code (place_of crossing) found.0 holds found.1).components
 
 pub components-finger_dropped : (code : Code) (first second : ℕ) → IsTrue (accepted code) → finger_drop_fault code first second ≡ None
-    → HasComponents code (numbered (without_finger code (place_of first) (place_of second)))
+    → HasComponents code (renumber (without_finger code (place_of first) (place_of second)))
 components-finger_dropped code first second holds none =
     let found = bigon-found code first second none in
     (IsKept-finger code (place_of first) (place_of second) found.0 found.1 holds found.2).components

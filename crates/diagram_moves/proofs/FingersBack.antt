@@ -11,7 +11,9 @@ use Rattle.kh_types.specs.Darts.{HasArcsTwice, arc_of, partner_at}
 use Rattle.kh_types.specs.Directions.{is_head}
 use Rattle.kh_types.proofs.AcceptedLemmas.{HasArcsTwice-accepted}
 use Rattle.kh_types.proofs.Ranges.{list_any-below}
-use Rattle.kinks_and_fingers.specs.Strands.{dart_name, name_at}
+use Rattle.gluing.specs.Codes.{arc_of_dart}
+use Rattle.gluing.specs.Arcs.{arc_by_place}
+use Rattle.orient_arcs.specs.Renumbered.{renumber}
 use Rattle.kinks_and_fingers.specs.Drops.{after, is_bigon, is_bigon_at, is_of_two, straight_names, without_finger}
 use Rattle.kinks_and_fingers.specs.Dropping.{HasBigonAt}
 use Rattle.kinks_and_fingers.specs.FingerAdd.{crossing_with, dart_with, differ, fingered, first_crossing, head_number, opened, second_crossing, with_finger}
@@ -20,14 +22,13 @@ use Rattle.kinks_and_fingers.proofs.FingerAccepted.{AreFingerable-accepted, comp
 use Rattle.kinks_and_fingers.proofs.FingerDrops.{places-two}
 use Rattle.kinks_and_fingers.proofs.FingerSigns.{sign-old}
 use Rattle.kinks_and_fingers.proofs.FingerSlots.{arc_of-old, length-fingered, slots_of-first, slots_of-second}
-use Rattle.kinks_and_fingers.proofs.KeptCodes.{name_at-below, straight-joined}
+use Rattle.kinks_and_fingers.proofs.KeptCodes.{arc_by_place-below, straight-joined}
 use Rattle.kinks_and_fingers.proofs.OldDarts.{partner-named}
 use Rattle.kinks_and_fingers.proofs.Sound.{IsSound-finger}
 use Rattle.diagram_moves.specs.declared.change.Side.{Side}
 use Rattle.diagram_moves.specs.declared.change.Move.TheVariants.{FingerAdd, FingerDrop}
 use Rattle.diagram_moves.specs.declared.fault.MoveFault.{MoveFault}
 use Rattle.diagram_moves.specs.declared.fault.MoveFault.TheVariants.{NoBigon, NoCrossing}
-use Rattle.diagram_moves.specs.Joinable.{numbered}
 use Rattle.diagram_moves.proofs.KeptComponents.{HasComponents}
 use Rattle.diagram_moves.specs.Moved.{answered, is_left, moved}
 use Rattle.diagram_moves.specs.MoveFaults.{finger_add_fault, finger_drop_fault, finger_place_fault, wrong_genus}
@@ -36,7 +37,6 @@ use Rattle.diagram_moves.proofs.BackAgain.{answered-ok, dropped-is, straight_nam
 use Rattle.diagram_moves.proofs.DropLemmas.{bigon-found, components-finger_dropped}
 use Rattle.diagram_moves.proofs.FaultLemmas.{both-none}
 use Rattle.diagram_moves.proofs.KinksBack.{held-none, within-none}
-use Rattle.diagram_moves.proofs.Paired.{ArePaired-strands}
 
 -- the three parts of each of two arcs as one; the first parts are s and t
 abbrev one_arc : ℕ → ℕ → ℕ → ℕ
@@ -151,16 +151,16 @@ module _ (code : Code) (a b : ℕ) (positive ordered : Bool) (holds : IsTrue (ac
   place-second : place_of (length code.crossings + 2) ≡ length code.crossings + 1
   place-second = omega arith
 
-  first-at : (slot : ℕ) → name_at (fingered code a b positive ordered).crossings (length code.crossings) slot
+  first-at : (slot : ℕ) → arc_by_place (fingered code a b positive ordered).crossings (length code.crossings) slot
       ≡ arc_in (first_crossing (opened a b a) (opened a b b) positive ordered) slot
   first-at slot =
-      ap (λ k. name_at (fingered code a b positive ordered).crossings k slot) (sym place-first)
+      ap (λ k. arc_by_place (fingered code a b positive ordered).crossings k slot) (sym place-first)
       ∙ ap (λ slots. arc_in slots slot) (slots_of-first code.crossings a b positive ordered)
 
-  second-at : (slot : ℕ) → name_at (fingered code a b positive ordered).crossings (length code.crossings + 1) slot
+  second-at : (slot : ℕ) → arc_by_place (fingered code a b positive ordered).crossings (length code.crossings + 1) slot
       ≡ arc_in (second_crossing (opened a b a) (opened a b b) positive ordered) slot
   second-at slot =
-      ap (λ k. name_at (fingered code a b positive ordered).crossings k slot) (sym place-second)
+      ap (λ k. arc_by_place (fingered code a b positive ordered).crossings k slot) (sym place-second)
       ∙ ap (λ slots. arc_in slots slot) (slots_of-second code.crossings a b positive ordered)
 
   twice : HasArcsTwice (fingered code a b positive ordered).crossings
@@ -266,13 +266,13 @@ module _ (code : Code) (a b : ℕ) (positive ordered : Bool) (holds : IsTrue (ac
       straight_names-are crossings gone f twice
       (λ place below is. elim (gone-cases place is) [
         | inl here ↦
-            let at : (slot : ℕ) → name_at crossings place slot ≡ arc_in (first_crossing over under positive ordered) slot =
-            λ slot. ap (λ k. name_at crossings k slot) here ∙ first-at slot in
+            let at : (slot : ℕ) → arc_by_place crossings place slot ≡ arc_in (first_crossing over under positive ordered) slot =
+            λ slot. ap (λ k. arc_by_place crossings k slot) here ∙ first-at slot in
             let both = passes-joined f positive from_first to_first over (over + 1) (joined-first f own) own.over_first in
             (ap f (at 0) ∙ both.0 ∙ sym (ap f (at 2)), ap f (at 1) ∙ both.1 ∙ sym (ap f (at 3)))
         | inr here ↦
-            let at : (slot : ℕ) → name_at crossings place slot ≡ arc_in (second_crossing over under positive ordered) slot =
-            λ slot. ap (λ k. name_at crossings k slot) here ∙ second-at slot in
+            let at : (slot : ℕ) → arc_by_place crossings place slot ≡ arc_in (second_crossing over under positive ordered) slot =
+            λ slot. ap (λ k. arc_by_place crossings k slot) here ∙ second-at slot in
             let both = passes-joined f (not positive) from_second to_second (over + 1) (over + 2) (joined-second f own) own.over_second in
             (ap f (at 0) ∙ both.0 ∙ sym (ap f (at 2)), ap f (at 1) ∙ both.1 ∙ sym (ap f (at 3)))
       ])
@@ -302,12 +302,12 @@ module _ (code : Code) (a b : ℕ) (positive ordered : Bool) (holds : IsTrue (ac
       let p_at : (4 * length code.crossings + p) % 4 ≡ p = omega (arith, p_slot) in
       let q_place : (4 * (length code.crossings + 1) + q) / 4 ≡ length code.crossings + 1 = omega (arith, q_slot) in
       let q_at : (4 * (length code.crossings + 1) + q) % 4 ≡ q = omega (arith, q_slot) in
-      let p_name : dart_name (fingered code a b positive ordered).crossings (4 * length code.crossings + p)
+      let p_name : arc_of_dart (fingered code a b positive ordered).crossings (4 * length code.crossings + p)
       ≡ arc_in (first_crossing (opened a b a) (opened a b b) positive ordered) p =
-      ap₂ (λ k s. name_at (fingered code a b positive ordered).crossings k s) p_place p_at ∙ first-at p in
-      let q_name : dart_name (fingered code a b positive ordered).crossings (4 * (length code.crossings + 1) + q)
+      ap₂ (λ k s. arc_by_place (fingered code a b positive ordered).crossings k s) p_place p_at ∙ first-at p in
+      let q_name : arc_of_dart (fingered code a b positive ordered).crossings (4 * (length code.crossings + 1) + q)
       ≡ arc_in (second_crossing (opened a b a) (opened a b b) positive ordered) q =
-      ap₂ (λ k s. name_at (fingered code a b positive ordered).crossings k s) q_place q_at ∙ second-at q in (
+      ap₂ (λ k s. arc_by_place (fingered code a b positive ordered).crossings k s) q_place q_at ∙ second-at q in (
         partner-named crossings twice (4 * n + p) (4 * (n + 1) + q) (omega (arith, size, p_slot)) (omega (arith, size, q_slot))
             (λ equal. absurd (omega (arith, equal, p_slot))) (q_name ∙ same ∙ sym p_name),
         partner-named crossings twice (4 * (n + 1) + q) (4 * n + p) (omega (arith, size, q_slot)) (omega (arith, size, p_slot))
@@ -392,16 +392,16 @@ module _ (code : Code) (a b : ℕ) (positive ordered : Bool) (holds : IsTrue (ac
       low k i below = grind (arith, nat_tests)
 
   old-name : (place slot : ℕ) → place < length code.crossings → slot < 4
-      → one_arc (opened a b a) (opened a b b) (name_at (fingered code a b positive ordered).crossings place slot)
-      ≡ opened a b (name_at code.crossings place slot)
+      → one_arc (opened a b a) (opened a b b) (arc_by_place (fingered code a b positive ordered).crossings place slot)
+      ≡ opened a b (arc_by_place code.crossings place slot)
   old-name place slot below slot_below =
       let e : place + 1 - 1 ≡ place = omega arith in
-      ap (λ k. one_arc (opened a b a) (opened a b b) (name_at (fingered code a b positive ordered).crossings k slot)) (sym e)
+      ap (λ k. one_arc (opened a b a) (opened a b b) (arc_by_place (fingered code a b positive ordered).crossings k slot)) (sym e)
       ∙ ap (one_arc (opened a b a) (opened a b b))
       (arc_of-old code.crossings a b positive ordered (dart_with (place + 1) slot)
       (record { crossing = record { positive = omega arith; within = omega (arith, below) }; slot = slot_below }))
       ∙ by (is_head code.crossings (dart_with (place + 1) slot)) (arc_of code.crossings (dart_with (place + 1) slot))
-      ∙ ap (λ k. opened a b (name_at code.crossings k slot)) e
+      ∙ ap (λ k. opened a b (arc_by_place code.crossings k slot)) e
     where
       by : (head : Bool) (arc : ℕ)
           → one_arc (opened a b a) (opened a b b) (if head then head_number a b arc else opened a b arc) ≡ opened a b arc
@@ -423,20 +423,20 @@ module _ (code : Code) (a b : ℕ) (positive ordered : Bool) (holds : IsTrue (ac
       let places = ap (λ k. filter (λ x. not (nat_eq (length code.crossings) x || nat_eq (length code.crossings + 1) x)) (range_with_len 0 k)) long
       ∙ places-two (length code.crossings) (length code.crossings + 1) (length code.crossings) (omega arith) (omega arith)
       (λ same. absurd (omega (arith, same))) in
-      let same : numbered (without_finger (fingered code a b positive ordered) (length code.crossings) (length code.crossings + 1)) ≡ code =
+      let same : renumber (without_finger (fingered code a b positive ordered) (length code.crossings) (length code.crossings + 1)) ≡ code =
       dropped-is code new gone kept (opened a b) holds four places kept-low
       (λ place slot below slot_below.
-      names-are (name_at new.crossings place slot) (name_at-below new.crossings place slot twice (omega (arith, below, size)) slot_below)
+      names-are (arc_by_place new.crossings place slot) (arc_by_place-below new.crossings place slot twice (omega (arith, below, size)) slot_below)
       ∙ old-name place slot below slot_below)
       (λ place below.
       sign-old code.crossings a b positive ordered (place + 1) can (record { positive = omega arith; within = omega (arith, below) }))
       (opened-up a b)
-      (ArePaired-strands (without_finger new n (n + 1)) (IsSound-finger new n (n + 1) found.0 found.1 holds-new bigon).ends)
-      (subst (λ (k : ℕ). HasComponents new (numbered (without_finger new k (n + 1)))) place-first
-      (subst (λ (k : ℕ). HasComponents new (numbered (without_finger new (place_of (n + 1)) k))) place-second components))
+      (IsSound-finger new n (n + 1) found.0 found.1 holds-new bigon).paired
+      (subst (λ (k : ℕ). HasComponents new (renumber (without_finger new k (n + 1)))) place-first
+      (subst (λ (k : ℕ). HasComponents new (renumber (without_finger new (place_of (n + 1)) k))) place-second components))
       (ap (λ (k : ℕ). k + code.loops) (component_count-fingered code.crossings a b positive ordered can)) in
-      ap (λ (fault : Option MoveFault). answered fault (numbered (without_finger new (place_of (n + 1)) (place_of (n + 2))))) none
-      ∙ ap₂ (λ (k l : ℕ). okay (numbered (without_finger new k l))) place-first place-second ∙ ap okay same
+      ap (λ (fault : Option MoveFault). answered fault (renumber (without_finger new (place_of (n + 1)) (place_of (n + 2))))) none
+      ∙ ap₂ (λ (k l : ℕ). okay (renumber (without_finger new k l))) place-first place-second ∙ ap okay same
     where
       okay : Code → Result Code MoveFault
       okay c = Ok c

@@ -10,29 +10,29 @@ use Rattle.kh_types.specs.Code.{Code, arc_in, arc_count, place_of, slots_of, IsA
 use Rattle.kh_types.specs.Darts.{HasArcsTwice}
 use Rattle.kh_types.proofs.AcceptedLemmas.{HasArcsTwice-accepted}
 use Rattle.kh_types.proofs.Ranges.{list_any-below}
-use Rattle.kinks_and_fingers.specs.Strands.{enters, name_at, slots_at}
+use Rattle.gluing.specs.Arcs.{enters, arc_by_place}
+use Rattle.code_passes.specs.Parts.{slots_in}
+use Rattle.orient_arcs.specs.Renumbered.{renumber}
 use Rattle.kinks_and_fingers.specs.Drops.{after, is_kink, is_kink_at, straight_names, without_kink}
 use Rattle.kinks_and_fingers.specs.Dropping.{HasKinkAt}
 use Rattle.kinks_and_fingers.specs.KinkAdds.{kink_crossing, kinked_name, raised, with_kink}
 use Rattle.kinks_and_fingers.specs.Pulls.{early}
-use Rattle.kinks_and_fingers.proofs.KeptCodes.{name_at-below, straight-joined}
+use Rattle.kinks_and_fingers.proofs.KeptCodes.{arc_by_place-below, straight-joined}
 use Rattle.kinks_and_fingers.proofs.KinkClosing.{kept_are}
 use Rattle.kinks_and_fingers.proofs.KinkFaces.{accepted-kinked}
 use Rattle.kinks_and_fingers.proofs.KinkSigns.{sign-old}
 use Rattle.kinks_and_fingers.proofs.KinkSizes.{IsKinkable-accepted, component_count-kinked}
-use Rattle.kinks_and_fingers.proofs.KinkSlots.{arc_in-kinked, length-kinked, slots_at-old, slots_of-new}
+use Rattle.kinks_and_fingers.proofs.KinkSlots.{arc_in-kinked, length-kinked, slots_in-old, slots_of-new}
 use Rattle.kinks_and_fingers.proofs.Sound.{IsSound-kink}
 use Rattle.diagram_moves.specs.declared.change.Move.TheVariants.{KinkAdd, KinkDrop}
 use Rattle.diagram_moves.specs.declared.fault.MoveFault.{MoveFault}
 use Rattle.diagram_moves.specs.declared.fault.MoveFault.TheVariants.{NoCrossing, NoKink}
-use Rattle.diagram_moves.specs.Joinable.{numbered}
 use Rattle.diagram_moves.proofs.KeptComponents.{HasComponents}
 use Rattle.diagram_moves.specs.Moved.{answered, moved}
 use Rattle.diagram_moves.specs.MoveFaults.{kink_add_fault, kink_drop_fault, refused_where}
 use Rattle.diagram_moves.proofs.AddLemmas.{kinks_are_taken}
 use Rattle.diagram_moves.proofs.BackAgain.{answered-ok, dropped-is, straight_names-are}
 use Rattle.diagram_moves.proofs.DropLemmas.{components-kink_dropped, kink-found}
-use Rattle.diagram_moves.proofs.Paired.{ArePaired-strands}
 
 -- the three arcs of a kink on arc a as one
 abbrev one_arc : ℕ → ℕ → ℕ
@@ -104,7 +104,7 @@ module _ (code : Code) (a : ℕ) (over positive : Bool) (holds : IsTrue (accepte
   place-last : place_of (length code.crossings + 1) ≡ length code.crossings
   place-last = omega arith
 
-  slots-last : slots_at (with_kink over positive a code).crossings (length code.crossings) ≡ kink_crossing over positive a
+  slots-last : slots_in (with_kink over positive a code).crossings (length code.crossings) ≡ kink_crossing over positive a
   slots-last =
       ap (λ k. slice_index_or (with_kink over positive a code).crossings k []) (sym place-last) ∙ slots_of-new code.crossings a over positive
 
@@ -131,15 +131,15 @@ module _ (code : Code) (a : ℕ) (over positive : Bool) (holds : IsTrue (accepte
       let names = slice_index (straight_names (with_kink over positive a code).crossings (nat_eq (length code.crossings))) in
       let found = straight-joined (with_kink over positive a code).crossings (nat_eq (length code.crossings)) (length code.crossings) twice
       (omega (arith, size)) (eq-eqb (length code.crossings) (length code.crossings) refl) in
-      let at : (slot : ℕ) → name_at (with_kink over positive a code).crossings (length code.crossings) slot
+      let at : (slot : ℕ) → arc_by_place (with_kink over positive a code).crossings (length code.crossings) slot
       ≡ arc_in (kink_crossing over positive a) slot = λ slot. ap (λ slots. arc_in slots slot) slots-last in
       let joined = joined-kink names over positive a (sym (ap names (at 0)) ∙ found.0 ∙ ap names (at 2))
       (sym (ap names (at 1)) ∙ found.1 ∙ ap names (at 3)) in
       straight_names-are (with_kink over positive a code).crossings (nat_eq (length code.crossings)) (one_arc a) twice
       (λ place below gone.
       let last = gone-last place gone in
-      let here : (slot : ℕ) → name_at (with_kink over positive a code).crossings place slot ≡ arc_in (kink_crossing over positive a) slot =
-      λ slot. ap (λ k. name_at (with_kink over positive a code).crossings k slot) last ∙ at slot in
+      let here : (slot : ℕ) → arc_by_place (with_kink over positive a code).crossings place slot ≡ arc_in (kink_crossing over positive a) slot =
+      λ slot. ap (λ k. arc_by_place (with_kink over positive a code).crossings k slot) last ∙ at slot in
       let both = kink-joined (one_arc a) over positive a (one_arc-first a ∙ sym (one_arc-second a)) (one_arc-second a ∙ sym (one_arc-third a)) in (
         ap (one_arc a) (here 0) ∙ both.0 ∙ sym (ap (one_arc a) (here 2)),
         ap (one_arc a) (here 1) ∙ both.1 ∙ sym (ap (one_arc a) (here 3)),
@@ -168,24 +168,24 @@ module _ (code : Code) (a : ℕ) (over positive : Bool) (holds : IsTrue (accepte
       let gone : HasKinkAt (with_kink over positive a code).crossings (length code.crossings) found.0 =
       subst (λ (k : ℕ). HasKinkAt (with_kink over positive a code).crossings k found.0) place-last found.1 in
       let components = components-kink_dropped new (n + 1) holds-new none in
-      let same : numbered (without_kink (with_kink over positive a code) (length code.crossings)) ≡ code =
+      let same : renumber (without_kink (with_kink over positive a code) (length code.crossings)) ≡ code =
       dropped-is code new (nat_eq (length code.crossings)) (early n n) (raised a) holds four
       (kept_are new n n size (omega arith))
       kept-early
       (λ place slot below slot_below.
-      names-are (name_at new.crossings place slot) (name_at-below new.crossings place slot twice (omega (arith, below, size)) slot_below)
+      names-are (arc_by_place new.crossings place slot) (arc_by_place-below new.crossings place slot twice (omega (arith, below, size)) slot_below)
       ∙ ap (one_arc a)
-      (ap (λ slots. arc_in slots slot) (slots_at-old code.crossings a over positive place below)
-      ∙ arc_in-kinked a (positive_at code.crossings place) (slots_at code.crossings place) slot slot_below)
-      ∙ one_arc-name a (name_at code.crossings place slot) (enters (positive_at code.crossings place) slot))
+      (ap (λ slots. arc_in slots slot) (slots_in-old code.crossings a over positive place below)
+      ∙ arc_in-kinked a (positive_at code.crossings place) (slots_in code.crossings place) slot slot_below)
+      ∙ one_arc-name a (arc_by_place code.crossings place slot) (enters (positive_at code.crossings place) slot))
       (λ place below.
       sign-old code.crossings a over positive (place + 1) can (record { positive = omega arith; within = omega (arith, below) }))
       (raised-up a)
-      (ArePaired-strands (without_kink new n) (IsSound-kink new n found.0 holds-new gone).ends)
-      (subst (λ (k : ℕ). HasComponents new (numbered (without_kink new k))) place-last components)
+      (IsSound-kink new n found.0 holds-new gone).paired
+      (subst (λ (k : ℕ). HasComponents new (renumber (without_kink new k))) place-last components)
       (ap (λ (k : ℕ). k + code.loops) (component_count-kinked code.crossings a over positive can)) in
-      ap (λ (fault : Option MoveFault). answered fault (numbered (without_kink new (place_of (n + 1))))) none
-      ∙ ap (λ (k : ℕ). okay (numbered (without_kink new k))) place-last ∙ ap okay same
+      ap (λ (fault : Option MoveFault). answered fault (renumber (without_kink new (place_of (n + 1))))) none
+      ∙ ap (λ (k : ℕ). okay (renumber (without_kink new k))) place-last ∙ ap okay same
     where
       okay : Code → Result Code MoveFault
       okay c = Ok c

@@ -26,22 +26,23 @@ use Rattle.face_walk.specs.AddedArcs.{IsPlanar, is_open}
 use Rattle.face_walk.proofs.FewFaces.{IsPlanar-twice}
 use Rattle.kh_types.proofs.RangeImages.{map_range-agree}
 use Rattle.face_walk.proofs.Board.{IsCheckerboard-planar}
-use Rattle.kinks_and_fingers.specs.Strands.{Strands, sign_at, name_at}
-use Rattle.kinks_and_fingers.specs.DropCircles.{strand_circle_count, strand_plus, strand_minus, strand_term, strand_sum}
-use Rattle.kinks_and_fingers.specs.DropComponents.{strand_component_count}
-use Rattle.kinks_and_fingers.proofs.OldDarts.{dart_name-arc_of}
+use Rattle.code_passes.specs.Parts.{Parts, is_positive_at, ArePaired}
+use Rattle.gluing.specs.Arcs.{arc_by_place}
+use Rattle.orient_arcs.specs.Renumbered.{renumber}
+use Rattle.kinks_and_fingers.specs.DropCircles.{parts_circle_count, parts_plus, parts_minus, parts_term, parts_sum}
+use Rattle.kinks_and_fingers.specs.DropComponents.{parts_component_count}
+use Rattle.kinks_and_fingers.proofs.OldDarts.{arc_of_dart-arc_of}
 use Rattle.kinks_and_fingers.proofs.KinkClosing.{before}
 use Rattle.kinks_and_fingers.proofs.KinkDropSums.{count-later, sums-alike}
 use Rattle.kinks_and_fingers.proofs.ComponentDrops.{IsOfNames-passes, IsOfNames-smoothings, standing-classes}
-use Rattle.orient_arcs.specs.Parts.{ArePaired}
-use Rattle.orient_arcs.specs.Alike.{AreAlike}
+use Rattle.gluing.specs.Alike.{AreAlike}
 use Rattle.gluing.specs.Glue as glue
 use Rattle.orient_arcs.proofs.Bridge.{IsDirected-renumbered, sign-kept}
 use Rattle.orient_arcs.proofs.AlikeCrossings.{AreAlike-renumbered, ArcsBelow-places, class_count-alike, class_count-darts}
 use Rattle.orient_arcs.proofs.AcceptedParts.{over-apart}
-use Rattle.orient_arcs.proofs.DartSmoothings.{arc_of_dart, dart_passes, passes_of-darts, dart_passes-below}
-use Rattle.diagram_moves.specs.Joinable.{parts_in, numbered, IsJoinable}
-use Rattle.diagram_moves.proofs.Paired.{ArePaired-strands}
+use Rattle.gluing.specs.Codes.{arc_of_dart}
+use Rattle.orient_arcs.proofs.DartSmoothings.{dart_passes, passes_of-darts, dart_passes-below}
+use Rattle.diagram_moves.specs.Joinable.{IsJoinable}
 use Rattle.diagram_moves.proofs.Standing.{standing-count}
 
 -- planarity depends on the partners below 4n alone
@@ -79,28 +80,28 @@ count-list (x ∷ xs) g a same =
       sum_by-cons (λ (b : Bool). cond b 1 0) x xs,
     )
 
-module _ (bound : ℕ) (strands : Strands) (is : IsJoinable bound strands) where
+module _ (bound : ℕ) (strands : Parts) (is : IsJoinable bound strands) where
   abbrev crossings : List (List ℕ)
   crossings = strands.crossings
 
   abbrev new : Code
-  new = numbered strands
+  new = renumber strands
 
-  paired : ArePaired (parts_in strands)
-  paired = ArePaired-strands strands is.ends
+  paired : ArePaired strands
+  paired = is.paired
 
-  pub IsDirected-numbered : IsDirected (numbered strands).crossings
-  IsDirected-numbered = IsDirected-renumbered (parts_in strands) paired
+  pub IsDirected-renumber : IsDirected (renumber strands).crossings
+  IsDirected-renumber = IsDirected-renumbered strands paired
 
-  pub AreAlike-numbered : AreAlike strands.crossings (numbered strands).crossings
-  AreAlike-numbered = AreAlike-renumbered (parts_in strands) paired
+  pub AreAlike-renumber : AreAlike strands.crossings (renumber strands).crossings
+  AreAlike-renumber = AreAlike-renumbered strands paired
 
-  twice : HasArcsTwice (numbered strands).crossings
-  twice = HasArcsTwice-directed new.crossings IsDirected-numbered
+  twice : HasArcsTwice (renumber strands).crossings
+  twice = HasArcsTwice-directed new.crossings IsDirected-renumber
 
-  pub partner-numbered : (x : ℕ) → x < 4 * length strands.crossings → partner_at (numbered strands).crossings x ≡ is.partner x
-  partner-numbered x below =
-      let alike = AreAlike-numbered in
+  pub partner-renumber : (x : ℕ) → x < 4 * length strands.crossings → partner_at (renumber strands).crossings x ≡ is.partner x
+  partner-renumber x below =
+      let alike = AreAlike-renumber in
       let size = alike.size in
       let other_below = is.planar.pairing.below x below in
       sym
@@ -109,122 +110,122 @@ module _ (bound : ℕ) (strands : Strands) (is : IsJoinable bound strands) where
         below = omega (arith, other_below, size);
         differs = is.planar.other x below;
         same_arc = alike.onward (is.partner x) x other_below below
-            (dart_name-arc_of crossings (is.partner x) ∙ is.planar.name x below ∙ sym (dart_name-arc_of crossings x));
+            (arc_of_dart-arc_of crossings (is.partner x) ∙ is.planar.name x below ∙ sym (arc_of_dart-arc_of crossings x));
       }))
 
-  pub faces-numbered : face_count (numbered strands).crossings ≡ planar_face_count (numbered strands).crossings
-  faces-numbered =
-      let size : length (numbered strands).crossings ≡ length strands.crossings = AreAlike-numbered.size in
+  pub faces-renumber : face_count (renumber strands).crossings ≡ planar_face_count (renumber strands).crossings
+  faces-renumber =
+      let size : length (renumber strands).crossings ≡ length strands.crossings = AreAlike-renumber.size in
       (IsPlanar-twice new.crossings twice).0
-      (subst (λ (n : ℕ). IsPlanar n (partner_at (numbered strands).crossings)) (sym size)
-      (IsPlanar-alike (length strands.crossings) is.partner (partner_at (numbered strands).crossings) partner-numbered is.planar.planar))
+      (subst (λ (n : ℕ). IsPlanar n (partner_at (renumber strands).crossings)) (sym size)
+      (IsPlanar-alike (length strands.crossings) is.partner (partner_at (renumber strands).crossings) partner-renumber is.planar.planar))
 
-  pub IsCheckerboard-numbered : IsCheckerboard (numbered strands).crossings
-  IsCheckerboard-numbered = IsCheckerboard-planar new.crossings twice faces-numbered
+  pub IsCheckerboard-renumber : IsCheckerboard (renumber strands).crossings
+  IsCheckerboard-renumber = IsCheckerboard-planar new.crossings twice faces-renumber
 
-  pub HasNoSingleArcs-numbered : HasNoSingleArcs (numbered strands).crossings
-  HasNoSingleArcs-numbered = HasNoSingleArcs-checkerboard new.crossings IsDirected-numbered IsCheckerboard-numbered
+  pub HasNoSingleArcs-renumber : HasNoSingleArcs (renumber strands).crossings
+  HasNoSingleArcs-renumber = HasNoSingleArcs-checkerboard new.crossings IsDirected-renumber IsCheckerboard-renumber
 
   -- components
 
   below-bound : ArcsBelow bound strands.crossings
-  below-bound = ArcsBelow-places bound crossings (λ x below. omega (arith, dart_name-arc_of crossings x, is.names x below))
+  below-bound = ArcsBelow-places bound crossings is.names
 
-  new-below : ArcsBelow (2 * length (numbered strands).crossings + 1) (numbered strands).crossings
-  new-below = ArcsBelow-slots (2 * length (numbered strands).crossings + 1) new.crossings twice.slots (omega arith)
+  new-below : ArcsBelow (2 * length (renumber strands).crossings + 1) (renumber strands).crossings
+  new-below = ArcsBelow-slots (2 * length (renumber strands).crossings + 1) new.crossings twice.slots (omega arith)
 
-  pub components-numbered : component_count (numbered strands).crossings + (numbered strands).loops ≡ strand_component_count bound strands
-  components-numbered =
-      let n = 2 * length (numbered strands).crossings + 1 in
-      let size : length (numbered strands).crossings ≡ length strands.crossings = AreAlike-numbered.size in
-      let law = class_count-darts bound (2 * length (numbered strands).crossings + 1) crossings new.crossings AreAlike-numbered below-bound new-below
+  pub components-renumber : component_count (renumber strands).crossings + (renumber strands).loops ≡ parts_component_count bound strands
+  components-renumber =
+      let n = 2 * length (renumber strands).crossings + 1 in
+      let size : length (renumber strands).crossings ≡ length strands.crossings = AreAlike-renumber.size in
+      let law = class_count-darts bound (2 * length (renumber strands).crossings + 1) crossings new.crossings AreAlike-renumber below-bound new-below
       (dart_passes (length crossings)) (dart_passes-below (length crossings)) in
       let first = ap (λ ps. class_count (classes_of bound ps)) (passes_of-darts crossings) in
-      let second = ap (λ ps. class_count (classes_of (2 * length (numbered strands).crossings + 1) ps))
-      (passes_of-darts new.crossings ∙ ap (λ k. glue.renamed (arc_of_dart (numbered strands).crossings) (dart_passes k)) size) in
-      let count = class_count-components new.crossings (passes_of-below (2 * length (numbered strands).crossings + 1) new.crossings new-below) in
+      let second = ap (λ ps. class_count (classes_of (2 * length (renumber strands).crossings + 1) ps))
+      (passes_of-darts new.crossings ∙ ap (λ k. glue.renamed (arc_of_dart (renumber strands).crossings) (dart_passes k)) size) in
+      let count = class_count-components new.crossings (passes_of-below (2 * length (renumber strands).crossings + 1) new.crossings new-below) in
       let standing = standing-classes bound crossings (flat_map passes_of strands.crossings) (passes_of-below bound crossings below-bound)
       (IsOfNames-passes crossings) in
-      let names = standing-count bound strands is.ends is.names in
+      let names = standing-count bound strands is.paired is.names in
       omega (arith, law, first, second, count, standing, names, size)
 
-  pub IsAccepted-numbered : strand_component_count bound strands ≤ COMPONENTS → IsTrue (accepted (numbered strands))
-  IsAccepted-numbered few =
+  pub IsAccepted-renumber : parts_component_count bound strands ≤ COMPONENTS → IsTrue (accepted (renumber strands))
+  IsAccepted-renumber few =
       (IsAccepted-is new).1 (record {
-        directed = IsDirected-numbered;
-        checkerboard = IsCheckerboard-numbered;
-        faces = faces-numbered;
-        components = omega (arith, components-numbered, few);
+        directed = IsDirected-renumber;
+        checkerboard = IsCheckerboard-renumber;
+        faces = faces-renumber;
+        components = omega (arith, components-renumber, few);
       })
 
   -- signs
 
-  pub over-numbered : (place : ℕ) → place < length strands.crossings → name_at strands.crossings place 1 ≢ name_at strands.crossings place 3
-  over-numbered place below same =
-      let size : length (numbered strands).crossings ≡ length strands.crossings = AreAlike-numbered.size in
+  pub over-renumber : (place : ℕ) → place < length strands.crossings → arc_by_place strands.crossings place 1 ≢ arc_by_place strands.crossings place 3
+  over-renumber place below same =
+      let size : length (renumber strands).crossings ≡ length strands.crossings = AreAlike-renumber.size in
       let first : (4 * place + 1) / 4 + 1 - 1 ≡ place = omega arith in
       let third : (4 * place + 3) / 4 + 1 - 1 ≡ place = omega arith in
       let first_slot : (4 * place + 1) % 4 ≡ 1 = omega arith in
       let third_slot : (4 * place + 3) % 4 ≡ 3 = omega arith in
       let back : place + 1 - 1 ≡ place = omega arith in
       let old_at : (dart slot : ℕ) → dart / 4 + 1 - 1 ≡ place → dart % 4 ≡ slot
-      → arc_of crossings (dart_at dart) ≡ name_at crossings place slot =
+      → arc_of crossings (dart_at dart) ≡ arc_by_place crossings place slot =
       λ dart slot p s. ap₂ (λ k l. arc_in (slice_index_or crossings k []) l) p s in
       let new_at : (dart slot : ℕ) → dart / 4 + 1 - 1 ≡ place → dart % 4 ≡ slot
       → arc_of new.crossings (dart_at dart) ≡ arc_in (slots_of new.crossings (place + 1)) slot =
       λ dart slot p s. ap₂ (λ k l. arc_in (slice_index_or new.crossings k []) l) (p ∙ sym back) s in
-      over-apart new.crossings IsDirected-numbered HasNoSingleArcs-numbered (place + 1)
+      over-apart new.crossings IsDirected-renumber HasNoSingleArcs-renumber (place + 1)
       (record { positive = omega arith; within = omega (arith, below, size) })
       (sym (new_at (4 * place + 1) 1 first first_slot)
-      ∙ AreAlike-numbered.onward (4 * place + 1) (4 * place + 3) (omega (arith, below)) (omega (arith, below))
+      ∙ AreAlike-renumber.onward (4 * place + 1) (4 * place + 3) (omega (arith, below)) (omega (arith, below))
       (old_at (4 * place + 1) 1 first first_slot ∙ same ∙ sym (old_at (4 * place + 3) 3 third third_slot))
       ∙ new_at (4 * place + 3) 3 third third_slot)
 
-  pub sign-numbered : (place : ℕ) → place < length strands.crossings
-      → is_positive (numbered strands).crossings (place + 1) ≡ sign_at strands.signs place
-  sign-numbered place below =
+  pub sign-renumber : (place : ℕ) → place < length strands.crossings
+      → is_positive (renumber strands).crossings (place + 1) ≡ is_positive_at strands.positive place
+  sign-renumber place below =
       let back : place + 1 - 1 ≡ place = omega arith in
-      sign-kept (parts_in strands) paired (place + 1) (record { positive = omega arith; within = omega (arith, below) })
-      (λ same. over-numbered place below
-      (ap (λ k. name_at crossings k 1) (sym back) ∙ same ∙ ap (λ k. name_at crossings k 3) back))
-      ∙ ap (sign_at strands.signs) back
+      sign-kept strands paired (place + 1) (record { positive = omega arith; within = omega (arith, below) })
+      (λ same. over-renumber place below
+      (ap (λ k. arc_by_place crossings k 1) (sym back) ∙ same ∙ ap (λ k. arc_by_place crossings k 3) back))
+      ∙ ap (is_positive_at strands.positive) back
 
-  pub plus-numbered : plus_count (numbered strands).crossings ≡ strand_plus strands
-  plus-numbered =
-      let size : length (numbered strands).crossings ≡ length strands.crossings = AreAlike-numbered.size in
+  pub plus-renumber : plus_count (renumber strands).crossings ≡ parts_plus strands
+  plus-renumber =
+      let size : length (renumber strands).crossings ≡ length strands.crossings = AreAlike-renumber.size in
       let e : 0 + 1 ≡ 1 = omega arith in
-      ap (λ a. count_by (is_positive (numbered strands).crossings) (range_with_len a (length (numbered strands).crossings))) (sym e)
-      ∙ count-later (is_positive (numbered strands).crossings) 0 (length (numbered strands).crossings)
-      ∙ ap (λ n. count_by (λ x. is_positive (numbered strands).crossings (x + 1)) (range_with_len 0 n)) (size ∙ sym is.size)
-      ∙ count-list strands.signs (λ x. is_positive (numbered strands).crossings (x + 1)) 0
+      ap (λ a. count_by (is_positive (renumber strands).crossings) (range_with_len a (length (renumber strands).crossings))) (sym e)
+      ∙ count-later (is_positive (renumber strands).crossings) 0 (length (renumber strands).crossings)
+      ∙ ap (λ n. count_by (λ x. is_positive (renumber strands).crossings (x + 1)) (range_with_len 0 n)) (size ∙ sym is.size)
+      ∙ count-list strands.positive (λ x. is_positive (renumber strands).crossings (x + 1)) 0
       (λ k below.
       let z : 0 + k ≡ k = omega arith in
-      ap (λ x. is_positive (numbered strands).crossings (x + 1)) z ∙ sign-numbered k (omega (arith, below, is.size)))
+      ap (λ x. is_positive (renumber strands).crossings (x + 1)) z ∙ sign-renumber k (omega (arith, below, is.size)))
 
-  pub minus-numbered : minus_count (numbered strands).crossings ≡ strand_minus strands
-  minus-numbered =
-      let size : length (numbered strands).crossings ≡ length strands.crossings = AreAlike-numbered.size in
-      ap₂ (λ n p. n - p) size plus-numbered
+  pub minus-renumber : minus_count (renumber strands).crossings ≡ parts_minus strands
+  minus-renumber =
+      let size : length (renumber strands).crossings ≡ length strands.crossings = AreAlike-renumber.size in
+      ap₂ (λ n p. n - p) size plus-renumber
 
   -- circles and the state sum
 
-  pub circles-numbered : (state : ℕ) → circle_count (numbered strands) state ≡ strand_circle_count bound strands state
-  circles-numbered state =
-      let n = 2 * length (numbered strands).crossings + 1 in
-      let size : length (numbered strands).crossings ≡ length strands.crossings = AreAlike-numbered.size in
-      let law = class_count-alike bound (2 * length (numbered strands).crossings + 1) crossings new.crossings AreAlike-numbered below-bound new-below state in
+  pub circles-renumber : (state : ℕ) → circle_count (renumber strands) state ≡ parts_circle_count bound strands state
+  circles-renumber state =
+      let n = 2 * length (renumber strands).crossings + 1 in
+      let size : length (renumber strands).crossings ≡ length strands.crossings = AreAlike-renumber.size in
+      let law = class_count-alike bound (2 * length (renumber strands).crossings + 1) crossings new.crossings AreAlike-renumber below-bound new-below state in
       let standing = standing-classes bound crossings (smoothings_of strands.crossings state)
       (smoothings_of-below bound state crossings below-bound) (IsOfNames-smoothings crossings state) in
-      let names = standing-count bound strands is.ends is.names in
-      let whole = before (numbered strands) state twice in
+      let names = standing-count bound strands is.paired is.names in
+      let whole = before (renumber strands) state twice in
       omega (arith, law, standing, names, whole, size)
 
-  pub state_sum-numbered : (exponent : ℤ) → state_sum (numbered strands) exponent ≡ strand_sum bound strands exponent
-  state_sum-numbered exponent =
-      let size : length (numbered strands).crossings ≡ length strands.crossings = AreAlike-numbered.size in
-      ap (λ k. int_sum (map (state_term (numbered strands) exponent) (range_with_len 0 (2 ^ k)))) size
-      ∙ sums-alike (state_term (numbered strands) exponent) (strand_term bound strands exponent) 0 (2 ^ length strands.crossings)
+  pub state_sum-renumber : (exponent : ℤ) → state_sum (renumber strands) exponent ≡ parts_sum bound strands exponent
+  state_sum-renumber exponent =
+      let size : length (renumber strands).crossings ≡ length strands.crossings = AreAlike-renumber.size in
+      ap (λ k. int_sum (map (state_term (renumber strands) exponent) (range_with_len 0 (2 ^ k)))) size
+      ∙ sums-alike (state_term (renumber strands) exponent) (parts_term bound strands exponent) 0 (2 ^ length strands.crossings)
       (λ state from below.
-      ap₂ (λ p m. term_of p m exponent (ones (length (numbered strands).crossings) state) (circle_count (numbered strands) state))
-      plus-numbered minus-numbered
-      ∙ ap₂ (λ k c. term_of (strand_plus strands) (strand_minus strands) exponent (ones k state) c) size (circles-numbered state))
+      ap₂ (λ p m. term_of p m exponent (ones (length (renumber strands).crossings) state) (circle_count (renumber strands) state))
+      plus-renumber minus-renumber
+      ∙ ap₂ (λ k c. term_of (parts_plus strands) (parts_minus strands) exponent (ones k state) c) size (circles-renumber state))

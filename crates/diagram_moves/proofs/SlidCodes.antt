@@ -3,7 +3,12 @@ use Rattle.std.proofs.Common.{◌≡◌, ℕ, ◌+◌, ◌-◌, ◌*◌, ◌/◌
 use Rattle.std.specs.List.{count_by, flat_map, range_with_len}
 use Rattle.std.proofs.lemmas.List.FromFn.{get_or-map-range_with_len, length-map-range_with_len}
 use Rattle.std.proofs.lemmas.List.{length-map}
-use Rattle.kinks_and_fingers.specs.Strands.{enters as strand_enters}
+use Rattle.gluing.specs.Arcs.{enters as strand_enters}
+use Rattle.code_passes.specs.Parts.{ArePaired, Parts, is_positive_at}
+use Rattle.gluing.specs.Codes.{arc_of_dart}
+use Rattle.kinks_and_fingers.proofs.TwoEnds.{is_head_at, ArePaired-ends, HasTwoEnds}
+use Rattle.kinks_and_fingers.specs.Planar.{IsPlanarBy}
+use Rattle.orient_arcs.specs.Renumbered.{renumber}
 use Rattle.kh_types.specs.Acceptance.{accepted}
 use Rattle.kh_types.specs.Bits.{ones}
 use Rattle.kh_types.specs.Circles.{circle_count, smoothings_of}
@@ -19,10 +24,9 @@ use Rattle.kh_types.proofs.ClassCounts.{class_count-components}
 use Rattle.kh_types.proofs.DartPairs.{IsDart-at, IsOtherPlace-partner_at, IsPairing-partner_at, dart_at-place, dart_place-at, dart_place-below}
 use Rattle.kh_types.proofs.Lists.{count_by-map}
 use Rattle.face_walk.proofs.FewFaces.{IsPlanar-twice}
-use Rattle.kinks_and_fingers.specs.Strands.{Strands, dart_name, sign_at, is_head_at, HasTwoEnds, IsPlanarBy}
-use Rattle.kinks_and_fingers.specs.DropCircles.{strand_circle_count, strand_plus, strand_minus, strand_term, strand_sum}
-use Rattle.kinks_and_fingers.specs.DropComponents.{strand_component_count}
-use Rattle.kinks_and_fingers.proofs.OldDarts.{dart_name-arc_of, dart_name-partner, dart_name-below}
+use Rattle.kinks_and_fingers.specs.DropCircles.{parts_circle_count, parts_plus, parts_minus, parts_term, parts_sum}
+use Rattle.kinks_and_fingers.specs.DropComponents.{parts_component_count}
+use Rattle.kinks_and_fingers.proofs.OldDarts.{arc_of_dart-arc_of, arc_of_dart-partner, arc_of_dart-below}
 use Rattle.kinks_and_fingers.proofs.KinkClosing.{before}
 use Rattle.kinks_and_fingers.proofs.KinkDropSums.{count-later, sums-alike}
 use Rattle.kinks_and_fingers.proofs.ComponentDrops.{IsOfNames-passes, IsOfNames-smoothings, standing-classes}
@@ -35,14 +39,14 @@ use Rattle.slides.proofs.SlidBack.{planar-slid}
 use Rattle.slides.proofs.SlidHeads.{HasHeadsAndTails-slid}
 use Rattle.slides.proofs.SlidTriangle.{sum_with-slid}
 use Rattle.slides.proofs.Passes.{component_count-slid}
-use Rattle.diagram_moves.specs.Joinable.{numbered, IsJoinable}
-use Rattle.diagram_moves.specs.Kept.{IsKeptCode, slid_strands}
+use Rattle.diagram_moves.specs.Joinable.{IsJoinable}
+use Rattle.diagram_moves.specs.Kept.{IsKeptCode, slid_parts}
 use Rattle.diagram_moves.proofs.Standing.{standing-count}
-use Rattle.diagram_moves.proofs.Numbered.{IsAccepted-numbered, components-numbered, sign-numbered, state_sum-numbered}
+use Rattle.diagram_moves.proofs.Numbered.{IsAccepted-renumber, components-renumber, sign-renumber, state_sum-renumber}
 
 -- signs that stand in a list for those of a function of crossings
 abbrev AreSigns : List Bool → (ℕ → Bool) → ℕ → Type 0
-AreSigns signs positive n = (place : ℕ) → place < n → sign_at signs place ≡ positive (place + 1)
+AreSigns signs positive n = (place : ℕ) → place < n → is_positive_at signs place ≡ positive (place + 1)
 
 not_true : (b : Bool) → b ≡ false → not b ≡ true
 not_true true is = sym is
@@ -59,46 +63,46 @@ HasTwoEnds-arcs crossings positive signs twice ends are =
     let n = length crossings in
     let head : (x : ℕ) → x < 4 * length crossings → is_head_at signs x ≡ is_head_with positive (dart_at x) =
     λ x below. ap (λ b. strand_enters b (x % 4)) (are (x / 4) (omega (arith, below))) in
-    let arc : (x : ℕ) → x < 4 * length crossings → IsArc crossings (dart_name crossings x) =
-    λ x below. subst (λ (a : ℕ). IsArc crossings a) (dart_name-arc_of crossings x) (twice.slots (dart_at x) (IsDart-at crossings x below)) in
-    let own : (x : ℕ) → x < 4 * length crossings → IsDartOf crossings (dart_name crossings x) (dart_at x) =
-    λ x below. record { within = IsDart-at crossings x below; on_arc = dart_name-arc_of crossings x } in
-    let of_name : (x y : ℕ) → y < 4 * length crossings → dart_name crossings x ≡ dart_name crossings y
-    → IsDartOf crossings (dart_name crossings x) (dart_at y) =
-    λ x y below same. record { within = IsDart-at crossings y below; on_arc = dart_name-arc_of crossings y ∙ sym same } in
+    let arc : (x : ℕ) → x < 4 * length crossings → IsArc crossings (arc_of_dart crossings x) =
+    λ x below. subst (λ (a : ℕ). IsArc crossings a) (arc_of_dart-arc_of crossings x) (twice.slots (dart_at x) (IsDart-at crossings x below)) in
+    let own : (x : ℕ) → x < 4 * length crossings → IsDartOf crossings (arc_of_dart crossings x) (dart_at x) =
+    λ x below. record { within = IsDart-at crossings x below; on_arc = arc_of_dart-arc_of crossings x } in
+    let of_name : (x y : ℕ) → y < 4 * length crossings → arc_of_dart crossings x ≡ arc_of_dart crossings y
+    → IsDartOf crossings (arc_of_dart crossings x) (dart_at y) =
+    λ x y below same. record { within = IsDart-at crossings y below; on_arc = arc_of_dart-arc_of crossings y ∙ sym same } in
     let back : (x y : ℕ) → dart_at x ≡ dart_at y → x ≡ y =
     λ x y same. sym (dart_place-at x) ∙ ap dart_place same ∙ dart_place-at y in
     record {
       one_head = λ x y x_below y_below x_head y_head same.
-          let one = (ends (dart_name crossings x) (arc x x_below)).0 in
+          let one = (ends (arc_of_dart crossings x) (arc x x_below)).0 in
           back x y
           (one.1.only (dart_at x) (own x x_below) (sym (head x x_below) ∙ x_head)
           ∙ sym (one.1.only (dart_at y) (of_name x y y_below same) (sym (head y y_below) ∙ y_head)));
       one_tail = λ x y x_below y_below x_tail y_tail same.
-          let one = (ends (dart_name crossings x) (arc x x_below)).1 in
+          let one = (ends (arc_of_dart crossings x) (arc x x_below)).1 in
           back x y
           (one.1.only (dart_at x) (own x x_below) (not_true (is_head_with positive (dart_at x)) (sym (head x x_below) ∙ x_tail))
           ∙ sym
           (one.1.only (dart_at y) (of_name x y y_below same) (not_true (is_head_with positive (dart_at y)) (sym (head y y_below) ∙ y_tail))));
       tail_of = λ x below is_head.
-          let one = (ends (dart_name crossings x) (arc x below)).1 in
+          let one = (ends (arc_of_dart crossings x) (arc x below)).1 in
           let y = dart_place one.0 in
           let y_below : dart_place one.0 < 4 * length crossings = dart_place-below crossings one.0 one.1.is.within in
           let at = dart_at-place crossings one.0 one.1.is.within in (
             y,
             y_below,
             head (dart_place one.0) y_below ∙ ap (is_head_with positive) at ∙ not_false (is_head_with positive one.0) one.1.kind_of,
-            sym (sym (dart_name-arc_of crossings (dart_place one.0)) ∙ ap (arc_of crossings) at ∙ one.1.is.on_arc),
+            sym (sym (arc_of_dart-arc_of crossings (dart_place one.0)) ∙ ap (arc_of crossings) at ∙ one.1.is.on_arc),
           );
       head_of = λ x below is_tail.
-          let one = (ends (dart_name crossings x) (arc x below)).0 in
+          let one = (ends (arc_of_dart crossings x) (arc x below)).0 in
           let y = dart_place one.0 in
           let y_below : dart_place one.0 < 4 * length crossings = dart_place-below crossings one.0 one.1.is.within in
           let at = dart_at-place crossings one.0 one.1.is.within in (
             y,
             y_below,
             head (dart_place one.0) y_below ∙ ap (is_head_with positive) at ∙ one.1.kind_of,
-            sym (sym (dart_name-arc_of crossings (dart_place one.0)) ∙ ap (arc_of crossings) at ∙ one.1.is.on_arc),
+            sym (sym (arc_of_dart-arc_of crossings (dart_place one.0)) ∙ ap (arc_of crossings) at ∙ one.1.is.on_arc),
           );
     }
 
@@ -107,12 +111,12 @@ IsPlanarBy-arcs : (crossings : List (List ℕ)) → HasArcsTwice crossings → f
 IsPlanarBy-arcs crossings twice planar = record {
   pairing = IsPairing-partner_at crossings twice;
   other = λ x below. (IsOtherPlace-partner_at crossings x twice below).differs;
-  name = λ x below. dart_name-partner crossings twice x below;
+  name = λ x below. arc_of_dart-partner crossings twice x below;
   planar = (IsPlanar-twice crossings twice).1 planar;
 }
 
 -- crossings over their own arcs
-module _ (strands : Strands) (twice : HasArcsTwice strands.crossings)
+module _ (strands : Parts) (twice : HasArcsTwice strands.crossings)
     (is : IsJoinable (arc_count strands.crossings + 1) strands) where
   abbrev code : Code
   code = record { crossings = strands.crossings; loops = strands.loops }
@@ -120,40 +124,40 @@ module _ (strands : Strands) (twice : HasArcsTwice strands.crossings)
   arcs-below : ArcsBelow (arc_count strands.crossings + 1) strands.crossings
   arcs-below = ArcsBelow-slots (arc_count strands.crossings + 1) strands.crossings twice.slots (omega arith)
 
-  pub own-components : strand_component_count (arc_count strands.crossings + 1) strands ≡ component_count strands.crossings + strands.loops
+  pub own-components : parts_component_count (arc_count strands.crossings + 1) strands ≡ component_count strands.crossings + strands.loops
   own-components =
       let low = passes_of-below (arc_count strands.crossings + 1) strands.crossings arcs-below in
       let standing = standing-classes (arc_count strands.crossings + 1) strands.crossings (flat_map passes_of strands.crossings) low
       (IsOfNames-passes strands.crossings) in
-      let names = standing-count (arc_count strands.crossings + 1) strands is.ends is.names in
+      let names = standing-count (arc_count strands.crossings + 1) strands is.paired is.names in
       let count = class_count-components strands.crossings low in
       omega (arith, standing, names, count)
 
   pub own-circles : (state : ℕ)
-      → strand_circle_count (arc_count strands.crossings + 1) strands state
+      → parts_circle_count (arc_count strands.crossings + 1) strands state
       ≡ circle_count (record { crossings = strands.crossings; loops = strands.loops }) state
   own-circles state =
       let low = smoothings_of-below (arc_count strands.crossings + 1) state strands.crossings arcs-below in
       let standing = standing-classes (arc_count strands.crossings + 1) strands.crossings (smoothings_of strands.crossings state) low
       (IsOfNames-smoothings strands.crossings state) in
-      let names = standing-count (arc_count strands.crossings + 1) strands is.ends is.names in
+      let names = standing-count (arc_count strands.crossings + 1) strands is.paired is.names in
       let whole = before (record { crossings = strands.crossings; loops = strands.loops }) state twice in
       omega (arith, standing, names, whole)
 
   pub own-sum : (exponent : ℤ)
-      → strand_sum (arc_count strands.crossings + 1) strands exponent
-      ≡ sum_with (strand_plus strands) (strand_minus strands) (record { crossings = strands.crossings; loops = strands.loops }) exponent
+      → parts_sum (arc_count strands.crossings + 1) strands exponent
+      ≡ sum_with (parts_plus strands) (parts_minus strands) (record { crossings = strands.crossings; loops = strands.loops }) exponent
   own-sum exponent =
-      sums-alike (strand_term (arc_count strands.crossings + 1) strands exponent)
-      (term_with (strand_plus strands) (strand_minus strands) (record { crossings = strands.crossings; loops = strands.loops }) exponent)
+      sums-alike (parts_term (arc_count strands.crossings + 1) strands exponent)
+      (term_with (parts_plus strands) (parts_minus strands) (record { crossings = strands.crossings; loops = strands.loops }) exponent)
       0 (2 ^ length strands.crossings)
       (λ state from below.
-      ap (λ c. term_of (strand_plus strands) (strand_minus strands) exponent (ones (length strands.crossings) state) c) (own-circles state))
+      ap (λ c. term_of (parts_plus strands) (parts_minus strands) exponent (ones (length strands.crossings) state) c) (own-circles state))
 
 -- a slide
 
 pub signs-slid : (crossings : List (List ℕ)) (place : ℕ) → place < length crossings
-    → sign_at (map (positive_at crossings) (range_with_len 0 (length crossings))) place ≡ is_positive crossings (place + 1)
+    → is_positive_at (map (positive_at crossings) (range_with_len 0 (length crossings))) place ≡ is_positive crossings (place + 1)
 signs-slid crossings place below =
     get_or-map-range_with_len (positive_at crossings) 0 (length crossings) place place false below (omega arith)
 
@@ -166,49 +170,48 @@ plus-slid crossings =
     (ap (λ a. count_by (is_positive crossings) (range_with_len a (length crossings))) (sym e)
     ∙ count-later (is_positive crossings) 0 (length crossings))
 
-pub HasTwoEnds-slid : (code : Code) (x y z : ℕ) → IsTrue (accepted code) → IsTriangle code.crossings x y z
-    → HasTwoEnds (slid_strands code x y z).crossings (slid_strands code x y z).signs
-HasTwoEnds-slid code x y z is triangle =
+pub ArePaired-slid : (code : Code) (x y z : ℕ) → IsTrue (accepted code) → IsTriangle code.crossings x y z
+    → ArePaired (slid_parts code x y z)
+ArePaired-slid code x y z is triangle =
     let old_twice = HasArcsTwice-accepted code is in
     let sides = HasSides-triangle code.crossings x y z old_twice triangle in
     let new = slid code.crossings x y z in
     let size = length-slid code.crossings x y z in
-    HasTwoEnds-arcs new (is_positive code.crossings) (slid_strands code x y z).signs (HasArcsTwice-slid code.crossings x y z old_twice sides)
-    (HasHeadsAndTails-slid code x y z is sides) (λ place below. signs-slid code.crossings place (omega (arith, below, size)))
+    ArePaired-ends (slid_parts code x y z)
+    (HasTwoEnds-arcs new (is_positive code.crossings) (slid_parts code x y z).positive (HasArcsTwice-slid code.crossings x y z old_twice sides)
+    (HasHeadsAndTails-slid code x y z is sides) (λ place below. signs-slid code.crossings place (omega (arith, below, size))))
 
 pub IsKept-slid : (code : Code) (x y z : ℕ) → IsTrue (accepted code) → IsTriangle code.crossings x y z → has_heights x y z ≡ true
-    → IsKeptCode code (numbered (slid_strands code x y z)) (λ place. place) (length code.crossings)
+    → IsKeptCode code (renumber (slid_parts code x y z)) (λ place. place) (length code.crossings)
 IsKept-slid code x y z is triangle heights =
     let old_twice = HasArcsTwice-accepted code is in
     let sides = HasSides-triangle code.crossings x y z old_twice triangle in
     let new = slid code.crossings x y z in
-    let strands = slid_strands code x y z in
+    let strands = slid_parts code x y z in
     let size = length-slid code.crossings x y z in
     let twice = HasArcsTwice-slid code.crossings x y z old_twice sides in
-    let ends = HasHeadsAndTails-slid code x y z is sides in
-    let joinable : IsJoinable (arc_count (slid code.crossings x y z) + 1) (slid_strands code x y z) = record {
-      ends = HasTwoEnds-arcs new (is_positive code.crossings) strands.signs twice ends
-          (λ place below. signs-slid code.crossings place (omega (arith, below, size)));
+    let joinable : IsJoinable (arc_count (slid code.crossings x y z) + 1) (slid_parts code x y z) = record {
+      paired = ArePaired-slid code x y z is triangle;
       size = length-map-range_with_len (positive_at code.crossings) 0 (length code.crossings) ∙ sym size;
       partner = partner_at new;
       planar = IsPlanarBy-arcs new twice (planar-slid code x y z is sides);
-      names = λ dart below. dart_name-below new twice dart below;
+      names = λ dart below. omega (arith, arc_of_dart-arc_of new dart, arc_of_dart-below new twice dart below);
     } in
     let components = own-components strands twice joinable in
     let kept = component_count-slid code.crossings x y z old_twice sides in
-    let numbered_components = components-numbered (arc_count (slid code.crossings x y z) + 1) strands joinable in
+    let numbered_components = components-renumber (arc_count (slid code.crossings x y z) + 1) strands joinable in
     let few = ((IsAccepted-is code).0 is).components in
-    let plus : strand_plus (slid_strands code x y z) ≡ plus_count code.crossings = plus-slid code.crossings in
-    let minus : strand_minus (slid_strands code x y z) ≡ minus_count code.crossings = ap₂ (λ n p. n - p) size plus in
+    let plus : parts_plus (slid_parts code x y z) ≡ plus_count code.crossings = plus-slid code.crossings in
+    let minus : parts_minus (slid_parts code x y z) ≡ minus_count code.crossings = ap₂ (λ n p. n - p) size plus in
     record {
-      accepted_too = IsAccepted-numbered (arc_count (slid code.crossings x y z) + 1) strands joinable (omega (arith, components, kept, few));
+      accepted_too = IsAccepted-renumber (arc_count (slid code.crossings x y z) + 1) strands joinable (omega (arith, components, kept, few));
       size = length-map new _ ∙ size;
       components = omega (arith, numbered_components, components, kept);
       signs = λ place below.
-          sign-numbered (arc_count (slid code.crossings x y z) + 1) strands joinable place (omega (arith, below, size))
+          sign-renumber (arc_count (slid code.crossings x y z) + 1) strands joinable place (omega (arith, below, size))
           ∙ signs-slid code.crossings place below;
       sums = λ exponent.
-          state_sum-numbered (arc_count (slid code.crossings x y z) + 1) strands joinable exponent
+          state_sum-renumber (arc_count (slid code.crossings x y z) + 1) strands joinable exponent
           ∙ own-sum strands twice joinable exponent
           ∙ ap₂ (λ p m. sum_with p m (slid_code code x y z) exponent) plus minus
           ∙ sum_with-slid code x y z is sides heights exponent;

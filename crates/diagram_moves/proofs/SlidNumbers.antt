@@ -21,24 +21,23 @@ use Rattle.code_passes.proofs.CutArcs.{IsFirst, size, component-in, end-within}
 use Rattle.code_passes.proofs.LabelCounts.{under_at-is}
 use Rattle.code_passes.proofs.LeastArcs.{IsFirstOf-directed}
 use Rattle.orient_arcs.specs.OtherNames.{KeepsComponents}
-use Rattle.orient_arcs.specs.Parts.{Parts, ArePaired, passes_through, passes_at, slots_in, is_positive_at}
+use Rattle.code_passes.specs.Parts.{Parts, ArePaired, passes_through, passes_at, slots_in, is_positive_at}
 use Rattle.orient_arcs.specs.Renumbered.{follows, label_entered, number_in, order_of}
 use Rattle.orient_arcs.proofs.Bridge.{number-once, slot-head}
 use Rattle.orient_arcs.proofs.Members.{IsIn}
 use Rattle.orient_arcs.proofs.PairedPasses.{heads_of, All-flat_map_range, entering-at, entering-enters, entering-holds}
 use Rattle.orient_arcs.proofs.PlacedNumbers.{HasOverLabels, IsPlaced, placed-numbers}
-use Rattle.slides.specs.Slid.{arc_there, on, slid, source}
+use Rattle.slides.specs.Slid.{on, slid, source}
 use Rattle.slides.specs.SlideCodes.{is_head_with}
 use Rattle.slides.specs.Triangles.{IsTriangle}
 use Rattle.slides.proofs.Corners.{four, at_places, on-below, on-on, on-zero, source-below, source-outside, source-rotated, source-x}
 use Rattle.slides.proofs.Passes.{KeepsPass-slid, arc-behind, passes-arcs, respects-behind}
 use Rattle.slides.proofs.Sides.{HasSides, HasSides-rotated, HasSides-triangle}
-use Rattle.slides.proofs.SlidArcs.{arc_of-at, arc_there-slid, length-slid}
+use Rattle.slides.proofs.SlidArcs.{arc_of-at, arc_of_dart-slid, length-slid}
 use Rattle.slides.proofs.SlidHeads.{HasHeadsAndTails-slid}
-use Rattle.diagram_moves.specs.Joinable.{parts_in}
-use Rattle.diagram_moves.specs.Kept.{slid_strands}
-use Rattle.diagram_moves.proofs.Paired.{ArePaired-strands}
-use Rattle.diagram_moves.proofs.SlidCodes.{HasTwoEnds-slid, signs-slid}
+use Rattle.diagram_moves.specs.Kept.{slid_parts}
+use Rattle.diagram_moves.proofs.SlidCodes.{ArePaired-slid, signs-slid}
+use Rattle.gluing.specs.Codes.{arc_of_dart}
 
 -- what is one at the two darts of each arc, and at opposite slots, is one at a dart and at its source
 
@@ -90,7 +89,7 @@ module _ (code : Code) (x y z : ℕ) (holds : IsTrue (accepted code)) (triangle 
   after = slid code.crossings x y z
 
   abbrev parts : Parts
-  parts = parts_in (slid_strands code x y z)
+  parts = (slid_parts code x y z)
 
   abbrev signs : ℕ → Bool
   signs = is_positive code.crossings
@@ -110,29 +109,29 @@ module _ (code : Code) (x y z : ℕ) (holds : IsTrue (accepted code)) (triangle 
   size-after : length (slid code.crossings x y z) ≡ length code.crossings
   size-after = length-slid code.crossings x y z
 
-  pub slid-paired : ArePaired (parts_in (slid_strands code x y z))
-  slid-paired = ArePaired-strands (slid_strands code x y z) (HasTwoEnds-slid code x y z holds triangle)
+  pub slid-paired : ArePaired (slid_parts code x y z)
+  slid-paired = ArePaired-slid code x y z holds triangle
 
   source-low : (dart : ℕ) → dart < 4 * length code.crossings → source x y z dart < 4 * length code.crossings
   source-low = source-below (length code.crossings) x y z sides.apart sides.x_below sides.y_below sides.z_below
 
-  old-arc : (dart : ℕ) → dart < 4 * length code.crossings → IsArc code.crossings (arc_there code.crossings dart)
+  old-arc : (dart : ℕ) → dart < 4 * length code.crossings → IsArc code.crossings (arc_of_dart code.crossings dart)
   old-arc dart below =
       subst (λ (a : ℕ). IsArc code.crossings a) (arc_of-at code.crossings dart) (twice.slots (dart_at dart) (IsDart-at code.crossings dart below))
 
-  new-arc : (dart : ℕ) → dart < 4 * length code.crossings → IsArc code.crossings (arc_there (slid code.crossings x y z) dart)
+  new-arc : (dart : ℕ) → dart < 4 * length code.crossings → IsArc code.crossings (arc_of_dart (slid code.crossings x y z) dart)
   new-arc dart below =
-      subst (λ (a : ℕ). IsArc code.crossings a) (sym (arc_there-slid code.crossings x y z dart below))
+      subst (λ (a : ℕ). IsArc code.crossings a) (sym (arc_of_dart-slid code.crossings x y z dart below))
       (old-arc (source x y z dart) (source-low dart below))
 
   -- the arc at a dart is one of the component that was there
   same-component : (dart : ℕ) → dart < 4 * length code.crossings
-      → component code.crossings (arc_there (slid code.crossings x y z) dart) ≡ component code.crossings (arc_there code.crossings dart)
+      → component code.crossings (arc_of_dart (slid code.crossings x y z) dart) ≡ component code.crossings (arc_of_dart code.crossings dart)
   same-component dart below =
       let n = length code.crossings in
       let together = classes-together (2 * n + 1) _ (passes-arcs code.crossings twice) in
-      ap (component code.crossings) (arc_there-slid code.crossings x y z dart below)
-      ∙ value-source n (partner_at code.crossings) (λ d. component code.crossings (arc_there code.crossings d)) x y z
+      ap (component code.crossings) (arc_of_dart-slid code.crossings x y z dart below)
+      ∙ value-source n (partner_at code.crossings) (λ d. component code.crossings (arc_of_dart code.crossings d)) x y z
       (record {
         across = λ place within. respects-behind (component code.crossings) code.crossings together place within;
         partners = λ place within.
@@ -145,7 +144,7 @@ module _ (code : Code) (x y z : ℕ) (holds : IsTrue (accepted code)) (triangle 
   -- passes go on to the next arc
 
   old-next : (dart : ℕ) → dart < 4 * length code.crossings → is_head_with (is_positive code.crossings) (dart_at dart) ≡ true
-      → arc_there code.crossings (on dart 2) ≡ next code.crossings (arc_there code.crossings dart)
+      → arc_of_dart code.crossings (on dart 2) ≡ next code.crossings (arc_of_dart code.crossings dart)
   old-next dart below head =
       let crossing = dart / 4 + 1 in
       let is : IsCrossing code.crossings (dart / 4 + 1) = record { positive = omega arith; within = omega (arith, below) } in
@@ -166,7 +165,7 @@ module _ (code : Code) (x y z : ℕ) (holds : IsTrue (accepted code)) (triangle 
       both false crossing pass = pass.follows
 
   new-next : (dart : ℕ) → dart < 4 * length code.crossings → is_head_with (is_positive code.crossings) (dart_at dart) ≡ true
-      → arc_there (slid code.crossings x y z) (on dart 2) ≡ next code.crossings (arc_there (slid code.crossings x y z) dart)
+      → arc_of_dart (slid code.crossings x y z) (on dart 2) ≡ next code.crossings (arc_of_dart (slid code.crossings x y z) dart)
   new-next dart below head =
       let kept = KeepsPass-slid code x y z holds sides dart below in
       kept.second ∙ old-next (source x y z dart) kept.below (sym kept.direction ∙ head) ∙ sym (ap (next code.crossings) kept.first)
@@ -176,7 +175,7 @@ module _ (code : Code) (x y z : ℕ) (holds : IsTrue (accepted code)) (triangle 
   IsOnward pass = IsArc code.crossings pass.enters × (pass.leaves ≡ next code.crossings pass.enters)
 
   slot-there : (place slot : ℕ) → slot < 4
-      → arc_there (slid code.crossings x y z) (4 * place + slot) ≡ arc_in (slots_in (slid code.crossings x y z) place) slot
+      → arc_of_dart (slid code.crossings x y z) (4 * place + slot) ≡ arc_in (slots_in (slid code.crossings x y z) place) slot
   slot-there place slot below =
       let p : (4 * place + slot) / 4 ≡ place = omega (arith, below) in
       let s : (4 * place + slot) % 4 ≡ slot = omega (arith, below) in
@@ -201,7 +200,7 @@ module _ (code : Code) (x y z : ℕ) (holds : IsTrue (accepted code)) (triangle 
       subst (λ (a : ℕ). IsArc code.crossings a) (slot-there place slot slot_below)
       (new-arc (4 * place + slot) (omega (arith, below, slot_below)))
 
-  all-onward : AllByRecursion IsOnward (passes_through (parts_in (slid_strands code x y z)))
+  all-onward : AllByRecursion IsOnward (passes_through (slid_parts code x y z))
   unfolding IsOnward
   all-onward =
       All-flat_map_range IsOnward (passes_at parts) 0 (length (slid code.crossings x y z))
@@ -228,50 +227,50 @@ module _ (code : Code) (x y z : ℕ) (holds : IsTrue (accepted code)) (triangle 
       by place within true is false same = absurd (cc)
       by place within false is true same = absurd (cc)
 
-  heads-arcs : (a : ℕ) → IsIn a (heads_of (parts_in (slid_strands code x y z)) slid-paired) → IsArc code.crossings a
+  heads-arcs : (a : ℕ) → IsIn a (heads_of (slid_parts code x y z) slid-paired) → IsArc code.crossings a
   unfolding IsOnward
   heads-arcs a is =
       subst (λ (b : ℕ). IsArc code.crossings b) (entering-enters parts slid-paired a is)
       (entering-holds parts slid-paired IsOnward a all-onward is).0
 
-  arcs-heads : (a : ℕ) → IsArc code.crossings a → IsIn a (heads_of (parts_in (slid_strands code x y z)) slid-paired)
+  arcs-heads : (a : ℕ) → IsArc code.crossings a → IsIn a (heads_of (slid_parts code x y z) slid-paired)
   arcs-heads a is =
       let is_new : IsArc (slid code.crossings x y z) a =
       record { positive = is.positive; within = subst (λ (k : ℕ). a ≤ 2 * k) (sym size-after) is.within } in
       let found = (HasHeadsAndTails-slid code x y z holds sides a is_new).0 in
       let within = found.1.is.within in
-      subst (λ (b : ℕ). IsIn b (heads_of (parts_in (slid_strands code x y z)) slid-paired)) found.1.is.on_arc
+      subst (λ (b : ℕ). IsIn b (heads_of (slid_parts code x y z) slid-paired)) found.1.is.on_arc
       (slot-head parts slid-paired (found.0.crossing - 1) found.0.slot (omega (arith, within.crossing.positive, within.crossing.within)) within.slot)
 
   follows-next : (a : ℕ) → IsArc code.crossings a
-      → follows (passes_through (parts_in (slid_strands code x y z))) a ≡ next code.crossings a
+      → follows (passes_through (slid_parts code x y z)) a ≡ next code.crossings a
   unfolding IsOnward
   follows-next a is =
       let head = arcs-heads a is in
       (entering-holds parts slid-paired IsOnward a all-onward head).1 ∙ ap (next code.crossings) (entering-enters parts slid-paired a head)
 
   placed : (a : ℕ) → IsArc code.crossings a
-      → IsPlaced code directed (parts_in (slid_strands code x y z)) slid-paired arcs-heads heads-arcs follows-next size-after
-      (order_of (passes_through (parts_in (slid_strands code x y z)))) a
+      → IsPlaced code directed (slid_parts code x y z) slid-paired arcs-heads heads-arcs follows-next size-after
+      (order_of (passes_through (slid_parts code x y z))) a
   placed = placed-numbers code directed parts slid-paired arcs-heads heads-arcs follows-next size-after
 
   -- an arc that comes in below has a label of an under pass
   under-label : (dart : ℕ) → dart < 4 * length code.crossings → dart % 4 ≡ 0
-      → is_over (label_entered (passes_through (parts_in (slid_strands code x y z))) (arc_there (slid code.crossings x y z) dart)) ≡ false
+      → is_over (label_entered (passes_through (slid_parts code x y z)) (arc_of_dart (slid code.crossings x y z) dart)) ≡ false
   under-label dart below under =
       let place = dart / 4 in
       let slots = slots_in (slid code.crossings x y z) (dart / 4) in
       let entered = (entering-at parts slid-paired (dart / 4) (omega (arith, below, size-after))).0 in
-      let arc : arc_there (slid code.crossings x y z) dart ≡ arc_in (slots_in (slid code.crossings x y z) (dart / 4)) 0 =
+      let arc : arc_of_dart (slid code.crossings x y z) dart ≡ arc_in (slots_in (slid code.crossings x y z) (dart / 4)) 0 =
       ap (λ s. arc_in (slots_in (slid code.crossings x y z) (dart / 4)) s) under in
-      let same : label_entered (passes_through (parts_in (slid_strands code x y z))) (arc_in (slots_in (slid code.crossings x y z) (dart / 4)) 0)
+      let same : label_entered (passes_through (slid_parts code x y z)) (arc_in (slots_in (slid code.crossings x y z) (dart / 4)) 0)
       ≡ neg_ℤ (pos (dart / 4 + 1)) = ap (λ (p : Pass). p.label) entered in
-      ap (λ a. is_over (label_entered (passes_through (parts_in (slid_strands code x y z))) a)) arc ∙ ap is_over same
+      ap (λ a. is_over (label_entered (passes_through (slid_parts code x y z)) a)) arc ∙ ap is_over same
       ∙ ap is_over (under_at-is (dart / 4))
 
   -- a component that is over at both its crossings after the slide was so before
   over-before : (first : ℕ) → IsFirst code.crossings first
-      → HasOverLabels code directed (parts_in (slid_strands code x y z)) slid-paired arcs-heads heads-arcs follows-next size-after first
+      → HasOverLabels code directed (slid_parts code x y z) slid-paired arcs-heads heads-arcs follows-next size-after first
       → (arc : ℕ) → IsArc code.crossings arc → component code.crossings arc ≡ first → is_over (entering_label code.crossings arc) ≡ true
   over-before first is labels arc arc_is inside =
       let ends = HasEnds-accepted code holds arc arc_is in
@@ -286,23 +285,23 @@ module _ (code : Code) (x y z : ℕ) (holds : IsTrue (accepted code)) (triangle 
             let below : dart_place (head_of code.crossings arc) < 4 * length code.crossings = dart_place-below code.crossings head within in
             let slot = eqb-true (head_of code.crossings arc).slot 0 under in
             let at_zero : dart_place (head_of code.crossings arc) % 4 ≡ 0 = omega (arith, slot) in
-            let other = arc_there (slid code.crossings x y z) dart in
+            let other = arc_of_dart (slid code.crossings x y z) dart in
             let other_is = new-arc dart below in
-            let old : arc_there code.crossings (dart_place (head_of code.crossings arc)) ≡ arc =
+            let old : arc_of_dart code.crossings (dart_place (head_of code.crossings arc)) ≡ arc =
             sym (arc_of-at code.crossings dart) ∙ ap (arc_of code.crossings) (dart_at-place code.crossings head within) ∙ ends.head.on_arc in
-            let other_inside : component code.crossings (arc_there (slid code.crossings x y z) (dart_place (head_of code.crossings arc))) ≡ first =
+            let other_inside : component code.crossings (arc_of_dart (slid code.crossings x y z) (dart_place (head_of code.crossings arc))) ≡ first =
             same-component dart below ∙ ap (component code.crossings) old ∙ inside in
             let place = HasPlace-directed code.crossings directed other other_is in
-            let alike : size code.crossings (component code.crossings (arc_there (slid code.crossings x y z) (dart_place (head_of code.crossings arc))))
+            let alike : size code.crossings (component code.crossings (arc_of_dart (slid code.crossings x y z) (dart_place (head_of code.crossings arc))))
             ≡ size code.crossings first = ap (size code.crossings) other_inside in
             let two = labels.two in
-            let label_of = λ (a : ℕ). is_over (label_entered (passes_through (parts_in (slid_strands code x y z))) a) in
-            let over : is_over (label_entered (passes_through (parts_in (slid_strands code x y z)))
-            (arc_there (slid code.crossings x y z) (dart_place (head_of code.crossings arc)))) ≡ true =
-            elim (cases_eq (arc_there (slid code.crossings x y z) (dart_place (head_of code.crossings arc))) first) [
+            let label_of = λ (a : ℕ). is_over (label_entered (passes_through (slid_parts code x y z)) a) in
+            let over : is_over (label_entered (passes_through (slid_parts code x y z))
+            (arc_of_dart (slid code.crossings x y z) (dart_place (head_of code.crossings arc)))) ≡ true =
+            elim (cases_eq (arc_of_dart (slid code.crossings x y z) (dart_place (head_of code.crossings arc))) first) [
               | inl same ↦ ap label_of same ∙ labels.first_over
               | inr differs ↦
-                  let second : arc_there (slid code.crossings x y z) (dart_place (head_of code.crossings arc)) ≡ first + 1 =
+                  let second : arc_of_dart (slid code.crossings x y z) (dart_place (head_of code.crossings arc)) ≡ first + 1 =
                   omega (arith, differs, place.from, place.below, other_inside, alike, two) in
                   ap label_of second ∙ labels.second_over
             ] in
@@ -312,7 +311,7 @@ module _ (code : Code) (x y z : ℕ) (holds : IsTrue (accepted code)) (triangle 
       positive-over : (k : ℕ) → 1 ≤ k → is_over (pos k) ≡ true
       positive-over k some = grind (arith, nat_tests)
 
-  pub slid-keeps : KeepsComponents (number_in (order_of (passes_through (parts_in (slid_strands code x y z))))) code.crossings
+  pub slid-keeps : KeepsComponents (number_in (order_of (passes_through (slid_parts code x y z)))) code.crossings
   slid-keeps = record {
     apart = λ a b a_is b_is same. number-once parts slid-paired a b (arcs-heads a a_is) (arcs-heads b b_is) same;
     across = λ a b a_is b_is behind.

@@ -7,17 +7,16 @@ use Rattle.kh_types.specs.Code.{Code, IsCrossing}
 use Rattle.kh_types.specs.StateSum.{state_sum}
 use Rattle.slides.specs.Triangles.{dart_at_slot, slide_slot, step}
 use Rattle.slides.proofs.FoundTriangles.{IsTriangle-slot, has_heights-slot}
-use Rattle.diagram_moves.specs.Joinable.{AreReady, parts_in}
-use Rattle.diagram_moves.specs.Kept.{slid_strands}
+use Rattle.diagram_moves.specs.Joinable.{AreReady}
+use Rattle.diagram_moves.specs.Kept.{slid_parts}
 use Rattle.diagram_moves.proofs.KeptComponents.{HasComponents}
-use Rattle.diagram_moves.specs.SlideSteps.{IsSlidable, slid_arc, slid_strands_at}
+use Rattle.diagram_moves.specs.SlideSteps.{IsSlidable, slid_arc, slid_parts_at}
 use Rattle.slides.specs.Slid.{slid_crossing}
 use Rattle.diagram_moves.specs.Moved.{slid_at, slid_from}
 use Rattle.diagram_moves.specs.MoveFaults.{no_crossing, no_heights, no_triangle, slide_fault}
 use Rattle.diagram_moves.specs.declared.fault.MoveFault.TheVariants.{Heights}
 use Rattle.diagram_moves.proofs.FaultLemmas.{both-none, is_crossing, none-false}
-use Rattle.diagram_moves.proofs.Paired.{ArePaired-strands}
-use Rattle.diagram_moves.proofs.SlidCodes.{HasTwoEnds-slid, IsKept-slid}
+use Rattle.diagram_moves.proofs.SlidCodes.{ArePaired-slid, IsKept-slid}
 
 -- three crossings at which a slide can be made
 pub record IsPlaced (code : Code) (first second third : ℕ) : Type 0 where
@@ -61,13 +60,13 @@ slides_are_ready code first second third holds none =
     IsTriangle-slot code.crossings first second third can.slot can.first_crossing can.second_crossing can.third_crossing can.found in
     let heights = has_heights-slot code.crossings first second third can.slot can.found in
     let taken : unwrap_or (slide_slot code.crossings first second third) 0 ≡ can.slot = ap (λ (o : Option ℕ). unwrap_or o 0) can.found in
-    let ready : AreReady (parts_in (slid_strands_at code first can.slot)) = record {
-      paired = ArePaired-strands (slid_strands code x y z) (HasTwoEnds-slid code x y z holds triangle);
+    let ready : AreReady (slid_parts_at code first can.slot) = record {
+      paired = ArePaired-slid code x y z holds triangle;
       accepted_code = (IsKept-slid code x y z holds triangle heights).accepted_too;
     } in
     record {
       crossing = can.first_crossing;
-      ready = subst (λ (slot : ℕ). AreReady (parts_in (slid_strands_at code first slot))) (sym taken) ready;
+      ready = subst (λ (slot : ℕ). AreReady (slid_parts_at code first slot)) (sym taken) ready;
     }
 
 pub slid_four : (crossings : List (List ℕ)) (x y z place : ℕ)
@@ -90,13 +89,13 @@ sum-slid_at code first second third holds none exponent =
     ∙ (IsKept-slid code x y z holds triangle heights).sums exponent
 
 pub strands_at : (code : Code) (crossing slot x y z : ℕ) → x ≡ dart_at_slot crossing slot → y ≡ step code.crossings x
-    → z ≡ step code.crossings y → slid_strands code x y z ≡ slid_strands_at code crossing slot
+    → z ≡ step code.crossings y → slid_parts code x y z ≡ slid_parts_at code crossing slot
 strands_at code crossing slot x y z x_is y_is z_is =
     let y_at = y_is ∙ ap (step code.crossings) x_is in
     let z_at = z_is ∙ ap (step code.crossings) y_at in
-    ap (λ (k : ℕ). slid_strands code k y z) x_is
-    ∙ ap (λ (k : ℕ). slid_strands code (dart_at_slot crossing slot) k z) y_at
-    ∙ ap (λ (k : ℕ). slid_strands code (dart_at_slot crossing slot) (step code.crossings (dart_at_slot crossing slot)) k) z_at
+    ap (λ (k : ℕ). slid_parts code k y z) x_is
+    ∙ ap (λ (k : ℕ). slid_parts code (dart_at_slot crossing slot) k z) y_at
+    ∙ ap (λ (k : ℕ). slid_parts code (dart_at_slot crossing slot) (step code.crossings (dart_at_slot crossing slot)) k) z_at
 
 pub components-slid_at : (code : Code) (first second third : ℕ) → IsTrue (accepted code) → slide_fault code first second third ≡ None
     → HasComponents code (slid_at code first second third)

@@ -11,31 +11,30 @@ use Rattle.kh_types.proofs.AcceptedLemmas.{HasArcsTwice-accepted}
 use Rattle.kh_types.proofs.Heads.{HasNoSingleArcs-accepted}
 use Rattle.kh_types.proofs.Ranges.{list_any-below}
 use Rattle.orient_arcs.specs.OtherNames.{IsNamedBy}
-use Rattle.orient_arcs.specs.Parts.{passes_through}
-use Rattle.orient_arcs.specs.Renumbered.{number_in, order_of}
+use Rattle.code_passes.specs.Parts.{passes_through}
+use Rattle.orient_arcs.specs.Renumbered.{number_in, order_of, renumber}
 use Rattle.orient_arcs.proofs.AlikeCrossings.{AreAlike-renumbered, partner_at-alike}
 use Rattle.orient_arcs.proofs.Bridge.{length-renumbered, slot-renumbered}
 use Rattle.orient_arcs.proofs.KeptOrder.{own-crossings}
-use Rattle.slides.specs.Slid.{arc_there, on, slid, source}
+use Rattle.slides.specs.Slid.{on, slid, source}
 use Rattle.slides.specs.Triangles.{IsTriangle, IsTriangleAt, dart_at_slot, has_heights, has_triangle, is_slidable_at, is_triangle, slide_slot, step}
 use Rattle.slides.proofs.Corners.{on-crossing, source-below, source-source}
 use Rattle.slides.proofs.FoundTriangles.{IsFirst-found, IsTriangleAt-is, is_triangle-at, IsTriangle-slot, has_heights-slot}
 use Rattle.slides.proofs.Sides.{HasSides, HasSides-slid, HasSides-triangle}
-use Rattle.slides.proofs.SlidArcs.{arc_there-slid, length-slid, partner_at-slid}
+use Rattle.slides.proofs.SlidArcs.{arc_of_dart-slid, length-slid, partner_at-slid}
 use Rattle.slides.proofs.SlidBack.{source-across}
 use Rattle.diagram_moves.specs.declared.change.Move.TheVariants.{Slide}
 use Rattle.diagram_moves.specs.declared.fault.MoveFault.{MoveFault}
 use Rattle.diagram_moves.specs.declared.fault.MoveFault.TheVariants.{Heights, NoCrossing, NoTriangle}
-use Rattle.diagram_moves.specs.Joinable.{numbered, parts_in}
-use Rattle.diagram_moves.specs.Kept.{slid_strands}
+use Rattle.diagram_moves.specs.Kept.{slid_parts}
 use Rattle.diagram_moves.specs.Moved.{answered, moved, slid_at, slid_from}
 use Rattle.diagram_moves.specs.MoveFaults.{no_crossing, no_heights, no_triangle, refused_where, slide_fault}
 use Rattle.diagram_moves.proofs.BackAgain.{answered-ok}
 use Rattle.diagram_moves.proofs.KinksBack.{held-none, within-none}
-use Rattle.diagram_moves.proofs.Paired.{ArePaired-strands}
-use Rattle.diagram_moves.proofs.SlidCodes.{HasTwoEnds-slid, IsKept-slid, signs-slid}
+use Rattle.diagram_moves.proofs.SlidCodes.{ArePaired-slid, IsKept-slid, signs-slid}
 use Rattle.diagram_moves.proofs.SlideLemmas.{IsPlaced-none}
 use Rattle.diagram_moves.proofs.SlidNumbers.{slid-keeps, slid-paired}
+use Rattle.gluing.specs.Codes.{arc_of_dart}
 
 turned-on : (place : ℕ) → turned (on place 1) ≡ place
 turned-on place = omega arith
@@ -46,10 +45,10 @@ module _ (code : Code) (x y z : ℕ) (holds : IsTrue (accepted code)) (triangle 
   after = slid code.crossings x y z
 
   abbrev new : Code
-  new = numbered (slid_strands code x y z)
+  new = renumber (slid_parts code x y z)
 
   abbrev number : ℕ → ℕ
-  number = number_in (order_of (passes_through (parts_in (slid_strands code x y z))))
+  number = number_in (order_of (passes_through (slid_parts code x y z)))
 
   twice : HasArcsTwice code.crossings
   twice = HasArcsTwice-accepted code holds
@@ -60,39 +59,39 @@ module _ (code : Code) (x y z : ℕ) (holds : IsTrue (accepted code)) (triangle 
   size-after : length (slid code.crossings x y z) ≡ length code.crossings
   size-after = length-slid code.crossings x y z
 
-  size-new : length (numbered (slid_strands code x y z)).crossings ≡ length code.crossings
-  size-new = length-renumbered (parts_in (slid_strands code x y z)) (slid-paired code x y z holds triangle) ∙ size-after
+  size-new : length (renumber (slid_parts code x y z)).crossings ≡ length code.crossings
+  size-new = length-renumbered (slid_parts code x y z) (slid-paired code x y z holds triangle) ∙ size-after
 
-  holds-new : IsTrue (accepted (numbered (slid_strands code x y z)))
+  holds-new : IsTrue (accepted (renumber (slid_parts code x y z)))
   holds-new = (IsKept-slid code x y z holds triangle heights).accepted_too
 
   -- the triangle across
 
   partner-new : (dart : ℕ) → dart < 4 * length code.crossings
-      → partner_at (numbered (slid_strands code x y z)).crossings dart ≡ partner_at (slid code.crossings x y z) dart
+      → partner_at (renumber (slid_parts code x y z)).crossings dart ≡ partner_at (slid code.crossings x y z) dart
   partner-new dart below =
-      partner_at-alike after new.crossings (AreAlike-renumbered (parts_in (slid_strands code x y z)) (slid-paired code x y z holds triangle)) dart
+      partner_at-alike after new.crossings (AreAlike-renumbered (slid_parts code x y z) (slid-paired code x y z holds triangle)) dart
       (omega (arith, below, size-after))
 
   step-across : (u v : ℕ) → u < 4 * length code.crossings
       → source x y z (partner_at code.crossings (source x y z u)) ≡ on v 1
-      → step (numbered (slid_strands code x y z)).crossings u ≡ v
+      → step (renumber (slid_parts code x y z)).crossings u ≡ v
   step-across u v below goes =
       ap turned (partner-new u below ∙ partner_at-slid code.crossings x y z u twice sides below ∙ goes) ∙ turned-on v
 
   across : HasSides (length code.crossings) (λ place. source x y z (partner_at code.crossings (source x y z place))) (on x 2) (on y 2) (on z 2)
   across = HasSides-slid (length code.crossings) (partner_at code.crossings) x y z sides
 
-  pub steps-first : step (numbered (slid_strands code x y z)).crossings (on x 2) ≡ on y 2
+  pub steps-first : step (renumber (slid_parts code x y z)).crossings (on x 2) ≡ on y 2
   steps-first = step-across (on x 2) (on y 2) across.x_below across.from_x
 
-  pub steps-second : step (numbered (slid_strands code x y z)).crossings (on y 2) ≡ on z 2
+  pub steps-second : step (renumber (slid_parts code x y z)).crossings (on y 2) ≡ on z 2
   steps-second = step-across (on y 2) (on z 2) across.y_below across.from_y
 
-  pub steps-third : step (numbered (slid_strands code x y z)).crossings (on z 2) ≡ on x 2
+  pub steps-third : step (renumber (slid_parts code x y z)).crossings (on z 2) ≡ on x 2
   steps-third = step-across (on z 2) (on x 2) across.z_below across.from_z
 
-  pub triangle-across : IsTriangle (numbered (slid_strands code x y z)).crossings (on x 2) (on y 2) (on z 2)
+  pub triangle-across : IsTriangle (renumber (slid_parts code x y z)).crossings (on x 2) (on y 2) (on z 2)
   triangle-across = record {
     below = omega (arith, across.x_below, size-new);
     first = steps-first;
@@ -106,26 +105,26 @@ module _ (code : Code) (x y z : ℕ) (holds : IsTrue (accepted code)) (triangle 
   -- the slide back
 
   arc-new : (dart : ℕ) → dart < 4 * length code.crossings
-      → arc_there (numbered (slid_strands code x y z)).crossings dart ≡ number (arc_there (slid code.crossings x y z) dart)
+      → arc_of_dart (renumber (slid_parts code x y z)).crossings dart ≡ number (arc_of_dart (slid code.crossings x y z) dart)
   arc-new dart below =
       let e : dart / 4 + 1 - 1 ≡ dart / 4 = omega arith in
-      subst (λ (k : ℕ). arc_in (slice_index_or (numbered (slid_strands code x y z)).crossings k []) (dart % 4)
+      subst (λ (k : ℕ). arc_in (slice_index_or (renumber (slid_parts code x y z)).crossings k []) (dart % 4)
       ≡ number (arc_in (slice_index_or (slid code.crossings x y z) k []) (dart % 4))) e
-      (slot-renumbered (parts_in (slid_strands code x y z)) (dart / 4 + 1) (dart % 4)
+      (slot-renumbered (slid_parts code x y z) (dart / 4 + 1) (dart % 4)
       (record { positive = omega arith; within = omega (arith, below, size-after) }) (omega arith))
 
   arc-back : (dart : ℕ) → dart < 4 * length code.crossings
-      → arc_there (slid (numbered (slid_strands code x y z)).crossings (on x 2) (on y 2) (on z 2)) dart
-      ≡ number (arc_there code.crossings dart)
+      → arc_of_dart (slid (renumber (slid_parts code x y z)).crossings (on x 2) (on y 2) (on z 2)) dart
+      ≡ number (arc_of_dart code.crossings dart)
   arc-back dart below =
       let low = source-below (length code.crossings) x y z sides.apart sides.x_below sides.y_below sides.z_below in
-      arc_there-slid new.crossings (on x 2) (on y 2) (on z 2) dart (omega (arith, below, size-new))
-      ∙ ap (λ (from : ℕ → ℕ). arc_there new.crossings (from dart)) (source-across x y z sides.apart)
+      arc_of_dart-slid new.crossings (on x 2) (on y 2) (on z 2) dart (omega (arith, below, size-new))
+      ∙ ap (λ (from : ℕ → ℕ). arc_of_dart new.crossings (from dart)) (source-across x y z sides.apart)
       ∙ arc-new (source x y z dart) (low dart below)
-      ∙ ap number (arc_there-slid code.crossings x y z (source x y z dart) (low dart below)
-      ∙ ap (arc_there code.crossings) (source-source x y z sides.apart dart))
+      ∙ ap number (arc_of_dart-slid code.crossings x y z (source x y z dart) (low dart below)
+      ∙ ap (arc_of_dart code.crossings) (source-source x y z sides.apart dart))
 
-  named-back : IsNamedBy number code (parts_in (slid_strands (numbered (slid_strands code x y z)) (on x 2) (on y 2) (on z 2)))
+  named-back : IsNamedBy number code ((slid_parts (renumber (slid_parts code x y z)) (on x 2) (on y 2) (on z 2)))
   named-back = record {
     size = length-slid new.crossings (on x 2) (on y 2) (on z 2) ∙ size-new;
     names = λ place slot below slot_below.
@@ -140,13 +139,13 @@ module _ (code : Code) (x y z : ℕ) (holds : IsTrue (accepted code)) (triangle 
   }
 
   pub slid-back : AllByRecursion (λ (slots : List ℕ). length slots ≡ 4) code.crossings
-      → numbered (slid_strands (numbered (slid_strands code x y z)) (on x 2) (on y 2) (on z 2)) ≡ code
+      → renumber (slid_parts (renumber (slid_parts code x y z)) (on x 2) (on y 2) (on z 2)) ≡ code
   slid-back four =
       let alone = HasNoSingleArcs-accepted code holds in
-      let again = slid_strands new (on x 2) (on y 2) (on z 2) in
+      let again = slid_parts new (on x 2) (on y 2) (on z 2) in
       ap (λ (xs : List (List ℕ)). code_with xs)
-      (own-crossings code alone.0 alone.1 (parts_in again)
-      (ArePaired-strands again (HasTwoEnds-slid new (on x 2) (on y 2) (on z 2) holds-new triangle-across)) number named-back
+      (own-crossings code alone.0 alone.1 (again)
+      (ArePaired-slid new (on x 2) (on y 2) (on z 2) holds-new triangle-across) number named-back
       (slid-keeps code x y z holds triangle) four)
     where
       code_with : List (List ℕ) → Code
@@ -183,7 +182,7 @@ module _ (code : Code) (c d e slot : ℕ) (holds : IsTrue (accepted code)) (is_c
       let z = step code.crossings y in
       let triangle = IsTriangle-slot code.crossings c d e slot is_c is_d is_e found in
       let heights = has_heights-slot code.crossings c d e slot found in
-      let new = numbered (slid_strands code x y z) in
+      let new = renumber (slid_parts code x y z) in
       let first : dart_at_slot c ((slot + 2) % 4) ≡ on (dart_at_slot c slot) 2 = dart-across c slot below-four in
       let second = ap (step new.crossings) first ∙ steps-first code x y z holds triangle heights in
       let third = ap (step new.crossings) second ∙ steps-second code x y z holds triangle heights in
@@ -204,13 +203,13 @@ module _ (code : Code) (c d e slot : ℕ) (holds : IsTrue (accepted code)) (is_c
       let z = step code.crossings y in
       let triangle = IsTriangle-slot code.crossings c d e slot is_c is_d is_e found in
       let heights = has_heights-slot code.crossings c d e slot found in
-      let new = numbered (slid_strands code x y z) in
+      let new = renumber (slid_parts code x y z) in
       let across = IsAcross-slid in
-      ap (λ (k : ℕ). numbered (slid_strands new k (step new.crossings (dart_at_slot c ((slot + 2) % 4)))
+      ap (λ (k : ℕ). renumber (slid_parts new k (step new.crossings (dart_at_slot c ((slot + 2) % 4)))
       (step new.crossings (step new.crossings (dart_at_slot c ((slot + 2) % 4)))))) across.first
-      ∙ ap (λ (k : ℕ). numbered (slid_strands new (on x 2) k (step new.crossings (step new.crossings (dart_at_slot c ((slot + 2) % 4))))))
+      ∙ ap (λ (k : ℕ). renumber (slid_parts new (on x 2) k (step new.crossings (step new.crossings (dart_at_slot c ((slot + 2) % 4))))))
       across.second
-      ∙ ap (λ (k : ℕ). numbered (slid_strands new (on x 2) (on y 2) k)) across.third
+      ∙ ap (λ (k : ℕ). renumber (slid_parts new (on x 2) (on y 2) k)) across.third
       ∙ slid-back code x y z holds triangle heights four
 
   -- a slide can be made there

@@ -1,5 +1,5 @@
 -- What moves do to the writhe.
-use Rattle.std.proofs.Common.{◌≡◌, ◌≢◌, ℕ, ◌+◌, ◌-◌, ◌<◌, ◌≤◌, ◌∙◌, ◌%◌, ℤ, pos, neg_ℤ, ◌+ℤ◌, ◌-ℤ◌, List, length, map, refl, sym, ap, subst, arith, Bool, true, false, not, cond, ◌||◌, IsTrue}
+use Rattle.std.proofs.Common.{◌≡◌, ℕ, ◌+◌, ◌-◌, ◌≤◌, ◌∙◌, ◌%◌, ℤ, pos, neg_ℤ, ◌+ℤ◌, ◌-ℤ◌, List, length, map, refl, sym, ap, subst, arith, Bool, true, false, not, cond, ◌||◌, IsTrue}
 use Rattle.std.specs.Prelude.{if◌then◌else◌, nat_eq, Option, None, Result, Ok, IfOk, unwrap_or}
 use Rattle.std.proofs.lemmas.Int.{ints}
 use Rattle.std.specs.List.{count_by, filter, range_with_len}
@@ -9,7 +9,7 @@ use Rattle.kh_types.specs.Directions.{is_positive, plus_count, minus_count, sign
 use Rattle.kh_types.proofs.DirectionLemmas.{plus_count-le}
 use Rattle.kh_types.proofs.Lists.{count_by-map}
 use Rattle.kh_types.proofs.RangeCounts.{count_by-alike}
-use Rattle.kinks_and_fingers.specs.DropCircles.{strand_plus}
+use Rattle.kinks_and_fingers.specs.DropCircles.{parts_plus}
 use Rattle.kinks_and_fingers.specs.Drops.{dropped, kept_places, is_of_two, without_finger, without_kink}
 use Rattle.kinks_and_fingers.specs.FingerAdd.{with_finger, differ}
 use Rattle.kinks_and_fingers.specs.KinkAdds.{with_kink}
@@ -30,7 +30,7 @@ use Rattle.diagram_moves.specs.declared.change.Move.{Move}
 use Rattle.diagram_moves.specs.declared.change.Move.TheVariants.{KinkAdd, KinkDrop, FingerAdd, FingerDrop, Slide}
 use Rattle.diagram_moves.specs.declared.fault.MoveFault.{MoveFault}
 use Rattle.diagram_moves.specs.declared.fault.MoveFault.TheVariants.{NoCrossing}
-use Rattle.diagram_moves.specs.Joinable.{numbered}
+use Rattle.orient_arcs.specs.Renumbered.{renumber}
 use Rattle.diagram_moves.specs.Kept.{IsKeptCode}
 use Rattle.diagram_moves.specs.Moved.{is_left, moved, slid_at, slid_from}
 use Rattle.diagram_moves.specs.MoveFaults.{kink_add_fault, kink_drop_fault, finger_place_fault, finger_add_fault, finger_drop_fault, no_crossing, no_kink, slide_fault, wrong_genus}
@@ -57,7 +57,7 @@ plus-of_kept old new kept k is =
 
 plus-dropped : (code new : Code) (gone : ℕ → Bool) (kept : ℕ → ℕ) (k : ℕ) → IsKeptCode code new kept k
     → kept_places code.crossings gone ≡ map kept (range_with_len 0 k)
-    → plus_count new.crossings ≡ strand_plus (dropped code gone)
+    → plus_count new.crossings ≡ parts_plus (dropped code gone)
 plus-dropped code new gone kept k is places =
     plus-of_kept code new kept k is
     ∙ sym
@@ -88,7 +88,7 @@ writhe-more : (plus minus new_plus new_minus k : ℕ) → new_plus ≡ plus + k 
 writhe-more plus minus new_plus new_minus k plus_is minus_is = omega (arith, ints, plus_is, minus_is)
 
 writhe-kink_dropped : (code : Code) (crossing : ℕ) → IsTrue (accepted code) → kink_drop_fault code crossing ≡ None
-    → writhe (numbered (without_kink code (place_of crossing))) ≡ writhe code +ℤ neg_ℤ (sign_of code.crossings crossing)
+    → writhe (renumber (without_kink code (place_of crossing))) ≡ writhe code +ℤ neg_ℤ (sign_of code.crossings crossing)
 writhe-kink_dropped code crossing holds none =
     let c = place_of crossing in
     let found = kink-found code crossing none in
@@ -98,16 +98,16 @@ writhe-kink_dropped code crossing holds none =
     let kept = IsKept-kink code c found.0 holds found.1 in
     let size : length code.crossings ≡ length code.crossings - 1 + 1 = omega (arith, kink.below) in
     let within : place_of crossing ≤ length code.crossings - 1 = omega (arith, kink.below) in
-    let plus = plus-dropped code (numbered (without_kink code c)) (nat_eq c) (early c (length code.crossings - 1))
+    let plus = plus-dropped code (renumber (without_kink code c)) (nat_eq c) (early c (length code.crossings - 1))
     (length code.crossings - 1) kept (kept_are code c (length code.crossings - 1) size within) in
     let all = plus-kept code c kink.below in
-    let few = plus_count-le (numbered (without_kink code c)).crossings in
+    let few = plus_count-le (renumber (without_kink code c)).crossings in
     let new_size = kept.size in
     let back : place_of crossing + 1 ≡ crossing = omega (arith, is_one) in
-    ap (λ m. pos (plus_count (numbered (without_kink code (place_of crossing))).crossings)
-    -ℤ pos (m - plus_count (numbered (without_kink code (place_of crossing))).crossings)) new_size
+    ap (λ m. pos (plus_count (renumber (without_kink code (place_of crossing))).crossings)
+    -ℤ pos (m - plus_count (renumber (without_kink code (place_of crossing))).crossings)) new_size
     ∙ writhe-drop (positive_at code.crossings (place_of crossing)) (plus_count code.crossings)
-    (plus_count (numbered (without_kink code (place_of crossing))).crossings) (length code.crossings) (length code.crossings - 1)
+    (plus_count (renumber (without_kink code (place_of crossing))).crossings) (length code.crossings) (length code.crossings - 1)
     (omega (arith, all, plus)) size (omega (arith, few, new_size))
     ∙ ap (λ k. writhe code +ℤ neg_ℤ (sign_of code.crossings k)) back
 
@@ -116,7 +116,7 @@ one_of_both true = refl
 one_of_both false = refl
 
 writhe-finger_dropped : (code : Code) (first second : ℕ) → IsTrue (accepted code) → finger_drop_fault code first second ≡ None
-    → writhe (numbered (without_finger code (place_of first) (place_of second))) ≡ writhe code +ℤ pos 0
+    → writhe (renumber (without_finger code (place_of first) (place_of second))) ≡ writhe code +ℤ pos 0
 writhe-finger_dropped code first second holds none =
     let c = place_of first in
     let d = place_of second in
@@ -128,7 +128,7 @@ writhe-finger_dropped code first second holds none =
     let size = two_below (length code.crossings) c d bigon.first_below bigon.second_below bigon.apart in
     let c_within : place_of first ≤ length code.crossings - 2 + 1 = omega (arith, bigon.first_below, size) in
     let d_within : place_of second ≤ length code.crossings - 2 + 1 = omega (arith, bigon.second_below, size) in
-    let new = numbered (without_finger code c d) in
+    let new = renumber (without_finger code c d) in
     let plus = plus-dropped code new (is_of_two c d)
     (λ i. early c (length code.crossings - 2 + 1) (early (late c (length code.crossings - 2 + 1) d) (length code.crossings - 2) i))
     (length code.crossings - 2) kept
@@ -139,9 +139,9 @@ writhe-finger_dropped code first second holds none =
     let both : one_if (positive_at code.crossings (place_of first)) + one_if (positive_at code.crossings (place_of second)) ≡ 1 =
     ap (λ b. one_if (positive_at code.crossings (place_of first)) + one_if b) sign
     ∙ one_of_both (positive_at code.crossings (place_of first)) in
-    let few = plus_count-le (numbered (without_finger code (place_of first) (place_of second))).crossings in
+    let few = plus_count-le (renumber (without_finger code (place_of first) (place_of second))).crossings in
     let new_size = kept.size in
-    let plus_is : plus_count (numbered (without_finger code (place_of first) (place_of second))).crossings + 1
+    let plus_is : plus_count (renumber (without_finger code (place_of first) (place_of second))).crossings + 1
     ≡ plus_count code.crossings = omega (arith, all, both, plus) in
     writhe-alike (plus_count code.crossings) (minus_count code.crossings) (plus_count new.crossings) (minus_count new.crossings) 1 plus_is
     (omega (arith, plus_is, few, new_size, size))
@@ -188,7 +188,7 @@ changed code (KinkAdd arc under_first positive) holds =
     (minus_count-kinked code.crossings arc (not under_first) positive can))
 changed code (KinkDrop crossing) holds =
     answered-keeps (HasWrithe code (writhe_change code (KinkDrop crossing))) (kink_drop_fault code crossing)
-    (numbered (without_kink code (place_of crossing)))
+    (renumber (without_kink code (place_of crossing)))
     (λ none. writhe-kink_dropped code crossing holds none)
 changed code (FingerAdd over over_side under under_side) holds =
     answered-keeps (HasWrithe code (writhe_change code (FingerAdd over over_side under under_side)))
@@ -204,7 +204,7 @@ changed code (FingerAdd over over_side under under_side) holds =
     (minus_count-fingered code.crossings over under (is_left under_side) (differ (is_left over_side) (is_left under_side)) can))
 changed code (FingerDrop first second) holds =
     answered-keeps (HasWrithe code (writhe_change code (FingerDrop first second))) (finger_drop_fault code first second)
-    (numbered (without_finger code (place_of first) (place_of second)))
+    (renumber (without_finger code (place_of first) (place_of second)))
     (λ none. writhe-finger_dropped code first second holds none)
 changed code (Slide first second third) holds =
     answered-keeps (HasWrithe code (writhe_change code (Slide first second third))) (slide_fault code first second third)

@@ -4,11 +4,11 @@ use Rattle.kh_types.specs.Code.{Code, IsArc}
 use Rattle.kh_types.specs.declared.limits.TheConstants.{CROSSINGS}
 use Rattle.kh_types.specs.Directions.{is_positive}
 use Rattle.kinks_and_fingers.specs.KinkAdds.{kinked_slots}
-use Rattle.kinks_and_fingers.specs.Strands.{slots_at}
+use Rattle.code_passes.specs.Parts.{slots_in}
 
 -- the crossing at a place, on the arcs after a kink
 abbrev pub kinked_there : List (List ℕ) → ℕ → ℕ → List ℕ
-kinked_there crossings a place = kinked_slots a (is_positive crossings (place + 1)) (slots_at crossings place)
+kinked_there crossings a place = kinked_slots a (is_positive crossings (place + 1)) (slots_in crossings place)
 
 -- a finger can be put on two arcs: they are different ones, and there is room for two crossings more
 pub record AreTakenArcs (code : Code) (over under : ℕ) : Type 0 where

@@ -6,7 +6,7 @@ use Rattle.kh_types.specs.Classes.{is_least}
 use Rattle.kh_types.specs.Code.{arc_in}
 use Rattle.kh_types.specs.Components.{passes_of}
 use Rattle.kinks_and_fingers.specs.Drops.{is_of_two, renamed_slots, stands_in}
-use Rattle.kinks_and_fingers.specs.Strands.{slots_at}
+use Rattle.code_passes.specs.Parts.{slots_in}
 
 -- the crossing at a place is neither of two
 abbrev pub stays : ℕ → ℕ → ℕ → Bool
@@ -14,11 +14,11 @@ stays first second place = not (is_of_two first second place)
 
 -- the passes of the crossing at a place
 abbrev pub passes_there : List (List ℕ) → ℕ → List (ℕ × ℕ)
-passes_there crossings place = passes_of (slots_at crossings place)
+passes_there crossings place = passes_of (slots_in crossings place)
 
 -- the crossing at a place under other names
 abbrev pub renamed_there : List (List ℕ) → List ℕ → ℕ → List ℕ
-renamed_there crossings names place = renamed_slots names (slots_at crossings place)
+renamed_there crossings names place = renamed_slots names (slots_in crossings place)
 
 -- the others among them, under other names
 abbrev pub kept_to : List (List ℕ) → List ℕ → ℕ → ℕ → ℕ → List (List ℕ)

@@ -6,7 +6,7 @@ use Rattle.kh_types.specs.Acceptance.{accepted}
 use Rattle.kh_types.specs.Components.{component_count}
 use Rattle.kh_types.specs.Directions.{is_positive, positive_at}
 use Rattle.kh_types.specs.StateSum.{state_sum}
-use Rattle.kinks_and_fingers.specs.Strands.{Strands}
+use Rattle.code_passes.specs.Parts.{Parts}
 use Rattle.slides.specs.Slid.{slid}
 
 -- a code whose crossings are those at some places of another, in that order, is accepted, with its components and loops together, their
@@ -19,9 +19,9 @@ pub record IsKeptCode (old new : Code) (kept : ℕ → ℕ) (k : ℕ) : Type 0 w
   pub sums : (exponent : ℤ) → state_sum new exponent ≡ state_sum old exponent
 
 -- the crossings after a slide, with the signs of before
-abbrev pub slid_strands : Code → ℕ → ℕ → ℕ → Strands
-slid_strands code x y z = record {
+abbrev pub slid_parts : Code → ℕ → ℕ → ℕ → Parts
+slid_parts code x y z = record {
   crossings = slid code.crossings x y z;
-  signs = map (positive_at code.crossings) (range_with_len 0 (length code.crossings));
+  positive = map (positive_at code.crossings) (range_with_len 0 (length code.crossings));
   loops = code.loops;
 }

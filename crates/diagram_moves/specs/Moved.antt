@@ -6,8 +6,8 @@ use Rattle.kinks_and_fingers.specs.Drops.{without_kink, without_finger}
 use Rattle.kinks_and_fingers.specs.FingerAdd.{with_finger, AreOfTwoPieces}
 use Rattle.kinks_and_fingers.specs.KinkAdds.{with_kink}
 use Rattle.slides.specs.Triangles.{slide_slot}
-use Rattle.diagram_moves.specs.Joinable.{numbered}
-use Rattle.diagram_moves.specs.SlideSteps.{slid_strands_at}
+use Rattle.orient_arcs.specs.Renumbered.{renumber}
+use Rattle.diagram_moves.specs.SlideSteps.{slid_parts_at}
 use Rattle.diagram_moves.specs.MoveFaults.{kink_add_fault, kink_drop_fault, finger_add_fault, finger_place_fault, finger_drop_fault, slide_fault}
 use Rattle.diagram_moves.specs.declared.change.Side.{Side}
 use Rattle.diagram_moves.specs.declared.change.Side.TheVariants.{Left, Right}
@@ -26,7 +26,7 @@ answered None code = Ok code
 
 -- the code after a slide at the triangle of a slot of a crossing
 abbrev pub slid_from : Code → ℕ → ℕ → Code
-slid_from code crossing slot = numbered (slid_strands_at code crossing slot)
+slid_from code crossing slot = renumber (slid_parts_at code crossing slot)
 
 -- among the triangles whose slots do not have one parity the one with the least slot at the first crossing is taken
 abbrev pub slid_at : Code → ℕ → ℕ → ℕ → Code
@@ -35,12 +35,12 @@ slid_at code first second third = slid_from code first (unwrap_or (slide_slot co
 -- the code that a move leaves, or the first fault
 unfoldable pub moved : Code → Move → Result Code MoveFault
 moved code (KinkAdd arc under_first positive) = answered (kink_add_fault code arc) (with_kink (not under_first) positive arc code)
-moved code (KinkDrop crossing) = answered (kink_drop_fault code crossing) (numbered (without_kink code (place_of crossing)))
+moved code (KinkDrop crossing) = answered (kink_drop_fault code crossing) (renumber (without_kink code (place_of crossing)))
 moved code (FingerAdd over over_side under under_side) =
     answered (finger_add_fault code over (is_left over_side) under (is_left under_side))
     (with_finger code over (is_left over_side) under (is_left under_side))
 moved code (FingerDrop first second) =
-    answered (finger_drop_fault code first second) (numbered (without_finger code (place_of first) (place_of second)))
+    answered (finger_drop_fault code first second) (renumber (without_finger code (place_of first) (place_of second)))
 moved code (Slide first second third) = answered (slide_fault code first second third) (slid_at code first second third)
 
 -- a finger whose arcs can be taken leaves a code that has other than as many faces as a drawing on the sphere, n + 2k

@@ -6,9 +6,9 @@ ghost use Rattle.kh_types.specs.Code.{arc_in, arcs, place_of};
 ghost use Rattle.kh_types.specs.Components.{passes_of};
 ghost use Rattle.kh_types.specs.declared.limits.TheConstants.{ARCS, CROSSINGS};
 ghost use Rattle.kinks_and_fingers.specs.Drops.{is_of_two, renamed_slots, stands_in, straight_names, straight_pairs, without_finger, without_kink};
-ghost use Rattle.kinks_and_fingers.specs.Strands.{slots_at};
+ghost use Rattle.code_passes.specs.Parts.{slots_in};
+ghost use Rattle.orient_arcs.specs.Renumbered.{renumber};
 ghost use Rattle.diagram_moves.specs.DropSteps.{is_ring_in, kept_to, passes_there, renamed_there, signs_to, stands_at, stays};
-ghost use Rattle.diagram_moves.specs.Joinable.{numbered, parts_in};
 ghost use Rattle.diagram_moves.specs.MoveFaults.{finger_drop_fault, kink_drop_fault};
 ghost use Rattle.diagram_moves.specs.Moved.{answered};
 
@@ -24,7 +24,7 @@ use orient_arcs::Parts;
 /// The diagram without a crossing that has a kink, or the first fault.
 pub(crate) fn drop_kink(diagram: &Diagram, crossing: u8) -> Result<Diagram, MoveFault>
     ensures { result ≡ answered (kink_drop_fault diagram.now crossing)
-        (numbered (without_kink diagram.now (place_of crossing))) }
+        (renumber (without_kink diagram.now (place_of crossing))) }
 {
     match kink_drop_fault(diagram, crossing) {
         Some(fault) => Err(fault),
@@ -35,7 +35,7 @@ pub(crate) fn drop_kink(diagram: &Diagram, crossing: u8) -> Result<Diagram, Move
 /// The diagram without two crossings that meet in a bigon, or the first fault.
 pub(crate) fn drop_finger(diagram: &Diagram, first: u8, second: u8) -> Result<Diagram, MoveFault>
     ensures { result ≡ answered (finger_drop_fault diagram.now first second)
-        (numbered (without_finger diagram.now (place_of first) (place_of second))) }
+        (renumber (without_finger diagram.now (place_of first) (place_of second))) }
 {
     match finger_drop_fault(diagram, first, second) {
         Some(fault) => Err(fault),
@@ -45,7 +45,7 @@ pub(crate) fn drop_finger(diagram: &Diagram, first: u8, second: u8) -> Result<Di
 
 fn without_kink(diagram: &Diagram, crossing: u8) -> Diagram
     requires { kink_drop_fault diagram.now crossing ≡ None }
-    ensures { result ≡ numbered (without_kink diagram.now (place_of crossing)) }
+    ensures { result ≡ renumber (without_kink diagram.now (place_of crossing)) }
 {
     let _crossings = diagram.crossings();
     let place = crossing.saturating_sub(1);
@@ -58,7 +58,7 @@ fn without_kink(diagram: &Diagram, crossing: u8) -> Diagram
 
 fn without_finger(diagram: &Diagram, first: u8, second: u8) -> Diagram
     requires { finger_drop_fault diagram.now first second ≡ None }
-    ensures { result ≡ numbered (without_finger diagram.now (place_of first) (place_of second)) }
+    ensures { result ≡ renumber (without_finger diagram.now (place_of first) (place_of second)) }
 {
     let _crossings = diagram.crossings();
     let gone = Pair {
@@ -70,7 +70,7 @@ fn without_finger(diagram: &Diagram, first: u8, second: u8) -> Diagram
 
 /// What is left without two crossings: arcs are joined straight through them.
 fn dropped(diagram: &Diagram, gone: Pair) -> Parts
-    ensures { result ≡ parts_in (without_finger diagram.now gone.first gone.second) }
+    ensures { result ≡ without_finger diagram.now gone.first gone.second }
 {
     let names = straight_names(diagram, gone);
     let crossings = kept_crossings(diagram, &names, gone);
@@ -113,7 +113,7 @@ fn straight_pairs(diagram: &Diagram, gone: Pair) -> ArrayVec<(u8, u8), ARCS>
 {
     let mut pairs = ArrayVec::new();
     'places: for place in 0..diagram.count() {
-        push_passes(&mut pairs, is_of_two(gone, place), slots_at(diagram, place));
+        push_passes(&mut pairs, is_of_two(gone, place), slots_in(diagram, place));
     }
     pairs
 }
@@ -131,9 +131,9 @@ fn push_passes(pairs: &mut ArrayVec<(u8, u8), ARCS>, is_gone: bool, slots: Cross
 }
 
 /// The crossing at a place.
-fn slots_at(diagram: &Diagram, place: u8) -> Crossing
+fn slots_in(diagram: &Diagram, place: u8) -> Crossing
     requires { place < length diagram.now.crossings }
-    ensures { result ≡ slots_at diagram.now.crossings place }
+    ensures { result ≡ slots_in diagram.now.crossings place }
 {
     diagram.crossings()[usize::from(place)]
 }
@@ -149,7 +149,7 @@ fn kept_crossings(diagram: &Diagram, names: &[u8], gone: Pair) -> ArrayVec<Cross
         push_crossing(
             &mut crossings,
             stays(gone, place),
-            renamed(names, slots_at(diagram, place)),
+            renamed(names, slots_in(diagram, place)),
         );
     }
     crossings

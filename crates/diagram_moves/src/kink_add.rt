@@ -7,8 +7,8 @@ ghost use Rattle.kh_types.specs.Darts.{arc_of};
 ghost use Rattle.kh_types.specs.Directions.{positive_at};
 ghost use Rattle.kh_types.specs.declared.limits.TheConstants.{CROSSINGS, ARCS};
 ghost use Rattle.kinks_and_fingers.specs.FingerAdd.{dart_with};
-ghost use Rattle.kinks_and_fingers.specs.KinkAdds.{kink_crossing, kinked_name, moved_crossings, with_kink};
-ghost use Rattle.kinks_and_fingers.specs.Strands.{enters};
+ghost use Rattle.kinks_and_fingers.specs.KinkAdds.{kink_crossing, kinked_name, raised_crossings, with_kink};
+ghost use Rattle.gluing.specs.Arcs.{enters};
 ghost use Rattle.diagram_moves.specs.AddSteps.{IsTakenArc, kinked_there};
 ghost use Rattle.diagram_moves.specs.MoveFaults.{kink_add_fault};
 ghost use Rattle.diagram_moves.specs.Moved.{answered};
@@ -52,7 +52,7 @@ fn code_with_kink(diagram: &Diagram, kink: Kink) -> RawCode
     requires { IsTakenArc diagram.now kink.arc }
     ensures { result ≡ with_kink kink.is_over kink.is_positive kink.arc diagram.now }
 {
-    let mut crossings = moved_crossings(diagram, kink.arc);
+    let mut crossings = raised_crossings(diagram, kink.arc);
     crossings.push(kink_crossing(kink));
     RawCode {
         crossings,
@@ -62,9 +62,9 @@ fn code_with_kink(diagram: &Diagram, kink: Kink) -> RawCode
 
 /// The old crossings on the new arcs.
 #[tactic(auto, using(crate::proofs::AddLemmas::kinked_more, crate::proofs::AddLemmas::length_kinked,))]
-fn moved_crossings(diagram: &Diagram, arc: u8) -> ArrayVec<Crossing, CROSSINGS>
+fn raised_crossings(diagram: &Diagram, arc: u8) -> ArrayVec<Crossing, CROSSINGS>
     requires { IsTakenArc diagram.now arc }
-    ensures crossings { result.items ≡ moved_crossings arc diagram.now.crossings }
+    ensures crossings { result.items ≡ raised_crossings arc diagram.now.crossings }
     ensures count { length result.items ≡ length diagram.now.crossings }
 {
     let signs = diagram.signs();

@@ -8,8 +8,8 @@ ghost use Rattle.kinks_and_fingers.specs.Drops.{without_finger, without_kink};
 ghost use Rattle.kinks_and_fingers.specs.Dropping.{HasBigonAt, HasKinkAt};
 ghost use Rattle.kinks_and_fingers.specs.Pulls.{early, late};
 ghost use Rattle.slides.specs.Triangles.{IsTriangle, has_heights};
-ghost use Rattle.diagram_moves.specs.Joinable.{numbered};
-ghost use Rattle.diagram_moves.specs.Kept.{IsKeptCode, slid_strands};
+ghost use Rattle.orient_arcs.specs.Renumbered.{renumber};
+ghost use Rattle.diagram_moves.specs.Kept.{IsKeptCode, slid_parts};
 ghost use Rattle.diagram_moves.specs.Moved.{moved};
 ghost use Rattle.diagram_moves.specs.declared.change.Move.{Move};
 
@@ -18,7 +18,7 @@ ghost use Rattle.diagram_moves.specs.declared.change.Move.{Move};
 /// sum.
 pub fn kinks_are_dropped()
     ensures { (code : Code) (c p : ℕ) → IsTrue (accepted code) → HasKinkAt code.crossings c p
-        → IsKeptCode code (numbered (without_kink code c)) (early c (length code.crossings - 1))
+        → IsKeptCode code (renumber (without_kink code c)) (early c (length code.crossings - 1))
         (length code.crossings - 1) }
 {}
 
@@ -26,7 +26,7 @@ pub fn kinks_are_dropped()
 pub fn fingers_are_dropped()
     ensures { (code : Code) (c d p q : ℕ) → IsTrue (accepted code)
         → HasBigonAt code.crossings c d p q
-        → IsKeptCode code (numbered (without_finger code c d))
+        → IsKeptCode code (renumber (without_finger code c d))
         (λ i. early c (length code.crossings - 2 + 1)
         (early (late c (length code.crossings - 2 + 1) d) (length code.crossings - 2) i)) (length
         code.crossings - 2) }
@@ -37,7 +37,7 @@ pub fn fingers_are_dropped()
 pub fn slides_are_made()
     ensures { (code : Code) (x y z : ℕ) → IsTrue (accepted code)
         → IsTriangle code.crossings x y z → has_heights x y z ≡ true
-        → IsKeptCode code (numbered (slid_strands code x y z)) (λ place. place) (length
+        → IsKeptCode code (renumber (slid_parts code x y z)) (λ place. place) (length
         code.crossings) }
 {}
 

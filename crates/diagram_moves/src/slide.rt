@@ -5,12 +5,13 @@ ghost use Rattle.std.specs.List.{range_with_len};
 ghost use Rattle.kh_types.specs.Directions.{positive_at};
 ghost use Rattle.kh_types.specs.Code.{IsCrossing};
 ghost use Rattle.kh_types.specs.Darts.{dart_count};
-ghost use Rattle.slides.specs.Slid.{arc_there, corner, on, slid, slid_crossing, source, steps_from};
-ghost use Rattle.diagram_moves.specs.Joinable.{AreReady, parts_in};
-ghost use Rattle.diagram_moves.specs.Kept.{slid_strands};
+ghost use Rattle.slides.specs.Slid.{corner, on, slid, slid_crossing, source, steps_from};
+ghost use Rattle.diagram_moves.specs.Joinable.{AreReady};
+ghost use Rattle.diagram_moves.specs.Kept.{slid_parts};
 ghost use Rattle.diagram_moves.specs.MoveFaults.{slide_fault};
 ghost use Rattle.diagram_moves.specs.Moved.{answered, slid_at, slid_from};
-ghost use Rattle.diagram_moves.specs.SlideSteps.{AreDarts, IsSlidable, slid_arc, slid_strands_at};
+ghost use Rattle.diagram_moves.specs.SlideSteps.{AreDarts, IsSlidable, slid_arc, slid_parts_at};
+ghost use Rattle.gluing.specs.Codes.{arc_of_dart};
 
 use crate::accepted::renumbered;
 use crate::fault::MoveFault;
@@ -52,7 +53,7 @@ fn slid_at(diagram: &Diagram, corners: Corners) -> Diagram
 fn slid_from(diagram: &Diagram, crossing: u8, slot: u8) -> Diagram
     requires crossing { IsCrossing diagram.now.crossings crossing }
     requires slot { slot < 4 }
-    requires ready { AreReady (parts_in (slid_strands_at diagram.now crossing slot)) }
+    requires ready { AreReady (slid_parts_at diagram.now crossing slot) }
     ensures { result ≡ slid_from diagram.now crossing slot }
 {
     let x = dart_at_slot(diagram, crossing, slot);
@@ -64,7 +65,7 @@ fn slid_from(diagram: &Diagram, crossing: u8, slot: u8) -> Diagram
 /// The crossings after a slide, with the signs of before.
 fn slid_parts(diagram: &Diagram, triangle: Triangle) -> Parts
     requires { AreDarts diagram.now.crossings triangle.x triangle.y triangle.z }
-    ensures { result ≡ parts_in (slid_strands diagram.now triangle.x triangle.y triangle.z) }
+    ensures { result ≡ slid_parts diagram.now triangle.x triangle.y triangle.z }
 {
     Parts {
         crossings: slid(diagram, triangle),
@@ -109,12 +110,12 @@ fn slid_arc(diagram: &Diagram, triangle: Triangle, place: u8, slot: u8) -> u8
         ≡ slid_arc diagram.now.crossings triangle.x triangle.y triangle.z place slot }
 {
     let _count = diagram.count();
-    arc_there(diagram, source(triangle, 4 * place + slot))
+    arc_of_dart(diagram, source(triangle, 4 * place + slot))
 }
 
 /// The arc of a dart; 0 where there is none.
-fn arc_there(diagram: &Diagram, dart: u8) -> u8
-    ensures { result ≡ arc_there diagram.now.crossings dart }
+fn arc_of_dart(diagram: &Diagram, dart: u8) -> u8
+    ensures { result ≡ arc_of_dart diagram.now.crossings dart }
 {
     match diagram.crossings().get(usize::from(dart / 4)) {
         Some(slots) => slots.0[usize::from(dart % 4)],

@@ -3,11 +3,11 @@
 ghost use Rattle.std.specs.Prelude.{◌≡◌, ◌∷◌, [], true, Ok, Err};
 ghost use Rattle.kh_types.specs.Acceptance.{accepted};
 ghost use Rattle.kh_types.specs.WorkedCodes.{curl, over_circle, slots_with, trefoil, two_curls, without_loops};
-ghost use Rattle.kinks_and_fingers.specs.DropComponents.{strand_component_count};
+ghost use Rattle.kinks_and_fingers.specs.DropComponents.{parts_component_count};
 ghost use Rattle.kinks_and_fingers.specs.Drops.{without_finger, without_kink};
 ghost use Rattle.kinks_and_fingers.specs.WorkedDrops.{curl_fingered, curl_kinked};
-ghost use Rattle.diagram_moves.specs.Joinable.{numbered};
-ghost use Rattle.diagram_moves.specs.Kept.{slid_strands};
+ghost use Rattle.orient_arcs.specs.Renumbered.{renumber};
+ghost use Rattle.diagram_moves.specs.Kept.{slid_parts};
 ghost use Rattle.diagram_moves.specs.Moved.{moved};
 ghost use Rattle.diagram_moves.specs.declared.change.Move.TheVariants.{FingerAdd, FingerDrop, KinkAdd, KinkDrop, Slide};
 ghost use Rattle.diagram_moves.specs.declared.change.Side.TheVariants.{Left, Right};
@@ -15,19 +15,19 @@ ghost use Rattle.diagram_moves.specs.declared.fault.MoveFault.TheVariants.{Genus
 
 /// Worked drops and a slide.
 pub fn worked_joins()
-    ensures curl { numbered (without_kink curl 0) ≡ record { crossings = []; loops = 1 } }
-    ensures over { numbered (without_finger over_circle 0 1)
+    ensures curl { renumber (without_kink curl 0) ≡ record { crossings = []; loops = 1 } }
+    ensures over { renumber (without_finger over_circle 0 1)
         ≡ record { crossings = []; loops = 2 } }
-    ensures kinked { numbered (without_kink curl_kinked 1) ≡ curl }
-    ensures fingered { (numbered (without_finger curl_fingered 0 1)).crossings
+    ensures kinked { renumber (without_kink curl_kinked 1) ≡ curl }
+    ensures fingered { (renumber (without_finger curl_fingered 0 1)).crossings
         ≡ slots_with 2 2 1 1 ∷ [] }
-    ensures components { strand_component_count 7 (without_finger curl_fingered 0 1) ≡ 1 }
-    ensures two { (numbered (without_kink two_curls 0)).loops ≡ 1 }
+    ensures components { parts_component_count 7 (without_finger curl_fingered 0 1) ≡ 1 }
+    ensures two { (renumber (without_kink two_curls 0)).loops ≡ 1 }
     // The over circle's arcs, 5 and 6, exchange their numbers.
-    ensures circle { (numbered (slid_strands (without_loops (slots_with 1 6 2 5
+    ensures circle { (renumber (slid_parts (without_loops (slots_with 1 6 2 5
         ∷ slots_with 4 6 1 5 ∷ slots_with 2 4 3 3 ∷ [])) 1 4 8)).crossings
         ≡ slots_with 2 6 3 5 ∷ slots_with 3 6 4 5 ∷ slots_with 1 1 2 4 ∷ [] }
-    ensures circle_accepted { accepted (numbered (slid_strands (without_loops (slots_with 1 6 2 5
+    ensures circle_accepted { accepted (renumber (slid_parts (without_loops (slots_with 1 6 2 5
         ∷ slots_with 4 6 1 5 ∷ slots_with 2 4 3 3 ∷ [])) 1 4 8))
         ≡ true }
 {}

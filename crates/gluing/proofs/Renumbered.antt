@@ -1,5 +1,5 @@
 -- Renumbering the arcs of a code keeps the state sum.
-use Rattle.std.proofs.Common.{◌≡◌, ℕ, ◌*◌, ◌/◌, ◌%◌, ◌^◌, ◌∙◌, List, [], ◌∷◌, ℤ, ◌+ℤ◌, sym, refl, length, map, ap, ap₂, arith}
+use Rattle.std.proofs.Common.{◌≡◌, ℕ, ◌*◌, ◌/◌, ◌%◌, ◌^◌, ◌∙◌, ℤ, sym, length, map, ap, ap₂, arith}
 use Rattle.std.specs.List.{range_with_len}
 use Rattle.kh_types.specs.Bits.{ones}
 use Rattle.kh_types.specs.Code.{Code}

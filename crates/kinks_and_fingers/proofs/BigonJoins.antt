@@ -11,7 +11,7 @@ use Rattle.kh_types.specs.Darts.{HasArcsTwice}
 use Rattle.kh_types.proofs.ClassLemmas.{classes-finest}
 use Rattle.kh_types.proofs.JoinedClasses.{classes_of-same, class_count-apart}
 use Rattle.kh_types.proofs.Lists.{AllByRecursion-append}
-use Rattle.kinks_and_fingers.specs.Strands.{slots_at}
+use Rattle.code_passes.specs.Parts.{slots_in}
 use Rattle.kinks_and_fingers.specs.Drops.{straight_pairs, is_of_two}
 use Rattle.kinks_and_fingers.specs.DropCircles.{joined_at, outer_pairs, through_at, closing_at}
 use Rattle.kinks_and_fingers.proofs.KeptCodes.{all-gone, gone-all}
@@ -168,10 +168,10 @@ smoothed-as crossings n state c d whole twice large c_below d_below low onward b
 
 pub straight-as : (crossings : List (List ℕ)) (n state c d : ℕ) (whole : List (ℕ × ℕ)) → HasArcsTwice crossings
     → arc_count crossings + 1 ≤ n → c < length crossings → d < length crossings → AreBelow n whole
-    → ((f : ℕ → ℕ) → Respects f (outer_pairs crossings (is_of_two c d) state) → Respects f (passes_of (slots_at crossings c))
-    → Respects f (passes_of (slots_at crossings d)) → Respects f whole)
+    → ((f : ℕ → ℕ) → Respects f (outer_pairs crossings (is_of_two c d) state) → Respects f (passes_of (slots_in crossings c))
+    → Respects f (passes_of (slots_in crossings d)) → Respects f whole)
     → ((f : ℕ → ℕ) → Respects f whole → Respects f (outer_pairs crossings (is_of_two c d) state)
-    × Respects f (passes_of (slots_at crossings c)) × Respects f (passes_of (slots_at crossings d)))
+    × Respects f (passes_of (slots_in crossings c)) × Respects f (passes_of (slots_in crossings d)))
     → classes_of n (straight_pairs crossings (is_of_two c d) ++ outer_pairs crossings (is_of_two c d) state) ≡ classes_of n whole
 straight-as crossings n state c d whole twice large c_below d_below low onward back =
     let straight = straight_pairs crossings (is_of_two c d) in
@@ -180,26 +180,26 @@ straight-as crossings n state c d whole twice large c_below d_below low onward b
     let d_gone : (nat_eq c d || nat_eq d d) ≡ true = gone_second (nat_eq c d) (nat_eq d d) (eq-eqb d d refl) in
     classes_of-same n (straight_pairs crossings (is_of_two c d) ++ outer_pairs crossings (is_of_two c d) state) whole
     (AllByRecursion-append (λ pair. (pair.0 < n) × (pair.1 < n)) straight outer
-    (all-gone (λ pair. (pair.0 < n) × (pair.1 < n)) (λ place. passes_of (slots_at crossings place)) (is_of_two c d) 0 (length crossings)
+    (all-gone (λ pair. (pair.0 < n) × (pair.1 < n)) (λ place. passes_of (slots_in crossings place)) (is_of_two c d) 0 (length crossings)
     (λ place from below gone_there. passes-low crossings n place twice large (omega (arith, below))))
     (outer-all (λ pair. (pair.0 < n) × (pair.1 < n)) crossings (is_of_two c d) state
     (λ place below stays. joined-below crossings n state place twice large below))) low
     (λ f respects.
     let front = all_first (λ pair. f pair.0 ≡ f pair.1) straight outer respects in
-    let at : (place : ℕ) → place < length crossings → is_of_two c d place ≡ true → Respects f (passes_of (slots_at crossings place)) =
+    let at : (place : ℕ) → place < length crossings → is_of_two c d place ≡ true → Respects f (passes_of (slots_in crossings place)) =
     λ place below gone_there.
-    gone-all (λ pair. f pair.0 ≡ f pair.1) (λ place. passes_of (slots_at crossings place)) (is_of_two c d) 0 (length crossings) place
+    gone-all (λ pair. f pair.0 ≡ f pair.1) (λ place. passes_of (slots_in crossings place)) (is_of_two c d) 0 (length crossings) place
     front (omega arith) (omega (arith, below)) gone_there in
     onward f (all_second (λ pair. f pair.0 ≡ f pair.1) straight outer respects) (at c c_below c_gone) (at d d_below d_gone))
     (λ f respects.
     let parts = back f respects in
     AllByRecursion-append (λ pair. f pair.0 ≡ f pair.1) straight outer
-    (all-gone (λ pair. f pair.0 ≡ f pair.1) (λ place. passes_of (slots_at crossings place)) (is_of_two c d) 0 (length crossings)
+    (all-gone (λ pair. f pair.0 ≡ f pair.1) (λ place. passes_of (slots_in crossings place)) (is_of_two c d) 0 (length crossings)
     (λ place from below gone_there.
     elim (cases_Bool (nat_eq c place)) [
-      | inl at_c ↦ subst (λ (k : ℕ). Respects f (passes_of (slots_at crossings k))) (eqb-true c place at_c) parts.1
+      | inl at_c ↦ subst (λ (k : ℕ). Respects f (passes_of (slots_in crossings k))) (eqb-true c place at_c) parts.1
       | inr not_c ↦
-          subst (λ (k : ℕ). Respects f (passes_of (slots_at crossings k)))
+          subst (λ (k : ℕ). Respects f (passes_of (slots_in crossings k)))
           (eqb-true d place (sym (ap (λ t. t || nat_eq d place) not_c) ∙ gone_there)) parts.2
     ])) parts.0)
   where

@@ -15,22 +15,23 @@ use Rattle.kh_types.proofs.JoinedClasses.{IsNamed-classes_of, classes_of-same}
 use Rattle.kh_types.proofs.Lists.{AllByRecursion-append}
 use Rattle.kh_types.proofs.RangeCounts.{count_by-alike}
 use Rattle.gluing.specs.Glue.{renamed}
-use Rattle.kinks_and_fingers.specs.Strands.{slots_at, name_at}
+use Rattle.code_passes.specs.Parts.{slots_in}
+use Rattle.gluing.specs.Arcs.{arc_by_place}
 use Rattle.kinks_and_fingers.specs.Drops.{straight_pairs, straight_names, renamed_slots, kept_places, kept_crossings, stands_in, ring_count, dropped}
-use Rattle.kinks_and_fingers.specs.DropComponents.{standing_class_count, strand_component_count}
+use Rattle.kinks_and_fingers.specs.DropComponents.{standing_class_count, parts_component_count}
 use Rattle.kinks_and_fingers.proofs.Contracted.{class_count-contracted}
-use Rattle.kinks_and_fingers.proofs.KeptCodes.{straight-below, name_at-below, all-gone, gone-all, kept-slots, length-kept, renamed_slots-at}
+use Rattle.kinks_and_fingers.proofs.KeptCodes.{straight-below, arc_by_place-below, all-gone, gone-all, kept-slots, length-kept, renamed_slots-at}
 use Rattle.gluing.proofs.Renamed.{AreBelow-renamed}
 use Rattle.kinks_and_fingers.proofs.KinkCircles.{smoothings-all, passes-low, all_first, all_second}
 use Rattle.kinks_and_fingers.proofs.FingerCircles.{marked}
 use Rattle.kh_types.specs.Bits.{bit}
 use Rattle.kh_types.specs.Circles.{smoothings_of}
-use Rattle.kinks_and_fingers.proofs.StrandCircles.{count-parts, count-all, count_by-cons, class_count-least, name_at-positive, stands-none, stands-some}
+use Rattle.kinks_and_fingers.proofs.StrandCircles.{count-parts, count-all, count_by-cons, class_count-least, arc_by_place-positive, stands-none, stands-some}
 
 -- all pairs are of names that stand: what is 0 at each name that stands is one at both names of each pair
 pub IsOfNames : List (List ℕ) → List (ℕ × ℕ) → Type 0
 IsOfNames crossings pairs =
-    (f : ℕ → ℕ) → ((place slot : ℕ) → place < length crossings → slot < 4 → f (name_at crossings place slot) ≡ 0) → Respects f pairs
+    (f : ℕ → ℕ) → ((place slot : ℕ) → place < length crossings → slot < 4 → f (arc_by_place crossings place slot) ≡ 0) → Respects f pairs
 
 -- a name that stands nowhere is alone in its class
 pub alone-in : (n : ℕ) (crossings : List (List ℕ)) (pairs : List (ℕ × ℕ)) (name : ℕ) → AreBelow n pairs → IsOfNames crossings pairs → name < n
@@ -42,7 +43,7 @@ alone-in n crossings pairs name below of_names name_below fails =
     let respects : Respects (λ z. cond (nat_eq z name) 1 0) pairs =
     of_names (λ z. cond (nat_eq z name) 1 0)
     (λ place slot place_below slot_below.
-    ap (λ t. cond t 1 0) (ne_eqb (name_at crossings place slot) name (stands-none crossings name place slot fails place_below slot_below))) in
+    ap (λ t. cond t 1 0) (ne_eqb (arc_by_place crossings place slot) name (stands-none crossings name place slot fails place_below slot_below))) in
     let class = slice_index (classes_of n pairs) name in
     let class_below : slice_index (classes_of n pairs) name < n = omega (arith, named.least name name_below, name_below) in
     let same = classes-finest mark n pairs respects below class name class_below name_below (named.own name name_below) in
@@ -100,22 +101,22 @@ classes-dropped crossings gone kept k outer twice places kept_below outer_low of
     let range = range_with_len 0 (arc_count crossings + 1) in
     let left_size = length-kept crossings gone kept k places in
     let is_name : (place slot : ℕ) → place < length (kept_crossings crossings gone) → slot < 4
-    → name_at (kept_crossings crossings gone) place slot ≡ slice_index (straight_names crossings gone) (name_at crossings (kept place) slot) =
+    → arc_by_place (kept_crossings crossings gone) place slot ≡ slice_index (straight_names crossings gone) (arc_by_place crossings (kept place) slot) =
     λ place slot below slot_below.
     ap (λ slots. arc_in slots slot) (kept-slots crossings gone kept k place places (omega (arith, below, left_size)))
-    ∙ renamed_slots-at (straight_names crossings gone) (slots_at crossings (kept place)) slot slot_below in
+    ∙ renamed_slots-at (straight_names crossings gone) (slots_in crossings (kept place)) slot slot_below in
     let old_below : (place slot : ℕ) → place < length (kept_crossings crossings gone) → slot < 4
-    → name_at crossings (kept place) slot < arc_count crossings + 1 =
+    → arc_by_place crossings (kept place) slot < arc_count crossings + 1 =
     λ place slot below slot_below.
-    name_at-below crossings (kept place) slot twice (kept_below place (omega (arith, below, left_size))) slot_below in
+    arc_by_place-below crossings (kept place) slot twice (kept_below place (omega (arith, below, left_size))) slot_below in
     let stands_least : (x : ℕ) → stands_in (kept_crossings crossings gone) x ≡ true → is_least (straight_names crossings gone) x ≡ true =
     λ x holds.
     stands-some (λ y. is_least (straight_names crossings gone) y ≡ true) (kept_crossings crossings gone) x
     (λ place slot below slot_below.
     subst (λ (y : ℕ). is_least (straight_names crossings gone) y ≡ true) (sym (is_name place slot below slot_below))
-    (eq-eqb (slice_index (straight_names crossings gone) (slice_index (straight_names crossings gone) (name_at crossings (kept place) slot)))
-    (slice_index (straight_names crossings gone) (name_at crossings (kept place) slot))
-    (named.own (name_at crossings (kept place) slot) (old_below place slot below slot_below)))) holds in
+    (eq-eqb (slice_index (straight_names crossings gone) (slice_index (straight_names crossings gone) (arc_by_place crossings (kept place) slot)))
+    (slice_index (straight_names crossings gone) (arc_by_place crossings (kept place) slot))
+    (named.own (arc_by_place crossings (kept place) slot) (old_below place slot below slot_below)))) holds in
     let zero_apart : stands_in (kept_crossings crossings gone) 0 ≡ false =
     elim (cases_Bool (stands_in (kept_crossings crossings gone) 0)) [
       | inr fails ↦ fails
@@ -123,20 +124,20 @@ classes-dropped crossings gone kept k outer twice places kept_below outer_low of
           let one : 1 ≤ 0 =
           stands-some (λ y. 1 ≤ y) (kept_crossings crossings gone) 0
           (λ place slot below slot_below.
-          let old = name_at crossings (kept place) slot in
+          let old = arc_by_place crossings (kept place) slot in
           let same = classes-finest (λ z. min z 1) (arc_count crossings + 1) (straight_pairs crossings gone)
-          (all-gone (λ pair. min pair.0 1 ≡ min pair.1 1) (λ place. passes_of (slots_at crossings place)) gone 0 (length crossings)
+          (all-gone (λ pair. min pair.0 1 ≡ min pair.1 1) (λ place. passes_of (slots_in crossings place)) gone 0 (length crossings)
           (λ q from q_below is.
-          let at = λ (slot : ℕ) (slot_below : slot < 4). name_at-positive crossings q slot twice (omega (arith, q_below)) slot_below in (
-            min-one (name_at crossings q 0) (name_at crossings q 2) (at 0 (omega arith)) (at 2 (omega arith)),
-            (min-one (name_at crossings q 1) (name_at crossings q 3) (at 1 (omega arith)) (at 3 (omega arith)), tt),
+          let at = λ (slot : ℕ) (slot_below : slot < 4). arc_by_place-positive crossings q slot twice (omega (arith, q_below)) slot_below in (
+            min-one (arc_by_place crossings q 0) (arc_by_place crossings q 2) (at 0 (omega arith)) (at 2 (omega arith)),
+            (min-one (arc_by_place crossings q 1) (arc_by_place crossings q 3) (at 1 (omega arith)) (at 3 (omega arith)), tt),
           )))
-          straight_low (slice_index (straight_names crossings gone) (name_at crossings (kept place) slot)) (name_at crossings (kept place) slot)
-          (low_names (name_at crossings (kept place) slot) (old_below place slot below slot_below)) (old_below place slot below slot_below)
-          (named.own (name_at crossings (kept place) slot) (old_below place slot below slot_below)) in
-          let positive = name_at-positive crossings (kept place) slot twice (kept_below place (omega (arith, below, left_size))) slot_below in
-          min-positive (name_at (kept_crossings crossings gone) place slot) (slice_index (straight_names crossings gone) (name_at crossings (kept place) slot))
-          (name_at crossings (kept place) slot) (is_name place slot below slot_below) same positive) holds in
+          straight_low (slice_index (straight_names crossings gone) (arc_by_place crossings (kept place) slot)) (arc_by_place crossings (kept place) slot)
+          (low_names (arc_by_place crossings (kept place) slot) (old_below place slot below slot_below)) (old_below place slot below slot_below)
+          (named.own (arc_by_place crossings (kept place) slot) (old_below place slot below slot_below)) in
+          let positive = arc_by_place-positive crossings (kept place) slot twice (kept_below place (omega (arith, below, left_size))) slot_below in
+          min-positive (arc_by_place (kept_crossings crossings gone) place slot) (slice_index (straight_names crossings gone) (arc_by_place crossings (kept place) slot))
+          (arc_by_place crossings (kept place) slot) (is_name place slot below slot_below) same positive) holds in
           absurd (omega (arith, one))
     ] in
     let parts_names = count-parts (is_least names) stands range in
@@ -170,14 +171,14 @@ classes-dropped crossings gone kept k outer twice places kept_below outer_low of
 -- all passes, by places
 
 pub passes-each : (P : ℕ × ℕ → Type 0) (crossings : List (List ℕ)) (place : ℕ) → AllByRecursion P (flat_map passes_of crossings)
-    → place < length crossings → AllByRecursion P (passes_of (slots_at crossings place))
+    → place < length crossings → AllByRecursion P (passes_of (slots_in crossings place))
 passes-each P [] place holds below = absurd (omega (arith, below))
 passes-each P (slots ∷ rest) zero holds below = all_first P (passes_of slots) (flat_map passes_of rest) holds
 passes-each P (slots ∷ rest) (suc place) holds below =
     passes-each P rest place (all_second P (passes_of slots) (flat_map passes_of rest) holds) (omega (arith, below))
 
 pub passes-all : (P : ℕ × ℕ → Type 0) (crossings : List (List ℕ))
-    → ((place : ℕ) → place < length crossings → AllByRecursion P (passes_of (slots_at crossings place)))
+    → ((place : ℕ) → place < length crossings → AllByRecursion P (passes_of (slots_in crossings place)))
     → AllByRecursion P (flat_map passes_of crossings)
 passes-all P [] each = tt
 passes-all P (slots ∷ rest) each =
@@ -197,31 +198,31 @@ pub IsOfNames-smoothings : (crossings : List (List ℕ)) (state : ℕ) → IsOfN
 unfolding IsOfNames
 IsOfNames-smoothings crossings state f holds =
     smoothings-all (λ pair. f pair.0 ≡ f pair.1) crossings state
-    (λ place below. marked f (bit state place) (slots_at crossings place) (λ slot slot_below. holds place slot below slot_below))
+    (λ place below. marked f (bit state place) (slots_in crossings place) (λ slot slot_below. holds place slot below slot_below))
 
 -- those of the crossings that stay, under their names
 abbrev kept_passes : List (List ℕ) → (ℕ → Bool) → List (ℕ × ℕ)
-kept_passes crossings gone = flat_map (λ place. passes_of (slots_at crossings place)) (kept_places crossings gone)
+kept_passes crossings gone = flat_map (λ place. passes_of (slots_in crossings place)) (kept_places crossings gone)
 
 passes-renamed : (crossings : List (List ℕ)) (names places : List ℕ)
-    → flat_map passes_of (map (λ place. renamed_slots names (slots_at crossings place)) places)
-    ≡ renamed (slice_index names) (flat_map (λ place. passes_of (slots_at crossings place)) places)
+    → flat_map passes_of (map (λ place. renamed_slots names (slots_in crossings place)) places)
+    ≡ renamed (slice_index names) (flat_map (λ place. passes_of (slots_in crossings place)) places)
 passes-renamed crossings names [] = refl
 passes-renamed crossings names (place ∷ places) =
-    ap (λ xs. renamed (slice_index names) (passes_of (slots_at crossings place)) ++ xs) (passes-renamed crossings names places)
-    ∙ sym (map-append (λ (pair : ℕ × ℕ). (slice_index names pair.0, slice_index names pair.1)) (passes_of (slots_at crossings place))
-    (flat_map (λ place. passes_of (slots_at crossings place)) places))
+    ap (λ xs. renamed (slice_index names) (passes_of (slots_in crossings place)) ++ xs) (passes-renamed crossings names places)
+    ∙ sym (map-append (λ (pair : ℕ × ℕ). (slice_index names pair.0, slice_index names pair.1)) (passes_of (slots_in crossings place))
+    (flat_map (λ place. passes_of (slots_in crossings place)) places))
 
 pub components-dropped : (code : Code) (gone : ℕ → Bool) (kept : ℕ → ℕ) (k : ℕ) → HasArcsTwice code.crossings
     → kept_places code.crossings gone ≡ map kept (range_with_len 0 k) → ((i : ℕ) → i < k → kept i < length code.crossings)
-    → strand_component_count (arc_count code.crossings + 1) (dropped code gone) ≡ component_count code.crossings + code.loops
+    → parts_component_count (arc_count code.crossings + 1) (dropped code gone) ≡ component_count code.crossings + code.loops
 components-dropped code gone kept k twice places kept_below =
     let n = arc_count code.crossings + 1 in
     let straight = straight_pairs code.crossings gone in
     let stays : ℕ → Bool = λ place. not (gone place) in
     let outer_low : AreBelow (arc_count code.crossings + 1) (kept_passes code.crossings gone) =
     all-gone (λ pair. (pair.0 < arc_count code.crossings + 1) × (pair.1 < arc_count code.crossings + 1))
-    (λ place. passes_of (slots_at code.crossings place)) stays 0 (length code.crossings)
+    (λ place. passes_of (slots_in code.crossings place)) stays 0 (length code.crossings)
     (λ place from below is. passes-low code.crossings (arc_count code.crossings + 1) place twice (omega arith) (omega (arith, below))) in
     let whole_low : AreBelow (arc_count code.crossings + 1) (flat_map passes_of code.crossings) =
     passes-all (λ pair. (pair.0 < arc_count code.crossings + 1) × (pair.1 < arc_count code.crossings + 1)) code.crossings
@@ -240,20 +241,20 @@ components-dropped code gone kept k twice places kept_below =
     passes-all (λ pair. f pair.0 ≡ f pair.1) code.crossings
     (λ place below. elim (cases_Bool (gone place)) [
       | inl away ↦
-          gone-all (λ pair. f pair.0 ≡ f pair.1) (λ place. passes_of (slots_at code.crossings place)) gone 0 (length code.crossings) place
+          gone-all (λ pair. f pair.0 ≡ f pair.1) (λ place. passes_of (slots_in code.crossings place)) gone 0 (length code.crossings) place
           (all_first (λ pair. f pair.0 ≡ f pair.1) straight (kept_passes code.crossings gone) respects) (omega arith) (omega (arith, below)) away
       | inr here ↦
-          gone-all (λ pair. f pair.0 ≡ f pair.1) (λ place. passes_of (slots_at code.crossings place)) stays 0 (length code.crossings) place
+          gone-all (λ pair. f pair.0 ≡ f pair.1) (λ place. passes_of (slots_in code.crossings place)) stays 0 (length code.crossings) place
           (all_second (λ pair. f pair.0 ≡ f pair.1) straight (kept_passes code.crossings gone) respects) (omega arith) (omega (arith, below))
           (ap not here)
     ]))
     (λ f respects.
-    let each : (place : ℕ) → place < length code.crossings → Respects f (passes_of (slots_at code.crossings place)) =
+    let each : (place : ℕ) → place < length code.crossings → Respects f (passes_of (slots_in code.crossings place)) =
     λ place below. passes-each (λ pair. f pair.0 ≡ f pair.1) code.crossings place respects below in
     AllByRecursion-append (λ pair. f pair.0 ≡ f pair.1) straight (kept_passes code.crossings gone)
-    (all-gone (λ pair. f pair.0 ≡ f pair.1) (λ place. passes_of (slots_at code.crossings place)) gone 0 (length code.crossings)
+    (all-gone (λ pair. f pair.0 ≡ f pair.1) (λ place. passes_of (slots_in code.crossings place)) gone 0 (length code.crossings)
     (λ place from below is. each place (omega (arith, below))))
-    (all-gone (λ pair. f pair.0 ≡ f pair.1) (λ place. passes_of (slots_at code.crossings place)) stays 0 (length code.crossings)
+    (all-gone (λ pair. f pair.0 ≡ f pair.1) (λ place. passes_of (slots_in code.crossings place)) stays 0 (length code.crossings)
     (λ place from below is. each place (omega (arith, below))))) in
     let components = class_count-components code.crossings whole_low in
     let new = ap (λ ps. standing_class_count (arc_count code.crossings + 1) (kept_crossings code.crossings gone) ps) renames in

@@ -5,7 +5,10 @@ use Rattle.std.proofs.lemmas.Bool.{both_ways}
 use Rattle.kh_types.specs.Directions.{positive_at}
 use Rattle.kh_types.specs.Bits.{bit}
 use Rattle.face_walk.specs.AddedArcs.{IsPlanar}
-use Rattle.kinks_and_fingers.specs.Strands.{dart_name, enters, is_head_at, HasTwoEnds, HasColours, IsPlanarBy}
+use Rattle.gluing.specs.Codes.{arc_of_dart}
+use Rattle.gluing.specs.Arcs.{enters}
+use Rattle.kinks_and_fingers.proofs.TwoEnds.{is_head_at, HasTwoEnds}
+use Rattle.kinks_and_fingers.specs.Planar.{HasColours, IsPlanarBy}
 use Rattle.kinks_and_fingers.specs.Drops.{kept_crossings, kept_signs}
 use Rattle.kinks_and_fingers.proofs.DroppedDarts.{is_code_head, is_colour, dartwise, IsDropped}
 use Rattle.kinks_and_fingers.proofs.KeptCodes.{block_place, block_slot, length-kept, kept-name, kept-sign}
@@ -42,7 +45,7 @@ IsPlanarBy-dropped crossings gone choice k kept partner is =
 
 two-dropped : (crossings : List (List ℕ)) (gone : ℕ → Bool) (choice k : ℕ) (kept partner : ℕ → ℕ)
     → IsDropped crossings gone choice k kept partner → (x y : ℕ) → x < 4 * k → y < 4 * k
-    → dart_name (kept_crossings crossings gone) x ≡ dart_name (kept_crossings crossings gone) y → (y ≡ x) ⊎ (y ≡ partner x)
+    → arc_of_dart (kept_crossings crossings gone) x ≡ arc_of_dart (kept_crossings crossings gone) y → (y ≡ x) ⊎ (y ≡ partner x)
 two-dropped crossings gone choice k kept partner is x y x_below y_below same =
     is.two x y x_below y_below
     (sym (kept-name crossings gone kept k x is.places x_below) ∙ same ∙ kept-name crossings gone kept k y is.places y_below)
@@ -62,7 +65,7 @@ HasTwoEnds-dropped crossings gone choice k kept partner is =
     let low : (x : ℕ) → x < 4 * length (kept_crossings crossings gone) → x < 4 * k = λ x below. omega (arith, size, below) in
     let one : (x y : ℕ) → x < 4 * length (kept_crossings crossings gone) → y < 4 * length (kept_crossings crossings gone)
     → is_head_at (kept_signs crossings gone) x ≡ is_head_at (kept_signs crossings gone) y
-    → dart_name (kept_crossings crossings gone) x ≡ dart_name (kept_crossings crossings gone) y → x ≡ y =
+    → arc_of_dart (kept_crossings crossings gone) x ≡ arc_of_dart (kept_crossings crossings gone) y → x ≡ y =
     λ x y x_below y_below alike same.
     elim (two-dropped crossings gone choice k kept partner is x y (low x x_below) (low y y_below) same) [
       | inl own ↦ sym own

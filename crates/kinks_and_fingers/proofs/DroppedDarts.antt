@@ -1,15 +1,16 @@
 -- The darts that stay where crossings are dropped.
 use Rattle.std.specs.Prelude.{◌≡◌, ◌⊎◌, ℕ, ◌+◌, ◌*◌, ◌/◌, ◌%◌, ◌<◌, List, map, nat_eq, slice_index, Bool, not}
 use Rattle.std.specs.List.{range_with_len}
-use Rattle.kh_types.specs.Directions.{positive_at}
+use Rattle.kh_types.specs.Darts.{dart_at}
+use Rattle.kh_types.specs.Directions.{is_head}
 use Rattle.kh_types.specs.Bits.{bit}
-use Rattle.kinks_and_fingers.specs.Strands.{dart_name, enters}
+use Rattle.gluing.specs.Codes.{arc_of_dart}
 use Rattle.kinks_and_fingers.specs.Drops.{straight_names, kept_places}
 use Rattle.kinks_and_fingers.specs.Pulls.{IsClosedPlanar}
 
 -- whether the dart at a place is a head in a code
 abbrev pub is_code_head : List (List ℕ) → ℕ → Bool
-is_code_head crossings x = enters (positive_at crossings (x / 4)) (x % 4)
+is_code_head crossings x = is_head crossings (dart_at x)
 
 -- whether the dart at a place has the colour 1
 abbrev pub is_colour : ℕ → ℕ → Bool
@@ -21,7 +22,7 @@ dartwise f x = 4 * f (x / 4) + x % 4
 
 -- the name of the class of a dart's arc
 abbrev pub class_name : List (List ℕ) → (ℕ → Bool) → ℕ → ℕ
-class_name crossings gone x = slice_index (straight_names crossings gone) (dart_name crossings x)
+class_name crossings gone x = slice_index (straight_names crossings gone) (arc_of_dart crossings x)
 
 -- the crossings that stay stand at the places that kept gives for 0 to k-1; a partner function of their darts leaves them on the sphere,
 -- joins the two darts of each class of arcs, and leads from heads to tails and from one colour to the other

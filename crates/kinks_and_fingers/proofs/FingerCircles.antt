@@ -9,14 +9,16 @@ use Rattle.kh_types.specs.Code.{arc_in, arc_count}
 use Rattle.kh_types.specs.Circles.{smoothing_of, smoothings_of}
 use Rattle.kh_types.specs.Darts.{HasArcsTwice, partner_at}
 use Rattle.kh_types.proofs.Lists.{AllByRecursion-append}
-use Rattle.kinks_and_fingers.specs.Strands.{slots_at, name_at, dart_name}
+use Rattle.code_passes.specs.Parts.{slots_in}
+use Rattle.gluing.specs.Arcs.{arc_by_place}
+use Rattle.gluing.specs.Codes.{arc_of_dart}
 use Rattle.kinks_and_fingers.specs.Drops.{straight_pairs, is_of_two}
 use Rattle.kinks_and_fingers.specs.Dropping.{HasBigonAt}
 use Rattle.kinks_and_fingers.specs.Pulls.{dart_in}
 use Rattle.kinks_and_fingers.specs.DropCircles.{joined_at, outer_pairs, through_at, closing_at}
 use Rattle.kinks_and_fingers.proofs.Smoothed.{dart_in-below}
-use Rattle.kinks_and_fingers.proofs.OldDarts.{partner-named, dart_name-in, dart_name-partner}
-use Rattle.kinks_and_fingers.proofs.KeptCodes.{name_at-below}
+use Rattle.kinks_and_fingers.proofs.OldDarts.{partner-named, arc_of_dart-in, arc_of_dart-partner}
+use Rattle.kinks_and_fingers.proofs.KeptCodes.{arc_by_place-below}
 use Rattle.kinks_and_fingers.proofs.KinkCircles.{outer-all, joined-below, all_first, all_second}
 use Rattle.kinks_and_fingers.proofs.BigonJoins.{closing-joined, joined-closing, through-joined, joined-through, straight-pass, pass-straight, packed, unpacked, mark, mark-off, count-leaf, count-leaves, smoothed-as, straight-as}
 
@@ -26,14 +28,14 @@ pub record AreBigonNames (crossings : List (List ℕ)) (c d p q a b x y u v : �
   pub d_below : d < length crossings
   pub p_slot : p < 4
   pub q_slot : q < 4
-  pub a_first : name_at crossings c p ≡ a
-  pub a_second : name_at crossings d ((q + 1) % 4) ≡ a
-  pub b_first : name_at crossings c ((p + 1) % 4) ≡ b
-  pub b_second : name_at crossings d q ≡ b
-  pub x_is : name_at crossings c ((p + 2) % 4) ≡ x
-  pub y_is : name_at crossings c ((p + 3) % 4) ≡ y
-  pub u_is : name_at crossings d ((q + 2) % 4) ≡ u
-  pub v_is : name_at crossings d ((q + 3) % 4) ≡ v
+  pub a_first : arc_by_place crossings c p ≡ a
+  pub a_second : arc_by_place crossings d ((q + 1) % 4) ≡ a
+  pub b_first : arc_by_place crossings c ((p + 1) % 4) ≡ b
+  pub b_second : arc_by_place crossings d q ≡ b
+  pub x_is : arc_by_place crossings c ((p + 2) % 4) ≡ x
+  pub y_is : arc_by_place crossings c ((p + 3) % 4) ≡ y
+  pub u_is : arc_by_place crossings d ((q + 2) % 4) ≡ u
+  pub v_is : arc_by_place crossings d ((q + 3) % 4) ≡ v
   pub x_a : x ≢ a
   pub y_a : y ≢ a
   pub u_a : u ≢ a
@@ -43,12 +45,12 @@ pub record AreBigonNames (crossings : List (List ℕ)) (c d p q a b x y u v : �
   pub u_b : u ≢ b
   pub v_b : v ≢ b
   pub a_b : a ≢ b
-  pub others_a : (place slot : ℕ) → place < length crossings → slot < 4 → place ≢ c → place ≢ d → name_at crossings place slot ≢ a
-  pub others_b : (place slot : ℕ) → place < length crossings → slot < 4 → place ≢ c → place ≢ d → name_at crossings place slot ≢ b
+  pub others_a : (place slot : ℕ) → place < length crossings → slot < 4 → place ≢ c → place ≢ d → arc_by_place crossings place slot ≢ a
+  pub others_b : (place slot : ℕ) → place < length crossings → slot < 4 → place ≢ c → place ≢ d → arc_by_place crossings place slot ≢ b
 
 -- a name stands at two darts alone
 named-own : (crossings : List (List ℕ)) (s place slot : ℕ) → HasArcsTwice crossings → s < 4 * length crossings → place < length crossings
-    → slot < 4 → name_at crossings place slot ≡ dart_name crossings s
+    → slot < 4 → arc_by_place crossings place slot ≡ arc_of_dart crossings s
     → (4 * place + slot ≡ s) ⊎ (4 * place + slot ≡ partner_at crossings s)
 named-own crossings s place slot twice s_below below slot_below same =
     let z = dart_in place slot in
@@ -61,30 +63,30 @@ named-own crossings s place slot twice s_below below slot_below same =
           (sym is
           ∙ sym
           (partner-named crossings twice s (dart_in place slot) s_below (dart_in-below (length crossings) place slot below) other
-          (dart_name-in crossings place slot ∙ ap (name_at crossings place) e ∙ same)))
+          (arc_of_dart-in crossings place slot ∙ ap (arc_by_place crossings place) e ∙ same)))
     ]
 
 pub AreBigonNames-bigon : (crossings : List (List ℕ)) (c d p q : ℕ) → HasArcsTwice crossings → HasBigonAt crossings c d p q → p < 4 → q < 4
-    → AreBigonNames crossings c d p q (name_at crossings c p) (name_at crossings d q) (name_at crossings c ((p + 2) % 4))
-    (name_at crossings c ((p + 3) % 4)) (name_at crossings d ((q + 2) % 4)) (name_at crossings d ((q + 3) % 4))
+    → AreBigonNames crossings c d p q (arc_by_place crossings c p) (arc_by_place crossings d q) (arc_by_place crossings c ((p + 2) % 4))
+    (arc_by_place crossings c ((p + 3) % 4)) (arc_by_place crossings d ((q + 2) % 4)) (arc_by_place crossings d ((q + 3) % 4))
 AreBigonNames-bigon crossings c d p q twice bigon p_slot q_slot =
     let n = length crossings in
     let p_is : p % 4 ≡ p = omega (arith, p_slot) in
     let q_is : q % 4 ≡ q = omega (arith, q_slot) in
     let first_low = dart_in-below (length crossings) c p bigon.first_below in
     let second_low = dart_in-below (length crossings) d q bigon.second_below in
-    let name_first : dart_name crossings (dart_in c p) ≡ name_at crossings c p =
-    dart_name-in crossings c p ∙ ap (name_at crossings c) p_is in
-    let name_second : dart_name crossings (dart_in d q) ≡ name_at crossings d q =
-    dart_name-in crossings d q ∙ ap (name_at crossings d) q_is in
-    let own_a : (place slot : ℕ) → place < length crossings → slot < 4 → name_at crossings place slot ≡ name_at crossings c p
+    let name_first : arc_of_dart crossings (dart_in c p) ≡ arc_by_place crossings c p =
+    arc_of_dart-in crossings c p ∙ ap (arc_by_place crossings c) p_is in
+    let name_second : arc_of_dart crossings (dart_in d q) ≡ arc_by_place crossings d q =
+    arc_of_dart-in crossings d q ∙ ap (arc_by_place crossings d) q_is in
+    let own_a : (place slot : ℕ) → place < length crossings → slot < 4 → arc_by_place crossings place slot ≡ arc_by_place crossings c p
     → (4 * place + slot ≡ dart_in c p) ⊎ (4 * place + slot ≡ dart_in d (q + 1)) =
     λ place slot below slot_below same.
     elim (named-own crossings (dart_in c p) place slot twice first_low below slot_below (same ∙ sym name_first)) [
       | inl own ↦ inl own
       | inr own ↦ inr (own ∙ bigon.first_side)
     ] in
-    let own_b : (place slot : ℕ) → place < length crossings → slot < 4 → name_at crossings place slot ≡ name_at crossings d q
+    let own_b : (place slot : ℕ) → place < length crossings → slot < 4 → arc_by_place crossings place slot ≡ arc_by_place crossings d q
     → (4 * place + slot ≡ dart_in d q) ⊎ (4 * place + slot ≡ dart_in c (p + 1)) =
     λ place slot below slot_below same.
     elim (named-own crossings (dart_in d q) place slot twice second_low below slot_below (same ∙ sym name_second)) [
@@ -100,10 +102,10 @@ AreBigonNames-bigon crossings c d p q twice bigon p_slot q_slot =
       p_slot = p_slot;
       q_slot = q_slot;
       a_first = refl;
-      a_second = sym (dart_name-in crossings d (q + 1)) ∙ ap (dart_name crossings) (sym bigon.first_side)
-          ∙ dart_name-partner crossings twice (dart_in c p) first_low ∙ name_first;
-      b_first = sym (dart_name-in crossings c (p + 1)) ∙ ap (dart_name crossings) (sym bigon.second_side)
-          ∙ dart_name-partner crossings twice (dart_in d q) second_low ∙ name_second;
+      a_second = sym (arc_of_dart-in crossings d (q + 1)) ∙ ap (arc_of_dart crossings) (sym bigon.first_side)
+          ∙ arc_of_dart-partner crossings twice (dart_in c p) first_low ∙ name_first;
+      b_first = sym (arc_of_dart-in crossings c (p + 1)) ∙ ap (arc_of_dart crossings) (sym bigon.second_side)
+          ∙ arc_of_dart-partner crossings twice (dart_in d q) second_low ∙ name_second;
       b_second = refl;
       x_is = refl;
       y_is = refl;
@@ -172,15 +174,15 @@ marked f b slots at = elim (cases_Bool (nat_eq b 0)) [
 ]
 
 outer-free : (crossings : List (List ℕ)) (c d state a : ℕ)
-    → ((place slot : ℕ) → place < length crossings → slot < 4 → place ≢ c → place ≢ d → name_at crossings place slot ≢ a)
+    → ((place slot : ℕ) → place < length crossings → slot < 4 → place ≢ c → place ≢ d → arc_by_place crossings place slot ≢ a)
     → Respects (λ z. mark a z) (outer_pairs crossings (is_of_two c d) state)
 outer-free crossings c d state a others =
     outer-all (λ pair. mark a pair.0 ≡ mark a pair.1) crossings (is_of_two c d) state
     (λ place below stays.
     let away = apart_of (nat_eq c place) (nat_eq d place) stays in
-    marked (λ z. mark a z) (bit state place) (slots_at crossings place)
+    marked (λ z. mark a z) (bit state place) (slots_in crossings place)
     (λ slot slot_below.
-    mark-off a (name_at crossings place slot)
+    mark-off a (arc_by_place crossings place slot)
     (others place slot below slot_below (λ same. both_ways (nat_eq c place) away.0 (eq-eqb c place (sym same)))
     (λ same. both_ways (nat_eq d place) away.1 (eq-eqb d place (sym same))))))
   where
@@ -204,7 +206,7 @@ pairs-same crossings gone state other a (suc n) same =
           ∙ sym (ap (λ t. flat_map (joined_at crossings state) (cond (not t) (a ∷ kept) kept)) away)
       | inr stays ↦
           ap (λ t. flat_map (joined_at crossings other) (cond (not t) (a ∷ kept) kept)) stays
-          ∙ ap (λ b. smoothing_of b (slots_at crossings a) ++ flat_map (joined_at crossings other) kept) (same a (omega arith) stays)
+          ∙ ap (λ b. smoothing_of b (slots_in crossings a) ++ flat_map (joined_at crossings other) kept) (same a (omega arith) stays)
           ∙ ap (λ ps. joined_at crossings state a ++ ps) rest
           ∙ sym (ap (λ t. flat_map (joined_at crossings state) (cond (not t) (a ∷ kept) kept)) stays)
     ]
@@ -245,7 +247,7 @@ below-in crossings n state c d x y u v twice large x_low y_low u_low v_low =
     (λ place below stays. joined-below crossings n state place twice large below)) ((x_low, y_low), ((u_low, v_low), tt))
 
 free-in : (crossings : List (List ℕ)) (state c d x y u v a : ℕ)
-    → ((place slot : ℕ) → place < length crossings → slot < 4 → place ≢ c → place ≢ d → name_at crossings place slot ≢ a)
+    → ((place slot : ℕ) → place < length crossings → slot < 4 → place ≢ c → place ≢ d → arc_by_place crossings place slot ≢ a)
     → x ≢ a → y ≢ a → u ≢ a → v ≢ a → Respects (λ z. mark a z) (turned_in crossings state c d x y u v)
 free-in crossings state c d x y u v a others x_a y_a u_a v_a =
     AllByRecursion-append (λ pair. mark a pair.0 ≡ mark a pair.1) (outer_pairs crossings (is_of_two c d) state) ((x, y) ∷ (u, v) ∷ [])
@@ -255,12 +257,12 @@ free-in crossings state c d x y u v a others x_a y_a u_a v_a =
 pub FourStates-bigon : (crossings : List (List ℕ)) (n c d p q a b x y u v : ℕ) → HasArcsTwice crossings → arc_count crossings + 1 ≤ n
     → AreBigonNames crossings c d p q a b x y u v → FourStates crossings n c d p q
 FourStates-bigon crossings n c d p q a b x y u v twice large names =
-    let c_slots = slots_at crossings c in
-    let d_slots = slots_at crossings d in
-    let low_c : (slot name : ℕ) → slot < 4 → name_at crossings c slot ≡ name → name < n =
-    λ slot name below is. omega (arith, large, sym is, name_at-below crossings c slot twice names.c_below below) in
-    let low_d : (slot name : ℕ) → slot < 4 → name_at crossings d slot ≡ name → name < n =
-    λ slot name below is. omega (arith, large, sym is, name_at-below crossings d slot twice names.d_below below) in
+    let c_slots = slots_in crossings c in
+    let d_slots = slots_in crossings d in
+    let low_c : (slot name : ℕ) → slot < 4 → arc_by_place crossings c slot ≡ name → name < n =
+    λ slot name below is. omega (arith, large, sym is, arc_by_place-below crossings c slot twice names.c_below below) in
+    let low_d : (slot name : ℕ) → slot < 4 → arc_by_place crossings d slot ≡ name → name < n =
+    λ slot name below is. omega (arith, large, sym is, arc_by_place-below crossings d slot twice names.d_below below) in
     let a_low : a < n = low_c p a names.p_slot names.a_first in
     let b_low : b < n = low_d q b names.q_slot names.b_second in
     let x_low : x < n = low_c ((p + 2) % 4) x (omega arith) names.x_is in

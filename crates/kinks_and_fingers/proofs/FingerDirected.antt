@@ -1,26 +1,23 @@
 -- A code with a finger is directed.
-use Rattle.std.proofs.Common.{◌≡◌, ℕ, ◌⊎◌, inl, inr, ◌+◌, ◌-◌, ◌%◌, ◌<◌, ◌≤◌, ◌∙◌, List, length, sym, ap, subst, arith, Bool, true, false, not}
+use Rattle.std.proofs.Common.{◌≡◌, ℕ, ◌⊎◌, inl, inr, ◌+◌, ◌-◌, ◌<◌, ◌≤◌, ◌∙◌, List, length, sym, ap, subst, arith, Bool, not}
 use Rattle.std.specs.Prelude.{nat_eq, min, if◌then◌else◌}
 use Rattle.std.specs.List.{flat_map}
 use Rattle.std.proofs.lemmas.Bool.{cases_eq}
 use Rattle.std.proofs.lemmas.Bool.Decides.{nat_tests}
 use Rattle.std.proofs.lemmas.List.{get_or_past}
-use Rattle.kh_types.specs.declared.dart.Dart.{Dart}
 use Rattle.kh_types.specs.Code.{slots_of, arc_count, IsArc}
 use Rattle.kh_types.specs.Components.{components_of, next, passes_of}
-use Rattle.kh_types.specs.Darts.{arc_of, IsDart}
-use Rattle.kh_types.specs.Directions.{is_head, head_of}
+use Rattle.kh_types.specs.Directions.{head_of}
 use Rattle.kh_types.specs.Accepted.{IsDirected}
-use Rattle.kh_types.proofs.DirectedPasses.{across, IsDart-across, is_head-across, arc_of-across, head-cases}
+use Rattle.kh_types.proofs.DirectedPasses.{across, IsDart-across, is_head-across, arc_of-across}
 use Rattle.kh_types.proofs.NextArcs.{component, IsNamed-components_of, component-inside, HasPlace-directed}
 use Rattle.kh_types.proofs.Heads.{HasEnds-directed}
 use Rattle.kh_types.proofs.ClassLemmas.{classes-finest}
 use Rattle.kh_types.proofs.PassPairs.{passes-below, passes-positive}
-use Rattle.kh_types.proofs.DartColours.{arc_at}
 use Rattle.kinks_and_fingers.specs.FingerAdd.{opened, head_number, fingered_crossings}
 use Rattle.kinks_and_fingers.proofs.MovableArcs.{AreFingerable}
 use Rattle.kinks_and_fingers.proofs.Opened.{low, IsOneOf, low-opened, low-middle, low-last, number-cases, opened-suc, opened-le, opened-zero, low-within, low-past, low-positive}
-use Rattle.kinks_and_fingers.proofs.Passed.{HasPass, IsPassed, HasRuns}
+use Rattle.kinks_and_fingers.proofs.Passed.{IsPassed, HasRuns}
 use Rattle.kinks_and_fingers.proofs.FingerSlots.{length-fingered, arc_of-tail, HasPasses}
 use Rattle.kinks_and_fingers.proofs.FingerRuns.{first_number, first_number-opened, first_number-head, HasPasses-first, HasPasses-second, HasSteps-fingered}
 use Rattle.kinks_and_fingers.proofs.FingerDarts.{arc_count-fingered, slots-fingered, head_dart, by_order, two_places-fingered}

@@ -19,11 +19,11 @@ use Rattle.kh_types.proofs.Heads.{HasNoSingleArcs-accepted}
 use Rattle.kh_types.proofs.Lists.{count_by-map}
 use Rattle.kh_types.proofs.RangeCounts.{count_by-alike}
 use Rattle.gluing.proofs.Terms.{term_at}
-use Rattle.kinks_and_fingers.specs.Strands.{enters}
+use Rattle.gluing.specs.Arcs.{enters}
 use Rattle.kinks_and_fingers.specs.Drops.{kept_places, kept_signs, kept_crossings, is_of_two, without_finger}
 use Rattle.kinks_and_fingers.specs.Dropping.{HasBigonAt}
 use Rattle.kinks_and_fingers.proofs.DroppedDarts.{is_code_head}
-use Rattle.kinks_and_fingers.specs.DropCircles.{closing_at, through_at, strand_circle_count, strand_plus, strand_minus, strand_term, strand_sum}
+use Rattle.kinks_and_fingers.specs.DropCircles.{closing_at, through_at, parts_circle_count, parts_plus, parts_minus, parts_term, parts_sum}
 use Rattle.kinks_and_fingers.proofs.InsertedBits.{with_bit}
 use Rattle.kinks_and_fingers.specs.Pulls.{dart_in, early, late}
 use Rattle.kinks_and_fingers.proofs.Smoothed.{dart_in-below, dart_in-place, IsPermutation-late}
@@ -144,7 +144,7 @@ bigon-signs code c d p q is bigon p_slot q_slot =
 
 pub plus-kept_two : (code : Code) (c d : ℕ) → c < length code.crossings → d < length code.crossings → c ≢ d
     → plus_count code.crossings
-    ≡ one_if (positive_at code.crossings c) + one_if (positive_at code.crossings d) + strand_plus (without_finger code c d)
+    ≡ one_if (positive_at code.crossings c) + one_if (positive_at code.crossings d) + parts_plus (without_finger code c d)
 plus-kept_two code c d c_below d_below apart =
     let n = length code.crossings in
     let pos : ℕ → Bool = positive_at code.crossings in
@@ -152,7 +152,7 @@ plus-kept_two code c d c_below d_below apart =
     let all : plus_count code.crossings ≡ count_by (positive_at code.crossings) (range_with_len 0 (length code.crossings)) =
     ap (λ a. count_by (is_positive code.crossings) (range_with_len a (length code.crossings))) (sym e)
     ∙ count-later (is_positive code.crossings) 0 (length code.crossings) in
-    let signs : strand_plus (without_finger code c d)
+    let signs : parts_plus (without_finger code c d)
     ≡ count_by (λ x. positive_at code.crossings x && not (is_of_two c d x)) (range_with_len 0 (length code.crossings)) =
     count_by-map (λ (b : Bool). b) (positive_at code.crossings) (kept_places code.crossings (is_of_two c d))
     ∙ count-filter (positive_at code.crossings) (λ x. not (is_of_two c d x)) (range_with_len 0 (length code.crossings)) in
@@ -237,7 +237,7 @@ pub record FourCircles (code : Code) (k c d p q : ℕ) : Type 0 where
   pub more : (b e g h state : ℕ) → b < 2 → e < 2 → g < 2 → h < 2 → state < 2 ^ k → b ≡ closing_at p → e ≡ through_at q → g ≡ closing_at p
       → h ≡ closing_at q → circle_count code (with_two k c d g h state) ≡ circle_count code (with_two k c d b e state) + 1
   pub straight : (b e state : ℕ) → b < 2 → e < 2 → state < 2 ^ k → b ≡ through_at p → e ≡ through_at q
-      → circle_count code (with_two k c d b e state) ≡ strand_circle_count (arc_count code.crossings + 1) (without_finger code c d) state
+      → circle_count code (with_two k c d b e state) ≡ parts_circle_count (arc_count code.crossings + 1) (without_finger code c d) state
 
 FourCircles-bigon : (code : Code) (k c d p q : ℕ) → IsTrue (accepted code) → HasBigonAt code.crossings c d p q → p < 4 → q < 4
     → length code.crossings ≡ k + 1 + 1 → FourCircles code k c d p q
@@ -312,7 +312,7 @@ one_of_two true = omega arith
 one_of_two false = omega arith
 
 state_sum-slots : (code : Code) (c d p q : ℕ) → IsTrue (accepted code) → HasBigonAt code.crossings c d p q → p < 4 → q < 4 → (exponent : ℤ)
-    → strand_sum (arc_count code.crossings + 1) (without_finger code c d) exponent ≡ state_sum code exponent
+    → parts_sum (arc_count code.crossings + 1) (without_finger code c d) exponent ≡ state_sum code exponent
 state_sum-slots code c d p q is bigon p_slot q_slot exponent =
     let k = length code.crossings - 2 in
     let size : length code.crossings ≡ length code.crossings - 2 + 1 + 1 = two_below (length code.crossings) c d bigon.first_below bigon.second_below bigon.apart in
@@ -331,14 +331,14 @@ state_sum-slots code c d p q is bigon p_slot q_slot exponent =
     let signs_size : length (kept_signs code.crossings (is_of_two c d)) ≡ length code.crossings - 2 =
     length-map (kept_places code.crossings (is_of_two c d)) (positive_at code.crossings) ∙ ap length places
     ∙ length-map-range_with_len kept 0 (length code.crossings - 2) in
-    let few : strand_plus (without_finger code c d) ≤ length code.crossings - 2 =
+    let few : parts_plus (without_finger code c d) ≤ length code.crossings - 2 =
     omega (arith, count_by-le-length (λ (b : Bool). b) (kept_signs code.crossings (is_of_two c d)), signs_size) in
     let counted = plus-kept_two code c d bigon.first_below bigon.second_below bigon.apart in
     let sign = bigon-signs code c d p q is bigon p_slot q_slot in
     let both : one_if (positive_at code.crossings c) + one_if (positive_at code.crossings d) ≡ 1 =
     ap (λ b. one_if (positive_at code.crossings c) + one_if b) sign ∙ one_of_two (positive_at code.crossings c) in
-    let plus_is : plus_count code.crossings ≡ strand_plus (without_finger code c d) + 1 = omega (arith, counted, both) in
-    let minus_is : minus_count code.crossings ≡ strand_minus (without_finger code c d) + 1 = omega (arith, plus_is, left_size, few, size) in
+    let plus_is : plus_count code.crossings ≡ parts_plus (without_finger code c d) + 1 = omega (arith, counted, both) in
+    let minus_is : minus_count code.crossings ≡ parts_minus (without_finger code c d) + 1 = omega (arith, plus_is, left_size, few, size) in
     let four = FourCircles-bigon code (length code.crossings - 2) c d p q is bigon p_slot q_slot size in
     let g : ℕ → ℤ = λ s. state_term code exponent (with_bit (length code.crossings - 2 + 1) c 0 s)
     +ℤ state_term code exponent (with_bit (length code.crossings - 2 + 1) c 1 s) in
@@ -352,13 +352,13 @@ state_sum-slots code c d p q is bigon p_slot q_slot exponent =
     let each : (state : ℕ) → state < 2 ^ (length code.crossings - 2)
     → g (with_bit (length code.crossings - 2) (late c (length code.crossings - 2 + 1) d) 0 state)
     +ℤ g (with_bit (length code.crossings - 2) (late c (length code.crossings - 2 + 1) d) 1 state)
-    ≡ strand_term (arc_count code.crossings + 1) (without_finger code c d) exponent state =
+    ≡ parts_term (arc_count code.crossings + 1) (without_finger code c d) exponent state =
     λ state below.
     let full : ℕ → ℕ → ℕ = λ b e. with_two (length code.crossings - 2) c d b e state in
     let zero_low : 0 < 2 = omega arith in
     let one_low : 1 < 2 = omega arith in
     let r = ones (length code.crossings - 2) state in
-    let s = strand_circle_count (arc_count code.crossings + 1) (without_finger code c d) state in
+    let s = parts_circle_count (arc_count code.crossings + 1) (without_finger code c d) state in
     let count : (b e t : ℕ) → b < 2 → e < 2 → ones (length code.crossings - 2) state + e + b ≡ t
     → ones (length code.crossings) (with_two (length code.crossings - 2) c d b e state) ≡ t =
     λ b e t b_below e_below sum.
@@ -366,12 +366,12 @@ state_sum-slots code c d p q is bigon p_slot q_slot exponent =
     ∙ (HasTwoBits-with_two (length code.crossings - 2) c d b e state c_within d_within bigon.apart b_below e_below below).count ∙ sum in
     let new_ones : ones (length (kept_crossings code.crossings (is_of_two c d))) state ≡ ones (length code.crossings - 2) state =
     ap (λ m. ones m state) left_size in
-    let last : kh.term_of (strand_plus (without_finger code c d)) (strand_minus (without_finger code c d)) exponent
-    (ones (length code.crossings - 2) state) (strand_circle_count (arc_count code.crossings + 1) (without_finger code c d) state)
-    ≡ strand_term (arc_count code.crossings + 1) (without_finger code c d) exponent state =
-    ap (λ m. kh.term_of (strand_plus (without_finger code c d)) (strand_minus (without_finger code c d)) exponent m
-    (strand_circle_count (arc_count code.crossings + 1) (without_finger code c d) state)) (sym new_ones) in
-    let done = sym (term-is (strand_plus (without_finger code c d)) (strand_minus (without_finger code c d)) exponent r s) ∙ last in
+    let last : kh.term_of (parts_plus (without_finger code c d)) (parts_minus (without_finger code c d)) exponent
+    (ones (length code.crossings - 2) state) (parts_circle_count (arc_count code.crossings + 1) (without_finger code c d) state)
+    ≡ parts_term (arc_count code.crossings + 1) (without_finger code c d) exponent state =
+    ap (λ m. kh.term_of (parts_plus (without_finger code c d)) (parts_minus (without_finger code c d)) exponent m
+    (parts_circle_count (arc_count code.crossings + 1) (without_finger code c d) state)) (sym new_ones) in
+    let done = sym (term-is (parts_plus (without_finger code c d)) (parts_minus (without_finger code c d)) exponent r s) ∙ last in
     elim (parity p) [
       | inl even ↦
           let q_odd : q % 2 ≡ 1 = omega (arith, bigon.odd, even) in
@@ -380,15 +380,15 @@ state_sum-slots code c d p q is bigon p_slot q_slot exponent =
           let d_closing : closing_at q ≡ 1 = ap (λ m. cond (nat_eq m 0) 0 1) q_odd in
           let d_through : through_at q ≡ 0 = ap (λ m. cond (nat_eq m 0) 1 0) q_odd in
           let n = circle_count code (with_two (length code.crossings - 2) c d 0 0 state) in
-          four_terms (plus_count code.crossings) (minus_count code.crossings) (strand_plus (without_finger code c d) + 1)
-          (strand_minus (without_finger code c d) + 1) exponent _ _ _ _ _ _ _ _ r n (r + 1) s (r + 1) (n + 1) (r + 2) n plus_is minus_is
+          four_terms (plus_count code.crossings) (minus_count code.crossings) (parts_plus (without_finger code c d) + 1)
+          (parts_minus (without_finger code c d) + 1) exponent _ _ _ _ _ _ _ _ r n (r + 1) s (r + 1) (n + 1) (r + 2) n plus_is minus_is
           (count 0 0 r zero_low zero_low (omega arith)) refl
           (count 1 0 (r + 1) one_low zero_low (omega arith)) (four.straight 1 0 state one_low zero_low below (sym c_through) (sym d_through))
           (count 0 1 (r + 1) zero_low one_low (omega arith))
           (four.more 0 0 0 1 state zero_low zero_low zero_low one_low below (sym c_closing) (sym d_through) (sym c_closing) (sym d_closing))
           (count 1 1 (r + 2) one_low one_low (omega arith))
           (four.mixed 0 0 1 1 state zero_low zero_low one_low one_low below (sym c_closing) (sym d_through) (sym c_through) (sym d_closing))
-          ∙ term_of-finger (strand_plus (without_finger code c d)) (strand_minus (without_finger code c d)) r s n exponent
+          ∙ term_of-finger (parts_plus (without_finger code c d)) (parts_minus (without_finger code c d)) r s n exponent
           ∙ done
       | inr odd ↦
           let q_even : q % 2 ≡ 0 = omega (arith, bigon.odd, odd) in
@@ -397,29 +397,29 @@ state_sum-slots code c d p q is bigon p_slot q_slot exponent =
           let d_closing : closing_at q ≡ 0 = ap (λ m. cond (nat_eq m 0) 0 1) q_even in
           let d_through : through_at q ≡ 1 = ap (λ m. cond (nat_eq m 0) 1 0) q_even in
           let n = circle_count code (with_two (length code.crossings - 2) c d 1 1 state) in
-          four_terms (plus_count code.crossings) (minus_count code.crossings) (strand_plus (without_finger code c d) + 1)
-          (strand_minus (without_finger code c d) + 1) exponent _ _ _ _ _ _ _ _ r n (r + 1) (n + 1) (r + 1) s (r + 2) n plus_is minus_is
+          four_terms (plus_count code.crossings) (minus_count code.crossings) (parts_plus (without_finger code c d) + 1)
+          (parts_minus (without_finger code c d) + 1) exponent _ _ _ _ _ _ _ _ r n (r + 1) (n + 1) (r + 1) s (r + 2) n plus_is minus_is
           (count 0 0 r zero_low zero_low (omega arith))
           (four.mixed 1 1 0 0 state one_low one_low zero_low zero_low below (sym c_closing) (sym d_through) (sym c_through) (sym d_closing))
           (count 1 0 (r + 1) one_low zero_low (omega arith))
           (four.more 1 1 1 0 state one_low one_low one_low zero_low below (sym c_closing) (sym d_through) (sym c_closing) (sym d_closing))
           (count 0 1 (r + 1) zero_low one_low (omega arith)) (four.straight 0 1 state zero_low one_low below (sym c_through) (sym d_through))
           (count 1 1 (r + 2) one_low one_low (omega arith)) refl
-          ∙ term_of-finger_other (strand_plus (without_finger code c d)) (strand_minus (without_finger code c d)) r s n exponent
+          ∙ term_of-finger_other (parts_plus (without_finger code c d)) (parts_minus (without_finger code c d)) r s n exponent
           ∙ done
     ] in
-    ap (λ m. int_sum (map (strand_term (arc_count code.crossings + 1) (without_finger code c d) exponent) (range_with_len 0 (2 ^ m)))) left_size
+    ap (λ m. int_sum (map (parts_term (arc_count code.crossings + 1) (without_finger code c d) exponent) (range_with_len 0 (2 ^ m)))) left_size
     ∙ sym
     (split
     ∙ sums-alike (λ state. g (with_bit (length code.crossings - 2) (late c (length code.crossings - 2 + 1) d) 0 state)
     +ℤ g (with_bit (length code.crossings - 2) (late c (length code.crossings - 2 + 1) d) 1 state))
-    (strand_term (arc_count code.crossings + 1) (without_finger code c d) exponent) 0 (2 ^ (length code.crossings - 2))
+    (parts_term (arc_count code.crossings + 1) (without_finger code c d) exponent) 0 (2 ^ (length code.crossings - 2))
     (λ state from below. each state (omega (arith, below))))
   where
     two_below : (n c d : ℕ) → c < n → d < n → c ≢ d → n ≡ n - 2 + 1 + 1
     two_below n c d c_below d_below apart = omega (arith, c_below, d_below, apart)
 
 pub state_sum-without_finger : (code : Code) (c d p q : ℕ) → IsTrue (accepted code) → HasBigonAt code.crossings c d p q → (exponent : ℤ)
-    → strand_sum (arc_count code.crossings + 1) (without_finger code c d) exponent ≡ state_sum code exponent
+    → parts_sum (arc_count code.crossings + 1) (without_finger code c d) exponent ≡ state_sum code exponent
 state_sum-without_finger code c d p q is bigon exponent =
     state_sum-slots code c d (p % 4) (q % 4) is (HasBigonAt-slots code.crossings c d p q bigon) (omega arith) (omega arith) exponent

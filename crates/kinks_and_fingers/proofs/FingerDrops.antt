@@ -11,12 +11,12 @@ use Rattle.kh_types.specs.Darts.{partner_at}
 use Rattle.kh_types.proofs.AcceptedLemmas.{HasArcsTwice-accepted}
 use Rattle.kh_types.proofs.Heads.{HasNoSingleArcs-accepted}
 use Rattle.kh_types.proofs.Lists.{filter-map, filter-range_agree}
-use Rattle.kinks_and_fingers.specs.Strands.{dart_name}
+use Rattle.gluing.specs.Codes.{arc_of_dart}
 use Rattle.kinks_and_fingers.specs.Drops.{straight_names, is_of_two}
 use Rattle.kinks_and_fingers.specs.Pulls.{dart_in, late, early, early_dart, smoothed, IsClosedPlanar}
 use Rattle.kinks_and_fingers.specs.Dropping.{HasBigonAt}
 use Rattle.kinks_and_fingers.proofs.DroppedDarts.{is_code_head, is_colour, dartwise, class_name, IsDropped}
-use Rattle.kinks_and_fingers.proofs.OldDarts.{IsClosedPlanar-accepted, dart_name-partner, heads-partner, colours-partner, on_arcs, on_arcs-at, dart_name-below, heads-across, colours-next, dart_in-next}
+use Rattle.kinks_and_fingers.proofs.OldDarts.{IsClosedPlanar-accepted, arc_of_dart-partner, heads-partner, colours-partner, on_arcs, on_arcs-at, arc_of_dart-below, heads-across, colours-next, dart_in-next}
 use Rattle.kinks_and_fingers.proofs.KeptCodes.{block_place, block_slot, places-but, straight-finest}
 use Rattle.kinks_and_fingers.proofs.Smoothed.{IsClosedPlanar-smoothed, smoothed-named, dart_in-below, dart_in-place, dart_cases, IsPermutation-late, IsPermutation-dartwise, dart_in-apart}
 use Rattle.kinks_and_fingers.proofs.SmoothedValues.{smoothed-flipped, IsTakenBack, IsTakenBack-smoothed}
@@ -276,7 +276,7 @@ IsDropped-finger code choice k c d p q is coloured size bigon =
     λ x r below. early-away c (k + 1) r (early_dart (late c (k + 1) d) k x) c_within (inner_below x below) in
     let name : ℕ → ℕ = class_name crossings gone in
     let name_shared : (x : ℕ) → x < 4 * length code.crossings → class_name crossings gone (partner_at code.crossings x) ≡ class_name crossings gone x =
-    λ x below. ap (slice_index (straight_names crossings gone)) (dart_name-partner crossings twice x below) in
+    λ x below. ap (slice_index (straight_names crossings gone)) (arc_of_dart-partner crossings twice x below) in
     let name_across : (z r : ℕ) → (z ≡ c) ⊎ (z ≡ d)
     → (class_name crossings gone (dart_in z r) ≡ class_name crossings gone (dart_in z (r + 2)))
     × (class_name crossings gone (dart_in z (r + 2)) ≡ class_name crossings gone (dart_in z r)) =
@@ -386,11 +386,11 @@ IsDropped-finger code choice k c d p q is coloured size bigon =
       two = λ x y x_below y_below same.
           let f : ℕ → ℕ = on_arcs crossings (crossed taken.whole a b s t) in
           let arc_at : (z : ℕ) → z < 4 * length code.crossings
-          → on_arcs crossings (crossed taken.whole a b s t) (dart_name crossings z) ≡ crossed taken.whole a b s t z =
+          → on_arcs crossings (crossed taken.whole a b s t) (arc_of_dart crossings z) ≡ crossed taken.whole a b s t z =
           λ z below. on_arcs-at crossings (crossed taken.whole a b s t) twice value_shared z below in
           let across : (z : ℕ) → z < length code.crossings → (z ≡ c) ⊎ (z ≡ d) → (r : ℕ)
-          → on_arcs crossings (crossed taken.whole a b s t) (dart_name crossings (dart_in z r))
-          ≡ on_arcs crossings (crossed taken.whole a b s t) (dart_name crossings (dart_in z (r + 2))) =
+          → on_arcs crossings (crossed taken.whole a b s t) (arc_of_dart crossings (dart_in z r))
+          ≡ on_arcs crossings (crossed taken.whole a b s t) (arc_of_dart crossings (dart_in z (r + 2))) =
           λ z z_below which r.
           arc_at (dart_in z r) (dart_in-below (length code.crossings) z r z_below) ∙ value_across z r which
           ∙ sym (arc_at (dart_in z (r + 2)) (dart_in-below (length code.crossings) z (r + 2) z_below)) in
@@ -401,8 +401,8 @@ IsDropped-finger code choice k c d p q is coloured size bigon =
           let alike = straight-finest crossings gone (on_arcs crossings (crossed taken.whole a b s t)) twice
           (λ place below is_gone.
           on_arcs-across crossings (on_arcs crossings (crossed taken.whole a b s t)) place (across place below (of_two c d place is_gone)))
-          (dart_name crossings (dart x)) (dart_name crossings (dart y))
-          (dart_name-below crossings twice (dart x) (dart_below x x_below)) (dart_name-below crossings twice (dart y) (dart_below y y_below))
+          (arc_of_dart crossings (dart x)) (arc_of_dart crossings (dart y))
+          (arc_of_dart-below crossings twice (dart x) (dart_below x x_below)) (arc_of_dart-below crossings twice (dart y) (dart_below y y_below))
           (ap (class_name crossings gone) (whole_dart x) ∙ same ∙ ap (class_name crossings gone) (sym (whole_dart y))) in
           pair_of-same (4 * k) new new_closed.pairing x y x_below y_below
           (sym (value_else x x_below) ∙ sym (arc_at (dart x) (dart_below x x_below)) ∙ alike

@@ -4,7 +4,7 @@ use Rattle.std.specs.Prelude.{slice_index, if◌then◌else◌, IsTrue}
 use Rattle.std.proofs.lemmas.Bool.{cases_Bool}
 use Rattle.kh_types.specs.declared.dart.Dart.{Dart}
 use Rattle.kh_types.specs.Code.{Code, IsArc}
-use Rattle.kh_types.specs.Darts.{dart_at, dart_place, arc_of, partner_at, IsDart, HasArcsTwice, IsPairing, face_step}
+use Rattle.kh_types.specs.Darts.{dart_at, dart_place, arc_of, partner_at, IsDart, IsPairing, face_step}
 use Rattle.kh_types.specs.Directions.{is_head, head_of, tail_of, HasEnds}
 use Rattle.kh_types.specs.Faces.{face_count, piece_count, planar_face_count, faces_of, pieces_of}
 use Rattle.kh_types.specs.Acceptance.{accepted}

@@ -1,18 +1,17 @@
 -- Sums over states with one bit more.
-use Rattle.std.proofs.Common.{◌≡◌, ℕ, zero, suc, ◌⊎◌, inl, inr, ◌+◌, ◌-◌, ◌*◌, ◌%◌, ◌^◌, ◌<◌, ◌≤◌, ◌∙◌, ℤ, ◌+ℤ◌, sym, refl, map, ap, ap₂, arith, true, false, cond}
+use Rattle.std.proofs.Common.{◌≡◌, ℕ, zero, suc, ◌⊎◌, inl, inr, ◌+◌, ◌-◌, ◌*◌, ◌^◌, ◌<◌, ◌≤◌, ◌∙◌, ℤ, ◌+ℤ◌, sym, refl, map, ap, ap₂, arith, true, false, cond}
 use Rattle.std.specs.Prelude.{nat_eq, nat_lt}
 use Rattle.std.specs.List.{range_with_len}
-use Rattle.std.proofs.Math.Nat.{pow-suc, div-eq_of_lt}
+use Rattle.std.proofs.Math.Nat.{pow-suc}
 use Rattle.std.proofs.lemmas.Bool.{cases_lt}
 use Rattle.std.proofs.lemmas.Bool.Decides.{nat_tests}
 use Rattle.std.proofs.lemmas.Int.{ints}
 use Rattle.kh_types.specs.Bits.{bit, ones}
 use Rattle.kh_types.specs.StateSum.{int_sum}
 use Rattle.kh_types.proofs.BitLemmas.{ones-more}
-use Rattle.kh_types.proofs.EdgeBits.{bit-set_there, bit-set_other}
+use Rattle.kh_types.proofs.EdgeBits.{bit-set_other}
 use Rattle.kinks_and_fingers.proofs.InsertedBits.{with_bit}
 use Rattle.kinks_and_fingers.specs.Pulls.{early}
-use Rattle.gluing.proofs.KinkSums.{int_sum-doubled}
 use Rattle.gluing.proofs.CodeCircles.{bit-highest, bit-above}
 use Rattle.gluing.proofs.SplitStates.{doubled, sums_over}
 

@@ -16,7 +16,9 @@ use Rattle.kh_types.proofs.ClassLemmas.{classes-together, classes-finest}
 use Rattle.kh_types.proofs.Lists.{AllByRecursion-append, filter-range_all}
 use Rattle.kh_types.proofs.Ranges.{range-append}
 use Rattle.kh_types.proofs.RangeImages.{map_range-agree}
-use Rattle.kinks_and_fingers.specs.Strands.{slots_at, name_at, dart_name, sign_at}
+use Rattle.code_passes.specs.Parts.{slots_in, is_positive_at}
+use Rattle.gluing.specs.Arcs.{arc_by_place}
+use Rattle.gluing.specs.Codes.{arc_of_dart}
 use Rattle.kinks_and_fingers.specs.Drops.{straight_pairs, straight_names, renamed_slots, kept_places, kept_crossings, kept_signs}
 use Rattle.kinks_and_fingers.specs.Pulls.{early}
 use Rattle.kinks_and_fingers.proofs.DroppedDarts.{dartwise, class_name}
@@ -87,41 +89,41 @@ block_place a x = omega arith
 pub block_slot : (a x : ℕ) → (4 * a + x % 4) % 4 ≡ x % 4
 block_slot a x = omega arith
 
-pub dart_name-dartwise : (crossings : List (List ℕ)) (f : ℕ → ℕ) (x : ℕ)
-    → dart_name crossings (dartwise f x) ≡ name_at crossings (f (x / 4)) (x % 4)
-dart_name-dartwise crossings f x =
-    ap (λ q. name_at crossings q (dartwise f x % 4)) (block_place (f (x / 4)) x)
-    ∙ ap (λ r. name_at crossings (f (x / 4)) r) (block_slot (f (x / 4)) x)
+pub arc_of_dart-dartwise : (crossings : List (List ℕ)) (f : ℕ → ℕ) (x : ℕ)
+    → arc_of_dart crossings (dartwise f x) ≡ arc_by_place crossings (f (x / 4)) (x % 4)
+arc_of_dart-dartwise crossings f x =
+    ap (λ q. arc_by_place crossings q (dartwise f x % 4)) (block_place (f (x / 4)) x)
+    ∙ ap (λ r. arc_by_place crossings (f (x / 4)) r) (block_slot (f (x / 4)) x)
 
 pub length-kept : (crossings : List (List ℕ)) (gone : ℕ → Bool) (kept : ℕ → ℕ) (k : ℕ)
     → kept_places crossings gone ≡ map kept (range_with_len 0 k) → length (kept_crossings crossings gone) ≡ k
 length-kept crossings gone kept k are =
     length-map (kept_places crossings gone)
-    (λ place. renamed_slots (straight_names crossings gone) (slots_at crossings place))
+    (λ place. renamed_slots (straight_names crossings gone) (slots_in crossings place))
     ∙ ap length are ∙ length-map-range_with_len kept 0 k
 
 pub kept-slots : (crossings : List (List ℕ)) (gone : ℕ → Bool) (kept : ℕ → ℕ) (k i : ℕ)
     → kept_places crossings gone ≡ map kept (range_with_len 0 k) → i < k
-    → slots_at (kept_crossings crossings gone) i ≡ renamed_slots (straight_names crossings gone) (slots_at crossings (kept i))
+    → slots_in (kept_crossings crossings gone) i ≡ renamed_slots (straight_names crossings gone) (slots_in crossings (kept i))
 kept-slots crossings gone kept k i are below =
-    let g : ℕ → List ℕ = λ place. renamed_slots (straight_names crossings gone) (slots_at crossings place) in
-    ap (λ ps. slots_at (map g ps) i) are
+    let g : ℕ → List ℕ = λ place. renamed_slots (straight_names crossings gone) (slots_in crossings place) in
+    ap (λ ps. slots_in (map g ps) i) are
     ∙ get_or-map g (map kept (range_with_len 0 k)) i 0 [] (omega (arith, below, length-map-range_with_len kept 0 k))
     ∙ ap g (get_or-map-range_with_len kept 0 k i i 0 below (omega arith))
 
 pub kept-name : (crossings : List (List ℕ)) (gone : ℕ → Bool) (kept : ℕ → ℕ) (k x : ℕ)
     → kept_places crossings gone ≡ map kept (range_with_len 0 k) → x < 4 * k
-    → dart_name (kept_crossings crossings gone) x ≡ class_name crossings gone (dartwise kept x)
+    → arc_of_dart (kept_crossings crossings gone) x ≡ class_name crossings gone (dartwise kept x)
 kept-name crossings gone kept k x are below =
     ap (λ slots. arc_in slots (x % 4)) (kept-slots crossings gone kept k (x / 4) are (omega (arith, below)))
-    ∙ renamed_slots-at (straight_names crossings gone) (slots_at crossings (kept (x / 4))) (x % 4) (omega arith)
-    ∙ ap (slice_index (straight_names crossings gone)) (sym (dart_name-dartwise crossings kept x))
+    ∙ renamed_slots-at (straight_names crossings gone) (slots_in crossings (kept (x / 4))) (x % 4) (omega arith)
+    ∙ ap (slice_index (straight_names crossings gone)) (sym (arc_of_dart-dartwise crossings kept x))
 
 pub kept-sign : (crossings : List (List ℕ)) (gone : ℕ → Bool) (kept : ℕ → ℕ) (k i : ℕ)
     → kept_places crossings gone ≡ map kept (range_with_len 0 k) → i < k
-    → sign_at (kept_signs crossings gone) i ≡ positive_at crossings (kept i)
+    → is_positive_at (kept_signs crossings gone) i ≡ positive_at crossings (kept i)
 kept-sign crossings gone kept k i are below =
-    ap (λ ps. sign_at (map (positive_at crossings) ps) i) are
+    ap (λ ps. is_positive_at (map (positive_at crossings) ps) i) are
     ∙ get_or-map (positive_at crossings) (map kept (range_with_len 0 k)) i 0 false
     (omega (arith, below, length-map-range_with_len kept 0 k))
     ∙ ap (positive_at crossings) (get_or-map-range_with_len kept 0 k i i 0 below (omega arith))
@@ -173,34 +175,34 @@ gone-all P f gone a (suc n) place holds from below is =
 
 -- the straight pairs are of arcs, and join what they should
 
-pub name_at-below : (crossings : List (List ℕ)) (place slot : ℕ) → HasArcsTwice crossings → place < length crossings → slot < 4
-    → name_at crossings place slot < arc_count crossings + 1
-name_at-below crossings place slot twice below slot_below =
+pub arc_by_place-below : (crossings : List (List ℕ)) (place slot : ℕ) → HasArcsTwice crossings → place < length crossings → slot < 4
+    → arc_by_place crossings place slot < arc_count crossings + 1
+arc_by_place-below crossings place slot twice below slot_below =
     let is = twice.slots (record { crossing = place + 1; slot = slot })
     (record { crossing = record { positive = omega arith; within = omega (arith, below) }; slot = slot_below }) in
     let e : place + 1 - 1 ≡ place = omega arith in
-    let same : name_at crossings (place + 1 - 1) slot ≡ name_at crossings place slot = ap (λ q. name_at crossings q slot) e in
+    let same : arc_by_place crossings (place + 1 - 1) slot ≡ arc_by_place crossings place slot = ap (λ q. arc_by_place crossings q slot) e in
     omega (arith, same, is.within)
 
 pub straight-below : (crossings : List (List ℕ)) (gone : ℕ → Bool) → HasArcsTwice crossings
     → AreBelow (arc_count crossings + 1) (straight_pairs crossings gone)
 straight-below crossings gone twice =
     all-gone (λ pair. (pair.0 < arc_count crossings + 1) × (pair.1 < arc_count crossings + 1))
-    (λ place. passes_of (slots_at crossings place)) gone 0 (length crossings)
+    (λ place. passes_of (slots_in crossings place)) gone 0 (length crossings)
     (λ place from below is.
-    let at = λ (slot : ℕ) (slot_below : slot < 4). name_at-below crossings place slot twice (omega (arith, below)) slot_below in
+    let at = λ (slot : ℕ) (slot_below : slot < 4). arc_by_place-below crossings place slot twice (omega (arith, below)) slot_below in
     ((at 0 (omega arith), at 2 (omega arith)), ((at 1 (omega arith), at 3 (omega arith)), tt)))
 
 pub straight-joined : (crossings : List (List ℕ)) (gone : ℕ → Bool) (place : ℕ) → HasArcsTwice crossings → place < length crossings
     → gone place ≡ true
-    → (slice_index (straight_names crossings gone) (name_at crossings place 0)
-    ≡ slice_index (straight_names crossings gone) (name_at crossings place 2))
-    × (slice_index (straight_names crossings gone) (name_at crossings place 1)
-    ≡ slice_index (straight_names crossings gone) (name_at crossings place 3))
+    → (slice_index (straight_names crossings gone) (arc_by_place crossings place 0)
+    ≡ slice_index (straight_names crossings gone) (arc_by_place crossings place 2))
+    × (slice_index (straight_names crossings gone) (arc_by_place crossings place 1)
+    ≡ slice_index (straight_names crossings gone) (arc_by_place crossings place 3))
 straight-joined crossings gone place twice below is =
     let names = straight_names crossings gone in
     let found = gone-all (λ pair. slice_index names pair.0 ≡ slice_index names pair.1)
-    (λ place. passes_of (slots_at crossings place)) gone 0 (length crossings) place
+    (λ place. passes_of (slots_in crossings place)) gone 0 (length crossings) place
     (classes-together (arc_count crossings + 1) (straight_pairs crossings gone) (straight-below crossings gone twice))
     (omega arith) (omega (arith, below)) is in
     (found.0, found.1.0)
@@ -208,11 +210,11 @@ straight-joined crossings gone place twice below is =
 -- what has one value at the two arcs of each pass that is gone has one value at arcs of one name
 pub straight-finest : (crossings : List (List ℕ)) (gone : ℕ → Bool) (f : ℕ → ℕ) → HasArcsTwice crossings
     → ((place : ℕ) → place < length crossings → gone place ≡ true
-    → (f (name_at crossings place 0) ≡ f (name_at crossings place 2)) × (f (name_at crossings place 1) ≡ f (name_at crossings place 3)))
+    → (f (arc_by_place crossings place 0) ≡ f (arc_by_place crossings place 2)) × (f (arc_by_place crossings place 1) ≡ f (arc_by_place crossings place 3)))
     → (x y : ℕ) → x < arc_count crossings + 1 → y < arc_count crossings + 1
     → slice_index (straight_names crossings gone) x ≡ slice_index (straight_names crossings gone) y → f x ≡ f y
 straight-finest crossings gone f twice each x y x_below y_below same =
     classes-finest f (arc_count crossings + 1) (straight_pairs crossings gone)
-    (all-gone (λ pair. f pair.0 ≡ f pair.1) (λ place. passes_of (slots_at crossings place)) gone 0 (length crossings)
+    (all-gone (λ pair. f pair.0 ≡ f pair.1) (λ place. passes_of (slots_in crossings place)) gone 0 (length crossings)
     (λ place from below is. let two = each place (omega (arith, below)) is in (two.0, (two.1, tt))))
     (straight-below crossings gone twice) x y x_below y_below same

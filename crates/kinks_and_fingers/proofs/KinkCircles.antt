@@ -11,11 +11,11 @@ use Rattle.kh_types.specs.Circles.{smoothing_of, smoothings_of}
 use Rattle.kh_types.specs.Darts.{HasArcsTwice}
 use Rattle.kh_types.proofs.JoinedClasses.{classes_of-same}
 use Rattle.kh_types.proofs.Lists.{AllByRecursion-append}
-use Rattle.kinks_and_fingers.specs.Strands.{slots_at}
+use Rattle.code_passes.specs.Parts.{slots_in}
 use Rattle.kinks_and_fingers.specs.Drops.{straight_pairs}
 use Rattle.kinks_and_fingers.specs.Dropping.{HasKinkAt}
 use Rattle.kinks_and_fingers.specs.DropCircles.{joined_at, outer_pairs, through_at}
-use Rattle.kinks_and_fingers.proofs.KeptCodes.{name_at-below, all-gone, gone-all}
+use Rattle.kinks_and_fingers.proofs.KeptCodes.{arc_by_place-below, all-gone, gone-all}
 
 -- all smoothings are those of the crossings that stay and those of the crossings that are gone
 
@@ -110,13 +110,13 @@ smoothing-low n b slots low = elim (cases_Bool (nat_eq b 0)) [
 pub joined-below : (crossings : List (List ℕ)) (n state place : ℕ) → HasArcsTwice crossings → arc_count crossings + 1 ≤ n
     → place < length crossings → AreBelow n (joined_at crossings state place)
 joined-below crossings n state place twice large below =
-    smoothing-low n (bit state place) (slots_at crossings place)
-    (λ slot slot_below. omega (arith, large, name_at-below crossings place slot twice below slot_below))
+    smoothing-low n (bit state place) (slots_in crossings place)
+    (λ slot slot_below. omega (arith, large, arc_by_place-below crossings place slot twice below slot_below))
 
 pub passes-low : (crossings : List (List ℕ)) (n place : ℕ) → HasArcsTwice crossings → arc_count crossings + 1 ≤ n
-    → place < length crossings → AreBelow n (passes_of (slots_at crossings place))
+    → place < length crossings → AreBelow n (passes_of (slots_in crossings place))
 passes-low crossings n place twice large below =
-    let low = λ (slot : ℕ) (slot_below : slot < 4). name_at-below crossings place slot twice below slot_below in (
+    let low = λ (slot : ℕ) (slot_below : slot < 4). arc_by_place-below crossings place slot twice below slot_below in (
       (omega (arith, large, low 0 (omega arith)), omega (arith, large, low 2 (omega arith))),
       ((omega (arith, large, low 1 (omega arith)), omega (arith, large, low 3 (omega arith))), tt),
     )
@@ -176,21 +176,21 @@ pub classes_of-through : (crossings : List (List ℕ)) (n state c p : ℕ) → H
     → classes_of n (smoothings_of crossings state) ≡ classes_of n (straight_pairs crossings (nat_eq c) ++ outer_pairs crossings (nat_eq c) state)
 classes_of-through crossings n state c p twice kink large is =
     let gone : ℕ → Bool = nat_eq c in
-    let slots = slots_at crossings c in
+    let slots = slots_in crossings c in
     classes_of-same n (smoothings_of crossings state) (straight_pairs crossings (nat_eq c) ++ outer_pairs crossings (nat_eq c) state)
     (smoothings-all (λ pair. (pair.0 < n) × (pair.1 < n)) crossings state
     (λ place below. joined-below crossings n state place twice large below))
     (AllByRecursion-append (λ pair. (pair.0 < n) × (pair.1 < n)) (straight_pairs crossings (nat_eq c)) (outer_pairs crossings (nat_eq c) state)
-    (all-gone (λ pair. (pair.0 < n) × (pair.1 < n)) (λ place. passes_of (slots_at crossings place)) (nat_eq c) 0 (length crossings)
+    (all-gone (λ pair. (pair.0 < n) × (pair.1 < n)) (λ place. passes_of (slots_in crossings place)) (nat_eq c) 0 (length crossings)
     (λ place from below gone_there. passes-low crossings n place twice large (omega (arith, below))))
     (outer-all (λ pair. (pair.0 < n) × (pair.1 < n)) crossings (nat_eq c) state
     (λ place below stays. joined-below crossings n state place twice large below)))
     (λ f respects.
     AllByRecursion-append (λ pair. f pair.0 ≡ f pair.1) (straight_pairs crossings (nat_eq c)) (outer_pairs crossings (nat_eq c) state)
-    (all-gone (λ pair. f pair.0 ≡ f pair.1) (λ place. passes_of (slots_at crossings place)) (nat_eq c) 0 (length crossings)
+    (all-gone (λ pair. f pair.0 ≡ f pair.1) (λ place. passes_of (slots_in crossings place)) (nat_eq c) 0 (length crossings)
     (λ place from below gone_there.
-    subst (λ (k : ℕ). Respects f (passes_of (slots_at crossings k))) (eqb-true c place gone_there)
-    (through-straight f (slots_at crossings c) p (bit state c) kink.slot is kink.same
+    subst (λ (k : ℕ). Respects f (passes_of (slots_in crossings k))) (eqb-true c place gone_there)
+    (through-straight f (slots_in crossings c) p (bit state c) kink.slot is kink.same
     (smoothings-each (λ pair. f pair.0 ≡ f pair.1) crossings state c respects kink.below))))
     (outer-all (λ pair. f pair.0 ≡ f pair.1) crossings (nat_eq c) state
     (λ place below stays. smoothings-each (λ pair. f pair.0 ≡ f pair.1) crossings state place respects below)))
@@ -200,8 +200,8 @@ classes_of-through crossings n state c p twice kink large is =
     elim (cases_eq c place) [
       | inl same ↦
           subst (λ (k : ℕ). Respects f (joined_at crossings state k)) same
-          (straight-through f (slots_at crossings c) p (bit state c) kink.slot is kink.same
-          (gone-all (λ pair. f pair.0 ≡ f pair.1) (λ place. passes_of (slots_at crossings place)) (nat_eq c) 0 (length crossings) c
+          (straight-through f (slots_in crossings c) p (bit state c) kink.slot is kink.same
+          (gone-all (λ pair. f pair.0 ≡ f pair.1) (λ place. passes_of (slots_in crossings place)) (nat_eq c) 0 (length crossings) c
           (all_first (λ pair. f pair.0 ≡ f pair.1) (straight_pairs crossings (nat_eq c)) (outer_pairs crossings (nat_eq c) state) respects)
           (omega arith) (omega (arith, kink.below)) (eq-eqb c c refl)))
       | inr apart ↦

@@ -16,15 +16,16 @@ use Rattle.kh_types.proofs.ClassLemmas.{classes-finest}
 use Rattle.kh_types.proofs.ClassCounts.{class_count-wider, class_count-circles}
 use Rattle.kh_types.proofs.JoinedClasses.{classes_of-same, class_count-apart}
 use Rattle.kh_types.proofs.Lists.{AllByRecursion-append}
-use Rattle.kinks_and_fingers.specs.Strands.{slots_at, name_at}
+use Rattle.code_passes.specs.Parts.{slots_in}
+use Rattle.gluing.specs.Arcs.{arc_by_place}
 use Rattle.kinks_and_fingers.specs.Drops.{straight_pairs, kept_places, without_kink}
 use Rattle.kinks_and_fingers.specs.Dropping.{HasKinkAt}
 use Rattle.kinks_and_fingers.specs.Pulls.{dart_in, early}
-use Rattle.kinks_and_fingers.specs.DropCircles.{joined_at, outer_pairs, through_at, closing_at, strand_circle_count}
+use Rattle.kinks_and_fingers.specs.DropCircles.{joined_at, outer_pairs, through_at, closing_at, parts_circle_count}
 use Rattle.kinks_and_fingers.proofs.Smoothed.{dart_in-below, dart_in-place, dart_in-apart}
-use Rattle.kinks_and_fingers.proofs.OldDarts.{partner-named, dart_name-in}
+use Rattle.kinks_and_fingers.proofs.OldDarts.{partner-named, arc_of_dart-in}
 use Rattle.kinks_and_fingers.proofs.KinkDrops.{kink-partner}
-use Rattle.kinks_and_fingers.proofs.KeptCodes.{name_at-below, all-gone, gone-all, places-but}
+use Rattle.kinks_and_fingers.proofs.KeptCodes.{arc_by_place-below, all-gone, gone-all, places-but}
 use Rattle.kinks_and_fingers.proofs.KinkCircles.{smoothings-all, smoothings-each, outer-all, outer-each, joined-below, passes-low, smoothing-zero, smoothing-one, to-zero, to-one, all_first, all_second, classes_of-through}
 use Rattle.kinks_and_fingers.proofs.StrandCircles.{circles-dropped}
 
@@ -63,7 +64,7 @@ joins-straight f slots (suc (suc (suc (suc p)))) below kink two three = absurd (
 
 -- the arc of a kink stands at its two slots alone
 kink-own : (crossings : List (List ℕ)) (c p place slot : ℕ) → HasArcsTwice crossings → HasKinkAt crossings c p → place < length crossings
-    → slot < 4 → name_at crossings place slot ≡ name_at crossings c p
+    → slot < 4 → arc_by_place crossings place slot ≡ arc_by_place crossings c p
     → (4 * place + slot ≡ dart_in c p) ⊎ (4 * place + slot ≡ dart_in c (p + 1))
 kink-own crossings c p place slot twice kink below slot_below same =
     let z = dart_in place slot in
@@ -78,8 +79,8 @@ kink-own crossings c p place slot twice kink below slot_below same =
           ∙ sym
           (partner-named crossings twice (dart_in c p) (dart_in place slot) (dart_in-below (length crossings) c p kink.below)
           (dart_in-below (length crossings) place slot below) other
-          (dart_name-in crossings place slot ∙ ap (name_at crossings place) e ∙ same ∙ sym (ap (name_at crossings c) f)
-          ∙ sym (dart_name-in crossings c p)))
+          (arc_of_dart-in crossings place slot ∙ ap (arc_by_place crossings place) e ∙ same ∙ sym (ap (arc_by_place crossings c) f)
+          ∙ sym (arc_of_dart-in crossings c p)))
           ∙ kink-partner crossings c p twice kink)
     ]
 
@@ -97,14 +98,14 @@ pub class_count-closing : (crossings : List (List ℕ)) (n state c p : ℕ) → 
     → class_count (classes_of n (smoothings_of crossings state))
     ≡ class_count (classes_of n (straight_pairs crossings (nat_eq c) ++ outer_pairs crossings (nat_eq c) state)) + 1
 class_count-closing crossings n state c p twice kink large is =
-    let slots = slots_at crossings c in
-    let v = name_at crossings c p in
-    let x = name_at crossings c ((p + 2) % 4) in
-    let y = name_at crossings c ((p + 3) % 4) in
+    let slots = slots_in crossings c in
+    let v = arc_by_place crossings c p in
+    let x = arc_by_place crossings c ((p + 2) % 4) in
+    let y = arc_by_place crossings c ((p + 3) % 4) in
     let outer = outer_pairs crossings (nat_eq c) state in
     let straight = straight_pairs crossings (nat_eq c) in
-    let low : (slot : ℕ) → slot < 4 → name_at crossings c slot < n =
-    λ slot below. omega (arith, large, name_at-below crossings c slot twice kink.below below) in
+    let low : (slot : ℕ) → slot < 4 → arc_by_place crossings c slot < n =
+    λ slot below. omega (arith, large, arc_by_place-below crossings c slot twice kink.below below) in
     let v_low = low p kink.slot in
     let x_low = low ((p + 2) % 4) (omega arith) in
     let y_low = low ((p + 3) % 4) (omega arith) in
@@ -116,7 +117,7 @@ class_count-closing crossings n state c p twice kink large is =
     let last_low : AreBelow n ((outer_pairs crossings (nat_eq c) state ++ (x, y) ∷ []) ++ (v, x) ∷ []) =
     AllByRecursion-append (λ pair. (pair.0 < n) × (pair.1 < n)) (outer ++ (x, y) ∷ []) ((v, x) ∷ []) more_low ((v_low, x_low), tt) in
     let straight_low : AreBelow n (straight_pairs crossings (nat_eq c)) =
-    all-gone (λ pair. (pair.0 < n) × (pair.1 < n)) (λ place. passes_of (slots_at crossings place)) (nat_eq c) 0 (length crossings)
+    all-gone (λ pair. (pair.0 < n) × (pair.1 < n)) (λ place. passes_of (slots_in crossings place)) (nat_eq c) 0 (length crossings)
     (λ place from below gone_there. passes-low crossings n place twice large (omega (arith, below))) in
     let first : classes_of n (smoothings_of crossings state) ≡ classes_of n (outer_pairs crossings (nat_eq c) state ++ (x, y) ∷ []) =
     classes_of-same n (smoothings_of crossings state) (outer ++ (x, y) ∷ [])
@@ -148,7 +149,7 @@ class_count-closing crossings n state c p twice kink large is =
     (AllByRecursion-append (λ pair. (pair.0 < n) × (pair.1 < n)) straight outer straight_low outer_low) last_low
     (λ f respects.
     let here = straight-joins f slots p kink.slot kink.same
-    (gone-all (λ pair. f pair.0 ≡ f pair.1) (λ place. passes_of (slots_at crossings place)) (nat_eq c) 0 (length crossings) c
+    (gone-all (λ pair. f pair.0 ≡ f pair.1) (λ place. passes_of (slots_in crossings place)) (nat_eq c) 0 (length crossings) c
     (all_first (λ pair. f pair.0 ≡ f pair.1) straight outer respects) (omega arith) (omega (arith, kink.below)) (eq-eqb c c refl)) in
     AllByRecursion-append (λ pair. f pair.0 ≡ f pair.1) (outer ++ (x, y) ∷ []) ((v, x) ∷ [])
     (AllByRecursion-append (λ pair. f pair.0 ≡ f pair.1) outer ((x, y) ∷ []) (all_second (λ pair. f pair.0 ≡ f pair.1) straight outer respects)
@@ -158,15 +159,15 @@ class_count-closing crossings n state c p twice kink large is =
     let last = (all_second (λ pair. f pair.0 ≡ f pair.1) (outer ++ (x, y) ∷ []) ((v, x) ∷ []) respects).0 in
     let middle = (all_second (λ pair. f pair.0 ≡ f pair.1) outer ((x, y) ∷ []) front).0 in
     AllByRecursion-append (λ pair. f pair.0 ≡ f pair.1) straight outer
-    (all-gone (λ pair. f pair.0 ≡ f pair.1) (λ place. passes_of (slots_at crossings place)) (nat_eq c) 0 (length crossings)
+    (all-gone (λ pair. f pair.0 ≡ f pair.1) (λ place. passes_of (slots_in crossings place)) (nat_eq c) 0 (length crossings)
     (λ place from below gone_there.
-    subst (λ (k : ℕ). Respects f (passes_of (slots_at crossings k))) (eqb-true c place gone_there)
+    subst (λ (k : ℕ). Respects f (passes_of (slots_in crossings k))) (eqb-true c place gone_there)
     (joins-straight f slots p kink.slot kink.same last (last ∙ middle))))
     (all_first (λ pair. f pair.0 ≡ f pair.1) outer ((x, y) ∷ []) front)) in
     let off : (place slot : ℕ) → place < length crossings → slot < 4 → 4 * place + slot ≢ dart_in c p → 4 * place + slot ≢ dart_in c (p + 1)
-    → mark v (name_at crossings place slot) ≡ 0 =
+    → mark v (arc_by_place crossings place slot) ≡ 0 =
     λ place slot below slot_below one two.
-    mark-off v (name_at crossings place slot)
+    mark-off v (arc_by_place crossings place slot)
     (
     (λ same. elim (kink-own crossings c p place slot twice kink below slot_below same) [ inl own ↦ one own | inr own ↦ two own ])) in
     let apart4 = dart_in-apart c p in
@@ -179,9 +180,9 @@ class_count-closing crossings n state c p twice kink large is =
     (λ place below stays.
     let away : (r slot : ℕ) → slot < 4 → 4 * place + slot ≢ dart_in c r =
     λ r slot slot_below same. not_gone c place stays (block_of place slot slot_below ∙ ap (λ z. z / 4) same ∙ dart_in-place c r) in
-    let at : (slot : ℕ) → slot < 4 → mark v (name_at crossings place slot) ≡ 0 =
+    let at : (slot : ℕ) → slot < 4 → mark v (arc_by_place crossings place slot) ≡ 0 =
     λ slot slot_below. off place slot below slot_below (away p slot slot_below) (away (p + 1) slot slot_below) in
-    marked (λ z. mark v z) (bit state place) (slots_at crossings place) at))
+    marked (λ z. mark v z) (bit state place) (slots_in crossings place) at))
     (x_off ∙ sym y_off, tt) in
     let v_x : slice_index (classes_of n (outer_pairs crossings (nat_eq c) state ++ (x, y) ∷ [])) v
     ≢ slice_index (classes_of n (outer_pairs crossings (nat_eq c) state ++ (x, y) ∷ [])) x =
@@ -233,7 +234,7 @@ early-low n c k i size within below = grind (arith, nat_tests)
 
 pub circles-through : (code : Code) (c p k state new : ℕ) → IsTrue (accepted code) → HasKinkAt code.crossings c p
     → length code.crossings ≡ k + 1 → ((i : ℕ) → i < k → bit new i ≡ bit state (early c k i)) → bit state c ≡ through_at p
-    → circle_count code state ≡ strand_circle_count (arc_count code.crossings + 1) (without_kink code c) new
+    → circle_count code state ≡ parts_circle_count (arc_count code.crossings + 1) (without_kink code c) new
 circles-through code c p k state new is kink size agree through =
     let twice = HasArcsTwice-accepted code is in
     let within : c ≤ k = omega (arith, kink.below, size) in
@@ -244,7 +245,7 @@ circles-through code c p k state new is kink size agree through =
 
 pub circles-closing : (code : Code) (c p k state new : ℕ) → IsTrue (accepted code) → HasKinkAt code.crossings c p
     → length code.crossings ≡ k + 1 → ((i : ℕ) → i < k → bit new i ≡ bit state (early c k i)) → bit state c ≡ closing_at p
-    → circle_count code state ≡ strand_circle_count (arc_count code.crossings + 1) (without_kink code c) new + 1
+    → circle_count code state ≡ parts_circle_count (arc_count code.crossings + 1) (without_kink code c) new + 1
 circles-closing code c p k state new is kink size agree closes =
     let twice = HasArcsTwice-accepted code is in
     let within : c ≤ k = omega (arith, kink.below, size) in

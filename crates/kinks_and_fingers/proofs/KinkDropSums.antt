@@ -1,12 +1,11 @@
 -- Dropping a crossing with a kink keeps the state sum.
-use Rattle.std.proofs.Common.{◌≡◌, ℕ, zero, suc, inl, inr, ◌+◌, ◌-◌, ◌*◌, ◌%◌, ◌^◌, ◌<◌, ◌≤◌, ◌∙◌, ℤ, pos, negsuc, neg_ℤ, ◌+ℤ◌, ◌-ℤ◌, List, [], ◌∷◌, sym, refl, map, ap, ap₂, arith, Bool, true, false, cond, not, ◌&&◌, count_by, length, IsTrue, eq-eqb, eqb-true}
+use Rattle.std.proofs.Common.{◌≡◌, ℕ, zero, suc, inl, inr, ◌+◌, ◌-◌, ◌*◌, ◌%◌, ◌^◌, ◌<◌, ◌≤◌, ◌∙◌, ℤ, pos, ◌+ℤ◌, ◌-ℤ◌, List, [], ◌∷◌, sym, refl, map, ap, ap₂, arith, Bool, true, false, cond, not, ◌&&◌, count_by, length, IsTrue, eq-eqb, eqb-true}
 use Rattle.std.specs.Prelude.{nat_eq}
 use Rattle.std.specs.List.{filter, range_with_len}
 use Rattle.std.proofs.lemmas.Bool.{cases_Bool, ne_eqb}
-use Rattle.std.proofs.lemmas.Int.{ints}
 use Rattle.std.proofs.lemmas.List.{length-map}
 use Rattle.std.proofs.lemmas.List.FromFn.{length-map-range_with_len}
-use Rattle.std.proofs.lemmas.List.Sums.{sum_by-cons, count_by-le-length}
+use Rattle.std.proofs.lemmas.List.Sums.{count_by-le-length}
 use Rattle.kh_types.specs.Acceptance.{accepted}
 use Rattle.kh_types.specs.Bits.{one_if, ones}
 use Rattle.kh_types.specs.Code.{Code, arc_count}
@@ -17,12 +16,12 @@ use Rattle.kh_types.proofs.AcceptedLemmas.{HasArcsTwice-accepted}
 use Rattle.kh_types.proofs.Heads.{HasNoSingleArcs-accepted}
 use Rattle.kh_types.proofs.Lists.{count_by-map}
 use Rattle.kh_types.proofs.RangeCounts.{count_by-alike, count_by-one_more}
-use Rattle.gluing.proofs.Terms.{term_at, signed_by_count}
-use Rattle.kinks_and_fingers.specs.Strands.{enters}
+use Rattle.gluing.proofs.Terms.{term_at}
+use Rattle.gluing.specs.Arcs.{enters}
 use Rattle.kinks_and_fingers.specs.Drops.{kept_places, kept_signs, kept_crossings, without_kink}
 use Rattle.kinks_and_fingers.specs.Dropping.{HasKinkAt}
 use Rattle.kinks_and_fingers.proofs.DroppedDarts.{is_code_head}
-use Rattle.kinks_and_fingers.specs.DropCircles.{strand_circle_count, strand_plus, strand_minus, strand_term, strand_sum}
+use Rattle.kinks_and_fingers.specs.DropCircles.{parts_circle_count, parts_plus, parts_minus, parts_term, parts_sum}
 use Rattle.kinks_and_fingers.proofs.InsertedBits.{with_bit}
 use Rattle.kinks_and_fingers.specs.Pulls.{dart_in, early}
 use Rattle.kinks_and_fingers.proofs.Smoothed.{dart_in-below, dart_in-place}
@@ -127,7 +126,7 @@ count-one p c n below = elim (cases_Bool (p c)) [
     off false false tells = refl
 
 pub plus-kept : (code : Code) (c : ℕ) → c < length code.crossings
-    → plus_count code.crossings ≡ cond (positive_at code.crossings c) 1 0 + strand_plus (without_kink code c)
+    → plus_count code.crossings ≡ cond (positive_at code.crossings c) 1 0 + parts_plus (without_kink code c)
 plus-kept code c below =
     let p : ℕ → Bool = positive_at code.crossings in
     let n = length code.crossings in
@@ -135,7 +134,7 @@ plus-kept code c below =
     let all : plus_count code.crossings ≡ count_by (positive_at code.crossings) (range_with_len 0 (length code.crossings)) =
     ap (λ a. count_by (is_positive code.crossings) (range_with_len a (length code.crossings))) (sym e)
     ∙ count-later (is_positive code.crossings) 0 (length code.crossings) in
-    let signs : strand_plus (without_kink code c)
+    let signs : parts_plus (without_kink code c)
     ≡ count_by (λ x. positive_at code.crossings x && not (nat_eq c x)) (range_with_len 0 (length code.crossings)) =
     count_by-map (λ (b : Bool). b) (positive_at code.crossings) (kept_places code.crossings (nat_eq c))
     ∙ count-filter (positive_at code.crossings) (λ x. not (nat_eq c x)) (range_with_len 0 (length code.crossings)) in
@@ -157,7 +156,7 @@ sums-alike f g a (suc n) same =
     (sums-alike f g (a + 1) n (λ state from below. same state (omega (arith, from)) (omega (arith, below))))
 
 pub state_sum-without_kink : (code : Code) (c p : ℕ) → IsTrue (accepted code) → HasKinkAt code.crossings c p → (exponent : ℤ)
-    → strand_sum (arc_count code.crossings + 1) (without_kink code c) exponent ≡ state_sum code exponent
+    → parts_sum (arc_count code.crossings + 1) (without_kink code c) exponent ≡ state_sum code exponent
 state_sum-without_kink code c p is kink exponent =
     let n = length code.crossings in
     let k = length code.crossings - 1 in
@@ -168,13 +167,13 @@ state_sum-without_kink code c p is kink exponent =
     let left_size : length (kept_crossings code.crossings (nat_eq c)) ≡ length code.crossings - 1 =
     length-kept code.crossings (nat_eq c) (early c (length code.crossings - 1)) (length code.crossings - 1)
     (kept_are code c (length code.crossings - 1) size within) in
-    let plus = strand_plus (without_kink code c) in
-    let minus = strand_minus (without_kink code c) in
+    let plus = parts_plus (without_kink code c) in
+    let minus = parts_minus (without_kink code c) in
     let signs_size : length (kept_signs code.crossings (nat_eq c)) ≡ length code.crossings - 1 =
     length-map (kept_places code.crossings (nat_eq c)) (positive_at code.crossings)
     ∙ ap length (kept_are code c (length code.crossings - 1) size within)
     ∙ length-map-range_with_len (early c (length code.crossings - 1)) 0 (length code.crossings - 1) in
-    let few : strand_plus (without_kink code c) ≤ length code.crossings - 1 =
+    let few : parts_plus (without_kink code c) ≤ length code.crossings - 1 =
     omega (arith, count_by-le-length (λ (b : Bool). b) (kept_signs code.crossings (nat_eq c)), signs_size) in
     let counted = plus-kept code c kink.below in
     let sign = kink-sign code c p is kink in
@@ -187,11 +186,11 @@ state_sum-without_kink code c p is kink exponent =
     let each : (state : ℕ) → state < 2 ^ (length code.crossings - 1)
     → state_term code exponent (with_bit (length code.crossings - 1) c 0 state)
     +ℤ state_term code exponent (with_bit (length code.crossings - 1) c 1 state)
-    ≡ strand_term (arc_count code.crossings + 1) (without_kink code c) exponent state =
+    ≡ parts_term (arc_count code.crossings + 1) (without_kink code c) exponent state =
     λ state below.
     let zero_bit = HasBit-with_bit (length code.crossings - 1) c 0 state within (omega arith) below in
     let one_bit = HasBit-with_bit (length code.crossings - 1) c 1 state within (omega arith) below in
-    let circles = strand_circle_count (arc_count code.crossings + 1) (without_kink code c) state in
+    let circles = parts_circle_count (arc_count code.crossings + 1) (without_kink code c) state in
     let r = ones (length code.crossings - 1) state in
     let zero_ones : ones (length code.crossings) (with_bit (length code.crossings - 1) c 0 state) ≡ ones (length code.crossings - 1) state =
     ap (λ m. ones m (with_bit (length code.crossings - 1) c 0 state)) size ∙ zero_bit.count ∙ omega arith in
@@ -199,43 +198,43 @@ state_sum-without_kink code c p is kink exponent =
     ap (λ m. ones m (with_bit (length code.crossings - 1) c 1 state)) size ∙ one_bit.count in
     let new_ones : ones (length (kept_crossings code.crossings (nat_eq c))) state ≡ ones (length code.crossings - 1) state =
     ap (λ m. ones m state) left_size in
-    let last : kh.term_of (strand_plus (without_kink code c)) (strand_minus (without_kink code c)) exponent
-    (ones (length code.crossings - 1) state) (strand_circle_count (arc_count code.crossings + 1) (without_kink code c) state)
-    ≡ strand_term (arc_count code.crossings + 1) (without_kink code c) exponent state =
-    ap (λ m. kh.term_of (strand_plus (without_kink code c)) (strand_minus (without_kink code c)) exponent m
-    (strand_circle_count (arc_count code.crossings + 1) (without_kink code c) state)) (sym new_ones) in
+    let last : kh.term_of (parts_plus (without_kink code c)) (parts_minus (without_kink code c)) exponent
+    (ones (length code.crossings - 1) state) (parts_circle_count (arc_count code.crossings + 1) (without_kink code c) state)
+    ≡ parts_term (arc_count code.crossings + 1) (without_kink code c) exponent state =
+    ap (λ m. kh.term_of (parts_plus (without_kink code c)) (parts_minus (without_kink code c)) exponent m
+    (parts_circle_count (arc_count code.crossings + 1) (without_kink code c) state)) (sym new_ones) in
     elim (cases_Bool (nat_eq (p % 2) 0)) [
       | inl even ↦
-          let plus_is : plus_count code.crossings ≡ strand_plus (without_kink code c) + 1 =
+          let plus_is : plus_count code.crossings ≡ parts_plus (without_kink code c) + 1 =
           let one : one_if (positive_at code.crossings c) ≡ 1 = ap one_if (sign ∙ even) in omega (arith, counted, one) in
-          let minus_is : minus_count code.crossings ≡ strand_minus (without_kink code c) = omega (arith, plus_is, left_size, few, kink.below) in
+          let minus_is : minus_count code.crossings ≡ parts_minus (without_kink code c) = omega (arith, plus_is, left_size, few, kink.below) in
           let zero_circles = circles-closing code c p (length code.crossings - 1) (with_bit (length code.crossings - 1) c 0 state) state is kink size
           (λ i i_below. sym (zero_bit.others i i_below)) (zero_bit.there ∙ sym (ap one_unless even)) in
           let one_circles = circles-through code c p (length code.crossings - 1) (with_bit (length code.crossings - 1) c 1 state) state is kink size
           (λ i i_below. sym (one_bit.others i i_below)) (one_bit.there ∙ sym (ap one_if even)) in
-          four_terms (plus_count code.crossings) (minus_count code.crossings) (strand_plus (without_kink code c) + 1) (strand_minus (without_kink code c))
+          four_terms (plus_count code.crossings) (minus_count code.crossings) (parts_plus (without_kink code c) + 1) (parts_minus (without_kink code c))
           exponent _ _ _ _ r (r + 1) (circles + 1) circles plus_is minus_is zero_ones one_ones zero_circles one_circles
-          ∙ term_of-positive_kink (strand_plus (without_kink code c)) (strand_minus (without_kink code c)) r circles exponent
-          ∙ sym (term-is (strand_plus (without_kink code c)) (strand_minus (without_kink code c)) exponent r circles) ∙ last
+          ∙ term_of-positive_kink (parts_plus (without_kink code c)) (parts_minus (without_kink code c)) r circles exponent
+          ∙ sym (term-is (parts_plus (without_kink code c)) (parts_minus (without_kink code c)) exponent r circles) ∙ last
       | inr odd ↦
-          let plus_is : plus_count code.crossings ≡ strand_plus (without_kink code c) =
+          let plus_is : plus_count code.crossings ≡ parts_plus (without_kink code c) =
           let none : one_if (positive_at code.crossings c) ≡ 0 = ap one_if (sign ∙ odd) in omega (arith, counted, none) in
-          let minus_is : minus_count code.crossings ≡ strand_minus (without_kink code c) + 1 = omega (arith, plus_is, left_size, few, kink.below) in
+          let minus_is : minus_count code.crossings ≡ parts_minus (without_kink code c) + 1 = omega (arith, plus_is, left_size, few, kink.below) in
           let zero_circles = circles-through code c p (length code.crossings - 1) (with_bit (length code.crossings - 1) c 0 state) state is kink size
           (λ i i_below. sym (zero_bit.others i i_below)) (zero_bit.there ∙ sym (ap one_if odd)) in
           let one_circles = circles-closing code c p (length code.crossings - 1) (with_bit (length code.crossings - 1) c 1 state) state is kink size
           (λ i i_below. sym (one_bit.others i i_below)) (one_bit.there ∙ sym (ap one_unless odd)) in
-          four_terms (plus_count code.crossings) (minus_count code.crossings) (strand_plus (without_kink code c)) (strand_minus (without_kink code c) + 1)
+          four_terms (plus_count code.crossings) (minus_count code.crossings) (parts_plus (without_kink code c)) (parts_minus (without_kink code c) + 1)
           exponent _ _ _ _ r (r + 1) circles (circles + 1) plus_is minus_is zero_ones one_ones zero_circles one_circles
-          ∙ term_of-negative_kink (strand_plus (without_kink code c)) (strand_minus (without_kink code c)) r circles exponent
-          ∙ sym (term-is (strand_plus (without_kink code c)) (strand_minus (without_kink code c)) exponent r circles) ∙ last
+          ∙ term_of-negative_kink (parts_plus (without_kink code c)) (parts_minus (without_kink code c)) r circles exponent
+          ∙ sym (term-is (parts_plus (without_kink code c)) (parts_minus (without_kink code c)) exponent r circles) ∙ last
     ] in
-    ap (λ m. int_sum (map (strand_term (arc_count code.crossings + 1) (without_kink code c) exponent) (range_with_len 0 (2 ^ m)))) left_size
+    ap (λ m. int_sum (map (parts_term (arc_count code.crossings + 1) (without_kink code c) exponent) (range_with_len 0 (2 ^ m)))) left_size
     ∙ sym
     (split
     ∙ sums-alike (λ state. state_term code exponent (with_bit (length code.crossings - 1) c 0 state)
     +ℤ state_term code exponent (with_bit (length code.crossings - 1) c 1 state))
-    (strand_term (arc_count code.crossings + 1) (without_kink code c) exponent) 0 (2 ^ (length code.crossings - 1))
+    (parts_term (arc_count code.crossings + 1) (without_kink code c) exponent) 0 (2 ^ (length code.crossings - 1))
     (λ state from below. each state (omega (arith, below))))
   where
     four_terms : (plus minus new_plus new_minus : ℕ) (exponent : ℤ) (r0 c0 r1 c1 s0 s1 d0 d1 : ℕ) → plus ≡ new_plus → minus ≡ new_minus

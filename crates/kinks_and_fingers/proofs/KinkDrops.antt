@@ -9,12 +9,13 @@ use Rattle.kh_types.specs.Colours.{IsColoured}
 use Rattle.kh_types.specs.Darts.{partner_at, HasArcsTwice, IsPairing}
 use Rattle.kh_types.proofs.AcceptedLemmas.{HasArcsTwice-accepted}
 use Rattle.kh_types.proofs.Heads.{HasNoSingleArcs-accepted}
-use Rattle.kinks_and_fingers.specs.Strands.{name_at, dart_name}
+use Rattle.gluing.specs.Arcs.{arc_by_place}
+use Rattle.gluing.specs.Codes.{arc_of_dart}
 use Rattle.kinks_and_fingers.specs.Drops.{straight_names}
 use Rattle.kinks_and_fingers.specs.Pulls.{dart_in, late, early, early_dart, smoothed, IsClosedPlanar}
 use Rattle.kinks_and_fingers.specs.Dropping.{HasKinkAt}
 use Rattle.kinks_and_fingers.proofs.DroppedDarts.{is_code_head, is_colour, class_name, IsDropped}
-use Rattle.kinks_and_fingers.proofs.OldDarts.{IsClosedPlanar-accepted, dart_name-partner, partner-named, heads-partner, colours-partner, on_arcs, on_arcs-at, dart_name-below, dart_name-in, across_cases, heads-across, colours-next, dart_in-next}
+use Rattle.kinks_and_fingers.proofs.OldDarts.{IsClosedPlanar-accepted, arc_of_dart-partner, partner-named, heads-partner, colours-partner, on_arcs, on_arcs-at, arc_of_dart-below, arc_of_dart-in, across_cases, heads-across, colours-next, dart_in-next}
 use Rattle.kinks_and_fingers.proofs.KeptCodes.{block_place, places-but, straight-joined, straight-finest}
 use Rattle.kinks_and_fingers.proofs.Smoothed.{IsClosedPlanar-smoothed, smoothed-named, dart_in-below, dart_in-place, dart_cases, IsPermutation-late, IsPermutation-dartwise, dart_in-apart}
 use Rattle.kinks_and_fingers.proofs.SmoothedValues.{smoothed-flipped, IsTakenBack, IsTakenBack-smoothed}
@@ -25,8 +26,8 @@ pub class_name-across : (crossings : List (List ℕ)) (gone : ℕ → Bool) (c q
 class_name-across crossings gone c q twice below is =
     let names = straight_names crossings gone in
     let joined = straight-joined crossings gone c twice below is in
-    let at : (r s : ℕ) → r % 4 ≡ s → class_name crossings gone (dart_in c r) ≡ slice_index names (name_at crossings c s) =
-    λ r s same. ap (slice_index names) (dart_name-in crossings c r) ∙ ap (λ z. slice_index names (name_at crossings c z)) same in
+    let at : (r s : ℕ) → r % 4 ≡ s → class_name crossings gone (dart_in c r) ≡ slice_index names (arc_by_place crossings c s) =
+    λ r s same. ap (slice_index names) (arc_of_dart-in crossings c r) ∙ ap (λ z. slice_index names (arc_by_place crossings c z)) same in
     elim (across_cases q) [
       | inl low ↦ elim low [
         | inl a ↦ at q 0 a.0 ∙ joined.0 ∙ sym (at (q + 2) 2 a.1)
@@ -40,11 +41,11 @@ class_name-across crossings gone c q twice below is =
 
 -- a function of arcs that has one value at the two darts of each pass
 pub on_arcs-across : (crossings : List (List ℕ)) (f : ℕ → ℕ) (c : ℕ)
-    → ((q : ℕ) → f (dart_name crossings (dart_in c q)) ≡ f (dart_name crossings (dart_in c (q + 2))))
-    → (f (name_at crossings c 0) ≡ f (name_at crossings c 2)) × (f (name_at crossings c 1) ≡ f (name_at crossings c 3))
+    → ((q : ℕ) → f (arc_of_dart crossings (dart_in c q)) ≡ f (arc_of_dart crossings (dart_in c (q + 2))))
+    → (f (arc_by_place crossings c 0) ≡ f (arc_by_place crossings c 2)) × (f (arc_by_place crossings c 1) ≡ f (arc_by_place crossings c 3))
 on_arcs-across crossings f c across = (
-  sym (ap f (dart_name-in crossings c 0)) ∙ across 0 ∙ ap f (dart_name-in crossings c 2),
-  sym (ap f (dart_name-in crossings c 1)) ∙ across 1 ∙ ap f (dart_name-in crossings c 3),
+  sym (ap f (arc_of_dart-in crossings c 0)) ∙ across 0 ∙ ap f (arc_of_dart-in crossings c 2),
+  sym (ap f (arc_of_dart-in crossings c 1)) ∙ across 1 ∙ ap f (arc_of_dart-in crossings c 3),
 )
 
 -- the pair of a dart, by the least of its two
@@ -124,7 +125,7 @@ kink-partner crossings c p twice kink =
     let e : p % 4 ≡ p = omega (arith, kink.slot) in
     partner-named crossings twice (dart_in c p) (dart_in c (p + 1)) (dart_in-below (length crossings) c p kink.below)
     (dart_in-below (length crossings) c (p + 1) kink.below) (λ same. (dart_in-apart c p).4 (sym same))
-    (dart_name-in crossings c (p + 1) ∙ sym kink.same ∙ sym (ap (name_at crossings c) e) ∙ sym (dart_name-in crossings c p))
+    (arc_of_dart-in crossings c (p + 1) ∙ sym kink.same ∙ sym (ap (arc_by_place crossings c) e) ∙ sym (arc_of_dart-in crossings c p))
 
 pub early-away : (c k q x : ℕ) → c ≤ k → x < 4 * k → early_dart c k x ≢ dart_in c q
 early-away c k q x within below same =
@@ -158,7 +159,7 @@ IsDropped-kink code choice k c p is coloured size kink =
     let names : ℕ → ℕ = class_name crossings gone in
     let own_name : class_name crossings gone (dart_in c (p + 1)) ≡ class_name crossings gone (dart_in c p) =
     ap (slice_index (straight_names crossings gone))
-    (ap (dart_name crossings) (sym mates) ∙ dart_name-partner crossings twice (dart_in c p) (large v v_below)) in
+    (ap (arc_of_dart crossings) (sym mates) ∙ arc_of_dart-partner crossings twice (dart_in c p) (large v v_below)) in
     let first_name : class_name crossings gone (dart_in c (p + 1)) ≡ class_name crossings gone (dart_in c (p + 2)) =
     own_name ∙ class_name-across crossings gone c p twice kink.below c_gone in
     let second_name : class_name crossings gone (dart_in c (p + 3)) ≡ class_name crossings gone (dart_in c p) =
@@ -192,7 +193,7 @@ IsDropped-kink code choice k c p is coloured size kink =
       places = ap (λ n. filter (λ x. not (nat_eq c x)) (range_with_len 0 n)) size ∙ places-but c k within;
       closed = new_closed;
       named = smoothed-named k partner c p names closed within
-          (λ x below. ap (slice_index (straight_names crossings gone)) (dart_name-partner crossings twice x (large x below)))
+          (λ x below. ap (slice_index (straight_names crossings gone)) (arc_of_dart-partner crossings twice x (large x below)))
           first_name second_name;
       heads = λ x below.
           let at : (y : ℕ) → y < 4 * k
@@ -212,7 +213,7 @@ IsDropped-kink code choice k c p is coloured size kink =
           let shared : (z : ℕ) → z < 4 * length code.crossings → taken.whole (partner_at code.crossings z) ≡ taken.whole z =
           λ z below. taken.shared z (omega (arith, below, size)) in
           let arc : ℕ → ℕ = on_arcs crossings taken.whole in
-          let arc_at : (z : ℕ) → z < 4 * (k + 1) → on_arcs crossings taken.whole (dart_name crossings z) ≡ taken.whole z =
+          let arc_at : (z : ℕ) → z < 4 * (k + 1) → on_arcs crossings taken.whole (arc_of_dart crossings z) ≡ taken.whole z =
           λ z below. on_arcs-at crossings taken.whole twice shared z (large z below) in
           let own : taken.whole (dart_in c (p + 1)) ≡ taken.whole (dart_in c p) = ap taken.whole (sym mates) ∙ taken.shared v v_below in
           let all : (q : ℕ) → taken.whole (dart_in c q) ≡ taken.whole (dart_in c p) =
@@ -223,20 +224,20 @@ IsDropped-kink code choice k c p is coloured size kink =
               | inr d ↦ elim d [ inl a ↦ ap taken.whole a ∙ taken.second | inr a ↦ ap taken.whole a ]
             ]
           ] in
-          let across : (q : ℕ) → on_arcs crossings taken.whole (dart_name crossings (dart_in c q))
-          ≡ on_arcs crossings taken.whole (dart_name crossings (dart_in c (q + 2))) =
+          let across : (q : ℕ) → on_arcs crossings taken.whole (arc_of_dart crossings (dart_in c q))
+          ≡ on_arcs crossings taken.whole (arc_of_dart crossings (dart_in c (q + 2))) =
           λ q.
           let c_small : c < k + 1 = omega (arith, within) in
           arc_at (dart_in c q) (dart_in-below (k + 1) c q c_small) ∙ all q ∙ sym (all (q + 2))
           ∙ sym (arc_at (dart_in c (q + 2)) (dart_in-below (k + 1) c (q + 2) c_small)) in
           let alike = straight-finest crossings gone (on_arcs crossings taken.whole) twice
           (λ place below is_gone.
-          subst (λ (q : ℕ). (on_arcs crossings taken.whole (name_at crossings q 0) ≡ on_arcs crossings taken.whole (name_at crossings q 2))
-          × (on_arcs crossings taken.whole (name_at crossings q 1) ≡ on_arcs crossings taken.whole (name_at crossings q 3)))
+          subst (λ (q : ℕ). (on_arcs crossings taken.whole (arc_by_place crossings q 0) ≡ on_arcs crossings taken.whole (arc_by_place crossings q 2))
+          × (on_arcs crossings taken.whole (arc_by_place crossings q 1) ≡ on_arcs crossings taken.whole (arc_by_place crossings q 3)))
           (eqb-true c place is_gone) (on_arcs-across crossings (on_arcs crossings taken.whole) c across))
-          (dart_name crossings (early_dart c k x)) (dart_name crossings (early_dart c k y))
-          (dart_name-below crossings twice (early_dart c k x) (large (early_dart c k x) (early_below x x_below)))
-          (dart_name-below crossings twice (early_dart c k y) (large (early_dart c k y) (early_below y y_below))) same in
+          (arc_of_dart crossings (early_dart c k x)) (arc_of_dart crossings (early_dart c k y))
+          (arc_of_dart-below crossings twice (early_dart c k x) (large (early_dart c k x) (early_below x x_below)))
+          (arc_of_dart-below crossings twice (early_dart c k y) (large (early_dart c k y) (early_below y y_below))) same in
           pair_of-same (4 * k) (smoothed (partner_at code.crossings) c k p) new_closed.pairing x y x_below y_below
           (sym (taken.kept x x_below) ∙ sym (arc_at (early_dart c k x) (early_below x x_below)) ∙ alike
           ∙ arc_at (early_dart c k y) (early_below y y_below) ∙ taken.kept y y_below);

@@ -4,7 +4,7 @@ use Rattle.std.specs.Prelude.{nat_eq, if◌then◌else◌}
 use Rattle.std.proofs.lemmas.Bool.{cases_eq, cases_lt, cases_Bool}
 use Rattle.std.proofs.lemmas.Bool.Decides.{nat_tests}
 use Rattle.kh_types.specs.declared.dart.Dart.{Dart}
-use Rattle.kh_types.specs.Code.{arc_in, slots_of, IsArc, IsCrossing}
+use Rattle.kh_types.specs.Code.{slots_of, IsArc, IsCrossing}
 use Rattle.kh_types.specs.Components.{next}
 use Rattle.kh_types.specs.Darts.{arc_of, IsDart}
 use Rattle.kh_types.specs.Directions.{is_head}
@@ -12,7 +12,7 @@ use Rattle.kh_types.proofs.DirectedPasses.{across, IsDart-across, is_head-across
 use Rattle.kh_types.proofs.NextArcs.{component, component-next}
 use Rattle.kinks_and_fingers.specs.FingerAdd.{dart_with}
 use Rattle.kinks_and_fingers.proofs.Passed.{IsStep, IsStep-inside}
-use Rattle.kinks_and_fingers.proofs.FingerSlots.{over_from, over_to, HasPasses}
+use Rattle.kinks_and_fingers.proofs.FingerSlots.{HasPasses}
 use Rattle.kinks_and_fingers.proofs.FingerRuns.{HasSteps, HasSteps-passes}
 use Rattle.kinks_and_fingers.specs.KinkAdds.{raised}
 use Rattle.kinks_and_fingers.proofs.KinkEnds.{kinked_crossings}

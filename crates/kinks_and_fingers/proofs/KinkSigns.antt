@@ -1,18 +1,15 @@
 -- The signs of crossings of a code with a kink.
 use Rattle.std.proofs.Common.{◌≡◌, ◌≢◌, ℕ, zero, suc, inl, inr, ◌+◌, ◌<◌, ◌≤◌, ◌∙◌, List, length, refl, sym, ap, ap₂, subst, arith, Bool, true, false, not, cond, eq-eqb, eqb-true}
-use Rattle.std.specs.Prelude.{nat_eq, nat_lt, nat_le, if◌then◌else◌, Option, Some, None, is_some, unwrap_or}
+use Rattle.std.specs.Prelude.{nat_eq, nat_lt, if◌then◌else◌, Option, Some, is_some, unwrap_or}
 use Rattle.std.specs.List.{count_by, find, range_with_len}
-use Rattle.std.specs.Option.{option_or}
 use Rattle.std.proofs.lemmas.Bool.{cases_eq, cases_lt, cases_Bool, false_from_ne_true}
 use Rattle.std.proofs.lemmas.Bool.Decides.{nat_tests}
-use Rattle.std.proofs.lemmas.List.Folds.{find-append}
 use Rattle.kh_types.specs.declared.dart.Dart.{Dart}
 use Rattle.kh_types.specs.Code.{arc_in, slots_of, IsCrossing}
 use Rattle.kh_types.specs.Components.{components_of, arcs_in, next}
 use Rattle.kh_types.specs.Darts.{arc_of, IsDart}
 use Rattle.kh_types.specs.Directions.{is_head, is_positive, is_positive_of_two, is_positive_by_next, is_positive_by_under, is_positive_by_order, passes_under, passes_over, first_under, first_over, plus_count, minus_count}
-use Rattle.kh_types.proofs.Lists.{find-none}
-use Rattle.kh_types.proofs.Ranges.{range-append, count_by-range_more}
+use Rattle.kh_types.proofs.Ranges.{count_by-range_more}
 use Rattle.kh_types.proofs.RangeCounts.{count_by-alike}
 use Rattle.kh_types.proofs.DirectedPasses.{across, is_head-across}
 use Rattle.kh_types.proofs.DirectionLemmas.{plus_count-le}

@@ -9,45 +9,46 @@ use Rattle.kh_types.specs.Code.{arc_in, slots_of}
 use Rattle.kh_types.specs.Darts.{arc_of, IsDart}
 use Rattle.kh_types.specs.Directions.{is_head, is_positive, positive_at}
 use Rattle.kinks_and_fingers.proofs.FingerSlots.{HasPasses}
-use Rattle.kinks_and_fingers.specs.Strands.{enters, slots_at}
-use Rattle.kinks_and_fingers.specs.KinkAdds.{raised, kinked_name, kinked_slots, kink_crossing, moved_crossings}
+use Rattle.gluing.specs.Arcs.{enters}
+use Rattle.code_passes.specs.Parts.{slots_in}
+use Rattle.kinks_and_fingers.specs.KinkAdds.{raised, kinked_name, kinked_slots, kink_crossing, raised_crossings}
 use Rattle.kinks_and_fingers.proofs.KinkEnds.{kinked_crossings}
 use Rattle.kinks_and_fingers.proofs.Numbers.{last}
 
-pub length-moved : (crossings : List (List ℕ)) (a : ℕ) → length (moved_crossings a crossings) ≡ length crossings
+pub length-moved : (crossings : List (List ℕ)) (a : ℕ) → length (raised_crossings a crossings) ≡ length crossings
 length-moved crossings a =
-    length-map (range_with_len 0 (length crossings)) (λ place. kinked_slots a (positive_at crossings place) (slots_at crossings place))
+    length-map (range_with_len 0 (length crossings)) (λ place. kinked_slots a (positive_at crossings place) (slots_in crossings place))
     ∙ length-range_with_len 0 (length crossings)
 
 pub length-kinked : (crossings : List (List ℕ)) (a : ℕ) (over positive : Bool)
     → length (kinked_crossings crossings a over positive) ≡ length crossings + 1
 length-kinked crossings a over positive =
-    length-append (moved_crossings a crossings) (kink_crossing over positive a ∷ []) ∙ ap (λ n. n + 1) (length-moved crossings a)
+    length-append (raised_crossings a crossings) (kink_crossing over positive a ∷ []) ∙ ap (λ n. n + 1) (length-moved crossings a)
 
 -- the slots of the old crossing at a place
-pub slots_at-moved : (crossings : List (List ℕ)) (a place : ℕ) → place < length crossings
-    → slots_at (moved_crossings a crossings) place ≡ kinked_slots a (positive_at crossings place) (slots_at crossings place)
-slots_at-moved crossings a place below =
+pub slots_in-moved : (crossings : List (List ℕ)) (a place : ℕ) → place < length crossings
+    → slots_in (raised_crossings a crossings) place ≡ kinked_slots a (positive_at crossings place) (slots_in crossings place)
+slots_in-moved crossings a place below =
     let e : 0 + place ≡ place = omega arith in
-    get_or-map (λ place. kinked_slots a (positive_at crossings place) (slots_at crossings place)) (range_with_len 0 (length crossings)) place 0 []
+    get_or-map (λ place. kinked_slots a (positive_at crossings place) (slots_in crossings place)) (range_with_len 0 (length crossings)) place 0 []
     (omega (arith, below, length-range_with_len 0 (length crossings)))
-    ∙ ap (λ c. kinked_slots a (positive_at crossings c) (slots_at crossings c))
+    ∙ ap (λ c. kinked_slots a (positive_at crossings c) (slots_in crossings c))
     (get_or-range_with_len 0 (length crossings) place 0 below ∙ e)
 
-pub slots_at-old : (crossings : List (List ℕ)) (a : ℕ) (over positive : Bool) (place : ℕ) → place < length crossings
-    → slots_at (kinked_crossings crossings a over positive) place ≡ kinked_slots a (positive_at crossings place) (slots_at crossings place)
-slots_at-old crossings a over positive place below =
-    get_or_append_left (moved_crossings a crossings) (kink_crossing over positive a ∷ []) [] place
+pub slots_in-old : (crossings : List (List ℕ)) (a : ℕ) (over positive : Bool) (place : ℕ) → place < length crossings
+    → slots_in (kinked_crossings crossings a over positive) place ≡ kinked_slots a (positive_at crossings place) (slots_in crossings place)
+slots_in-old crossings a over positive place below =
+    get_or_append_left (raised_crossings a crossings) (kink_crossing over positive a ∷ []) [] place
     (omega (arith, below, length-moved crossings a))
-    ∙ slots_at-moved crossings a place below
+    ∙ slots_in-moved crossings a place below
 
 -- those of the new one
 pub slots_of-new : (crossings : List (List ℕ)) (a : ℕ) (over positive : Bool)
     → slots_of (kinked_crossings crossings a over positive) (length crossings + 1) ≡ kink_crossing over positive a
 slots_of-new crossings a over positive =
-    let e : length crossings + 1 - 1 ≡ length (moved_crossings a crossings) + 0 = omega (arith, length-moved crossings a) in
+    let e : length crossings + 1 - 1 ≡ length (raised_crossings a crossings) + 0 = omega (arith, length-moved crossings a) in
     ap (λ k. slice_index_or (kinked_crossings crossings a over positive) k []) e
-    ∙ get_or-append-add (moved_crossings a crossings) (kink_crossing over positive a ∷ []) 0 []
+    ∙ get_or-append-add (raised_crossings a crossings) (kink_crossing over positive a ∷ []) 0 []
 
 -- the arc at a slot of an old crossing
 pub arc_in-kinked : (a : ℕ) (sign : Bool) (slots : List ℕ) (slot : ℕ) → slot < 4
@@ -64,8 +65,8 @@ arc_of-old crossings a over positive dart is =
     let place = dart.crossing - 1 in
     let below : place < length crossings = omega (arith, is.crossing.positive, is.crossing.within) in
     let again : place + 1 ≡ dart.crossing = omega (arith, is.crossing.positive) in
-    ap (λ s. arc_in s dart.slot) (slots_at-old crossings a over positive place below)
-    ∙ arc_in-kinked a (positive_at crossings place) (slots_at crossings place) dart.slot is.slot
+    ap (λ s. arc_in s dart.slot) (slots_in-old crossings a over positive place below)
+    ∙ arc_in-kinked a (positive_at crossings place) (slots_in crossings place) dart.slot is.slot
     ∙ ap (λ c. kinked_name a (enters (is_positive crossings c) dart.slot) (arc_of crossings dart)) again
 
 pub arc_of-head : (crossings : List (List ℕ)) (a : ℕ) (over positive : Bool) (dart : Dart) → IsDart crossings dart

@@ -7,14 +7,14 @@ use Rattle.kh_types.specs.Darts.{arc_of}
 use Rattle.kh_types.specs.Directions.{plus_count, minus_count, positive_at}
 use Rattle.kh_types.specs.Acceptance.{accepted}
 use Rattle.kh_types.specs.StateSum.{state_sum, sum_with}
-use Rattle.gluing.specs.Arcs.{arc_by_place}
+use Rattle.gluing.specs.Arcs.{arc_by_place, enters}
 use Rattle.gluing.specs.Codes.{HoldsArcs}
 use Rattle.kinks_and_fingers.specs.FingerAdd.{dart_with}
-use Rattle.kinks_and_fingers.specs.Strands.{slots_at, enters}
-use Rattle.kinks_and_fingers.specs.KinkAdds.{raised, kinked_name, moved_crossings, with_kink}
+use Rattle.code_passes.specs.Parts.{slots_in}
+use Rattle.kinks_and_fingers.specs.KinkAdds.{raised, kinked_name, raised_crossings, with_kink}
 use Rattle.kinks_and_fingers.specs.KinkCodes.{IsWithKink}
 use Rattle.kinks_and_fingers.proofs.MovableArcs.{IsKinkable}
-use Rattle.kinks_and_fingers.proofs.KinkSlots.{length-moved, slots_at-moved, arc_in-kinked}
+use Rattle.kinks_and_fingers.proofs.KinkSlots.{length-moved, slots_in-moved, arc_in-kinked}
 use Rattle.kinks_and_fingers.proofs.KinkSizes.{IsKinkable-accepted}
 use Rattle.kinks_and_fingers.proofs.KinkSigns.{plus_count-kinked, minus_count-kinked}
 use Rattle.kinks_and_fingers.proofs.KinkTerms.{sum_with-kink}
@@ -26,14 +26,14 @@ kinked-cases a false x = grind (arith, nat_tests)
 -- any code
 pub IsWithKink-kinked : (code : Code) (a : ℕ) (over positive : Bool) → IsWithKink a over positive code (with_kink over positive a code)
 IsWithKink-kinked code a over positive = record {
-  moved = moved_crossings a code.crossings;
+  moved = raised_crossings a code.crossings;
   size = length-moved code.crossings a;
   crossings = refl;
   arcs = λ place slot below slot_below.
-      let is : arc_by_place (moved_crossings a code.crossings) place slot
+      let is : arc_by_place (raised_crossings a code.crossings) place slot
       ≡ kinked_name a (enters (positive_at code.crossings place) slot) (arc_by_place code.crossings place slot) =
-      ap (λ slots. arc_in slots slot) (slots_at-moved code.crossings a place below)
-      ∙ arc_in-kinked a (positive_at code.crossings place) (slots_at code.crossings place) slot slot_below in
+      ap (λ slots. arc_in slots slot) (slots_in-moved code.crossings a place below)
+      ∙ arc_in-kinked a (positive_at code.crossings place) (slots_in code.crossings place) slot slot_below in
       elim (kinked-cases a (enters (positive_at code.crossings place) slot) (arc_by_place code.crossings place slot)) [
         | inl risen ↦ inl (is ∙ risen)
         | inr end ↦ inr (end.0, is ∙ end.1)

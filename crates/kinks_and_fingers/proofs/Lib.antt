@@ -31,6 +31,7 @@ pub mod SmoothedValues
 pub mod KeptCodes
 pub mod Dropped
 pub mod OldDarts
+pub mod TwoEnds
 pub mod KinkDrops
 pub mod CrossedSides
 pub mod FingerDrops
@@ -58,3 +59,4 @@ pub mod KinkFaces
 pub mod KinkedCircles
 pub mod KinkTerms
 pub mod KinkWith
+pub mod DropRules

@@ -12,13 +12,14 @@ use Rattle.kh_types.proofs.AcceptedLemmas.{HasArcsTwice-accepted}
 use Rattle.kh_types.proofs.DartPairs.{dart_place-at, IsDart-at, IsOtherPlace-partner_at, IsPairing-partner_at, partner-at_place, partner_at-only, IsDartOf-first_dart, dart_or_partner}
 use Rattle.kh_types.proofs.Heads.{is_head-partner}
 use Rattle.face_walk.proofs.FewFaces.{IsPlanar-accepted}
-use Rattle.kinks_and_fingers.specs.Strands.{name_at, dart_name, enters}
+use Rattle.gluing.specs.Arcs.{arc_by_place, enters}
+use Rattle.gluing.specs.Codes.{arc_of_dart}
 use Rattle.kinks_and_fingers.specs.Pulls.{IsClosedPlanar, dart_in}
 use Rattle.kinks_and_fingers.proofs.DroppedDarts.{is_code_head, is_colour}
 
-pub dart_name-arc_of : (crossings : List (List ℕ)) (x : ℕ) → arc_of crossings (dart_at x) ≡ dart_name crossings x
-dart_name-arc_of crossings x =
-    let e : x / 4 + 1 - 1 ≡ x / 4 = omega arith in ap (λ q. name_at crossings q (x % 4)) e
+pub arc_of_dart-arc_of : (crossings : List (List ℕ)) (x : ℕ) → arc_of crossings (dart_at x) ≡ arc_of_dart crossings x
+arc_of_dart-arc_of crossings x =
+    let e : x / 4 + 1 - 1 ≡ x / 4 = omega arith in ap (λ q. arc_by_place crossings q (x % 4)) e
 
 pub IsClosedPlanar-accepted : (code : Code) → IsTrue (accepted code) → IsClosedPlanar (length code.crossings) (partner_at code.crossings)
 IsClosedPlanar-accepted code is =
@@ -29,22 +30,22 @@ IsClosedPlanar-accepted code is =
       planar = IsPlanar-accepted code is;
     }
 
-pub dart_name-partner : (crossings : List (List ℕ)) → HasArcsTwice crossings → (x : ℕ) → x < 4 * length crossings
-    → dart_name crossings (partner_at crossings x) ≡ dart_name crossings x
-dart_name-partner crossings twice x below =
-    sym (dart_name-arc_of crossings (partner_at crossings x)) ∙ (IsOtherPlace-partner_at crossings x twice below).same_arc
-    ∙ dart_name-arc_of crossings x
+pub arc_of_dart-partner : (crossings : List (List ℕ)) → HasArcsTwice crossings → (x : ℕ) → x < 4 * length crossings
+    → arc_of_dart crossings (partner_at crossings x) ≡ arc_of_dart crossings x
+arc_of_dart-partner crossings twice x below =
+    sym (arc_of_dart-arc_of crossings (partner_at crossings x)) ∙ (IsOtherPlace-partner_at crossings x twice below).same_arc
+    ∙ arc_of_dart-arc_of crossings x
 
 -- two darts of one name, which are not one, are partners
 pub partner-named : (crossings : List (List ℕ)) → HasArcsTwice crossings → (x y : ℕ) → x < 4 * length crossings
-    → y < 4 * length crossings → y ≢ x → dart_name crossings y ≡ dart_name crossings x → partner_at crossings x ≡ y
+    → y < 4 * length crossings → y ≢ x → arc_of_dart crossings y ≡ arc_of_dart crossings x → partner_at crossings x ≡ y
 partner-named crossings twice x y x_below y_below differs same =
     sym
     (partner_at-only crossings x y twice x_below
     (record {
       below = y_below;
       differs = differs;
-      same_arc = dart_name-arc_of crossings y ∙ same ∙ sym (dart_name-arc_of crossings x);
+      same_arc = arc_of_dart-arc_of crossings y ∙ same ∙ sym (arc_of_dart-arc_of crossings x);
     }))
 
 pub heads-partner : (crossings : List (List ℕ)) → IsDirected crossings → HasNoSingleArcs crossings → (x : ℕ) → x < 4 * length crossings
@@ -87,13 +88,13 @@ on_arcs crossings whole arc = whole (dart_place (first_dart crossings arc))
 
 pub on_arcs-at : (crossings : List (List ℕ)) (whole : ℕ → ℕ) → HasArcsTwice crossings
     → ((x : ℕ) → x < 4 * length crossings → whole (partner_at crossings x) ≡ whole x) → (x : ℕ) → x < 4 * length crossings
-    → on_arcs crossings whole (dart_name crossings x) ≡ whole x
+    → on_arcs crossings whole (arc_of_dart crossings x) ≡ whole x
 on_arcs-at crossings whole twice shared x below =
     let dart = dart_at x in
     let is = IsDart-at crossings x below in
     let arc = arc_of crossings (dart_at x) in
     let first = IsDartOf-first_dart crossings arc twice (twice.slots dart is) in
-    ap (on_arcs crossings whole) (sym (dart_name-arc_of crossings x))
+    ap (on_arcs crossings whole) (sym (arc_of_dart-arc_of crossings x))
     ∙ elim (dart_or_partner crossings dart (first_dart crossings arc) twice is first.within first.on_arc) [
       | inl same ↦ ap (λ d. whole (dart_place d)) same ∙ ap whole (dart_place-at x)
       | inr mate ↦
@@ -101,11 +102,11 @@ on_arcs-at crossings whole twice shared x below =
           ∙ ap whole (dart_place-at (partner_at crossings x)) ∙ shared x below
     ]
 
-pub dart_name-below : (crossings : List (List ℕ)) → HasArcsTwice crossings → (x : ℕ) → x < 4 * length crossings
-    → dart_name crossings x < arc_count crossings + 1
-dart_name-below crossings twice x below =
+pub arc_of_dart-below : (crossings : List (List ℕ)) → HasArcsTwice crossings → (x : ℕ) → x < 4 * length crossings
+    → arc_of_dart crossings x < arc_count crossings + 1
+arc_of_dart-below crossings twice x below =
     let is = twice.slots (dart_at x) (IsDart-at crossings x below) in
-    omega (arith, sym (dart_name-arc_of crossings x), is.within)
+    omega (arith, sym (arc_of_dart-arc_of crossings x), is.within)
 
 -- round a crossing
 
@@ -115,9 +116,9 @@ dart_in-slot c q = omega arith
 place_in : (c q : ℕ) → dart_in c q / 4 ≡ c
 place_in c q = omega arith
 
-pub dart_name-in : (crossings : List (List ℕ)) (c q : ℕ) → dart_name crossings (dart_in c q) ≡ name_at crossings c (q % 4)
-dart_name-in crossings c q =
-    ap (λ a. name_at crossings a (dart_in c q % 4)) (place_in c q) ∙ ap (name_at crossings c) (dart_in-slot c q)
+pub arc_of_dart-in : (crossings : List (List ℕ)) (c q : ℕ) → arc_of_dart crossings (dart_in c q) ≡ arc_by_place crossings c (q % 4)
+arc_of_dart-in crossings c q =
+    ap (λ a. arc_by_place crossings a (dart_in c q % 4)) (place_in c q) ∙ ap (arc_by_place crossings c) (dart_in-slot c q)
 
 pub across_cases : (q : ℕ) → (((q % 4 ≡ 0) × ((q + 2) % 4 ≡ 2)) ⊎ ((q % 4 ≡ 1) × ((q + 2) % 4 ≡ 3)))
     ⊎ (((q % 4 ≡ 2) × ((q + 2) % 4 ≡ 0)) ⊎ ((q % 4 ≡ 3) × ((q + 2) % 4 ≡ 1)))

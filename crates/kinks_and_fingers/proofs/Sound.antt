@@ -8,10 +8,11 @@ use Rattle.kh_types.specs.Bits.{bit}
 use Rattle.kh_types.specs.Code.{Code, arc_in}
 use Rattle.kh_types.specs.Darts.{partner_at}
 use Rattle.kh_types.proofs.DartColours.{IsColoured-accepted}
-use Rattle.kinks_and_fingers.specs.Strands.{slots_at}
+use Rattle.code_passes.specs.Parts.{slots_in}
 use Rattle.kinks_and_fingers.specs.Drops.{after, is_kink, is_kink_at, is_bigon, is_bigon_at, is_of_two, without_kink, without_finger}
 use Rattle.kinks_and_fingers.specs.Pulls.{early, late, smoothed}
 use Rattle.kinks_and_fingers.specs.Dropping.{HasKinkAt, HasBigonAt, IsPlanarRest}
+use Rattle.kinks_and_fingers.proofs.TwoEnds.{ArePaired-ends}
 use Rattle.kinks_and_fingers.proofs.Dropped.{HasTwoEnds-dropped, HasColours-dropped, IsPlanarBy-dropped}
 use Rattle.kinks_and_fingers.proofs.KinkDrops.{IsDropped-kink}
 use Rattle.kinks_and_fingers.proofs.FingerDrops.{IsDropped-finger}
@@ -25,7 +26,7 @@ IsSound-kink code c p is kink =
     let kept : ℕ → ℕ = early c (length code.crossings - 1) in
     let partner : ℕ → ℕ = smoothed (partner_at code.crossings) c (length code.crossings - 1) p in
     record {
-      ends = HasTwoEnds-dropped code.crossings (nat_eq c) coloured.0 k kept partner left;
+      paired = ArePaired-ends (without_kink code c) (HasTwoEnds-dropped code.crossings (nat_eq c) coloured.0 k kept partner left);
       choice = λ place. bit coloured.0 (kept place);
       colours = HasColours-dropped code.crossings (nat_eq c) coloured.0 k kept partner left;
       partner = partner;
@@ -47,7 +48,7 @@ IsSound-finger code c d p q is bigon =
     smoothed (smoothed (partner_at code.crossings) c (length code.crossings - 2 + 1) p) (late c (length code.crossings - 2 + 1) d)
     (length code.crossings - 2) q in
     record {
-      ends = HasTwoEnds-dropped code.crossings (is_of_two c d) coloured.0 k kept partner left;
+      paired = ArePaired-ends (without_finger code c d) (HasTwoEnds-dropped code.crossings (is_of_two c d) coloured.0 k kept partner left);
       choice = λ place. bit coloured.0 (kept place);
       colours = HasColours-dropped code.crossings (is_of_two c d) coloured.0 k kept partner left;
       partner = partner;
@@ -66,15 +67,15 @@ any_range test a (suc n) holds = elim (cases_Bool (test a)) [
       (rest.0, omega (arith, rest.1), omega (arith, rest.2), rest.3)
 ]
 
-pub HasKinkAt-found : (crossings : List (List ℕ)) (c : ℕ) → c < length crossings → is_kink (slots_at crossings c) ≡ true
+pub HasKinkAt-found : (crossings : List (List ℕ)) (c : ℕ) → c < length crossings → is_kink (slots_in crossings c) ≡ true
     → (p : ℕ) × HasKinkAt crossings c p
 HasKinkAt-found crossings c below holds =
-    let found = any_range (is_kink_at (slots_at crossings c)) 0 4 holds in (
+    let found = any_range (is_kink_at (slots_in crossings c)) 0 4 holds in (
       found.0,
       record {
         below = below;
         slot = omega (arith, found.2);
-        same = eqb-true (arc_in (slots_at crossings c) found.0) (arc_in (slots_at crossings c) (after found.0)) found.3;
+        same = eqb-true (arc_in (slots_in crossings c) found.0) (arc_in (slots_in crossings c) (after found.0)) found.3;
       },
     )
 

@@ -17,11 +17,12 @@ use Rattle.kh_types.proofs.ClassLemmas.{classes-finest}
 use Rattle.kh_types.proofs.JoinedClasses.{IsNamed-classes_of}
 use Rattle.kh_types.proofs.RangeCounts.{count_by-alike}
 use Rattle.gluing.specs.Glue.{renamed}
-use Rattle.kinks_and_fingers.specs.Strands.{slots_at, name_at}
+use Rattle.code_passes.specs.Parts.{slots_in}
+use Rattle.gluing.specs.Arcs.{arc_by_place}
 use Rattle.kinks_and_fingers.specs.Drops.{straight_pairs, straight_names, renamed_slots, kept_places, kept_crossings, stands_in, ring_count, dropped}
-use Rattle.kinks_and_fingers.specs.DropCircles.{joined_at, outer_pairs, strand_circle_count}
+use Rattle.kinks_and_fingers.specs.DropCircles.{joined_at, outer_pairs, parts_circle_count}
 use Rattle.kinks_and_fingers.proofs.Contracted.{class_count-contracted}
-use Rattle.kinks_and_fingers.proofs.KeptCodes.{straight-below, name_at-below, all-gone, kept-slots, length-kept, renamed_slots-at}
+use Rattle.kinks_and_fingers.proofs.KeptCodes.{straight-below, arc_by_place-below, all-gone, kept-slots, length-kept, renamed_slots-at}
 use Rattle.gluing.proofs.Renamed.{AreBelow-renamed}
 use Rattle.kinks_and_fingers.proofs.KinkCircles.{smoothings-all, outer-all, joined-below}
 
@@ -40,7 +41,7 @@ smoothing-renamed names slots b = go (nat_eq b 0) names slots
 
 smoothings-renamed : (crossings : List (List ℕ)) (names : List ℕ) (state new start : ℕ) (places : List ℕ)
     → ((i : ℕ) → i < length places → bit new (start + i) ≡ bit state (slice_index places i))
-    → flat_map (λ at. smoothing_of (bit new at.0) at.1) (enumerate_from start (map (λ place. renamed_slots names (slots_at crossings place)) places))
+    → flat_map (λ at. smoothing_of (bit new at.0) at.1) (enumerate_from start (map (λ place. renamed_slots names (slots_in crossings place)) places))
     ≡ renamed (slice_index names) (flat_map (joined_at crossings state) places)
 smoothings-renamed crossings names state new start [] same = refl
 smoothings-renamed crossings names state new start (place ∷ places) same =
@@ -50,9 +51,9 @@ smoothings-renamed crossings names state new start (place ∷ places) same =
     (λ i below.
     let e : start + 1 + i ≡ start + suc i = omega arith in ap (bit new) e ∙ same (suc i) (omega (arith, below))) in
     ap (λ xs. xs ++ flat_map (λ at. smoothing_of (bit new at.0) at.1)
-    (enumerate_from (start + 1) (map (λ place. renamed_slots names (slots_at crossings place)) places)))
-    (ap (λ b. smoothing_of b (renamed_slots names (slots_at crossings place))) here
-    ∙ smoothing-renamed names (slots_at crossings place) (bit state place))
+    (enumerate_from (start + 1) (map (λ place. renamed_slots names (slots_in crossings place)) places)))
+    (ap (λ b. smoothing_of b (renamed_slots names (slots_in crossings place))) here
+    ∙ smoothing-renamed names (slots_in crossings place) (bit state place))
     ∙ ap (λ xs. renamed (slice_index names) (joined_at crossings state place) ++ xs) later
     ∙ sym (map-append (λ (pair : ℕ × ℕ). (slice_index names pair.0, slice_index names pair.1)) (joined_at crossings state place)
     (flat_map (joined_at crossings state) places))
@@ -119,7 +120,7 @@ stands_at-slot slots name slot below fails same =
     slot-case P (suc (suc (suc (suc slot)))) below a b c d refutes = absurd (omega (arith, below))
 
 pub stands-none : (crossings : List (List ℕ)) (name place slot : ℕ) → stands_in crossings name ≡ false → place < length crossings → slot < 4
-    → name_at crossings place slot ≢ name
+    → arc_by_place crossings place slot ≢ name
 stands-none [] name place slot fails below slot_below = absurd (omega (arith, below))
 stands-none (slots ∷ rest) name zero slot fails below slot_below =
     stands_at-slot slots name slot slot_below (first-false
@@ -140,7 +141,7 @@ stands-none (slots ∷ rest) name (suc place) slot fails below slot_below =
 
 -- a property of all names at crossings is had by each name that stands
 pub stands-some : (P : ℕ → Type 0) (crossings : List (List ℕ)) (name : ℕ)
-    → ((place slot : ℕ) → place < length crossings → slot < 4 → P (name_at crossings place slot)) → stands_in crossings name ≡ true → P name
+    → ((place slot : ℕ) → place < length crossings → slot < 4 → P (arc_by_place crossings place slot)) → stands_in crossings name ≡ true → P name
 stands-some P [] name each holds = absurd (both_ways false refl holds)
 stands-some P (slots ∷ rest) name each holds =
     let n0 = nat_eq (arc_in slots 0) name in
@@ -171,21 +172,21 @@ alone n crossings state name below name_below fails =
     let pairs = smoothings_of crossings state in
     let named = IsNamed-classes_of n pairs below in
     let mark : ℕ → ℕ = λ z. cond (nat_eq z name) 1 0 in
-    let zero_at : (place slot : ℕ) → place < length crossings → slot < 4 → mark (name_at crossings place slot) ≡ 0 =
+    let zero_at : (place slot : ℕ) → place < length crossings → slot < 4 → mark (arc_by_place crossings place slot) ≡ 0 =
     λ place slot place_below slot_below.
-    ap (λ t. cond t 1 0) (ne_eqb (name_at crossings place slot) name (stands-none crossings name place slot fails place_below slot_below)) in
+    ap (λ t. cond t 1 0) (ne_eqb (arc_by_place crossings place slot) name (stands-none crossings name place slot fails place_below slot_below)) in
     let respects : Respects mark (smoothings_of crossings state) =
     smoothings-all (λ pair. mark pair.0 ≡ mark pair.1) crossings state
     (λ place place_below.
     let at = λ (slot : ℕ) (slot_below : slot < 4). zero_at place slot place_below slot_below in
     elim (cases_Bool (nat_eq (bit state place) 0)) [
       | inl is ↦
-          subst (λ (t : Bool). Respects mark (cond t ((name_at crossings place 0, name_at crossings place 1) ∷ (name_at crossings place 2, name_at crossings place 3) ∷ [])
-          ((name_at crossings place 0, name_at crossings place 3) ∷ (name_at crossings place 1, name_at crossings place 2) ∷ []))) (sym is)
+          subst (λ (t : Bool). Respects mark (cond t ((arc_by_place crossings place 0, arc_by_place crossings place 1) ∷ (arc_by_place crossings place 2, arc_by_place crossings place 3) ∷ [])
+          ((arc_by_place crossings place 0, arc_by_place crossings place 3) ∷ (arc_by_place crossings place 1, arc_by_place crossings place 2) ∷ []))) (sym is)
           (at 0 (omega arith) ∙ sym (at 1 (omega arith)), (at 2 (omega arith) ∙ sym (at 3 (omega arith)), tt))
       | inr is ↦
-          subst (λ (t : Bool). Respects mark (cond t ((name_at crossings place 0, name_at crossings place 1) ∷ (name_at crossings place 2, name_at crossings place 3) ∷ [])
-          ((name_at crossings place 0, name_at crossings place 3) ∷ (name_at crossings place 1, name_at crossings place 2) ∷ []))) (sym is)
+          subst (λ (t : Bool). Respects mark (cond t ((arc_by_place crossings place 0, arc_by_place crossings place 1) ∷ (arc_by_place crossings place 2, arc_by_place crossings place 3) ∷ [])
+          ((arc_by_place crossings place 0, arc_by_place crossings place 3) ∷ (arc_by_place crossings place 1, arc_by_place crossings place 2) ∷ []))) (sym is)
           (at 0 (omega arith) ∙ sym (at 3 (omega arith)), (at 1 (omega arith) ∙ sym (at 2 (omega arith)), tt))
     ]) in
     let class = slice_index (classes_of n (smoothings_of crossings state)) name in
@@ -205,13 +206,13 @@ class_count-least n pairs below =
     ap (λ m. length (filter (is_least (classes_of n pairs)) (range_with_len 0 m))) (IsNamed-classes_of n pairs below).size
     ∙ length-filter (is_least (classes_of n pairs)) (range_with_len 0 n)
 
-pub name_at-positive : (crossings : List (List ℕ)) (place slot : ℕ) → HasArcsTwice crossings → place < length crossings → slot < 4
-    → 1 ≤ name_at crossings place slot
-name_at-positive crossings place slot twice below slot_below =
+pub arc_by_place-positive : (crossings : List (List ℕ)) (place slot : ℕ) → HasArcsTwice crossings → place < length crossings → slot < 4
+    → 1 ≤ arc_by_place crossings place slot
+arc_by_place-positive crossings place slot twice below slot_below =
     let is = twice.slots (record { crossing = place + 1; slot = slot })
     (record { crossing = record { positive = omega arith; within = omega (arith, below) }; slot = slot_below }) in
     let e : place + 1 - 1 ≡ place = omega arith in
-    let same : name_at crossings (place + 1 - 1) slot ≡ name_at crossings place slot = ap (λ q. name_at crossings q slot) e in
+    let same : arc_by_place crossings (place + 1 - 1) slot ≡ arc_by_place crossings place slot = ap (λ q. arc_by_place crossings q slot) e in
     omega (arith, same, is.positive)
 
 -- where crossings are dropped, a state of those that stay has as many circles as there are classes of the straight pairs and of the
@@ -219,7 +220,7 @@ name_at-positive crossings place slot twice below slot_below =
 pub circles-dropped : (code : Code) (gone : ℕ → Bool) (kept : ℕ → ℕ) (k state new : ℕ) → HasArcsTwice code.crossings
     → kept_places code.crossings gone ≡ map kept (range_with_len 0 k) → ((i : ℕ) → i < k → kept i < length code.crossings)
     → ((i : ℕ) → i < k → bit new i ≡ bit state (kept i))
-    → strand_circle_count (arc_count code.crossings + 1) (dropped code gone) new + 1
+    → parts_circle_count (arc_count code.crossings + 1) (dropped code gone) new + 1
     ≡ class_count (classes_of (arc_count code.crossings + 1) (straight_pairs code.crossings gone ++ outer_pairs code.crossings gone state))
     + code.loops
 circles-dropped code gone kept k state new twice places kept_below agree =
@@ -254,22 +255,22 @@ circles-dropped code gone kept k state new twice places kept_below agree =
     -- the names at the crossings that stay are the least of their classes, and none is 0
     let left_size = length-kept crossings gone kept k places in
     let is_name : (place slot : ℕ) → place < length (kept_crossings crossings gone) → slot < 4
-    → name_at (kept_crossings crossings gone) place slot ≡ slice_index (straight_names crossings gone) (name_at crossings (kept place) slot) =
+    → arc_by_place (kept_crossings crossings gone) place slot ≡ slice_index (straight_names crossings gone) (arc_by_place crossings (kept place) slot) =
     λ place slot below slot_below.
     ap (λ slots. arc_in slots slot) (kept-slots crossings gone kept k place places (omega (arith, below, left_size)))
-    ∙ renamed_slots-at (straight_names crossings gone) (slots_at crossings (kept place)) slot slot_below in
+    ∙ renamed_slots-at (straight_names crossings gone) (slots_in crossings (kept place)) slot slot_below in
     let old_below : (place slot : ℕ) → place < length (kept_crossings crossings gone) → slot < 4
-    → name_at crossings (kept place) slot < arc_count crossings + 1 =
+    → arc_by_place crossings (kept place) slot < arc_count crossings + 1 =
     λ place slot below slot_below.
-    name_at-below crossings (kept place) slot twice (kept_below place (omega (arith, below, left_size))) slot_below in
+    arc_by_place-below crossings (kept place) slot twice (kept_below place (omega (arith, below, left_size))) slot_below in
     let stands_least : (x : ℕ) → stands_in (kept_crossings crossings gone) x ≡ true → is_least (straight_names crossings gone) x ≡ true =
     λ x holds.
     stands-some (λ y. is_least (straight_names crossings gone) y ≡ true) (kept_crossings crossings gone) x
     (λ place slot below slot_below.
     subst (λ (y : ℕ). is_least (straight_names crossings gone) y ≡ true) (sym (is_name place slot below slot_below))
-    (eq-eqb (slice_index (straight_names crossings gone) (slice_index (straight_names crossings gone) (name_at crossings (kept place) slot)))
-    (slice_index (straight_names crossings gone) (name_at crossings (kept place) slot))
-    (named.own (name_at crossings (kept place) slot) (old_below place slot below slot_below)))) holds in
+    (eq-eqb (slice_index (straight_names crossings gone) (slice_index (straight_names crossings gone) (arc_by_place crossings (kept place) slot)))
+    (slice_index (straight_names crossings gone) (arc_by_place crossings (kept place) slot))
+    (named.own (arc_by_place crossings (kept place) slot) (old_below place slot below slot_below)))) holds in
     let zero_apart : stands_in (kept_crossings crossings gone) 0 ≡ false =
     elim (cases_Bool (stands_in (kept_crossings crossings gone) 0)) [
       | inr fails ↦ fails
@@ -277,20 +278,20 @@ circles-dropped code gone kept k state new twice places kept_below agree =
           let one : 1 ≤ 0 =
           stands-some (λ y. 1 ≤ y) (kept_crossings crossings gone) 0
           (λ place slot below slot_below.
-          let old = name_at crossings (kept place) slot in
+          let old = arc_by_place crossings (kept place) slot in
           let same = classes-finest (λ z. min z 1) (arc_count crossings + 1) (straight_pairs crossings gone)
-          (all-gone (λ pair. min pair.0 1 ≡ min pair.1 1) (λ place. passes_of (slots_at crossings place)) gone 0 (length crossings)
+          (all-gone (λ pair. min pair.0 1 ≡ min pair.1 1) (λ place. passes_of (slots_in crossings place)) gone 0 (length crossings)
           (λ q from q_below is.
-          let at = λ (slot : ℕ) (slot_below : slot < 4). name_at-positive crossings q slot twice (omega (arith, q_below)) slot_below in (
-            min-one (name_at crossings q 0) (name_at crossings q 2) (at 0 (omega arith)) (at 2 (omega arith)),
-            (min-one (name_at crossings q 1) (name_at crossings q 3) (at 1 (omega arith)) (at 3 (omega arith)), tt),
+          let at = λ (slot : ℕ) (slot_below : slot < 4). arc_by_place-positive crossings q slot twice (omega (arith, q_below)) slot_below in (
+            min-one (arc_by_place crossings q 0) (arc_by_place crossings q 2) (at 0 (omega arith)) (at 2 (omega arith)),
+            (min-one (arc_by_place crossings q 1) (arc_by_place crossings q 3) (at 1 (omega arith)) (at 3 (omega arith)), tt),
           )))
-          straight_low (slice_index (straight_names crossings gone) (name_at crossings (kept place) slot)) (name_at crossings (kept place) slot)
-          (low_names (name_at crossings (kept place) slot) (old_below place slot below slot_below)) (old_below place slot below slot_below)
-          (named.own (name_at crossings (kept place) slot) (old_below place slot below slot_below)) in
-          let positive = name_at-positive crossings (kept place) slot twice (kept_below place (omega (arith, below, left_size))) slot_below in
-          min-positive (name_at (kept_crossings crossings gone) place slot) (slice_index (straight_names crossings gone) (name_at crossings (kept place) slot))
-          (name_at crossings (kept place) slot) (is_name place slot below slot_below) same positive) holds in
+          straight_low (slice_index (straight_names crossings gone) (arc_by_place crossings (kept place) slot)) (arc_by_place crossings (kept place) slot)
+          (low_names (arc_by_place crossings (kept place) slot) (old_below place slot below slot_below)) (old_below place slot below slot_below)
+          (named.own (arc_by_place crossings (kept place) slot) (old_below place slot below slot_below)) in
+          let positive = arc_by_place-positive crossings (kept place) slot twice (kept_below place (omega (arith, below, left_size))) slot_below in
+          min-positive (arc_by_place (kept_crossings crossings gone) place slot) (slice_index (straight_names crossings gone) (arc_by_place crossings (kept place) slot))
+          (arc_by_place crossings (kept place) slot) (is_name place slot below slot_below) same positive) holds in
           absurd (omega (arith, one))
     ] in
     -- the counts

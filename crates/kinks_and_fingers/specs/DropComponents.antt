@@ -3,7 +3,7 @@ use Rattle.std.specs.Prelude.{ℕ, ◌+◌, List, ◌&&◌}
 use Rattle.std.specs.List.{count_by, flat_map, range_with_len}
 use Rattle.kh_types.specs.Classes.{classes_of, is_least}
 use Rattle.kh_types.specs.Components.{passes_of}
-use Rattle.kinks_and_fingers.specs.Strands.{Strands}
+use Rattle.code_passes.specs.Parts.{Parts}
 use Rattle.kinks_and_fingers.specs.Drops.{stands_in}
 
 -- how many classes of names below a bound the pairs make, of those that stand at some crossing
@@ -12,6 +12,6 @@ standing_class_count bound crossings pairs =
     count_by (λ name. is_least (classes_of bound pairs) name && stands_in crossings name) (range_with_len 0 bound)
 
 -- the components of crossings over names below a bound, and the loops
-abbrev pub strand_component_count : ℕ → Strands → ℕ
-strand_component_count bound strands =
-    standing_class_count bound strands.crossings (flat_map passes_of strands.crossings) + strands.loops
+abbrev pub parts_component_count : ℕ → Parts → ℕ
+parts_component_count bound parts =
+    standing_class_count bound parts.crossings (flat_map passes_of parts.crossings) + parts.loops

@@ -1,6 +1,8 @@
 -- Kinks and bigons at crossings that are dropped, and what is left.
 use Rattle.std.specs.Prelude.{◌≡◌, ◌≢◌, ℕ, ◌+◌, ◌%◌, ◌<◌, List, length}
-use Rattle.kinks_and_fingers.specs.Strands.{Strands, name_at, HasTwoEnds, HasColours, IsPlanarBy}
+use Rattle.code_passes.specs.Parts.{ArePaired, Parts}
+use Rattle.gluing.specs.Arcs.{arc_by_place}
+use Rattle.kinks_and_fingers.specs.Planar.{HasColours, IsPlanarBy}
 use Rattle.kh_types.specs.Darts.{partner_at}
 use Rattle.kinks_and_fingers.specs.Drops.{after}
 use Rattle.kinks_and_fingers.specs.Pulls.{dart_in}
@@ -9,7 +11,7 @@ use Rattle.kinks_and_fingers.specs.Pulls.{dart_in}
 pub record HasKinkAt (crossings : List (List ℕ)) (c p : ℕ) : Type 0 where
   pub below : c < length crossings
   pub slot : p < 4
-  pub same : name_at crossings c p ≡ name_at crossings c (after p)
+  pub same : arc_by_place crossings c p ≡ arc_by_place crossings c (after p)
 
 -- two crossings meet in a bigon from a slot of the first and a slot of the second, whose sides go over at both or under at both
 pub record HasBigonAt (crossings : List (List ℕ)) (c d p q : ℕ) : Type 0 where
@@ -21,9 +23,9 @@ pub record HasBigonAt (crossings : List (List ℕ)) (c d p q : ℕ) : Type 0 whe
   pub odd : (p + q) % 2 ≡ 1
 
 -- what is left where crossings are dropped: each arc has a head and a tail, there are two colours, and as many faces as on the sphere
-pub record IsPlanarRest (strands : Strands) : Type 0 where
-  pub ends : HasTwoEnds strands.crossings strands.signs
+pub record IsPlanarRest (parts : Parts) : Type 0 where
+  pub paired : ArePaired parts
   pub choice : ℕ → ℕ
-  pub colours : HasColours strands.crossings choice
+  pub colours : HasColours parts.crossings choice
   pub partner : ℕ → ℕ
-  pub planar : IsPlanarBy strands.crossings partner
+  pub planar : IsPlanarBy parts.crossings partner

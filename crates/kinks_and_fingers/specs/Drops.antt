@@ -6,12 +6,12 @@ use Rattle.kh_types.specs.Code.{Code, arc_in, arc_count, arcs}
 use Rattle.kh_types.specs.Components.{passes_of}
 use Rattle.kh_types.specs.Darts.{partner_at}
 use Rattle.kh_types.specs.Directions.{positive_at}
-use Rattle.kinks_and_fingers.specs.Strands.{Strands, slots_at}
+use Rattle.code_passes.specs.Parts.{Parts, slots_in}
 
 -- the passes of the crossings that are gone, by their places: each joins two arcs straight through
 abbrev pub straight_pairs : List (List ℕ) → (ℕ → Bool) → List (ℕ × ℕ)
 straight_pairs crossings gone =
-    flat_map (λ place. passes_of (slots_at crossings place)) (filter gone (range_with_len 0 (length crossings)))
+    flat_map (λ place. passes_of (slots_in crossings place)) (filter gone (range_with_len 0 (length crossings)))
 
 -- each arc's class of arcs that are joined straight through, by its least arc
 abbrev pub straight_names : List (List ℕ) → (ℕ → Bool) → List ℕ
@@ -30,7 +30,7 @@ kept_places crossings gone = filter (λ place. not (gone place)) (range_with_len
 -- these crossings, with each arc under the name of its class
 abbrev pub kept_crossings : List (List ℕ) → (ℕ → Bool) → List (List ℕ)
 kept_crossings crossings gone =
-    map (λ place. renamed_slots (straight_names crossings gone) (slots_at crossings place)) (kept_places crossings gone)
+    map (λ place. renamed_slots (straight_names crossings gone) (slots_in crossings place)) (kept_places crossings gone)
 
 -- whether each of these crossings is positive
 abbrev pub kept_signs : List (List ℕ) → (ℕ → Bool) → List Bool
@@ -52,10 +52,10 @@ abbrev pub ring_count : List (List ℕ) → (ℕ → Bool) → ℕ
 ring_count crossings gone = count_by (is_ring crossings gone) (arcs crossings)
 
 -- the code without the crossings at some places
-abbrev pub dropped : Code → (ℕ → Bool) → Strands
+abbrev pub dropped : Code → (ℕ → Bool) → Parts
 dropped code gone = record {
   crossings = kept_crossings code.crossings gone;
-  signs = kept_signs code.crossings gone;
+  positive = kept_signs code.crossings gone;
   loops = code.loops + ring_count code.crossings gone;
 }
 
@@ -72,7 +72,7 @@ abbrev pub is_kink : List ℕ → Bool
 is_kink slots = list_any (is_kink_at slots) (range_with_len 0 4)
 
 -- the code without its crossing at a place
-abbrev pub without_kink : Code → ℕ → Strands
+abbrev pub without_kink : Code → ℕ → Parts
 without_kink code place = dropped code (nat_eq place)
 
 -- two crossings meet in a bigon from a slot of the first and a slot of the second
@@ -92,5 +92,5 @@ abbrev pub is_of_two : ℕ → ℕ → ℕ → Bool
 is_of_two first second place = nat_eq first place || nat_eq second place
 
 -- the code without its crossings at two places
-abbrev pub without_finger : Code → ℕ → ℕ → Strands
+abbrev pub without_finger : Code → ℕ → ℕ → Parts
 without_finger code first second = dropped code (is_of_two first second)

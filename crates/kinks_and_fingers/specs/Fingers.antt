@@ -1,19 +1,16 @@
 -- A second Reidemeister move: the two crossings of a finger, cut out of their diagram at its four ends.
 use Rattle.std.specs.Prelude.{◌≡◌, ◌≢◌, ◌⊎◌, ◌<◌, ◌≤◌, ℕ, List, [], ◌∷◌, Bool, not, if◌then◌else◌}
+use Rattle.kinks_and_fingers.specs.FingerAdd.{crossing_with}
 
 -- the ends are numbered as those of a triangle: 1 and 2 are the tail and the head of the over arc, 3 and 4 those of the under arc, 5
 -- and 6 stand for nothing; of the sides 7 is the over arc's middle, 8 the under arc's, and 9 is a number that nothing touches
-
--- the crossing at which an under pass goes from u to v and an over pass from s to t
-abbrev pub crossing_of : Bool → ℕ → ℕ → ℕ → ℕ → List ℕ
-crossing_of is_positive u v s t = if is_positive then u ∷ t ∷ v ∷ s ∷ [] else u ∷ s ∷ v ∷ t ∷ []
 
 -- the two crossings: the over arc passes the first, then the second; they have opposite signs; the under arc passes them in the same
 -- order or in the other
 abbrev pub finger : Bool → Bool → List (List ℕ)
 finger is_positive in_order =
-    crossing_of is_positive (if in_order then 3 else 8) (if in_order then 8 else 4) 1 7
-    ∷ crossing_of (not is_positive) (if in_order then 8 else 3) (if in_order then 4 else 8) 7 2
+    crossing_with is_positive (if in_order then 3 else 8) (if in_order then 8 else 4) 1 7
+    ∷ crossing_with (not is_positive) (if in_order then 8 else 3) (if in_order then 4 else 8) 7 2
     ∷ []
 
 -- two numbers are among two others

@@ -3,7 +3,8 @@ use Rattle.std.specs.Prelude.{ℕ, ◌+◌, List, [], ◌∷◌, ◌++◌, lengt
 use Rattle.std.specs.List.{range_with_len}
 use Rattle.kh_types.specs.Directions.{positive_at}
 use Rattle.kh_types.specs.Code.{Code, arc_in}
-use Rattle.kinks_and_fingers.specs.Strands.{slots_at, enters}
+use Rattle.code_passes.specs.Parts.{slots_in}
+use Rattle.gluing.specs.Arcs.{enters}
 
 -- the number of an arc after a kink has been added to arc a: numbers above a have risen by 2
 abbrev pub raised : ℕ → ℕ → ℕ
@@ -28,13 +29,13 @@ kink_crossing is_over is_positive a =
     else a ∷ (a + 1) ∷ (a + 1) ∷ (a + 2) ∷ []
 
 -- the old crossings, on the new arcs
-abbrev pub moved_crossings : ℕ → List (List ℕ) → List (List ℕ)
-moved_crossings a crossings =
-    map (λ place. kinked_slots a (positive_at crossings place) (slots_at crossings place)) (range_with_len 0 (length crossings))
+abbrev pub raised_crossings : ℕ → List (List ℕ) → List (List ℕ)
+raised_crossings a crossings =
+    map (λ place. kinked_slots a (positive_at crossings place) (slots_in crossings place)) (range_with_len 0 (length crossings))
 
 -- the code with a kink on arc a
 abbrev pub with_kink : Bool → Bool → ℕ → Code → Code
 with_kink is_over is_positive a code = record {
-  crossings = moved_crossings a code.crossings ++ kink_crossing is_over is_positive a ∷ [];
+  crossings = raised_crossings a code.crossings ++ kink_crossing is_over is_positive a ∷ [];
   loops = code.loops;
 }

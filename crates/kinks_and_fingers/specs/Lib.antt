@@ -1,7 +1,7 @@
 pub mod FingerAdd
 pub mod Fingers
 pub mod FingerCodes
-pub mod Strands
+pub mod Planar
 pub mod DropCircles
 pub mod DropComponents
 pub mod Drops
@@ -10,3 +10,4 @@ pub mod Dropping
 pub mod KinkAdds
 pub mod WorkedDrops
 pub mod KinkCodes
+pub mod DropRule

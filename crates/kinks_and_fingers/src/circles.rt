@@ -9,9 +9,9 @@ ghost use Rattle.kh_types.specs.Circles.{circle_count};
 ghost use Rattle.kh_types.specs.Classes.{AreBelow, class_count, classes_of};
 ghost use Rattle.kh_types.specs.Code.{Code, arc_count};
 ghost use Rattle.kh_types.specs.Components.{component_count};
-ghost use Rattle.kinks_and_fingers.specs.DropComponents.{strand_component_count};
+ghost use Rattle.kinks_and_fingers.specs.DropComponents.{parts_component_count};
 ghost use Rattle.kh_types.specs.Darts.{HasArcsTwice};
-ghost use Rattle.kinks_and_fingers.specs.DropCircles.{closing_at, outer_pairs, strand_circle_count, strand_sum, through_at};
+ghost use Rattle.kinks_and_fingers.specs.DropCircles.{closing_at, outer_pairs, parts_circle_count, parts_sum, through_at};
 ghost use Rattle.kh_types.specs.StateSum.{state_sum, terms};
 ghost use Rattle.kh_types.specs.WorkedCodes.{curl, over_circle, trefoil, two_curls};
 ghost use Rattle.kinks_and_fingers.specs.Drops.{without_finger};
@@ -37,7 +37,7 @@ pub fn dropped_crossings_leave_circles()
         → kept_places code.crossings gone ≡ map kept (range_with_len 0 k)
         → ((i : ℕ) → i < k → kept i < length code.crossings)
         → ((i : ℕ) → i < k → bit new i ≡ bit state (kept i))
-        → strand_circle_count (arc_count code.crossings + 1) (dropped code gone) new + 1
+        → parts_circle_count (arc_count code.crossings + 1) (dropped code gone) new + 1
         ≡ class_count (classes_of (arc_count code.crossings + 1)
         (straight_pairs code.crossings gone ++ outer_pairs code.crossings gone state)) +
         code.loops }
@@ -51,20 +51,20 @@ pub fn kinks_close_or_go_through()
         → length code.crossings ≡ k + 1 → ((i : ℕ) → i < k
         → bit new i ≡ bit state (early c k i)) → bit state c ≡ through_at p
         → circle_count code state
-        ≡ strand_circle_count (arc_count code.crossings + 1) (without_kink code c) new }
+        ≡ parts_circle_count (arc_count code.crossings + 1) (without_kink code c) new }
     ensures closing { (code : Code) (c p k state new : ℕ) → IsTrue (accepted code)
         → HasKinkAt code.crossings c p
         → length code.crossings ≡ k + 1 → ((i : ℕ) → i < k
         → bit new i ≡ bit state (early c k i)) → bit state c ≡ closing_at p
         → circle_count code state
-        ≡ strand_circle_count (arc_count code.crossings + 1) (without_kink code c) new + 1 }
+        ≡ parts_circle_count (arc_count code.crossings + 1) (without_kink code c) new + 1 }
 {}
 
 /// Dropping a crossing with a kink keeps the state sum.
 pub fn dropped_kinks_keep_the_state_sum()
     ensures { (code : Code) (c p : ℕ) → IsTrue (accepted code) → HasKinkAt code.crossings c p
         → (exponent : ℤ)
-        → strand_sum (arc_count code.crossings + 1) (without_kink code c) exponent
+        → parts_sum (arc_count code.crossings + 1) (without_kink code c) exponent
         ≡ state_sum code exponent }
 {}
 
@@ -72,7 +72,7 @@ pub fn dropped_kinks_keep_the_state_sum()
 pub fn dropped_bigons_keep_the_state_sum()
     ensures { (code : Code) (c d p q : ℕ) → IsTrue (accepted code)
         → HasBigonAt code.crossings c d p q → (exponent : ℤ)
-        → strand_sum (arc_count code.crossings + 1) (without_finger code c d) exponent
+        → parts_sum (arc_count code.crossings + 1) (without_finger code c d) exponent
         ≡ state_sum code exponent }
 {}
 
@@ -81,18 +81,18 @@ pub fn dropped_crossings_keep_components()
     ensures { (code : Code) (gone : ℕ → Bool) (kept : ℕ → ℕ) (k : ℕ) → HasArcsTwice code.crossings
         → kept_places code.crossings gone ≡ map kept (range_with_len 0 k)
         → ((i : ℕ) → i < k → kept i < length code.crossings)
-        → strand_component_count (arc_count code.crossings + 1) (dropped code gone)
+        → parts_component_count (arc_count code.crossings + 1) (dropped code gone)
         ≡ component_count code.crossings + code.loops }
 {}
 
 /// State sums of worked codes, before and after a move.
 pub fn worked_sums()
-    ensures curl { terms (strand_sum 3 (without_kink curl 0)) ≡ terms (state_sum curl) }
-    ensures kinked { terms (strand_sum 5 (without_kink curl_kinked 1)) ≡ terms (state_sum curl) }
-    ensures two { terms (strand_sum 5 (without_kink two_curls 0)) ≡ terms (state_sum two_curls) }
-    ensures over { terms (strand_sum 5 (without_finger over_circle 0 1))
+    ensures curl { terms (parts_sum 3 (without_kink curl 0)) ≡ terms (state_sum curl) }
+    ensures kinked { terms (parts_sum 5 (without_kink curl_kinked 1)) ≡ terms (state_sum curl) }
+    ensures two { terms (parts_sum 5 (without_kink two_curls 0)) ≡ terms (state_sum two_curls) }
+    ensures over { terms (parts_sum 5 (without_finger over_circle 0 1))
         ≡ terms (state_sum over_circle) }
-    ensures fingered { terms (strand_sum 7 (without_finger curl_fingered 0 1))
+    ensures fingered { terms (parts_sum 7 (without_finger curl_fingered 0 1))
         ≡ terms (state_sum curl_fingered) }
     ensures under_plus { terms (state_sum (with_kink false true 2 curl)) ≡ terms (state_sum curl) }
     ensures under_minus { terms (state_sum (with_kink false false 2 curl))

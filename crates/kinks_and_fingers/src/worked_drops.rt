@@ -5,33 +5,33 @@ ghost use Rattle.kh_types.specs.Acceptance.{accepted};
 ghost use Rattle.kh_types.specs.WorkedCodes.{slots_with, curl, two_curls, over_circle, trefoil};
 ghost use Rattle.kinks_and_fingers.specs.Drops.{is_kink, is_bigon, without_kink, without_finger};
 ghost use Rattle.kinks_and_fingers.specs.KinkAdds.{with_kink};
-ghost use Rattle.kinks_and_fingers.specs.Strands.{slots_at};
+ghost use Rattle.code_passes.specs.Parts.{slots_in};
 ghost use Rattle.kinks_and_fingers.specs.WorkedDrops.{curl_kinked, curl_fingered};
 
 /// Worked drops.
 pub fn worked_drops()
-    ensures curl { without_kink curl 0 ≡ record { crossings = []; signs = []; loops = 1 } }
+    ensures curl { without_kink curl 0 ≡ record { crossings = []; positive = []; loops = 1 } }
     ensures over_circle { without_finger over_circle 0 1
-        ≡ record { crossings = []; signs = []; loops = 2 } }
+        ≡ record { crossings = []; positive = []; loops = 2 } }
     ensures over_bigon { is_bigon over_circle.crossings 0 1 ≡ true }
     ensures one_of_two { without_kink two_curls 0 ≡ record {
       crossings = slots_with 3 3 4 4
           ∷ [];
-      signs = true ∷ [];
+      positive = true ∷ [];
       loops = 1;
     } }
     ensures kinked { without_kink curl_kinked 1 ≡ record {
       crossings = slots_with 1 1 4 4
           ∷ [];
-      signs = true ∷ [];
+      positive = true ∷ [];
       loops = 0;
     } }
     ensures fingered { without_finger curl_fingered 0 1
-        ≡ record { crossings = slots_with 3 3 1 1 ∷ []; signs = true ∷ []; loops = 0 } }
-    ensures kink { is_kink (slots_at curl_kinked.crossings 1) ≡ true }
+        ≡ record { crossings = slots_with 3 3 1 1 ∷ []; positive = true ∷ []; loops = 0 } }
+    ensures kink { is_kink (slots_in curl_kinked.crossings 1) ≡ true }
     ensures bigon { is_bigon curl_fingered.crossings 0 1 ≡ true }
     ensures no_bigon { is_bigon trefoil.crossings 0 1 ≡ false }
-    ensures no_kink { is_kink (slots_at trefoil.crossings 0) ≡ false }
+    ensures no_kink { is_kink (slots_in trefoil.crossings 0) ≡ false }
 {}
 
 /// Worked kinks.

@@ -1,21 +1,17 @@
 -- The generators of two degrees: which they are, and how many.
-use Rattle.std.proofs.Common.{◌≡◌, ◌≢◌, ℕ, zero, suc, ◌+◌, ◌^◌, ◌<◌, ◌≤◌, ◌∙◌, inl, inr, ℤ, List, length, get_or, refl, sym, ap, arith, true, cond, ◌&&◌}
+use Rattle.std.proofs.Common.{◌≡◌, ◌≢◌, ℕ, zero, suc, ◌+◌, ◌^◌, ◌<◌, ◌∙◌, inl, inr, ℤ, List, length, get_or, arith, true, cond}
 use Rattle.std.specs.List.{AllByRecursion, Contains, flat_map, range_with_len, sum_by}
-use Rattle.std.proofs.lemmas.Bool.{cases_eq, cases_lt}
 use Rattle.std.proofs.lemmas.List.Elements.{All-filter, All-from_recursion, All-get_or, filter_passes}
 use Rattle.std.proofs.lemmas.List.FromFn.{get_or-range_with_len, length-range_with_len}
-use Rattle.std.proofs.lemmas.List.Sums.{length-filter, sum_by-cons}
-use Rattle.std.proofs.Math.Pow.{pow-lt}
+use Rattle.std.proofs.lemmas.List.Sums.{length-filter}
 use Rattle.kh_types.specs.Circles.{circle_count}
-use Rattle.kh_types.specs.Code.{Code, IsCrossing, place_of}
-use Rattle.kh_types.specs.Differential.{coefficient, coefficient_at, edge_sign}
-use Rattle.kh_types.specs.Edges.{state_behind}
+use Rattle.kh_types.specs.Code.{Code, IsCrossing}
+use Rattle.kh_types.specs.Differential.{coefficient, coefficient_at}
 use Rattle.kh_types.specs.Generators.{Generator, generator_of, generators, generators_at, generators_of, has_degrees, states}
 use Rattle.kh_types.proofs.Lists.{AllByRecursion-append, Contains-filter, Contains-flat_map, Contains-map}
-use Rattle.kh_types.proofs.ListSums.{sum_by-alike, sum_by-flat_map, sum_by-map, sum_by-single, sum_by-some}
+use Rattle.kh_types.proofs.ListSums.{sum_by-alike, sum_by-flat_map, sum_by-map, sum_by-some}
 use Rattle.kh_types.proofs.RangeImages.{all-map_range}
-use Rattle.cube_squares.proofs.Pairs.{IsStep, edge_or_zero, is_edge-decides}
-use Rattle.cube_squares.proofs.TouchedCircles.{fits}
+use Rattle.cube_squares.proofs.Pairs.{IsStep, edge_or_zero}
 
 -- a generator of the cube: its state and its label are below their limits
 pub record IsGenerator (code : Code) (generator : Generator) : Type 0 where

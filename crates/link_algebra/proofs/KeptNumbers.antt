@@ -20,7 +20,7 @@ use Rattle.kh_types.proofs.Ranges.{range-append}
 use Rattle.code_passes.specs.Passes.{Pass, is_over}
 use Rattle.code_passes.proofs.CutArcs.{IsFirst, IsFirst-next, end-within, size, size-positive}
 use Rattle.code_passes.proofs.LeastArcs.{IsFirstOf-directed}
-use Rattle.orient_arcs.specs.Parts.{Parts, passes_through, slots_in}
+use Rattle.code_passes.specs.Parts.{Parts, passes_through, slots_in}
 use Rattle.orient_arcs.specs.Renumbered.{bound_of, follows, is_in, label_entered, number_in, order_of, renumber, turned_names, walk}
 use Rattle.orient_arcs.specs.Steps.{is_new, order_below}
 use Rattle.orient_arcs.proofs.ArcWalks.{walk-arcs}

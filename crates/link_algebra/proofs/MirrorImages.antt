@@ -22,7 +22,7 @@ use Rattle.code_passes.proofs.TwoArcComponents.{turned_labels-component}
 use Rattle.orient_arcs.proofs.Members.{neq-eqb}
 use Rattle.orient_arcs.proofs.PlacedNumbers.{placed-numbers}
 use Rattle.orient_arcs.specs.Renumbered.{label_entered, number_in, order_of}
-use Rattle.orient_arcs.specs.Parts.{passes_through}
+use Rattle.code_passes.specs.Parts.{passes_through}
 use Rattle.link_algebra.specs.Mirrors.{EntersInOrder, mirror_of, mirror_parts}
 use Rattle.link_algebra.proofs.MirrorParts.{IsTurnOf-mirror, mirror_turn}
 use Rattle.link_algebra.proofs.MirrorPasses.{arc-there, follows-next, label-mirrored, paired_parts, there-arc, under-of}

@@ -10,7 +10,7 @@ use Rattle.kh_types.specs.Directions.{is_positive}
 use Rattle.kh_types.proofs.Heads.{HasNoSingleArcs-accepted}
 use Rattle.kh_types.proofs.ListSums.{sum_by-flat_map, sum_by-range_alike}
 use Rattle.code_passes.specs.Passes.{Pass}
-use Rattle.orient_arcs.specs.Parts.{head_count, is_positive_at, over_pass, parts_of, passes_at, passes_through, slots_in, tail_count, under_pass}
+use Rattle.code_passes.specs.Parts.{head_count, is_positive_at, over_pass, parts_of, passes_at, passes_through, slots_in, tail_count, under_pass}
 use Rattle.orient_arcs.proofs.PairedCodes.{ArePaired-directed}
 use Rattle.link_algebra.specs.Mirrors.{mirror_parts, mirror_slots, over_slot, reversal_parts, reversal_slots, slots_from}
 use Rattle.link_algebra.proofs.TurnedParts.{IsTurnOf}

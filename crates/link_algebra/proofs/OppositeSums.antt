@@ -1,11 +1,10 @@
 -- State sums at the opposite exponents.
-use Rattle.std.proofs.Common.{◌≡◌, ℕ, zero, suc, ◌+◌, ◌-◌, ◌*◌, ◌%◌, ◌<◌, ◌∙◌, ℤ, pos, negsuc, neg_ℤ, ◌+ℤ◌, ◌-ℤ◌, refl, sym, ap, ap₂, arith, cond}
-use Rattle.std.specs.Prelude.{nat_eq}
+use Rattle.std.proofs.Common.{◌≡◌, ℕ, zero, suc, ◌+◌, ◌-◌, ◌*◌, ◌<◌, ◌∙◌, ℤ, pos, negsuc, neg_ℤ, ◌+ℤ◌, ◌-ℤ◌, refl, sym, ap, ap₂, arith, cond}
 use Rattle.std.specs.List.{range_with_len}
 use Rattle.std.specs.Ordering.{int_eq}
 use Rattle.std.proofs.lemmas.Bool.Decides.{Decides-int_eq, Decides-like, same_from_decides}
 use Rattle.std.proofs.lemmas.Int.{ints}
-use Rattle.kh_types.specs.StateSum.{circle_coefficient, signed_by, signed_by_parity, term_of}
+use Rattle.kh_types.specs.StateSum.{circle_coefficient, signed_by, term_of}
 use Rattle.link_algebra.proofs.IntSums.{sum_over}
 use Rattle.kh_types.proofs.AlternatingSums.{signed_by_parity-alike}
 

@@ -16,7 +16,7 @@ use Rattle.code_passes.specs.Passes.{Pass, is_over}
 use Rattle.code_passes.proofs.CutArcs.{IsFirst, component-in, end-within, size, size-positive}
 use Rattle.code_passes.proofs.LeastArcs.{IsFirstOf-directed}
 use Rattle.orient_arcs.specs.OtherNames.{IsNamedBy, KeepsComponents}
-use Rattle.orient_arcs.specs.Parts.{ArePaired, is_positive_at, over_pass, passes_at, passes_through, slots_in, under_pass}
+use Rattle.code_passes.specs.Parts.{ArePaired, is_positive_at, over_pass, passes_at, passes_through, slots_in, under_pass}
 use Rattle.orient_arcs.specs.Renumbered.{follows, label_entered, number_in, order_of, walk}
 use Rattle.orient_arcs.proofs.KeptOrder.{own-crossings}
 use Rattle.orient_arcs.proofs.Members.{IsIn, neq-eqb}

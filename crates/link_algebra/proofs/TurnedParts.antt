@@ -13,7 +13,7 @@ use Rattle.kh_types.specs.Edges.{arc_at_slot}
 use Rattle.kh_types.proofs.EdgeNames.{IsArc-slot}
 use Rattle.kh_types.proofs.Heads.{HasNoSingleArcs-accepted}
 use Rattle.code_passes.specs.Passes.{Pass}
-use Rattle.orient_arcs.specs.Parts.{ArePaired, Parts, head_count, is_positive_at, parts_of, passes_through, tail_count}
+use Rattle.code_passes.specs.Parts.{ArePaired, Parts, head_count, is_positive_at, parts_of, passes_through, tail_count}
 use Rattle.orient_arcs.specs.Renumbered.{number_in, order_of, renumber}
 use Rattle.orient_arcs.proofs.AcceptedParts.{over-apart}
 use Rattle.orient_arcs.proofs.Bridge.{IsDirected-renumbered, distinct-order, heads-order, length-order, length-renumbered, number-arc, order-heads, sign-kept, slot-renumbered}

@@ -3,7 +3,7 @@ use Rattle.std.proofs.Common.{Bool, IsTrue, List, [], ap, ap₂, arith, cond, fa
 use Rattle.std.proofs.lemmas.List.{append_assoc, length-append, length-map, map-append}
 use Rattle.std.proofs.lemmas.List.Sums.{sum_by-append}
 use Rattle.std.proofs.lemmas.Nat.Bits.{bit_at_cat_high, bit_at_cat_low}
-use Rattle.std.specs.List.{enumerate_from, flat_map, range_with_len, sum_by}
+use Rattle.std.specs.List.{range_with_len, sum_by}
 use Rattle.std.specs.Prelude.{nat_eq, slice_index_or}
 use Rattle.kh_types.proofs.ClassCounts.{AreBelow-wider, class_count-circles, class_count-wider}
 use Rattle.kh_types.proofs.EdgeNames.{IsArc-slot}

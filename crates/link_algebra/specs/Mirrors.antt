@@ -3,7 +3,7 @@ use Rattle.std.specs.Prelude.{◌≡◌, ℕ, ◌+◌, ◌-◌, ◌%◌, ◌^◌
 use Rattle.kh_types.specs.Code.{Code, IsArc, arc_in, crossing_numbers, slots_of}
 use Rattle.kh_types.specs.Components.{arcs_in, component_of, components_of}
 use Rattle.kh_types.specs.Directions.{head_of, is_positive}
-use Rattle.orient_arcs.specs.Parts.{Parts}
+use Rattle.code_passes.specs.Parts.{Parts}
 use Rattle.orient_arcs.specs.Renumbered.{renumber}
 
 -- the arcs at a crossing, counterclockwise, from a slot on

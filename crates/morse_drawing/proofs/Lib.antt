@@ -40,3 +40,4 @@ mod JoinedEnds
 mod EndLemmas
 mod FoundPairs
 mod ReadSlices
+mod RulePages

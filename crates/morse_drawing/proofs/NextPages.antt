@@ -7,18 +7,14 @@ use Rattle.face_walk.specs.AddedArcs.{IsPlanar, open_piece_count}
 use Rattle.morse_drawing.specs.Sketches.{IsSketched, no_sketch, sketch_of}
 use Rattle.morse_drawing.specs.Joins.{first_slice_fault}
 use Rattle.morse_drawing.specs.ReadBack.{is_cross}
-use Rattle.morse_drawing.specs.DartRows.{IsDrawing, IsIn}
+use Rattle.morse_drawing.specs.DartRows.{IsDrawing}
+use Rattle.morse_drawing.specs.PageRules.{IsLastPage}
 use Rattle.morse_drawing.specs.Pages.{Page, blank_page, pages_on}
 use Rattle.morse_drawing.specs.Progress.{undrawn_count, IsPage, IsPageOf}
 
 -- how much is left to draw
 abbrev pub left_over : ℕ → Page → ℕ
 left_over n page = 5 * undrawn_count n page.drawn + length page.row
-
--- it is finished where the row is empty and all crossings are drawn
-pub record IsLastPage (n : ℕ) (page : Page) : Type 0 where
-  pub row : page.row ≡ []
-  pub all : (c : ℕ) → c < n → IsIn c page.drawn
 
 -- the whole: each dart has a partner, and there are as many faces as on the sphere
 pub record IsWholeSphere (n : ℕ) (whole : ℕ → ℕ) : Type 0 where

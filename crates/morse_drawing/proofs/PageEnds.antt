@@ -1,8 +1,6 @@
 -- The steps of a drawing come to an end, where all crossings are drawn and all arcs are closed.
 use Rattle.std.proofs.Common.{◌≡◌, ℕ, zero, suc, ◌⊎◌, inl, inr, ◌+◌, ◌*◌, ◌/◌, ◌<◌, ◌≤◌, ◌∙◌, List, [], ◌∷◌, length, refl, sym, ap, subst, arith, Bool, true, false, cond}
-use Rattle.kh_types.specs.Classes.{classes_of}
-use Rattle.kh_types.proofs.ClassLemmas.{classes-finest, classes-together}
-use Rattle.std.specs.Prelude.{◌↔◌, min, slice_index, not, None, IsTrue}
+use Rattle.std.specs.Prelude.{min, not, None, IsTrue}
 use Rattle.std.specs.List.{count_by, range_with_len}
 use Rattle.std.proofs.lemmas.Bool.{both_ways}
 use Rattle.std.proofs.lemmas.List.Sums.{sum_by-cons}
@@ -17,9 +15,9 @@ use Rattle.face_walk.specs.AddedArcs.{bare}
 use Rattle.morse_drawing.specs.DartRows.{IsDrawing, IsIn}
 use Rattle.morse_drawing.specs.Pages.{Page, blank_page, by_crossing, is_in, page_of, next_page, next_page_by, pages_on, undrawn}
 use Rattle.morse_drawing.specs.Sketches.{IsSketched, segment_met, sketch_of}
-use Rattle.morse_drawing.proofs.JoinedSegments.{MeetJoined}
 use Rattle.morse_drawing.specs.Progress.{IsPage, undrawn_count}
-use Rattle.morse_drawing.proofs.NextPages.{IsDrawn, IsLastPage, IsWholeSphere, left_over}
+use Rattle.morse_drawing.specs.PageRules.{IsLastPage}
+use Rattle.morse_drawing.proofs.NextPages.{IsDrawn, IsWholeSphere, left_over}
 use Rattle.morse_drawing.proofs.RowRules.{IsDrawing-none, IsDrawing-whole}
 use Rattle.morse_drawing.proofs.PieceCounts.{pieces-same}
 use Rattle.morse_drawing.proofs.Faults.{in-range, none-counted}
@@ -42,7 +40,7 @@ none-undrawn n drawn all = elim (Search-is (λ c. not (is_in drawn c)) 0 n) [
   | missing fails found ↦ found
 ]
 
-finished-next_page : (n : ℕ) (whole : ℕ → ℕ) (page : Page) → IsLastPage n page → next_page n whole page ≡ page
+pub finished-next_page : (n : ℕ) (whole : ℕ → ℕ) (page : Page) → IsLastPage n page → next_page n whole page ≡ page
 finished-next_page n whole page is =
     ap (next_page_by n whole page) is.row ∙ ap (by_crossing page) (none-undrawn n page.drawn is.all)
 

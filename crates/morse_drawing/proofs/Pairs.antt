@@ -25,7 +25,7 @@ use Rattle.morse_drawing.specs.declared.fault.SliceFault.{SliceFault}
 use Rattle.morse_drawing.specs.Joins.{JoinedDarts, answer_by, arc_from, arc_pairs, are_ends, class_met, ends_fault, ends_of, fault_where, first_slice_fault, is_first, is_outside, joined_in, joined_within, loop_count, slice_fault, pair_with, pairs_from, pairs_of, segment_classes}
 use Rattle.morse_drawing.specs.declared.fault.SliceFault.TheVariants.{Ends, Loops, Place}
 use Rattle.morse_drawing.proofs.NextPages.{IsWholeSphere}
-use Rattle.morse_drawing.specs.ReadBack.{IsAlike, code_read, crossing_read, is_cross}
+use Rattle.morse_drawing.specs.ReadBack.{AreAlikeCodes, code_read, crossing_read, is_cross}
 use Rattle.morse_drawing.proofs.ReadBack.{arcs-sketched}
 use Rattle.morse_drawing.specs.Pages.{loop_slices, page_of, slices_with}
 use Rattle.morse_drawing.specs.declared.slice.Slice.TheVariants.{Cap, Cup}
@@ -255,10 +255,10 @@ joins-one r one two first second = inside (Ok two) one (sym second ∙ first) tw
     inside : (s : Result JoinedDarts SliceFault) (a : JoinedDarts) → s ≡ Ok a → (b : JoinedDarts) → s ≡ Ok b → b ≡ a
     inside s a to_a b to_b = ap (λ t. value t a) (sym to_b ∙ to_a)
 
-pub IsAlike-sketched : (limit : ℕ) (code : Code) (joins : JoinedDarts) → limit ≤ 31 → length code.crossings ≤ limit → IsTrue (accepted code)
+pub AreAlikeCodes-sketched : (limit : ℕ) (code : Code) (joins : JoinedDarts) → limit ≤ 31 → length code.crossings ≤ limit → IsTrue (accepted code)
     → joined_within limit (slices_with (length code.crossings) (partner_at code.crossings) code.loops) ≡ Ok joins
-    → IsAlike code (code_read (slices_with (length code.crossings) (partner_at code.crossings) code.loops) joins)
-IsAlike-sketched limit code joins most small is gives =
+    → AreAlikeCodes code (code_read (slices_with (length code.crossings) (partner_at code.crossings) code.loops) joins)
+AreAlikeCodes-sketched limit code joins most small is gives =
     let n = length code.crossings in
     let whole = partner_at code.crossings in
     let is_whole = IsWholeSphere-accepted code is in
@@ -267,14 +267,17 @@ IsAlike-sketched limit code joins most small is gives =
     let same : joins ≡ drawn =
     joins-one (joined_within limit slices) drawn joins
     (joins-drawn limit n whole code.loops small (omega (arith, most, small)) (few code.loops (accepted_loops code is)) is_whole) gives in
-    let made : IsAlike code (record { crossings = map (crossing_read drawn.pairs) (range_with_len 0 n); loops = code.loops }) =
+    let made : AreAlikeCodes code (record { crossings = map (crossing_read drawn.pairs) (range_with_len 0 n); loops = code.loops }) =
     record {
-      crossings = length-map (range_with_len 0 n) (crossing_read drawn.pairs) ∙ length-range_with_len 0 n;
+      crossings = record {
+        size = length-map (range_with_len 0 n) (crossing_read drawn.pairs) ∙ length-range_with_len 0 n;
+        onward = λ x y x_below y_below. (arcs-sketched code.crossings x y (HasArcsTwice-accepted code is) is_whole x_below y_below).1;
+        back = λ x y x_below y_below. (arcs-sketched code.crossings x y (HasArcsTwice-accepted code is) is_whole x_below y_below).0;
+      };
       loops = refl;
-      arcs = λ x y x_below y_below. arcs-sketched code.crossings x y (HasArcsTwice-accepted code is) is_whole x_below y_below;
     } in
-    subst (λ (j : JoinedDarts). IsAlike code (code_read slices j)) (sym same)
-    (subst (λ (m : ℕ). IsAlike code (record { crossings = map (crossing_read drawn.pairs) (range_with_len 0 m); loops = code.loops }))
+    subst (λ (j : JoinedDarts). AreAlikeCodes code (code_read slices j)) (sym same)
+    (subst (λ (m : ℕ). AreAlikeCodes code (record { crossings = map (crossing_read drawn.pairs) (range_with_len 0 m); loops = code.loops }))
     (sym (crosses-slices n whole code.loops is_whole)) made)
   where
     few : (loops : ℕ) → loops ≤ COMPONENTS → loops ≤ 255

@@ -7,3 +7,4 @@ pub mod DartRows
 pub mod Progress
 pub mod Seen
 pub mod OpenEnds
+pub mod PageRules

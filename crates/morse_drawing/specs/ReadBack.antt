@@ -1,10 +1,11 @@
 -- The code that is read back from a drawing: its crossings are those of the slices, and its arcs are numbered as the pairs of darts are
 -- listed. It is the drawn code up to the numbers of its arcs (this project's rule).
-use Rattle.std.specs.Prelude.{◌≡◌, ◌↔◌, ℕ, suc, ◌+◌, ◌*◌, ◌<◌, List, [], ◌∷◌, length, map, nat_eq, Bool, true, false, if◌then◌else◌}
+use Rattle.std.specs.Prelude.{◌≡◌, ℕ, suc, ◌+◌, ◌*◌, List, [], ◌∷◌, map, nat_eq, Bool, true, false, if◌then◌else◌}
 use Rattle.std.specs.List.{count_by, list_any, range_with_len}
 use Rattle.kh_types.specs.Code.{Code}
-use Rattle.kh_types.specs.Darts.{arc_of, dart_at, dart_place}
+use Rattle.kh_types.specs.Darts.{dart_place}
 use Rattle.kh_types.specs.declared.dart.Dart.{Dart}
+use Rattle.gluing.specs.Alike.{AreAlike}
 use Rattle.morse_drawing.specs.Joins.{JoinedDarts}
 use Rattle.morse_drawing.specs.declared.slice.Slice.{Slice}
 use Rattle.morse_drawing.specs.declared.slice.Slice.TheVariants.{Cap, Cup, Cross}
@@ -33,10 +34,7 @@ is_cross (Cross at crossing slot) = true
 abbrev pub code_read : List Slice → JoinedDarts → Code
 code_read slices joins = record { crossings = map (crossing_read joins.pairs) (range_with_len 0 (count_by is_cross slices)); loops = joins.loops }
 
--- two codes are one up to the numbers of their arcs
-pub record IsAlike (code other : Code) : Type 0 where
-  pub crossings : length other.crossings ≡ length code.crossings
+-- two codes are one up to the numbers of their arcs: their crossings are alike, and they have as many loops
+pub record AreAlikeCodes (code other : Code) : Type 0 where
+  pub crossings : AreAlike code.crossings other.crossings
   pub loops : other.loops ≡ code.loops
-  pub arcs : (x y : ℕ) → x < 4 * length code.crossings → y < 4 * length code.crossings
-      → (arc_of other.crossings (dart_at x) ≡ arc_of other.crossings (dart_at y))
-      ↔ (arc_of code.crossings (dart_at x) ≡ arc_of code.crossings (dart_at y))

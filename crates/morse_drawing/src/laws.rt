@@ -1,6 +1,6 @@
 //! What drawings are, on known diagrams and in general.
 
-ghost use Rattle.std.specs.Prelude.{◌≡◌, ◌≢◌, ◌≤◌, ◌<◌, ◌+◌, ◌*◌, ℕ, [], ◌∷◌, IsTrue, Ok, Err, None, codes, length, map, max, take};
+ghost use Rattle.std.specs.Prelude.{◌≡◌, ◌≢◌, ◌≤◌, ◌<◌, ◌+◌, ◌*◌, ◌++◌, ℕ, List, [], ◌∷◌, IsTrue, Ok, Err, None, codes, length, map, max, take};
 ghost use Rattle.std.specs.Option.{IsSome};
 ghost use Rattle.kh_types.specs.Acceptance.{accepted};
 ghost use Rattle.kh_types.specs.Code.{Code};
@@ -9,8 +9,9 @@ ghost use Rattle.kh_types.specs.Faces.{piece_count};
 ghost use Rattle.kh_types.specs.WorkedCodes.{curl, slots_with, trefoil, without_loops};
 ghost use Rattle.kh_types.specs.declared.limits.TheConstants.{CROSSINGS};
 ghost use Rattle.morse_drawing.specs.Joins.{JoinedDarts, arc_pairs, ends_of, joined_by};
-ghost use Rattle.morse_drawing.specs.Pages.{blank_page, is_in, leading, loop_slices, page_of, pages_on, paired, slices_of};
-ghost use Rattle.morse_drawing.specs.ReadBack.{IsAlike, code_read};
+ghost use Rattle.morse_drawing.specs.Pages.{Page, blank_page, is_in, leading, loop_slices, page_of, pages_on, paired, slices_of};
+ghost use Rattle.morse_drawing.specs.PageRules.{ArePages, last_page};
+ghost use Rattle.morse_drawing.specs.ReadBack.{AreAlikeCodes, code_read};
 ghost use Rattle.morse_drawing.specs.Texts.{IsPlaced, cells, drawing_text, strands_after, strands_behind};
 ghost use Rattle.morse_drawing.specs.declared.limits.TheConstants.{CAP_STRANDS, DRAWN_STRANDS, JOINED_LOOPS};
 ghost use Rattle.morse_drawing.specs.declared.slice.Slice.{Slice};
@@ -45,6 +46,20 @@ pub fn drawings_finish()
         ≡ page_of (length code.crossings) (partner_at code.crossings) }
 {}
 
+/// The pages of a drawing are given by the rules alone: there is one list of pages of which the
+/// first follows the blank one, each follows the one before it, and the last has an empty row and
+/// all crossings. The slices are those of the last page, and then those of the loops.
+pub fn pages_follow_the_rules()
+    ensures all { (code : Code) → IsTrue (accepted code) → (pages : List Page) × ArePages code pages
+        × (last_page blank_page pages
+        ≡ page_of (length code.crossings) (partner_at code.crossings)) }
+    ensures one { (code : Code) (pages others : List Page) → ArePages code pages
+        → ArePages code others → pages ≡ others }
+    ensures slices { (code : Code) (pages : List Page) → IsTrue (accepted code)
+        → ArePages code pages
+        → slices_of code ≡ (last_page blank_page pages).slices ++ loop_slices code.loops }
+{}
+
 /// Between any two slices of an accepted code there are at most two strands for each crossing, and
 /// two more; so a cap never stands beside too many.
 pub fn drawings_have_few_strands()
@@ -74,7 +89,7 @@ pub fn neighbours_are_partners()
 /// numbers of its arcs.
 pub fn drawings_tell_codes()
     ensures { (code : Code) (joins : JoinedDarts) → IsTrue (accepted code) → length code.crossings ≤ CROSSINGS
-        → joined_by (slices_of code) ≡ Ok joins → IsAlike code (code_read (slices_of code) joins) }
+        → joined_by (slices_of code) ≡ Ok joins → AreAlikeCodes code (code_read (slices_of code) joins) }
 {}
 
 /// Loops alone: up to 255 are joined, and of more the slice is named that closes the 256th.

@@ -14,11 +14,12 @@ use Rattle.kh_types.specs.Acceptance.{accepted}
 use Rattle.kh_types.proofs.AcceptedLemmas.{IsAccepted-is, HasArcsTwice-directed}
 use Rattle.kh_types.proofs.CircleBound.{ArcsBelow-slots}
 use Rattle.kh_types.proofs.Heads.{HasNoSingleArcs-accepted}
-use Rattle.orient_arcs.specs.Parts.{Parts, ArePaired}
+use Rattle.code_passes.specs.Parts.{Parts, ArePaired}
 use Rattle.orient_arcs.specs.Renumbered.{renumber}
-use Rattle.orient_arcs.specs.Alike.{AreAlike, IsOf}
+use Rattle.orient_arcs.specs.Alike.{IsOf}
 use Rattle.orient_arcs.proofs.Bridge.{IsDirected-renumbered, sign-kept}
 use Rattle.orient_arcs.proofs.AlikeCrossings.{AreAlike-then, AreAlike-renumbered, IsCheckerboard-alike, faces-alike, pieces-alike, component_count-alike, state_sum-alike, name_count}
+use Rattle.gluing.specs.Alike.{AreAlike}
 
 count-agree : (p q : ℕ → Bool) (a n : ℕ) → ((k : ℕ) → a ≤ k → k < a + n → p k ≡ q k)
     → count_by p (range_with_len a n) ≡ count_by q (range_with_len a n)

@@ -1,5 +1,5 @@
 -- Crossings that are alike have the same partners, faces, pieces, checkerboards and circles.
-use Rattle.std.proofs.Common.{◌≡◌, ℕ, zero, suc, inl, inr, ◌+◌, ◌-◌, ◌*◌, ◌/◌, ◌%◌, ◌^◌, ◌<◌, ◌≤◌, ◌∙◌, List, [], ◌∷◌, length, map, get_or, refl, sym, ap, ap₂, subst, arith, Bool, true, cond, not, ◌&&◌, ℤ, ◌+ℤ◌}
+use Rattle.std.proofs.Common.{◌≡◌, ℕ, zero, suc, inl, inr, ◌+◌, ◌-◌, ◌*◌, ◌/◌, ◌%◌, ◌^◌, ◌<◌, ◌≤◌, ◌∙◌, List, [], ◌∷◌, length, map, get_or, refl, sym, ap, ap₂, subst, arith, Bool, true, cond, not, ◌&&◌, ℤ}
 use Rattle.std.specs.Prelude.{nat_eq, unwrap_or, Some, slice_index}
 use Rattle.std.specs.List.{find, list_all, range_with_len}
 use Rattle.std.specs.Option.{option_map}
@@ -22,17 +22,19 @@ use Rattle.kh_types.proofs.JoinedClasses.{slice_index-range}
 use Rattle.kh_types.proofs.ClassCounts.{class_count-wider, class_count-circles, class_count-components}
 use Rattle.kh_types.proofs.CircleBound.{ArcsBelow, ArcsBelow-slots, smoothings_of-below, passes_of-below}
 use Rattle.kh_types.proofs.DartPairs.{dart_at-place, dart_place-below, IsDart-at, IsDartOf-first_dart, first_dart_or_partner, partner-partner}
-use Rattle.orient_arcs.specs.Alike.{AreAlike, HasNamesBelow}
+use Rattle.orient_arcs.specs.Alike.{HasNamesBelow}
 use Rattle.gluing.specs.Glue.{renamed, Places, JoinAlike}
-use Rattle.orient_arcs.specs.Parts.{Parts, ArePaired, passes_through}
+use Rattle.code_passes.specs.Parts.{Parts, ArePaired, passes_through}
 use Rattle.orient_arcs.specs.Renumbered.{order_of, number_in, renumber}
 use Rattle.orient_arcs.proofs.Bridge.{length-renumbered, slot-renumbered, slot-head, number-once}
 use Rattle.orient_arcs.proofs.Members.{neq-eqb}
 use Rattle.gluing.proofs.Glued.{class_count-glued_parts}
-use Rattle.orient_arcs.proofs.DartSmoothings.{arc_of_dart, smoothings_of-darts, dart_passes, passes_of-darts, dart_passes-below}
+use Rattle.gluing.specs.Codes.{arc_of_dart}
+use Rattle.orient_arcs.proofs.DartSmoothings.{smoothings_of-darts, dart_passes, passes_of-darts, dart_passes-below}
 use Rattle.kh_types.proofs.IntSums.{int_sum-alike}
 use Rattle.gluing.proofs.DartPairs.{dart_smoothings}
 use Rattle.gluing.proofs.CodeCircles.{dart_smoothings-below}
+use Rattle.gluing.specs.Alike.{AreAlike}
 
 pub AreAlike-back : (crossings others : List (List ℕ)) → AreAlike crossings others → AreAlike others crossings
 AreAlike-back crossings others alike = record {

@@ -11,17 +11,14 @@ use Rattle.kh_types.specs.Directions.{is_positive}
 use Rattle.kh_types.specs.Accepted.{IsDirected}
 use Rattle.code_passes.specs.Labels.{listed_number, bad_label}
 use Rattle.code_passes.specs.Passes as gauss
-use Rattle.code_passes.specs.Passes.{Pass, all_passes, slots_between}
-use Rattle.code_passes.specs.Passes.{all_labels}
+use Rattle.code_passes.specs.Passes.{Pass, all_passes, slots_between, all_labels, crossings_in, crossings_of}
 use Rattle.code_passes.proofs.CrossingPasses as passing
 use Rattle.code_passes.proofs.CrossingPasses.{under-holds, over-holds, label-under, label-over}
-use Rattle.code_passes.specs.Passes.{crossings_in}
-use Rattle.code_passes.specs.Passes.{crossings_of}
 use Rattle.code_passes.proofs.TextComponents.{next-passes}
 use Rattle.code_passes.proofs.DirectedText.{IsDirected-crossings}
 use Rattle.code_passes.proofs.OverPasses.{GoodText}
 use Rattle.code_passes.proofs.TextSigns.{is_positive-listed}
-use Rattle.orient_arcs.specs.Parts.{Parts, ArePaired, passes_through, slots_in, is_positive_at, under_pass, over_pass}
+use Rattle.code_passes.specs.Parts.{Parts, ArePaired, passes_through, slots_in, is_positive_at, under_pass, over_pass}
 use Rattle.orient_arcs.specs.Renumbered.{entering, follows, label_entered, bound_of, all_of, named_components, order_of, number_in, renamed_crossing, renumber}
 use Rattle.orient_arcs.proofs.Members.{IsIn, AreDistinct, length-among, position-get, get-IsIn}
 use Rattle.orient_arcs.proofs.AllComponents.{AreSoFar, AreSoFar-fold}

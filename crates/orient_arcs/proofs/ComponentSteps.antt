@@ -8,7 +8,7 @@ use Rattle.std.proofs.lemmas.List.Sums.{fold-append}
 use Rattle.std.proofs.lemmas.Grind.{flat_map-append}
 use Rattle.kh_types.proofs.Ranges.{range_from_zero}
 use Rattle.code_passes.specs.Passes.{Pass, is_over}
-use Rattle.orient_arcs.specs.Parts.{Parts, ArePaired, passes_through}
+use Rattle.code_passes.specs.Parts.{Parts, ArePaired, passes_through}
 use Rattle.orient_arcs.specs.Renumbered.{follows, label_entered, all_of, is_in, walk, with_component, turned_names}
 use Rattle.orient_arcs.specs.Steps.{order_below, is_new, start_of}
 use Rattle.orient_arcs.proofs.Members.{IsIn, length-among, is_in-true, true-is_in, neq-eqb}

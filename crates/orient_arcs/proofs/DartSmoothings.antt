@@ -1,28 +1,22 @@
 -- The smoothings of crossings by darts, which are numbered without regard to arcs.
-use Rattle.std.proofs.Common.{◌≡◌, ℕ, zero, suc, ◌+◌, ◌*◌, ◌/◌, ◌%◌, ◌<◌, ◌≤◌, ◌∙◌, List, [], ◌∷◌, ◌++◌, sym, refl, length, ap, ap₂, arith, Bool, true, false, cond}
-use Rattle.std.specs.Prelude.{slice_index_or, nat_eq}
-use Rattle.std.specs.List.{flat_map, enumerate_from, range_with_len}
+use Rattle.std.proofs.Common.{◌≡◌, ℕ, zero, suc, ◌+◌, ◌*◌, ◌/◌, ◌%◌, ◌<◌, ◌≤◌, ◌∙◌, List, [], ◌∷◌, ◌++◌, sym, refl, length, ap, ap₂, arith}
+use Rattle.std.specs.Prelude.{slice_index_or}
+use Rattle.std.specs.List.{flat_map, range_with_len}
 use Rattle.std.proofs.lemmas.List.{map-append}
-use Rattle.kh_types.specs.Bits.{bit}
 use Rattle.kh_types.specs.Code.{arc_in}
 use Rattle.kh_types.specs.Classes.{AreBelow}
 use Rattle.kh_types.specs.Components.{passes_of}
-use Rattle.kh_types.specs.Circles.{smoothing_of, smoothings_of}
+use Rattle.kh_types.specs.Circles.{smoothings_of}
+use Rattle.gluing.specs.Arcs.{arc_by_place}
+use Rattle.gluing.specs.Codes.{arc_of_dart}
 use Rattle.gluing.specs.Glue.{renamed}
 use Rattle.gluing.proofs.DartPairs.{dart_smoothings}
-use Rattle.gluing.proofs.CodeCircles.{smoothing_by, smoothing_by-below, smoothing_by-same, smoothing_by-renamed, smoothing_of-darts, smoothings-from, dart_smoothings-from, dart_smoothings-below}
+use Rattle.gluing.proofs.CodeCircles.{smoothings-from}
 use Rattle.gluing.proofs.Renamed.{AreBelow-append}
-
-abbrev arc_at : List (List ℕ) → ℕ → ℕ → ℕ
-arc_at crossings place slot = arc_in (slice_index_or crossings place []) slot
 
 -- the darts of the crossing at a place of the list, by their slots
 abbrev pub darts_of : ℕ → List ℕ
 darts_of place = 4 * place ∷ (4 * place + 1) ∷ (4 * place + 2) ∷ (4 * place + 3) ∷ []
-
--- the arc of a dart
-abbrev pub arc_of_dart : List (List ℕ) → ℕ → ℕ
-arc_of_dart crossings dart = arc_at crossings (dart / 4) (dart % 4)
 
 -- smoothings, on any four names
 
@@ -34,8 +28,8 @@ at_dart arc dart = arc (dart / 4) (dart % 4)
 pub smoothings_of-darts : (crossings : List (List ℕ)) (state : ℕ)
     → smoothings_of crossings state ≡ renamed (arc_of_dart crossings) (dart_smoothings (length crossings) state)
 smoothings_of-darts crossings state =
-    smoothings-from (arc_at crossings) state 0 crossings
-    (λ k slot below slot_below. let e : k ≡ 0 + k = omega arith in ap (λ j. arc_at crossings j slot) e)
+    smoothings-from (arc_by_place crossings) state 0 crossings
+    (λ k slot below slot_below. let e : k ≡ 0 + k = omega arith in ap (λ j. arc_by_place crossings j slot) e)
 
 -- the same of passes
 
@@ -82,8 +76,8 @@ passes-from arc at (x ∷ xs) same =
 
 pub passes_of-darts : (crossings : List (List ℕ)) → flat_map passes_of crossings ≡ renamed (arc_of_dart crossings) (dart_passes (length crossings))
 passes_of-darts crossings =
-    passes-from (arc_at crossings) 0 crossings
-    (λ k slot below slot_below. let e : k ≡ 0 + k = omega arith in ap (λ j. arc_at crossings j slot) e)
+    passes-from (arc_by_place crossings) 0 crossings
+    (λ k slot below slot_below. let e : k ≡ 0 + k = omega arith in ap (λ j. arc_by_place crossings j slot) e)
 
 dart_passes-from : (n at count : ℕ) → at + count ≤ n
     → AreBelow (4 * n) (flat_map (λ place. passes_of (darts_of place)) (range_with_len at count))

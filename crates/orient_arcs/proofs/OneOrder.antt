@@ -5,7 +5,7 @@ use Rattle.std.specs.List.{count_by, flat_map, position_or_len}
 use Rattle.std.proofs.lemmas.Bool.{cases_eq, eq-eqb}
 use Rattle.std.proofs.lemmas.Grind.{same_number_lists}
 use Rattle.std.proofs.lemmas.List.Sums.{sum_by-append, sum_by-cons}
-use Rattle.orient_arcs.specs.Parts.{Parts, ArePaired, passes_through}
+use Rattle.code_passes.specs.Parts.{Parts, ArePaired, passes_through}
 use Rattle.orient_arcs.specs.Renumbered.{AreInOrder, AreOrdered, all_of, follows, label_entered, name_in_component, order_of, turned_names}
 use Rattle.orient_arcs.proofs.Members.{IsIn, AreDistinct, neq-eqb, IsIn-left, IsIn-parts, IsIn-get, get-IsIn, position-get}
 use Rattle.orient_arcs.proofs.Ordered.{AreOrdered-components}

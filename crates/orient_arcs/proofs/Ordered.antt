@@ -5,7 +5,7 @@ use Rattle.std.specs.List.{count_by, AllByRecursion}
 use Rattle.std.proofs.lemmas.Bool.{eq-eqb, cases_Bool}
 use Rattle.std.proofs.lemmas.List.Sums.{sum_by-cons}
 use Rattle.code_passes.specs.Passes.{Pass}
-use Rattle.orient_arcs.specs.Parts.{Parts, ArePaired, passes_through, head_count}
+use Rattle.code_passes.specs.Parts.{Parts, ArePaired, passes_through, head_count}
 use Rattle.orient_arcs.specs.Renumbered.{AreOrdered, all_of, named_components, is_in}
 use Rattle.orient_arcs.proofs.Members.{IsIn, IsIn-same, AreDistinct, neq-eqb, IsIn-get, true-is_in, false-is_in}
 use Rattle.orient_arcs.proofs.AllComponents.{IsRound, BeginsLeast, AreAscending}

@@ -20,7 +20,7 @@ use Rattle.code_passes.specs.ComponentLabels.{label_at, component_labels}
 use Rattle.code_passes.proofs.ArcLabels.{IsOriented}
 use Rattle.code_passes.proofs.CutArcs.{IsFirst, IsFirst-next, size, end-within, size-positive}
 use Rattle.code_passes.proofs.TwoArcComponents.{turned_labels-component}
-use Rattle.orient_arcs.specs.Parts.{Parts, ArePaired, parts_of, passes_through, passes_at, slots_in, is_positive_at, under_pass, over_pass}
+use Rattle.code_passes.specs.Parts.{Parts, ArePaired, parts_of, passes_through, passes_at, slots_in, is_positive_at, under_pass, over_pass}
 use Rattle.orient_arcs.specs.Renumbered.{follows, label_entered, walk, turned_names, is_in, bound_of, order_of, number_in, renamed_crossing, renumber}
 use Rattle.orient_arcs.specs.Steps.{order_below, is_new}
 use Rattle.orient_arcs.proofs.Members.{IsIn, is_in-true, is_in-false, position-get, AreDistinct}

@@ -11,7 +11,7 @@ use Rattle.kh_types.proofs.DartPairs.{IsDart-at}
 use Rattle.kh_types.specs.Directions.{HasNoSingleArcs}
 use Rattle.kh_types.specs.Accepted.{IsDirected}
 use Rattle.code_passes.specs.Passes.{Pass}
-use Rattle.orient_arcs.specs.Parts.{Parts, ArePaired, parts_of, passes_at, slots_in, is_positive_at, head_count, tail_count}
+use Rattle.code_passes.specs.Parts.{Parts, ArePaired, parts_of, passes_at, slots_in, is_positive_at, head_count, tail_count}
 use Rattle.orient_arcs.specs.Alike.{IsOf}
 use Rattle.orient_arcs.proofs.Members.{neq-eqb}
 use Rattle.orient_arcs.proofs.AlikeCrossings.{same-test}

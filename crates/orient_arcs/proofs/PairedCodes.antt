@@ -12,7 +12,7 @@ use Rattle.kh_types.specs.Accepted.{IsDirected}
 use Rattle.kh_types.proofs.Heads.{HasEnds-directed}
 use Rattle.code_passes.specs.Passes.{Pass}
 use Rattle.code_passes.proofs.DartCounts.{times_in, times-crossings}
-use Rattle.orient_arcs.specs.Parts.{Parts, ArePaired, parts_of, passes_through, passes_at, slots_in, is_positive_at, head_count, tail_count}
+use Rattle.code_passes.specs.Parts.{Parts, ArePaired, parts_of, passes_through, passes_at, slots_in, is_positive_at, head_count, tail_count}
 use Rattle.orient_arcs.proofs.PairedPasses.{All-flat_map_range, flat_map_range-All, counted-in, in-counted, all-in, found-holds}
 use Rattle.orient_arcs.proofs.Members.{IsIn, neq-eqb}
 

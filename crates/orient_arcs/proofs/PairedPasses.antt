@@ -8,7 +8,7 @@ use Rattle.std.proofs.lemmas.List.Sums.{sum_by-cons}
 use Rattle.kh_types.proofs.Lists.{AllByRecursion-append, AllByRecursion-first, AllByRecursion-second}
 use Rattle.code_passes.specs.Passes.{Pass, no_pass}
 use Rattle.code_passes.proofs.LabelCounts.{under_at-is, over_at-is}
-use Rattle.orient_arcs.specs.Parts.{Parts, ArePaired, passes_through, passes_at, slots_in, is_positive_at, under_pass, over_pass}
+use Rattle.code_passes.specs.Parts.{Parts, ArePaired, passes_through, passes_at, slots_in, is_positive_at, under_pass, over_pass}
 use Rattle.orient_arcs.specs.Renumbered.{entering, follows, label_entered}
 use Rattle.orient_arcs.proofs.Members.{IsIn, AreDistinct, neq-eqb}
 use Rattle.orient_arcs.proofs.Walks.{AreNext}

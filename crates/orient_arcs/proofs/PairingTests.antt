@@ -6,7 +6,7 @@ use Rattle.std.proofs.lemmas.Bool.{and_parts, and_from}
 use Rattle.std.proofs.Math.Bool.{and_assoc}
 use Rattle.std.proofs.lemmas.List.Folds.{list_all-map}
 use Rattle.code_passes.specs.Passes.{Pass}
-use Rattle.orient_arcs.specs.Parts.{Parts, ArePaired, passes_through}
+use Rattle.code_passes.specs.Parts.{Parts, ArePaired, passes_through}
 use Rattle.orient_arcs.specs.Pairing.{all_are_paired, entering_count, is_paired_in, leaving_count}
 use Rattle.orient_arcs.proofs.Members.{IsIn}
 use Rattle.orient_arcs.proofs.PairedPasses.{in-counted}

@@ -13,7 +13,7 @@ use Rattle.kh_types.proofs.NextArcs.{component, HasPlace-directed}
 use Rattle.code_passes.specs.Passes.{Pass, is_over}
 use Rattle.code_passes.proofs.CutArcs.{IsFirst, IsFirst-next, size, component-in, end-within, size-positive}
 use Rattle.code_passes.proofs.LeastArcs.{IsFirstOf-directed}
-use Rattle.orient_arcs.specs.Parts.{Parts, ArePaired, passes_through}
+use Rattle.code_passes.specs.Parts.{Parts, ArePaired, passes_through}
 use Rattle.orient_arcs.specs.Renumbered.{follows, label_entered, walk, turned_names, is_in, bound_of, order_of, number_in}
 use Rattle.orient_arcs.specs.Steps.{order_below, is_new}
 use Rattle.orient_arcs.proofs.Members.{IsIn, IsIn-left, IsIn-right, IsIn-parts, is_in-true, is_in-false, neq-eqb}

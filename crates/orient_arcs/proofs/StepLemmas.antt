@@ -5,7 +5,7 @@ use Rattle.std.specs.List.{flat_map, list_any, range_with_len}
 use Rattle.std.proofs.lemmas.List.{take_more, map_push}
 use Rattle.kh_types.proofs.Ranges.{flat_map-range_more}
 use Rattle.code_passes.specs.Passes.{Pass}
-use Rattle.orient_arcs.specs.Parts.{Parts, passes_at, passes_through}
+use Rattle.code_passes.specs.Parts.{Parts, passes_at, passes_through}
 use Rattle.orient_arcs.specs.Renumbered.{bound_of, is_in, walk, number_in, order_of, renamed_crossing, renumber}
 use Rattle.kh_types.specs.Code.{Code}
 

@@ -1,19 +1,10 @@
--- Crossings whose slots hold one name at the same darts.
+-- The parts of a code under other names.
 use Rattle.std.specs.Prelude.{◌≡◌, ℕ, ◌-◌, ◌*◌, ◌<◌, List, length}
 use Rattle.kh_types.specs.Code.{Code, IsCrossing}
 use Rattle.kh_types.specs.Directions.{is_positive}
-use Rattle.orient_arcs.specs.Parts.{Parts, is_positive_at}
+use Rattle.code_passes.specs.Parts.{Parts, is_positive_at}
 use Rattle.kh_types.specs.Darts.{dart_at, arc_of}
-
--- two lists of as many crossings are alike where two slots hold one name in the one exactly where they do so in the other
-pub record AreAlike (crossings others : List (List ℕ)) : Type 0 where
-  pub size : length others ≡ length crossings
-  pub onward : (place other : ℕ) → place < 4 * length crossings → other < 4 * length crossings
-      → arc_of crossings (dart_at place) ≡ arc_of crossings (dart_at other)
-      → arc_of others (dart_at place) ≡ arc_of others (dart_at other)
-  pub back : (place other : ℕ) → place < 4 * length crossings → other < 4 * length crossings
-      → arc_of others (dart_at place) ≡ arc_of others (dart_at other)
-      → arc_of crossings (dart_at place) ≡ arc_of crossings (dart_at other)
+use Rattle.gluing.specs.Alike.{AreAlike}
 
 -- the names at the slots are below a number
 abbrev pub HasNamesBelow : ℕ → List (List ℕ) → Type 0

@@ -1,6 +1,5 @@
 pub mod Numbers
 pub mod Inside
-pub mod Parts
 pub mod Pairing
 pub mod Renumbered
 pub mod Alike

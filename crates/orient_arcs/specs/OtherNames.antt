@@ -5,7 +5,7 @@ use Rattle.kh_types.specs.Components.{components_of, component_of, arcs_in}
 use Rattle.kh_types.specs.Directions.{is_positive}
 use Rattle.code_passes.specs.ComponentLabels.{entering_label}
 use Rattle.code_passes.specs.Passes.{is_over}
-use Rattle.orient_arcs.specs.Parts.{Parts, slots_in, is_positive_at}
+use Rattle.code_passes.specs.Parts.{Parts, slots_in, is_positive_at}
 
 -- the crossings of parts are those of a code, with its directions, each arc under the name that f gives it
 pub record IsNamedBy (f : ℕ → ℕ) (code : Code) (parts : Parts) : Type 0 where

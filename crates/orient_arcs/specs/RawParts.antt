@@ -1,5 +1,5 @@
 -- What contracts see of parts.
-use Rattle.orient_arcs.specs.Parts.{Parts}
+use Rattle.code_passes.specs.Parts.{Parts}
 use Rattle.orient_arcs.specs.declared.parts.Parts.TheInside.{Inside}
 
 abbrev pub parts_of_raw : Inside → Parts

@@ -3,7 +3,7 @@ use Rattle.std.specs.Prelude.{◌≡◌, ◌≤◌, ◌<◌, ℕ, zero, suc, ◌
 use Rattle.std.specs.List.{count_by, find, flat_map, fold, list_any, position_or_len, range_with_len}
 use Rattle.kh_types.specs.Code.{Code, arc_in}
 use Rattle.code_passes.specs.Passes.{Pass, no_pass, is_over}
-use Rattle.orient_arcs.specs.Parts.{Parts, passes_through, head_count}
+use Rattle.code_passes.specs.Parts.{Parts, passes_through, head_count}
 
 -- the pass that enters on a name
 abbrev pub entering : List Pass → ℕ → Pass

@@ -1,7 +1,7 @@
 -- Parts on which renumbering is computed.
 use Rattle.std.specs.Prelude.{ℕ, List, [], ◌∷◌, Bool, true, false}
 use Rattle.kh_types.specs.WorkedCodes.{slots_with, hopf_link}
-use Rattle.orient_arcs.specs.Parts.{Parts, parts_of}
+use Rattle.code_passes.specs.Parts.{Parts, parts_of}
 
 abbrev pub with_signs : List (List ℕ) → List Bool → Parts
 with_signs crossings positive = record { crossings = crossings; positive = positive; loops = 0 }

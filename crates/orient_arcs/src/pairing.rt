@@ -1,7 +1,7 @@
 //! Whether the names of arcs are paired.
 
 ghost use Rattle.std.specs.Prelude.{◌≡◌, ◌↔◌, IsTrue};
-ghost use Rattle.orient_arcs.specs.Parts.{ArePaired};
+ghost use Rattle.code_passes.specs.Parts.{ArePaired};
 ghost use Rattle.orient_arcs.specs.Pairing.{all_are_paired, entering_count, is_paired_at, is_paired_in, leaving_count};
 
 use crate::parts::Parts;

@@ -15,7 +15,7 @@ pub struct Parts {
 }
 
 impl Model for Parts {
-    ghost use Rattle.orient_arcs.specs.Parts.{Parts};
+    ghost use Rattle.code_passes.specs.Parts.{Parts};
 
     ghost Value = { Parts };
 

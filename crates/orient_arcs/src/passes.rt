@@ -3,7 +3,7 @@
 ghost use Rattle.std.specs.Prelude.{◌≡◌, ◌≤◌, ◌<◌, ◌+◌, ◌*◌, ◌++◌, length};
 ghost use Rattle.kh_types.specs.declared.limits.TheConstants.{ARCS, CROSSINGS};
 ghost use Rattle.code_passes.specs.Passes.{Pass, no_pass};
-ghost use Rattle.orient_arcs.specs.Parts.{is_positive_at, over_pass, passes_at, passes_through, slots_in, under_pass};
+ghost use Rattle.code_passes.specs.Parts.{is_positive_at, over_pass, passes_at, passes_through, slots_in, under_pass};
 
 use crate::parts::Parts;
 use arrayvec::ArrayVec;

@@ -4,7 +4,7 @@ ghost use Rattle.std.specs.Prelude.{◌≡◌, ◌≤◌, ◌<◌, ◌+◌, ◌*
 ghost use Rattle.std.specs.List.{find, position_or_len, list_any};
 ghost use Rattle.kh_types.specs.declared.limits.TheConstants.{ARCS, CROSSINGS};
 ghost use Rattle.code_passes.specs.Passes.{Pass, no_pass};
-ghost use Rattle.orient_arcs.specs.Parts.{ArePaired, is_positive_at, over_pass, passes_at, passes_through, slots_in, under_pass};
+ghost use Rattle.code_passes.specs.Parts.{ArePaired, is_positive_at, over_pass, passes_at, passes_through, slots_in, under_pass};
 ghost use Rattle.orient_arcs.specs.Renumbered.{AreInOrder, bound_of, entering, follows, is_in, label_entered, number_in, order_of, renamed_crossing, renumber, walk};
 ghost use Rattle.orient_arcs.specs.Steps.{is_new, is_turned, order_below, start_of};
 

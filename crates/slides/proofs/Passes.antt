@@ -12,12 +12,13 @@ use Rattle.kh_types.specs.Directions.{is_positive}
 use Rattle.kh_types.proofs.JoinedClasses.{classes_of-same}
 use Rattle.kh_types.proofs.CircleBound.{ArcsBelow-slots, passes_of-below}
 use Rattle.kh_types.proofs.PassPairs.{passes-all}
-use Rattle.slides.specs.Slid.{on, arc_there, source, slid}
+use Rattle.slides.specs.Slid.{on, source, slid}
 use Rattle.slides.specs.SlideCodes.{is_head_with, KeepsPass}
 use Rattle.slides.proofs.Corners.{four, at_places, IsOutside, AreApart, AreApart-rotated, on-crossing, on-slot, on-on, on-zero, on-round, on-below, source-x, source-rotated, source-outside, source-source, source-below}
 use Rattle.slides.proofs.Sides.{HasSides}
-use Rattle.slides.proofs.SlidArcs.{length-slid, arc_there-slid, HasArcsTwice-slid}
+use Rattle.slides.proofs.SlidArcs.{length-slid, arc_of_dart-slid, HasArcsTwice-slid}
 use Rattle.slides.proofs.SlidHeads.{kind-source, IsKind-heads}
+use Rattle.gluing.specs.Codes.{arc_of_dart}
 
 pub round : (place a b : ℕ) → a ≡ b + 4 → on place a ≡ on place b
 round place a b is = ap (λ k. on place k) is ∙ on-round place b
@@ -62,12 +63,12 @@ at_crossing P (slots ∷ rest) holds zero below = (holds.0, (holds.1.0, tt))
 at_crossing P (slots ∷ rest) holds (suc k) below = at_crossing P rest holds.1.1 k (omega (arith, below))
 
 pub arc-behind : (crossings : List (List ℕ)) (place : ℕ)
-    → arc_there crossings (on place 2) ≡ arc_in (slice_index_or crossings (place / 4) []) ((place % 4 + 2) % 4)
+    → arc_of_dart crossings (on place 2) ≡ arc_in (slice_index_or crossings (place / 4) []) ((place % 4 + 2) % 4)
 arc-behind crossings place =
     ap₂ (λ k s. arc_in (slice_index_or crossings k []) s) (on-crossing place 2) (on-slot place 2)
 
 pub respects-behind : (f : ℕ → ℕ) (crossings : List (List ℕ)) → Respects f (flat_map passes_of crossings) → (place : ℕ)
-    → place < 4 * length crossings → f (arc_there crossings place) ≡ f (arc_there crossings (on place 2))
+    → place < 4 * length crossings → f (arc_of_dart crossings place) ≡ f (arc_of_dart crossings (on place 2))
 respects-behind f crossings respects place below =
     let slots = slice_index_or crossings (place / 4) [] in
     let pairs = at_crossing (λ pair. f pair.0 ≡ f pair.1) crossings respects (place / 4) (omega (arith, below)) in
@@ -76,7 +77,7 @@ respects-behind f crossings respects place below =
     ∙ ap f (sym (arc-behind crossings place))
 
 respects-passes : (f : ℕ → ℕ) (crossings : List (List ℕ))
-    → ((place : ℕ) → place < 4 * length crossings → f (arc_there crossings place) ≡ f (arc_there crossings (on place 2)))
+    → ((place : ℕ) → place < 4 * length crossings → f (arc_of_dart crossings place) ≡ f (arc_of_dart crossings (on place 2)))
     → Respects f (flat_map passes_of crossings)
 respects-passes f crossings behind =
     passes-all (λ pair. f pair.0 ≡ f pair.1) crossings
@@ -108,8 +109,8 @@ components_of-slid crossings x y z twice sides =
     let new_below : AreBelow (arc_count crossings + 1) (flat_map passes_of new) =
     subst (λ (k : ℕ). AreBelow (2 * k + 1) (flat_map passes_of new)) size
     (passes-arcs new (HasArcsTwice-slid crossings x y z twice sides)) in
-    let arc = arc_there crossings in
-    let moved = λ (place : ℕ) (within : place < 4 * n). arc_there-slid crossings x y z place within in
+    let arc = arc_of_dart crossings in
+    let moved = λ (place : ℕ) (within : place < 4 * n). arc_of_dart-slid crossings x y z place within in
     ap (λ k. classes_of (2 * k + 1) (flat_map passes_of new)) size
     ∙ classes_of-same (arc_count crossings + 1) (flat_map passes_of new) (flat_map passes_of crossings) new_below (passes-arcs crossings twice)
     (λ f respects. respects-passes f crossings (λ place within.
@@ -139,9 +140,9 @@ KeepsPass-slid code x y z is sides place within =
     let below = source-below n x y z sides.apart sides.x_below sides.y_below sides.z_below in
     record {
       below = below place within;
-      first = arc_there-slid crossings x y z place within;
-      second = arc_there-slid crossings x y z (on place 2) (on-below n place 2 within)
-          ∙ ap (arc_there crossings) (source-behind x y z sides.apart place);
+      first = arc_of_dart-slid crossings x y z place within;
+      second = arc_of_dart-slid crossings x y z (on place 2) (on-below n place 2 within)
+          ∙ ap (arc_of_dart crossings) (source-behind x y z sides.apart place);
       direction = sym
           (kind-source n (partner_at crossings) (λ k. is_head_with (is_positive crossings) (dart_at k)) x y z (IsKind-heads code is) sides place);
     }

@@ -10,27 +10,28 @@ use Rattle.kh_types.specs.Darts.{dart_at, dart_place, arc_of, times, first_dart,
 use Rattle.kh_types.proofs.Lists.{count_by-map}
 use Rattle.kh_types.proofs.RangeCounts.{count_by-but, count_by-alike, but}
 use Rattle.kh_types.proofs.DartPairs.{IsOtherPlace-partner_at, partner_at-only, dart_at-place, dart_place-below, IsDart-at, IsDartOf-first_dart}
-use Rattle.slides.specs.Slid.{arc_there, source, slid, slid_crossing}
+use Rattle.slides.specs.Slid.{source, slid, slid_crossing}
 use Rattle.slides.proofs.Corners.{source-source, source-below}
 use Rattle.slides.proofs.Sides.{HasSides, slid_partner}
+use Rattle.gluing.specs.Codes.{arc_of_dart}
 
 pub length-slid : (crossings : List (List ℕ)) (x y z : ℕ) → length (slid crossings x y z) ≡ length crossings
 length-slid crossings x y z = length-map-range_with_len (slid_crossing crossings x y z) 0 (length crossings)
 
 -- the arc at a dart is the one that stood at its source
-pub arc_there-slid : (crossings : List (List ℕ)) (x y z place : ℕ) → place < 4 * length crossings
-    → arc_there (slid crossings x y z) place ≡ arc_there crossings (source x y z place)
-arc_there-slid crossings x y z place below =
+pub arc_of_dart-slid : (crossings : List (List ℕ)) (x y z place : ℕ) → place < 4 * length crossings
+    → arc_of_dart (slid crossings x y z) place ≡ arc_of_dart crossings (source x y z place)
+arc_of_dart-slid crossings x y z place below =
     let crossing = place / 4 in
     let slot = place % 4 in
     let here : 0 + crossing ≡ crossing = omega arith in
     let whole : 4 * crossing + slot ≡ place = omega arith in
     ap (λ slots. slice_index_or slots slot 0)
     (get_or-map-range_with_len (slid_crossing crossings x y z) 0 (length crossings) crossing crossing [] (omega (arith, below)) here)
-    ∙ get_or-map-range_with_len (λ k. arc_there crossings (source x y z (4 * crossing + k))) 0 4 slot slot 0 (omega arith) (omega arith)
-    ∙ ap (λ k. arc_there crossings (source x y z k)) whole
+    ∙ get_or-map-range_with_len (λ k. arc_of_dart crossings (source x y z (4 * crossing + k))) 0 4 slot slot 0 (omega arith) (omega arith)
+    ∙ ap (λ k. arc_of_dart crossings (source x y z k)) whole
 
-pub arc_of-at : (crossings : List (List ℕ)) (place : ℕ) → arc_of crossings (dart_at place) ≡ arc_there crossings place
+pub arc_of-at : (crossings : List (List ℕ)) (place : ℕ) → arc_of crossings (dart_at place) ≡ arc_of_dart crossings place
 arc_of-at crossings place =
     let e : place / 4 + 1 - 1 ≡ place / 4 = omega arith in
     ap (λ k. slice_index_or (slice_index_or crossings k []) (place % 4) 0) e
@@ -38,7 +39,7 @@ arc_of-at crossings place =
 pub arc_of-slid : (crossings : List (List ℕ)) (x y z place : ℕ) → place < 4 * length crossings
     → arc_of (slid crossings x y z) (dart_at place) ≡ arc_of crossings (dart_at (source x y z place))
 arc_of-slid crossings x y z place below =
-    arc_of-at (slid crossings x y z) place ∙ arc_there-slid crossings x y z place below ∙ sym (arc_of-at crossings (source x y z place))
+    arc_of-at (slid crossings x y z) place ∙ arc_of_dart-slid crossings x y z place below ∙ sym (arc_of-at crossings (source x y z place))
 
 -- exactly two numbers of a range pass
 

@@ -15,7 +15,7 @@ use Rattle.kh_types.proofs.RangeImages.{all-map_range, map_range-at, map_range-a
 use Rattle.face_walk.proofs.OpenFaces.{piece_pairs-below}
 use Rattle.face_walk.proofs.FewFaces.{face_count-accepted}
 use Rattle.slides.specs.Slid.{on, source, slid}
-use Rattle.slides.proofs.Corners.{four, at_places, AreApart, AreApart-rotated, AreApart-on, on-crossing, on-on, on-zero, on-round, source-x, source-rotated, source-outside, source-source, source-below}
+use Rattle.slides.proofs.Corners.{four, at_places, AreApart, AreApart-rotated, AreApart-on, on-crossing, on-on, on-zero, source-x, source-rotated, source-outside, source-source, source-below}
 use Rattle.slides.proofs.Sides.{HasSides, HasSides-slid, IsPairing-slid, slid_partner}
 use Rattle.slides.proofs.SlidArcs.{length-slid, partner_at-slid}
 use Rattle.slides.proofs.Onto.{class_count-onto}

@@ -16,10 +16,11 @@ use Rattle.kh_types.proofs.DartPairs.{dart_at-place, dart_place-at, dart_place-b
 use Rattle.kh_types.proofs.DartColours.{IsColoured-checkerboard}
 use Rattle.kh_types.proofs.AcceptedLemmas.{IsAccepted-is, HasArcsTwice-accepted}
 use Rattle.kh_types.proofs.EdgeBits.{bit-set_there, bit-set_other, set-within}
-use Rattle.slides.specs.Slid.{on, arc_there, source, slid}
+use Rattle.slides.specs.Slid.{on, source, slid}
 use Rattle.slides.proofs.Corners.{four, at_places, IsOutside, on-crossing, on-slot, on-on, on-zero, on-below, on-apart, source-x, source-rotated, source-outside, source-source, source-below}
 use Rattle.slides.proofs.Sides.{HasSides, HasSides-rotated}
 use Rattle.slides.proofs.SlidArcs.{length-slid, arc_of-at, HasArcsTwice-slid, partner_at-slid}
+use Rattle.gluing.specs.Codes.{arc_of_dart}
 
 -- a bit changed
 
@@ -285,7 +286,7 @@ IsCheckerboard-slid code x y z is sides =
 
 -- the two arcs of a pass differ, where there is a checkerboard
 pub passes-apart : (crossings : List (List ℕ)) → HasArcsTwice crossings → IsCheckerboard crossings → (place : ℕ)
-    → place < 4 * length crossings → arc_there crossings place ≢ arc_there crossings (on place 2)
+    → place < 4 * length crossings → arc_of_dart crossings place ≢ arc_of_dart crossings (on place 2)
 passes-apart crossings twice board place below same =
     let coloured = IsColoured-checkerboard crossings board twice in
     let behind = on place 2 in

@@ -11,16 +11,16 @@ use Rattle.kh_types.specs.StateSum.{state_sum, sum_with}
 use Rattle.kh_types.proofs.DartPairs.{IsDart-at, IsOtherPlace-partner_at, partner_at-only}
 use Rattle.kh_types.proofs.AcceptedLemmas.{HasArcsTwice-accepted}
 use Rattle.gluing.specs.Arcs.{arc_by_place}
-use Rattle.gluing.specs.Codes.{name_count, HoldsArcs, IsRenumbered}
+use Rattle.gluing.specs.Codes.{name_count, HoldsArcs, IsRenumbered, arc_of_dart}
 use Rattle.gluing.specs.Slides.{quadruple_from, IsPlacedTriangle, IsNoSide}
 use Rattle.gluing.specs.SlidCodes.{Shows, IsSlid}
 use Rattle.gluing.proofs.SlidSums.{sum_with-slide}
 use Rattle.gluing.proofs.Renumbered.{sum_with-renumbered}
 use Rattle.slides.specs.Triangles.{has_heights}
-use Rattle.slides.specs.Slid.{on, arc_there, slid, slid_code}
+use Rattle.slides.specs.Slid.{on, slid, slid_code}
 use Rattle.slides.proofs.Corners.{four, IsOutside, on-crossing, on-slot, on-zero, on-below, on-apart, source-x, source-outside}
 use Rattle.slides.proofs.Sides.{HasSides, HasSides-rotated}
-use Rattle.slides.proofs.SlidArcs.{length-slid, arc_there-slid, arc_of-at, HasArcsTwice-slid}
+use Rattle.slides.proofs.SlidArcs.{length-slid, arc_of_dart-slid, arc_of-at, HasArcsTwice-slid}
 use Rattle.slides.proofs.SlidRule.{slid-rotated}
 use Rattle.slides.proofs.SlidFaces.{IsNoSideDart, on-no_side, outside-no_side}
 
@@ -29,9 +29,9 @@ abbrev pub inside_arcs : List (List ℕ) → ℕ → ℕ → ℕ → ℕ → ℕ
 inside_arcs crossings x y z number =
     slice_index
     (0
-    ∷ arc_there crossings (on x 2) ∷ arc_there crossings (on x 3) ∷ arc_there crossings (on y 2) ∷ arc_there crossings (on y 3)
-    ∷ arc_there crossings (on z 2) ∷ arc_there crossings (on z 3) ∷ arc_there crossings x ∷ arc_there crossings y
-    ∷ arc_there crossings z ∷ [])
+    ∷ arc_of_dart crossings (on x 2) ∷ arc_of_dart crossings (on x 3) ∷ arc_of_dart crossings (on y 2) ∷ arc_of_dart crossings (on y 3)
+    ∷ arc_of_dart crossings (on z 2) ∷ arc_of_dart crossings (on z 3) ∷ arc_of_dart crossings x ∷ arc_of_dart crossings y
+    ∷ arc_of_dart crossings z ∷ [])
     number
 
 -- finitely many numbers
@@ -59,14 +59,14 @@ at_sides P at_7 at_8 at_9 side from below = elim (cases_eq side 7) [
 
 -- arcs of slots
 
-pub arc_at-there : (crossings : List (List ℕ)) (place slot : ℕ) → slot < 4 → arc_by_place crossings place slot ≡ arc_there crossings (4 * place + slot)
+pub arc_at-there : (crossings : List (List ℕ)) (place slot : ℕ) → slot < 4 → arc_by_place crossings place slot ≡ arc_of_dart crossings (4 * place + slot)
 arc_at-there crossings place slot below =
     let crossing : place ≡ (4 * place + slot) / 4 = omega (arith, below) in
     let same_slot : slot ≡ (4 * place + slot) % 4 = omega (arith, below) in
     ap₂ (λ k s. arc_by_place crossings k s) crossing same_slot
 
 IsArc-there : (crossings : List (List ℕ)) (place : ℕ) → HasArcsTwice crossings → place < 4 * length crossings
-    → IsArc crossings (arc_there crossings place)
+    → IsArc crossings (arc_of_dart crossings place)
 IsArc-there crossings place twice below =
     subst (λ (a : ℕ). IsArc crossings a) (arc_of-at crossings place) (twice.slots (dart_at place) (IsDart-at crossings place below))
 
@@ -77,7 +77,7 @@ HoldsArcs-twice code twice place slot below slot_below =
 
 -- the darts of an arc
 darts_of_arc : (crossings : List (List ℕ)) (place other : ℕ) → HasArcsTwice crossings → place < 4 * length crossings
-    → other < 4 * length crossings → arc_there crossings other ≡ arc_there crossings place
+    → other < 4 * length crossings → arc_of_dart crossings other ≡ arc_of_dart crossings place
     → (other ≡ place) ⊎ (other ≡ partner_at crossings place)
 darts_of_arc crossings place other twice below other_below same = elim (cases_eq other place) [
   | inl is ↦ inl is
@@ -92,15 +92,15 @@ darts_of_arc crossings place other twice below other_below same = elim (cases_eq
 
 -- a dart that is of no side has the arc of none
 record IsNoSideArc (crossings : List (List ℕ)) (x y z arc : ℕ) : Type 0 where
-  pub not_x : arc ≢ arc_there crossings x
-  pub not_y : arc ≢ arc_there crossings y
-  pub not_z : arc ≢ arc_there crossings z
+  pub not_x : arc ≢ arc_of_dart crossings x
+  pub not_y : arc ≢ arc_of_dart crossings y
+  pub not_z : arc ≢ arc_of_dart crossings z
 
 no_side_arc : (crossings : List (List ℕ)) (x y z place : ℕ) → HasArcsTwice crossings
     → HasSides (length crossings) (partner_at crossings) x y z → place < 4 * length crossings → IsNoSideDart x y z place
-    → IsNoSideArc crossings x y z (arc_there crossings place)
+    → IsNoSideArc crossings x y z (arc_of_dart crossings place)
 no_side_arc crossings x y z place twice sides below no_side =
-    let cases = λ (side : ℕ) (side_below : side < 4 * length crossings) (same : arc_there crossings place ≡ arc_there crossings side).
+    let cases = λ (side : ℕ) (side_below : side < 4 * length crossings) (same : arc_of_dart crossings place ≡ arc_of_dart crossings side).
     darts_of_arc crossings side place twice side_below below same in
     record {
       not_x = λ same. elim (cases x sides.x_below same) [
@@ -119,7 +119,7 @@ no_side_arc crossings x y z place twice sides below no_side =
 
 -- two sides have two arcs
 sides-apart : (crossings : List (List ℕ)) (x y z : ℕ) → HasArcsTwice crossings
-    → HasSides (length crossings) (partner_at crossings) x y z → arc_there crossings x ≢ arc_there crossings y
+    → HasSides (length crossings) (partner_at crossings) x y z → arc_of_dart crossings x ≢ arc_of_dart crossings y
 sides-apart crossings x y z twice sides same = elim (darts_of_arc crossings x y twice sides.x_below sides.y_below (sym same)) [
   | inl is ↦ sides.apart.x_y (sym (ap (λ k. k / 4) is))
   | inr is ↦ on-apart y 0 1 (omega arith) (omega arith) (omega arith) (on-zero y ∙ is ∙ sides.from_x)
@@ -127,10 +127,10 @@ sides-apart crossings x y z twice sides same = elim (darts_of_arc crossings x y 
 
 -- the side to the dart before
 arc-side : (crossings : List (List ℕ)) (x y z : ℕ) → HasArcsTwice crossings
-    → HasSides (length crossings) (partner_at crossings) x y z → arc_there crossings (on y 1) ≡ arc_there crossings x
+    → HasSides (length crossings) (partner_at crossings) x y z → arc_of_dart crossings (on y 1) ≡ arc_of_dart crossings x
 arc-side crossings x y z twice sides =
     let partner = IsOtherPlace-partner_at crossings x twice sides.x_below in
-    ap (arc_there crossings) (sym sides.from_x) ∙ sym (arc_of-at crossings (partner_at crossings x)) ∙ partner.same_arc
+    ap (arc_of_dart crossings) (sym sides.from_x) ∙ sym (arc_of-at crossings (partner_at crossings x)) ∙ partner.same_arc
     ∙ arc_of-at crossings x
 
 -- the triangle is placed
@@ -142,7 +142,7 @@ IsPlaced-inside code x y z twice sides =
     let arcs = inside_arcs crossings x y z in
     let second = HasSides-rotated (length crossings) (partner_at crossings) x y z sides in
     let third = HasSides-rotated (length crossings) (partner_at crossings) y z x second in
-    let arc_below : (place : ℕ) → place < 4 * length crossings → arc_there crossings place < name_count code = λ place below.
+    let arc_below : (place : ℕ) → place < 4 * length crossings → arc_of_dart crossings place < name_count code = λ place below.
     let is = IsArc-there crossings place twice below in
     omega (arith, is.within) in
     let zero_is : IsNoSideArc crossings x y z 0 =
@@ -165,10 +165,10 @@ IsPlaced-inside code x y z twice sides =
     let turned : IsNoSideArc crossings x y z arc = record { not_x = is.not_y; not_y = is.not_z; not_z = is.not_x } in turned in
     let ends = seven (λ i. IsNoSideArc crossings x y z (arcs i)) zero_is (end_x 2 (omega arith) (omega arith) (omega arith))
     (end_x 3 (omega arith) (omega arith) (omega arith))
-    (from_y (arc_there crossings (on y 2)) (end_y 2 (omega arith) (omega arith) (omega arith)))
-    (from_y (arc_there crossings (on y 3)) (end_y 3 (omega arith) (omega arith) (omega arith)))
-    (from_z (arc_there crossings (on z 2)) (end_z 2 (omega arith) (omega arith) (omega arith)))
-    (from_z (arc_there crossings (on z 3)) (end_z 3 (omega arith) (omega arith) (omega arith))) in
+    (from_y (arc_of_dart crossings (on y 2)) (end_y 2 (omega arith) (omega arith) (omega arith)))
+    (from_y (arc_of_dart crossings (on y 3)) (end_y 3 (omega arith) (omega arith) (omega arith)))
+    (from_z (arc_of_dart crossings (on z 2)) (end_z 2 (omega arith) (omega arith) (omega arith)))
+    (from_z (arc_of_dart crossings (on z 3)) (end_z 3 (omega arith) (omega arith) (omega arith))) in
     let n = length crossings in
     let inner = seven (λ i. arcs i < name_count code) (omega arith) (arc_below (on x 2) (on-below n x 2 sides.x_below))
     (arc_below (on x 3) (on-below n x 3 sides.x_below)) (arc_below (on y 2) (on-below n y 2 sides.y_below))
@@ -204,7 +204,7 @@ IsPlaced-inside code x y z twice sides =
 
 -- a crossing shows a quadruple, by slots on from a dart
 pub Shows-from : (crossings : List (List ℕ)) (arcs : ℕ → ℕ) (x : ℕ) (around : List ℕ)
-    → ((j : ℕ) → j < 4 → arc_there crossings (on x j) ≡ arcs (slice_index around j))
+    → ((j : ℕ) → j < 4 → arc_of_dart crossings (on x j) ≡ arcs (slice_index around j))
     → Shows arcs (slice_index_or crossings (x / 4) []) (quadruple_from (x % 4) around)
 Shows-from crossings arcs x around shows slot below =
     let j = (slot + 4 - x % 4) % 4 in
@@ -218,25 +218,25 @@ Shows-from crossings arcs x around shows slot below =
 -- before and after
 
 shows-before : (crossings : List (List ℕ)) (x y z : ℕ) (arcs : ℕ → ℕ) (a b c d : ℕ)
-    → arc_there crossings x ≡ arcs a → arc_there crossings z ≡ arcs b → arc_there crossings (on x 2) ≡ arcs c
-    → arc_there crossings (on x 3) ≡ arcs d → arc_there crossings (on x 1) ≡ arc_there crossings z
+    → arc_of_dart crossings x ≡ arcs a → arc_of_dart crossings z ≡ arcs b → arc_of_dart crossings (on x 2) ≡ arcs c
+    → arc_of_dart crossings (on x 3) ≡ arcs d → arc_of_dart crossings (on x 1) ≡ arc_of_dart crossings z
     → Shows arcs (slice_index_or crossings (x / 4) []) (quadruple_from (x % 4) (a ∷ b ∷ c ∷ d ∷ []))
 shows-before crossings x y z arcs a b c d at_0 at_1 at_2 at_3 side =
     Shows-from crossings arcs x (a ∷ b ∷ c ∷ d ∷ [])
-    (four (λ j. arc_there crossings (on x j) ≡ arcs (slice_index (a ∷ b ∷ c ∷ d ∷ []) j)) (ap (arc_there crossings) (on-zero x) ∙ at_0)
+    (four (λ j. arc_of_dart crossings (on x j) ≡ arcs (slice_index (a ∷ b ∷ c ∷ d ∷ []) j)) (ap (arc_of_dart crossings) (on-zero x) ∙ at_0)
     (side ∙ at_1) at_2 at_3)
 
 shows-after : (crossings : List (List ℕ)) (x y z : ℕ) (arcs : ℕ → ℕ) (a b c d : ℕ) → HasSides (length crossings) (partner_at crossings) x y z
-    → arc_there crossings (on y 3) ≡ arcs a → arc_there crossings (on z 2) ≡ arcs b → arc_there crossings x ≡ arcs c
-    → arc_there crossings z ≡ arcs d → arc_there crossings (on y 1) ≡ arc_there crossings x
+    → arc_of_dart crossings (on y 3) ≡ arcs a → arc_of_dart crossings (on z 2) ≡ arcs b → arc_of_dart crossings x ≡ arcs c
+    → arc_of_dart crossings z ≡ arcs d → arc_of_dart crossings (on y 1) ≡ arc_of_dart crossings x
     → Shows arcs (slice_index_or (slid crossings x y z) (x / 4) []) (quadruple_from (x % 4) (a ∷ b ∷ c ∷ d ∷ []))
 shows-after crossings x y z arcs a b c d sides at_0 at_1 at_2 at_3 side =
     let n = length crossings in
     let new = slid crossings x y z in
     let moved = λ (j : ℕ) (below : j < 4).
-    arc_there-slid crossings x y z (on x j) (on-below n x j sides.x_below) ∙ ap (arc_there crossings) (source-x x y z j below) in
+    arc_of_dart-slid crossings x y z (on x j) (on-below n x j sides.x_below) ∙ ap (arc_of_dart crossings) (source-x x y z j below) in
     Shows-from new arcs x (a ∷ b ∷ c ∷ d ∷ [])
-    (four (λ j. arc_there new (on x j) ≡ arcs (slice_index (a ∷ b ∷ c ∷ d ∷ []) j)) (moved 0 (omega arith) ∙ at_0)
+    (four (λ j. arc_of_dart new (on x j) ≡ arcs (slice_index (a ∷ b ∷ c ∷ d ∷ []) j)) (moved 0 (omega arith) ∙ at_0)
     (moved 1 (omega arith) ∙ at_1) (moved 2 (omega arith) ∙ side ∙ at_2) (moved 3 (omega arith) ∙ at_3))
 
 outside-places : (x y z place slot : ℕ) → slot < 4 → place ≢ x / 4 → place ≢ y / 4 → place ≢ z / 4 → IsOutside x y z (4 * place + slot)
@@ -253,8 +253,8 @@ outside_arcs : (crossings : List (List ℕ)) (x y z place slot : ℕ) → HasSid
     → arc_by_place (slid crossings x y z) place slot ≡ arc_by_place crossings place slot
 outside_arcs crossings x y z place slot sides below slot_below not_x not_y not_z =
     arc_at-there (slid crossings x y z) place slot slot_below
-    ∙ arc_there-slid crossings x y z (4 * place + slot) (omega (arith, below, slot_below))
-    ∙ ap (arc_there crossings) (source-outside x y z (4 * place + slot) (outside-places x y z place slot slot_below not_x not_y not_z))
+    ∙ arc_of_dart-slid crossings x y z (4 * place + slot) (omega (arith, below, slot_below))
+    ∙ ap (arc_of_dart crossings) (source-outside x y z (4 * place + slot) (outside-places x y z place slot slot_below not_x not_y not_z))
     ∙ sym (arc_at-there crossings place slot slot_below)
 
 outside_sides : (crossings : List (List ℕ)) (x y z place slot : ℕ) → HasArcsTwice crossings
@@ -266,7 +266,7 @@ outside_sides crossings x y z place slot twice sides below slot_below not_x not_
     let no_side = no_side_arc crossings x y z dart twice sides (omega (arith, below, slot_below))
     (outside-no_side x y z dart (outside-places x y z place slot slot_below not_x not_y not_z)) in
     subst (λ (a : ℕ). IsNoSide arcs a) (sym (arc_at-there crossings place slot slot_below))
-    (at_sides (λ side. arc_there crossings dart ≢ arcs side) no_side.not_x no_side.not_y no_side.not_z)
+    (at_sides (λ side. arc_of_dart crossings dart ≢ arcs side) no_side.not_x no_side.not_y no_side.not_z)
 
 pub IsSlid-slid : (code : Code) (x y z : ℕ) → HasArcsTwice code.crossings
     → HasSides (length code.crossings) (partner_at code.crossings) x y z → has_heights x y z ≡ true

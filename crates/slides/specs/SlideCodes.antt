@@ -1,13 +1,15 @@
 -- What holds of the crossings after a slide.
-use Rattle.std.specs.Prelude.{◌≡◌, ℕ, ◌<◌, List, nat_eq, Bool, IsTrue, not, ◌||◌, if◌then◌else◌}
+use Rattle.std.specs.Prelude.{◌≡◌, ℕ, ◌<◌, List, Bool, IsTrue, not}
 use Rattle.kh_types.specs.Code.{IsArc}
 use Rattle.kh_types.specs.Darts.{dart_count, dart_at, IsDartOf}
 use Rattle.kh_types.specs.declared.dart.Dart.{Dart}
-use Rattle.slides.specs.Slid.{on, arc_there}
+use Rattle.slides.specs.Slid.{on}
+use Rattle.gluing.specs.Arcs.{enters}
+use Rattle.gluing.specs.Codes.{arc_of_dart}
 
 -- whether a dart is the head of its arc, where each crossing has a sign
 abbrev pub is_head_with : (ℕ → Bool) → Dart → Bool
-is_head_with is_positive dart = nat_eq dart.slot 0 || nat_eq dart.slot (if is_positive dart.crossing then 3 else 1)
+is_head_with is_positive dart = enters (is_positive dart.crossing) dart.slot
 
 -- a dart of an arc that is the only one of its kind
 pub record IsOnlyDart (crossings : List (List ℕ)) (kind : Dart → Bool) (arc : ℕ) (dart : Dart) : Type 0 where
@@ -25,16 +27,16 @@ HasHeadsAndTails crossings is_positive =
 -- what the rule of slides says of a side that joins the darts a and b: it comes to the slots behind them, and to the darts what
 -- stood behind the other
 pub record FollowsRule (crossings after : List (List ℕ)) (a b : ℕ) : Type 0 where
-  pub side : arc_there crossings b ≡ arc_there crossings a
-  pub behind_first : arc_there after (on a 2) ≡ arc_there crossings a
-  pub first : arc_there after a ≡ arc_there crossings (on b 2)
-  pub behind_second : arc_there after (on b 2) ≡ arc_there crossings a
-  pub second : arc_there after b ≡ arc_there crossings (on a 2)
+  pub side : arc_of_dart crossings b ≡ arc_of_dart crossings a
+  pub behind_first : arc_of_dart after (on a 2) ≡ arc_of_dart crossings a
+  pub first : arc_of_dart after a ≡ arc_of_dart crossings (on b 2)
+  pub behind_second : arc_of_dart after (on b 2) ≡ arc_of_dart crossings a
+  pub second : arc_of_dart after b ≡ arc_of_dart crossings (on a 2)
 
 -- the pass through a dart and the one behind it joins the arcs that the pass through another dart joins in the old code, in the same
 -- direction by the same signs
 pub record KeepsPass (crossings after : List (List ℕ)) (is_positive : ℕ → Bool) (place old : ℕ) : Type 0 where
   pub below : old < dart_count crossings
-  pub first : arc_there after place ≡ arc_there crossings old
-  pub second : arc_there after (on place 2) ≡ arc_there crossings (on old 2)
+  pub first : arc_of_dart after place ≡ arc_of_dart crossings old
+  pub second : arc_of_dart after (on place 2) ≡ arc_of_dart crossings (on old 2)
   pub direction : is_head_with is_positive (dart_at place) ≡ is_head_with is_positive (dart_at old)

@@ -9,9 +9,9 @@ ghost use Rattle.kh_types.specs.Darts.{dart_count, HasArcsTwice, partner_at};
 ghost use Rattle.kh_types.specs.Directions.{is_positive, plus_count, minus_count};
 ghost use Rattle.kh_types.specs.Faces.{face_count, piece_count, planar_face_count};
 ghost use Rattle.kh_types.specs.StateSum.{state_sum, sum_with};
-ghost use Rattle.gluing.specs.Codes.{HoldsArcs, IsRenumbered};
+ghost use Rattle.gluing.specs.Codes.{HoldsArcs, IsRenumbered, arc_of_dart};
 ghost use Rattle.slides.specs.Triangles.{slide_slot, has_heights, has_triangle, is_triangle, dart_at_slot, step, HasOneParity, IsTriangle, IsTriangleAt};
-ghost use Rattle.slides.specs.Slid.{arc_there, on, slid, slid_code, source};
+ghost use Rattle.slides.specs.Slid.{on, slid, slid_code, source};
 ghost use Rattle.slides.specs.SlideCodes.{HasHeadsAndTails, FollowsRule, KeepsPass};
 
 /// The slot at which a slide is made is one of a triangle whose slots do not have one parity.
@@ -119,7 +119,7 @@ pub fn slides_keep_passes()
     ensures apart { (code : Code) (x y z place : ℕ) → IsTrue (accepted code)
         → IsTriangle code.crossings x y z
         → place < dart_count code.crossings
-        → arc_there (slid code.crossings x y z) place ≢ arc_there (slid code.crossings x y z) (on
+        → arc_of_dart (slid code.crossings x y z) place ≢ arc_of_dart (slid code.crossings x y z) (on
         place 2) }
     ensures back { (crossings : List (List ℕ)) (x y z place : ℕ) → IsTriangle crossings x y z
         → source x y z (source x y z place) ≡ place }

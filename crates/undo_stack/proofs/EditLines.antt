@@ -14,7 +14,7 @@ use Rattle.undo_stack.specs.declared.edit_line.EditLine.{EditLine}
 use Rattle.undo_stack.specs.declared.edit_line.EditLine.TheVariants.{Change, Undo, Redo}
 use Rattle.undo_stack.specs.declared.limits.TheConstants.{NAMED_DIGITS, NAMED_LIMIT}
 use Rattle.undo_stack.specs.EditScript.{NamesPlace, SpellsEdit, pass_word, side_word, sign_word}
-use Rattle.undo_stack.specs.EditSteps.{edit_line_of, finger_drop_line, finger_line, kink_drop_line, kink_line, lone_line, pass_named, place_named, side_named, sign_named, slide_line, told_by}
+use Rattle.undo_stack.specs.EditSteps.{edit_line_of, finger_drop_line, finger_line, kink_drop_line, kink_line, pass_named, place_named, side_named, sign_named, slide_line, told_by}
 
 -- a word names a place exactly where it is read from it
 NamesPlace-place_named : (word : List ℕ) (place : ℕ) → place_named word ≡ Some place → NamesPlace word place

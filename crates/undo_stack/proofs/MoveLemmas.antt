@@ -10,7 +10,7 @@ use Rattle.kinks_and_fingers.specs.KinkAdds.{with_kink}
 use Rattle.diagram_moves.specs.declared.change.Move.{Move}
 use Rattle.diagram_moves.specs.declared.change.Move.TheVariants.{KinkAdd, KinkDrop, FingerAdd, FingerDrop, Slide}
 use Rattle.diagram_moves.specs.declared.fault.MoveFault.{MoveFault}
-use Rattle.diagram_moves.specs.Joinable.{numbered}
+use Rattle.orient_arcs.specs.Renumbered.{renumber}
 use Rattle.diagram_moves.specs.Moved.{answered, is_left, moved, slid_at}
 use Rattle.diagram_moves.specs.MoveFaults.{wrong_genus, kink_add_fault, kink_drop_fault, finger_place_fault, finger_add_fault, finger_drop_fault, slide_fault}
 use Rattle.diagram_moves.proofs.AddLemmas.{accepted_kinked, fingers_are_taken, fingers_on_the_sphere_are_accepted, kinks_are_taken}
@@ -35,9 +35,9 @@ moves_are_accepted code (KinkAdd arc under_first positive) holds =
     answered-accepted (kink_add_fault code arc) (with_kink (not under_first) positive arc code)
     (λ none. accepted_kinked code arc (not under_first) positive holds (kinks_are_taken code arc none))
 moves_are_accepted code (KinkDrop crossing) holds =
-    answered-accepted (kink_drop_fault code crossing) (numbered (without_kink code (place_of crossing)))
+    answered-accepted (kink_drop_fault code crossing) (renumber (without_kink code (place_of crossing)))
     (λ none.
-    subst (λ s. IsAccepted (numbered s)) (without_one code (place_of crossing)) (kinks_are_ready code crossing holds none).accepted_code)
+    subst (λ s. IsAccepted (renumber s)) (without_one code (place_of crossing)) (kinks_are_ready code crossing holds none).accepted_code)
 moves_are_accepted code (FingerAdd over over_side under under_side) holds =
     answered-accepted (finger_add_fault code over (is_left over_side) under (is_left under_side))
     (with_finger code over (is_left over_side) under (is_left under_side))
@@ -48,7 +48,7 @@ moves_are_accepted code (FingerAdd over over_side under under_side) holds =
     (fingers_are_taken code over under both.0) both.1)
 moves_are_accepted code (FingerDrop first second) holds =
     answered-accepted (finger_drop_fault code first second)
-    (numbered (without_finger code (place_of first) (place_of second)))
+    (renumber (without_finger code (place_of first) (place_of second)))
     (λ none. (fingers_are_ready code first second holds none).accepted_code)
 moves_are_accepted code (Slide first second third) holds =
     answered-accepted (slide_fault code first second third) (slid_at code first second third)

@@ -9,5 +9,8 @@ mod reader;
 mod values;
 
 pub use command::{Command, Form, Task, WordStop};
-pub use laws::{words_are_decided, words_mean_one_command, worked_commands, worked_usage};
+pub use laws::{
+    limits_of_words, words_are_decided, words_mean_one_command, worked_commands, worked_usage,
+};
+pub use limits::{MARK_DIGITS, MARK_LIMIT, NUMBER_DIGITS, WORKERS_DIGITS};
 pub use reader::read_words;

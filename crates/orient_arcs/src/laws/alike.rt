@@ -9,9 +9,10 @@ ghost use Rattle.kh_types.specs.Checkerboard.{IsCheckerboard};
 ghost use Rattle.kh_types.specs.Circles.{smoothings_of, circle_count};
 ghost use Rattle.kh_types.specs.Directions.{plus_count};
 ghost use Rattle.kh_types.specs.StateSum.{state_sum};
-ghost use Rattle.orient_arcs.specs.Parts.{Parts, ArePaired};
+ghost use Rattle.code_passes.specs.Parts.{Parts, ArePaired};
 ghost use Rattle.orient_arcs.specs.Renumbered.{renumber};
-ghost use Rattle.orient_arcs.specs.Alike.{AreAlike, HasNamesBelow};
+ghost use Rattle.orient_arcs.specs.Alike.{HasNamesBelow};
+ghost use Rattle.gluing.specs.Alike.{AreAlike};
 
 /// An injective renaming leaves crossings alike, and so does renumbering.
 pub fn renamed_crossings_are_alike()

@@ -5,7 +5,7 @@ ghost use Rattle.kh_types.specs.Code.{Code, arc_in, slots_of, IsCrossing, IsArc}
 ghost use Rattle.kh_types.specs.Components.{next};
 ghost use Rattle.kh_types.specs.Directions.{is_positive, HasNoSingleArcs};
 ghost use Rattle.kh_types.specs.Accepted.{IsDirected};
-ghost use Rattle.orient_arcs.specs.Parts.{Parts, parts_of, ArePaired, passes_through, head_count, slots_in, is_positive_at};
+ghost use Rattle.code_passes.specs.Parts.{Parts, parts_of, ArePaired, passes_through, head_count, slots_in, is_positive_at};
 ghost use Rattle.kh_types.specs.Acceptance.{accepted};
 ghost use Rattle.kh_types.specs.StateSum.{state_sum};
 ghost use Rattle.orient_arcs.specs.Alike.{IsOf};

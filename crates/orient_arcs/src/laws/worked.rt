@@ -2,7 +2,7 @@
 
 ghost use Rattle.std.specs.Prelude.{◌≡◌, ℕ, List, [], ◌∷◌};
 ghost use Rattle.kh_types.specs.WorkedCodes.{hopf_link, trefoil, slots_with};
-ghost use Rattle.orient_arcs.specs.Parts.{passes_through};
+ghost use Rattle.code_passes.specs.Parts.{passes_through};
 ghost use Rattle.orient_arcs.specs.Renumbered.{renumber, order_of};
 ghost use Rattle.orient_arcs.specs.WorkedParts.{trefoil_parts, named_trefoil, turned_circle, slid_triangle, curl_parts, single, hopf_parts, mirrored, reversed};
 

@@ -1,8 +1,8 @@
-use Rattle.std.proofs.Common.{◌≡◌, ◌∙◌, ap, sym, subst, arith}
+use Rattle.std.proofs.Common.{◌∙◌, ap, sym, subst, arith}
 use Rattle.std.specs.Prelude.{IsTrue}
 use Rattle.kh_types.specs.Acceptance.{accepted}
 use Rattle.kh_types.specs.Code.{Code}
-use Rattle.orient_arcs.specs.Parts.{ArePaired, Parts}
+use Rattle.code_passes.specs.Parts.{ArePaired, Parts}
 use Rattle.orient_arcs.specs.Renumbered.{renumber}
 use Rattle.braid_maker.proofs.Accepted.{ArePaired-closure, closure-is_accepted}
 use Rattle.braid_maker.proofs.closing.closure.Goals as goal

@@ -1,6 +1,5 @@
 use Rattle.std.proofs.Common.{ℕ, ◌≤◌, arith}
 use Rattle.circle_smoothing.specs.declared.limits.TheConstants.{GENERATORS}
-use Rattle.kh_types.specs.Code.{Code}
 use Rattle.circle_smoothing.specs.GeneratorCounts.{generator_count}
 use Rattle.braid_maker.specs.Closures.{code_of_number}
 use Rattle.braid_maker.proofs.Accepted.{number-is_accepted, number-is_small}

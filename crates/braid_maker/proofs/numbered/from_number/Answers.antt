@@ -1,4 +1,4 @@
-use Rattle.std.proofs.Common.{◌≡◌, ◌∙◌, ap}
+use Rattle.std.proofs.Common.{◌∙◌, ap}
 use Rattle.braid_maker.specs.Closures.{closure}
 use Rattle.braid_maker.proofs.numbered.from_number.Goals as goal
 

@@ -1,12 +1,12 @@
 use Rattle.std.proofs.Common.{◌∙◌, ℕ, ap, sym, subst}
-use Rattle.diagram_moves.specs.Joinable.{AreReady, parts_in}
+use Rattle.diagram_moves.specs.Joinable.{AreReady}
 use Rattle.diagram_moves.specs.Moved.{slid_from}
-use Rattle.diagram_moves.specs.SlideSteps.{slid_strands_at}
+use Rattle.diagram_moves.specs.SlideSteps.{slid_parts_at}
 use Rattle.diagram_moves.proofs.slide.slid_at.Goals as goal
 
 pub slid_from-requires-clause-ready : goal.slid_from-requires-clause-ready
 slid_from-requires-clause-ready c =
-    subst (λ (slot : ℕ). AreReady (parts_in (slid_strands_at c.args.diagram.now c.args.corners.first slot))) (sym c.taken_slot.ensures.slot)
+    subst (λ (slot : ℕ). AreReady (slid_parts_at c.args.diagram.now c.args.corners.first slot)) (sym c.taken_slot.ensures.slot)
     c.requires.ready
 
 pub returns : goal.returns

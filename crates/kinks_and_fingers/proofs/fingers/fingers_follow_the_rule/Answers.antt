@@ -1,4 +1,4 @@
-use Rattle.std.proofs.Common.{ℕ, ◌+◌, ◌≢◌, List, Bool, inl, inr, refl}
+use Rattle.std.proofs.Common.{ℕ, ◌+◌, List, Bool, inl, inr, refl}
 use Rattle.kinks_and_fingers.specs.FingerAdd.{differ, fingered_crossings, opened, IsFollowed}
 use Rattle.kinks_and_fingers.proofs.MovableArcs.{AreFingerable}
 use Rattle.kinks_and_fingers.proofs.FingerAccepted.{AreFingerable-accepted}

@@ -4,7 +4,7 @@ use Rattle.kh_types.specs.Code.{Code}
 use Rattle.kh_types.specs.Directions.{is_positive}
 use Rattle.kh_types.specs.StateSum.{state_sum}
 use Rattle.kh_types.specs.Table.{dimension}
-use Rattle.orient_arcs.specs.Parts.{ArePaired, Parts}
+use Rattle.code_passes.specs.Parts.{ArePaired, Parts}
 use Rattle.orient_arcs.specs.Renumbered.{renumber}
 use Rattle.link_algebra.specs.Mirrors.{mirror_parts}
 use Rattle.link_algebra.proofs.MirrorParts.{IsTurnOf-mirror, mirror_turn}

@@ -3,7 +3,7 @@ use Rattle.kh_types.specs.Acceptance.{accepted}
 use Rattle.kh_types.specs.Code.{Code}
 use Rattle.kh_types.specs.StateSum.{state_sum}
 use Rattle.kh_types.specs.Table.{dimension}
-use Rattle.orient_arcs.specs.Parts.{ArePaired, Parts}
+use Rattle.code_passes.specs.Parts.{ArePaired, Parts}
 use Rattle.orient_arcs.specs.Renumbered.{renumber}
 use Rattle.link_algebra.specs.Mirrors.{reversal_parts}
 use Rattle.link_algebra.proofs.MirrorParts.{IsTurnOf-reversal}

@@ -1,6 +1,6 @@
 use Rattle.std.proofs.Common.{◌≡◌}
 use Rattle.std.specs.List.{flat_map, range_with_len}
-use Rattle.orient_arcs.specs.Parts.{passes_at}
+use Rattle.code_passes.specs.Parts.{passes_at}
 use Rattle.orient_arcs.proofs.passes.passes_through.Given as goal
 
 abbrev pub invariant-places : goal.invariant-places

@@ -1,6 +1,6 @@
 use Rattle.std.proofs.Common.{◌∙◌, ap, map}
 use Rattle.kh_types.specs.Code.{Code}
-use Rattle.orient_arcs.specs.Parts.{Parts, passes_through}
+use Rattle.code_passes.specs.Parts.{Parts, passes_through}
 use Rattle.orient_arcs.specs.Renumbered.{order_of, number_in, renamed_crossing}
 use Rattle.orient_arcs.proofs.StepLemmas.{code_is}
 use Rattle.orient_arcs.proofs.OneOrder.{AreInOrder-order}

@@ -1,6 +1,6 @@
 use Rattle.std.proofs.Common.{◌∙◌, ap}
 use Rattle.kh_types.specs.Code.{arc_in, slots_of}
-use Rattle.orient_arcs.specs.Parts.{passes_through}
+use Rattle.code_passes.specs.Parts.{passes_through}
 use Rattle.orient_arcs.specs.Renumbered.{number_in, order_of}
 use Rattle.orient_arcs.proofs.Bridge.{slot-renumbered}
 use Rattle.orient_arcs.proofs.OneOrder.{AreInOrder-order, one-order}

@@ -1,5 +1,5 @@
 use Rattle.code_passes.specs.Passes.{Pass}
-use Rattle.orient_arcs.specs.Parts.{passes_through}
+use Rattle.code_passes.specs.Parts.{passes_through}
 use Rattle.orient_arcs.proofs.PairedPasses.{in-counted}
 use Rattle.orient_arcs.proofs.Bridge.{slot-renumbered, number-once, number-arc}
 use Rattle.orient_arcs.proofs.laws.renumbered.numbers_tell_names_apart.Goals as goal

@@ -1,6 +1,6 @@
 use Rattle.std.proofs.Common.{refl, arith}
 use Rattle.kinks_and_fingers.proofs.Sound.{HasBigonAt-found, IsSound-finger}
-use Rattle.kinks_and_fingers.proofs.drops.bigons_are_dropped.Goals as goal
+use Rattle.kinks_and_fingers.proofs.drops.dropped_bigons_stay_planar.Goals as goal
 
 pub returns : goal.returns
 returns c = record {

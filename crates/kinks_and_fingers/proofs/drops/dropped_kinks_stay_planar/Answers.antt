@@ -1,6 +1,6 @@
 use Rattle.std.proofs.Common.{refl, arith}
 use Rattle.kinks_and_fingers.proofs.Sound.{HasKinkAt-found, IsSound-kink}
-use Rattle.kinks_and_fingers.proofs.drops.kinks_are_dropped.Goals as goal
+use Rattle.kinks_and_fingers.proofs.drops.dropped_kinks_stay_planar.Goals as goal
 
 pub returns : goal.returns
 returns c = record {
