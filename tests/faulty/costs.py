@@ -2,8 +2,10 @@
 
 No command needs more than twice the space that `check` needs for an input that is refused, but that `verify` may hold a log four times
 over; and no refusal takes more than five times as long as `true`, but those of a count of generators and of logs of a million bytes. Times
-are the best of many runs, one after another and in turns with `true`. Answers to a diagram of a million generators take so many bytes for
-each of them at most: what `certify` writes is in memory, whole, beside the block that is cancelled, and so is what `verify` reads.
+are the best of many runs, one after another and in turns with `true`. Of the blocks of a diagram one is whole in memory at a time. A
+quarter of all generators are in the largest, and nearly as many in the one beside it, so two at once would add half to what a run takes.
+`homology` by one worker takes so many bytes for each generator at most. The others take no more than so many times as much as it does,
+though what `certify` writes is in memory, whole, beside the block that is cancelled, and so is what `verify` reads.
 """
 import resource
 import time
@@ -20,7 +22,8 @@ TURNS = 15
 MORE_SPACE, MORE_TIME, MORE_LOGS = 2, 5, 4
 SIZE, LONG = 65_536, 500_000
 LARGE = "a braid of 16 crossings on 4 strands"
-BYTES_OF_A_GENERATOR = {"certify": 120, "verify": 120, "reduced": 60}
+BYTES_OF_A_GENERATOR = 120
+TIMES_OF_HOMOLOGY = {"certify": 1.3, "verify": 1.3, "reduced": 0.6}
 
 TEXTS = {
     "an empty text": b"",
@@ -97,16 +100,22 @@ def best_times(child, true, case):
 
 
 def answer_faults(child, commands):
-    """What the answers to a large diagram take too much memory for, if they do: its log, which is verified, and its reduced table."""
+    """What the answers to a large diagram take too much memory for, if they do: its table, its log, which is verified, its reduced table."""
     text = dict(known_diagrams.begun())[LARGE].encode()
     generators, given = plain.cube.generator_count(codes.read(text.decode())), {"certify": text, "reduced": text}
-    for command, most in BYTES_OF_A_GENERATOR.items():
+    table = child.run(["homology"], text)
+    yield f"homology of {LARGE}, memory", memory_fault(child, table, BYTES_OF_A_GENERATOR * generators // KB)
+    for command, times in TIMES_OF_HOMOLOGY.items():
         if command in commands and command in given:
             came = child.run([command, *(["--mark", "1"] if command == "reduced" else [])], given[command])
             given.setdefault("verify", came.wrote)  # (what `certify` wrote, which comes first)
-            much = child.takes_more(came, most * generators // KB)
-            fault = f"status {came.status}, {came.kilobytes} KB for {generators} generators" if came.status or much else None
-            yield f"{command} of {LARGE}, memory", fault
+            yield f"{command} of {LARGE}, memory", memory_fault(child, came, int(times * table.kilobytes))
+
+
+def memory_fault(child, came, most):
+    """What is wrong with an answer that is to take so many kilobytes at most, if anything is."""
+    much = child.takes_more(came, most)
+    return f"status {came.status}, {came.kilobytes} KB, and {most} are wanted" if came.status or much else None
 
 
 def faults(program, child, true, commands):

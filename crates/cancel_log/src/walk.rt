@@ -1,10 +1,11 @@
 //! The blocks of a log, line by line: each line cancels in the last block that has begun, begins
 //! the next, or closes. One block is in memory at a time.
 
-ghost use Rattle.std.specs.Prelude.{◌≡◌, ◌&&◌, length, nat_lt, pos, slice_index_or, true, None, IfOk, OnOk};
+ghost use Rattle.std.specs.Prelude.{◌≡◌, ◌&&◌, length, nat_lt, pos, slice_index_or, true, [], None, Some, IfOk, OnOk};
 ghost use Rattle.std.specs.List.{Contains};
 ghost use Rattle.std.specs.Ordering.{int_eq};
 ghost use Rattle.cube_signs.specs.Blocks.{block_degrees};
+ghost use Rattle.shared_block.specs.BlockHistories.{block_with};
 ghost use Rattle.cancel_log.specs.Standings.{Does, begin_in, cancel_in, close_in, is_closed, rows_and, standing_first, step};
 
 use crate::{LogCause, LogLine};
@@ -108,9 +109,21 @@ impl<F: PrimeField> Walk<F> {
         }
         next_is_block(degrees, self.begun, j);
         self.flush()?;
-        self.current = Some(SharedBlock::of_cube(alloc, cube, j)?);
+        self.hold(alloc, cube, j)?;
         self.begun += 1;
         Ok(None)
+    }
+
+    /// Makes the next block, where none is held: so one is in memory at a time.
+    fn hold(&mut self, alloc: Global, cube: &Cube, j: i16) -> Result<(), NoMemory>
+        requires none_held { self.old.current ≡ None }
+        requires degree { Contains (block_degrees cube.now) j }
+        ensures current { OnOk result (self.new.current ≡ Some (block_with cube.now j [])) }
+        ensures rows { self.new.rows ≡ self.old.rows }
+        ensures begun { self.new.begun ≡ self.old.begun }
+    {
+        self.current = Some(SharedBlock::of_cube(alloc, cube, j)?);
+        Ok(())
     }
 
     /// A line that closes.

@@ -75,7 +75,8 @@ pub fn cancel_in_place<F: PrimeField>(
     cancel_with(&mut scratch, complex, pivot)
 }
 
-/// The same, with memory in which lines are made, which many cancellations can share.
+/// The same, with a list in which lines are made, which many cancellations can share. It takes
+/// memory by that list's allocator.
 pub fn cancel_with<F: PrimeField>(
     scratch: &mut Vec<Entry>,
     complex: &mut Complex<F>,

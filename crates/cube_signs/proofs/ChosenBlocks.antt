@@ -27,10 +27,10 @@ use Rattle.sparse_block.proofs.DegreeLemmas.{length-at}
 use Rattle.cube_squares.proofs.Degrees.{product_sum-at}
 use Rattle.cube_squares.proofs.Pairs.{times-zero}
 use Rattle.cube_signs.specs.Chosen.{chosen_at, chosen_block, coefficients, list_degree, IsClosed}
-use Rattle.cube_signs.specs.ChosenParts.{all_places, all_places_to, chosen_to, AreChosenColumns, AreChosenParts, AreColumnsTo, AreMovedColumns}
+use Rattle.cube_signs.specs.ChosenParts.{all_places, all_places_to, chosen_to, AreChosenParts, AreMovedColumns}
 use Rattle.cube_signs.specs.Columns.{IsTail}
 use Rattle.cube_signs.proofs.BlockLemmas.{are-tails}
-use Rattle.cube_signs.proofs.ChosenColumns.{AreColumnsTo-moved}
+use Rattle.cube_signs.proofs.ChosenColumns.{AreChosenColumns, AreColumnsTo, AreColumnsTo-moved}
 use Rattle.cube_signs.proofs.GeneratorPlaces.{length-generators_at}
 use Rattle.cube_signs.proofs.ListComplexes.{AreLists, IsComplex-list_complex}
 use Rattle.cube_signs.proofs.ListMatrices.{SquareToZero, between, generator_number}

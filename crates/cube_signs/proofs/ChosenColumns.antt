@@ -1,6 +1,6 @@
 -- The columns between chosen generators: those of all generators, with the rows numbered anew.
-use Rattle.std.proofs.Common.{◌≡◌, ◌≢◌, ℕ, zero, suc, inl, inr, ◌+◌, ◌<◌, ◌≤◌, ◌∙◌, ℤ, pos, ◌+ℤ◌, List, [], ◌∷◌, length, get_or, map, refl, sym, ap, subst, arith, Bool, true, false}
-use Rattle.std.specs.Prelude.{slice_index}
+use Rattle.std.proofs.Common.{◌≡◌, ◌≢◌, ℕ, zero, suc, inl, inr, ◌+◌, ◌<◌, ◌≤◌, ◌∙◌, ℤ, pos, ◌+ℤ◌, List, [], ◌∷◌, length, get_or, map, refl, sym, ap, subst, arith, Bool, true, false, ◌-ℤ◌}
+use Rattle.std.specs.Prelude.{slice_index, slice_index_or}
 use Rattle.std.specs.List.{All, filter}
 use Rattle.std.proofs.lemmas.Bool.{cases_Bool, cases_eq}
 use Rattle.std.proofs.lemmas.List.{get_or-map, length-map}
@@ -9,14 +9,32 @@ use Rattle.kh_types.specs.Code.{Code}
 use Rattle.kh_types.specs.Differential.{coefficient}
 use Rattle.kh_types.specs.Generators.{Generator, generator_of, generators_at}
 use Rattle.sparse_block.specs.declared.entry.Entry.{Entry}
-use Rattle.sparse_block.specs.Entries.{value_at}
+use Rattle.sparse_block.specs.Entries.{value_at, AreEntries}
 use Rattle.sparse_block.proofs.AscendingLemmas.{Ascend, ascend-earlier, ascend-place, entries-ascend, entries-from_ascend}
 use Rattle.sparse_block.proofs.EntryLemmas.{value_at-here, value_at-later}
 use Rattle.cube_signs.specs.Chosen.{chosen_at, chosen_before, IsClosed}
-use Rattle.cube_signs.specs.ChosenParts.{all_places, moved_entry, AreColumnsTo, AreMovedColumns, IsColumnTo}
+use Rattle.cube_signs.specs.ChosenParts.{all_places, moved_entry, AreMovedColumns}
 use Rattle.cube_signs.specs.Columns.{IsColumn, IsTail}
 use Rattle.cube_signs.proofs.BlockLemmas.{are-tails}
 use Rattle.cube_signs.proofs.ChosenPlaces.{before-all, before-le, before-next, before-one, kept-at, origin, places-at, IsChosen}
+
+-- entries are the column of a tail: those of its coefficients to the heads
+pub record IsColumnTo (p : ℕ) (code : Code) (heads : List Generator) (tail : Generator) (entries : List Entry) : Type 0 where
+  pub are : AreEntries p (length heads) entries
+  pub values : (row : ℕ) → row < length heads → value_at entries row ≡ coefficient p code tail (slice_index_or heads row (generator_of 0 0))
+
+-- columns are those of tails to heads
+pub record AreColumnsTo (p : ℕ) (code : Code) (tails heads : List Generator) (columns : List (List Entry)) : Type 0 where
+  pub size : length columns ≡ length tails
+  pub each : (k : ℕ) → k < length tails
+      → IsColumnTo p code heads (slice_index_or tails k (generator_of 0 0)) (slice_index_or columns k [])
+
+-- lists of columns are those between the chosen generators of the first homological degrees
+pub record AreChosenColumns (choice : Generator → Bool) (p : ℕ) (code : Code) (j : ℤ) (count : ℕ) (columns : List (List (List Entry))) : Type 0 where
+  pub size : length columns ≡ count
+  pub each : (k : ℕ) → k < count
+      → AreColumnsTo p code (chosen_at choice code (pos k -ℤ pos (length code.crossings)) j)
+      (chosen_at choice code (pos k -ℤ pos (length code.crossings) +ℤ pos 1) j) (slice_index_or columns k [])
 
 -- an entry in a list that ascends is the one that the list has at its place
 value_at-own : (p a b k : ℕ) (es : List Entry) (d : Entry) → Ascend p a b es → k < length es

@@ -20,6 +20,7 @@ pub mod ColumnHeads
 pub mod BlockLemmas
 pub mod SpanLemmas
 pub mod NamedBlocks
+pub mod BlockEnds
 pub mod PlaceLemmas
 pub mod ListMatrices
 pub mod ListComplexes

@@ -23,7 +23,7 @@ use Rattle.kh_types.proofs.BitLemmas.{ones-more}
 use Rattle.kh_types.proofs.QuantumDegrees.{ones-le}
 use Rattle.kh_types.proofs.Ranges.{list_any-below, list_any-below_none, list_any-found}
 use Rattle.cube_signs.specs.Blocks.{has_block}
-use Rattle.cube_signs.specs.Shapes.{degrees_of, degrees_to, gives_degree, has_degree, have_degree, is_given, shape_of}
+use Rattle.cube_signs.specs.Shapes.{degrees_of, gives_degree, has_degree, have_degree, is_given, shape_of}
 use Rattle.cube_signs.specs.declared.shape.Shape.{Shape}
 use Rattle.kh_types.proofs.MappedLists.{list_any-map}
 
@@ -142,6 +142,10 @@ has_degree-given shape j (Some weight) within gives is = is ∙ elim (cases_lt s
       grind (arith, nat_tests)
       ∙ sym (list_any-below (gives_degree shape j) (shape.circles + 1) weight (omega arith) (gives weight ∙ eq-eqb weight weight refl))
 ]
+
+-- of the numbers from -most to most, as many as are given, the quantum degrees that have a generator
+abbrev pub degrees_to : ℕ → List Shape → ℕ → List ℤ
+degrees_to most shapes count = filter (have_degree shapes) (map (λ k. pos k -ℤ pos most) (range_with_len 0 count))
 
 -- one degree more
 pub degrees_to-more : (most : ℕ) (shapes : List Shape) (made next : List ℤ) (j : ℤ) (place : ℕ) → made ≡ degrees_to most shapes place

@@ -30,29 +30,11 @@ all_places_to choice code j count =
 abbrev pub moved_entry : List ℕ → Entry → Entry
 moved_entry rows entry = entry_at (slice_index rows entry.place, entry.value)
 
--- entries are the column of a tail: those of its coefficients to the heads
-pub record IsColumnTo (p : ℕ) (code : Code) (heads : List Generator) (tail : Generator) (entries : List Entry) : Type 0 where
-  pub are : AreEntries p (length heads) entries
-  pub values : (row : ℕ) → row < length heads → value_at entries row ≡ coefficient p code tail (slice_index_or heads row (generator_of 0 0))
-
--- columns are those of tails to heads
-pub record AreColumnsTo (p : ℕ) (code : Code) (tails heads : List Generator) (columns : List (List Entry)) : Type 0 where
-  pub size : length columns ≡ length tails
-  pub each : (k : ℕ) → k < length tails
-      → IsColumnTo p code heads (slice_index_or tails k (generator_of 0 0)) (slice_index_or columns k [])
-
 -- columns are those of some generators of the degrees i and j, with their rows numbered anew
 pub record AreMovedColumns (p : ℕ) (code : Code) (i j : ℤ) (tails : List Generator) (rows : List ℕ) (columns : List (List Entry)) : Type 0 where
   pub whole : List (List Entry)
   pub of_tails : AreColumns p code i j tails (length tails) whole
   pub are : columns ≡ map (map (moved_entry rows)) whole
-
--- lists of columns are those between the chosen generators of the first homological degrees
-pub record AreChosenColumns (choice : Generator → Bool) (p : ℕ) (code : Code) (j : ℤ) (count : ℕ) (columns : List (List (List Entry))) : Type 0 where
-  pub size : length columns ≡ count
-  pub each : (k : ℕ) → k < count
-      → AreColumnsTo p code (chosen_at choice code (pos k -ℤ pos (length code.crossings)) j)
-      (chosen_at choice code (pos k -ℤ pos (length code.crossings) +ℤ pos 1) j) (slice_index_or columns k [])
 
 -- names and columns, by degree from the lowest on, of which the block over the chosen generators is made
 pub record AreChosenParts (choice : Generator → Bool) (p : ℕ) (code : Code) (j : ℤ) (names : List (List Generator)) (columns : List (List (List Entry))) : Type 0 where

@@ -44,10 +44,6 @@ abbrev pub is_given : Option ℕ → ℕ → Bool
 is_given None number = false
 is_given (Some given) number = nat_eq number given
 
--- of the numbers from -most to most, as many as are given, the quantum degrees that have a generator
-abbrev pub degrees_to : ℕ → List Shape → ℕ → List ℤ
-degrees_to most shapes count = filter (have_degree shapes) (map (λ k. pos k -ℤ pos most) (range_with_len 0 count))
-
 -- the quantum degrees that have a generator, given the shapes of all states
 unfoldable pub degrees_of : List Shape → List ℤ
 degrees_of shapes = filter (have_degree shapes) (from_minus EXPONENT)

@@ -28,7 +28,7 @@ struct From {
 }
 
 /// Finds the edges out of a state, in place of those that are given.
-pub fn find_outs(
+pub(crate) fn find_outs(
     outs: &mut Vec<Out>,
     p: u8,
     steps: &[Option<Edge>],

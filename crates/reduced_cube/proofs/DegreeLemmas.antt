@@ -31,7 +31,7 @@ use Rattle.cube_signs.specs.Shapes.{gives_degree, is_given, shape_of}
 use Rattle.cube_signs.specs.declared.shape.Shape.{Shape}
 use Rattle.cube_signs.proofs.KindDegrees.{any-kinds}
 use Rattle.cube_signs.proofs.ShapeLemmas.{list_any-flat_map, ones-lowest, quantum_degree-label, same-passes}
-use Rattle.reduced_cube.specs.Degrees.{shape_has_reduced, some_shape_has_reduced, is_from_one, reduced_degrees_of, reduced_degrees_to}
+use Rattle.reduced_cube.specs.Degrees.{shape_has_reduced, some_shape_has_reduced, is_from_one, reduced_degrees_of}
 use Rattle.reduced_cube.specs.Reduced.{has_reduced, is_reduced, reduced_degrees}
 use Rattle.reduced_cube.proofs.MarkedCounts.{ones-positive}
 use Rattle.reduced_cube.proofs.ReducedSums.{number-below}
@@ -185,6 +185,10 @@ pub reduced-given : (shape : Shape) (j : ℤ) {below : ℤ} (given : Option ℕ)
     → within ≡ is_from_one given shape.circles → within ≡ shape_has_reduced j shape
 reduced-given shape j given within gives is_below is =
     reduced-found shape j given within (λ count. sym (ap (λ (d : ℤ). gives_degree shape d count) is_below) ∙ gives count) is
+
+-- of the first numbers from -most on, the reduced quantum degrees that have a generator
+abbrev pub reduced_degrees_to : ℕ → List Shape → ℕ → List ℤ
+reduced_degrees_to most shapes count = filter (some_shape_has_reduced shapes) (map (λ k. pos k -ℤ pos most) (range_with_len 0 count))
 
 -- one degree more
 pub reduced_degrees-more : (most : ℕ) (shapes : List Shape) (made next : List ℤ) (j : ℤ) (place : ℕ)

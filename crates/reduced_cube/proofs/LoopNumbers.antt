@@ -3,12 +3,11 @@ use Rattle.std.proofs.Common.{◌≡◌, ℕ, zero, suc, ◌+◌, ◌-◌, ◌<�
 use Rattle.std.specs.Prelude.{slice_index}
 use Rattle.std.specs.List.{fold, range_with_len}
 use Rattle.std.proofs.lemmas.Bool.{eq-eqb}
-use Rattle.std.proofs.lemmas.Bool.Decides.{nat_tests}
 use Rattle.std.proofs.lemmas.List.{length-append}
 use Rattle.kh_types.specs.Acceptance.{accepted}
 use Rattle.kh_types.specs.CircleNumbers.{circle_number, names_to, IsName}
 use Rattle.kh_types.specs.Circles.{circle_count, circles_of, smoothings_of}
-use Rattle.kh_types.specs.Classes.{is_least, joined, merged, AreBelow, IsNamed}
+use Rattle.kh_types.specs.Classes.{is_least, joined, AreBelow, IsNamed}
 use Rattle.kh_types.specs.Code.{Code, arc_count}
 use Rattle.kh_types.proofs.AcceptedLemmas.{IsAccepted-is}
 use Rattle.kh_types.proofs.CircleBound.{ArcsBelow-slots, smoothings_of-below}

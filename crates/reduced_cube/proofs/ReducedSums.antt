@@ -31,7 +31,7 @@ use Rattle.kh_types.proofs.ListSums.{sum_by-alike, sum_by-filter, sum_by-flat_ma
 use Rattle.kh_types.proofs.AlternatingSums.{alternating, alternating-add, alternating-alike, alternating-neighbours, alternating-sum, signed_by-add, signed_by-zero}
 use Rattle.kh_types.proofs.Integers.{int_eq-other}
 use Rattle.kh_types.proofs.IntSums.{int_sum-add, int_sum-alike, int_sum-within, int_sum-zeros}
-use Rattle.kh_types.proofs.LabelDegrees.{degree_of_label, int_eq-iff, degree_of_state, label_part, shifted-test}
+use Rattle.kh_types.proofs.LabelDegrees.{degree_of_label, degree_of_state, label_part, shifted-test}
 use Rattle.reduced_cube.specs.Reduced.{is_reduced, reduced_differential, reduced_dimension, reduced_generators, reduced_table}
 use Rattle.cube_signs.proofs.ListComplexes.{rank-no_heads, rank-no_tails}
 use Rattle.reduced_cube.proofs.MarkedCounts.{marked_with-is, ones-positive}

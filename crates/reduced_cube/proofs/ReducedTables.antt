@@ -1,12 +1,11 @@
 -- The rows of a reduced table are those of a table, and stand block by block.
-use Rattle.std.proofs.Common.{◌≡◌, ℕ, zero, suc, ◌+◌, ◌-◌, ◌*◌, ◌<◌, ◌≤◌, ◌∙◌, List, [], ◌∷◌, ◌++◌, map, length, take, take_all, get_or, ap, ap₂, sym, refl, subst, inl, inr, arith, ℤ, pos, ◌-ℤ◌, true}
+use Rattle.std.proofs.Common.{◌≡◌, ℕ, zero, suc, ◌+◌, ◌*◌, ◌<◌, ◌≤◌, ◌∙◌, List, [], ◌∷◌, ◌++◌, map, length, take, take_all, get_or, ap, ap₂, sym, refl, subst, inl, inr, arith, ℤ, pos, ◌-ℤ◌, true}
 use Rattle.std.specs.Prelude.{nat_lt, ◌≤ℤ◌}
 use Rattle.std.specs.List.{All, AllPairs, filter, flat_map, range_with_len}
-use Rattle.std.proofs.lemmas.Bool.{cases_lt}
 use Rattle.std.proofs.lemmas.Bool.Decides.{nat_tests}
 use Rattle.std.proofs.lemmas.Grind.{flat_map-append}
 use Rattle.std.proofs.lemmas.Int.{ints, to_z-of_z}
-use Rattle.std.proofs.lemmas.List.{append-nil, append_assoc, get_or_append_left, get_or_default, get_or-append_right, length-append, length-map, take_more}
+use Rattle.std.proofs.lemmas.List.{append-nil, append_assoc, get_or_default, length-map, take_more}
 use Rattle.std.proofs.lemmas.List.Elements.{All-append, All-filter, All-map, All-nil, All-weaker, filter-append, filter_passes}
 use Rattle.std.proofs.lemmas.List.FromFn.{length-map-range_with_len}
 use Rattle.std.proofs.lemmas.List.Kept.{AllPairs-filter}
@@ -17,7 +16,7 @@ use Rattle.kh_types.specs.declared.limits.TheConstants.{CROSSINGS, EXPONENT}
 use Rattle.kh_types.specs.Code.{Code}
 use Rattle.kh_types.specs.Generators.{generators_at}
 use Rattle.kh_types.specs.Table.{IsWithin, Row, Table, from_minus, is_shown}
-use Rattle.kh_types.proofs.QuantumDegrees.{IsWithin-place, place-IsWithin}
+use Rattle.kh_types.proofs.QuantumDegrees.{IsWithin-place}
 use Rattle.kh_types.proofs.Ranges.{map_from_zero}
 use Rattle.circle_smoothing.specs.GeneratorCounts.{generator_count}
 use Rattle.circle_smoothing.specs.declared.limits.TheConstants.{GENERATORS}

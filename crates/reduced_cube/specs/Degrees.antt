@@ -1,5 +1,5 @@
 -- The reduced quantum degrees, by the shapes of states (this project's rule).
-use Rattle.std.specs.Prelude.{ℕ, ◌+◌, ℤ, pos, ◌-ℤ◌, List, map, Bool, false, ◌&&◌, nat_le, Option, None, Some}
+use Rattle.std.specs.Prelude.{ℕ, ◌+◌, ℤ, pos, ◌-ℤ◌, List, Bool, false, ◌&&◌, nat_le, Option, None, Some}
 use Rattle.std.specs.List.{filter, list_any, range_with_len}
 use Rattle.kh_types.specs.Table.{from_minus}
 use Rattle.kh_types.specs.declared.limits.TheConstants.{EXPONENT}
@@ -19,10 +19,6 @@ is_from_one (Some given) last = nat_le 1 given && nat_le given last
 -- whether some state has one
 abbrev pub some_shape_has_reduced : List Shape → ℤ → Bool
 some_shape_has_reduced shapes j = list_any (shape_has_reduced j) shapes
-
--- of the first numbers from -most on, the reduced quantum degrees that have a generator
-abbrev pub reduced_degrees_to : ℕ → List Shape → ℕ → List ℤ
-reduced_degrees_to most shapes count = filter (some_shape_has_reduced shapes) (map (λ k. pos k -ℤ pos most) (range_with_len 0 count))
 
 -- the reduced quantum degrees that have a generator, given the shapes of all states
 unfoldable pub reduced_degrees_of : List Shape → List ℤ

@@ -5,8 +5,8 @@
 pub enum ReducedStop {
     /// The mark is neither an arc nor a loop of the diagram.
     Mark {
-        /// The mark: neither an arc nor a loop of the diagram.
-        mark: u8,
+        /// The number that was marked.
+        arc: u8,
     },
     /// There are more generators than the limit, `GENERATORS`.
     SizeLimit {

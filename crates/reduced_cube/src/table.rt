@@ -43,7 +43,7 @@ pub fn reduced_table<F: PrimeField>(
     // (what the type of a diagram keeps)
     let _ = diagram.crossings();
     if !is_mark(diagram, mark) {
-        return Err(ReducedStop::Mark { mark });
+        return Err(ReducedStop::Mark { arc: mark });
     }
     if let Err(limit) = check_size(diagram) {
         return Err(ReducedStop::SizeLimit {

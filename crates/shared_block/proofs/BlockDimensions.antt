@@ -1,8 +1,6 @@
 -- The dimensions of a block are those of its code, and its ranks fit into its generators.
-use Rattle.std.proofs.Common.{◌≡◌, ℕ, ◌+◌, ◌∙◌, inl, inr, ℤ, pos, ◌+ℤ◌, ◌-ℤ◌, List, [], ◌∷◌, IsTrue, true, length, map, refl, sym, ap, arith, cond}
+use Rattle.std.proofs.Common.{◌≡◌, ℕ, ◌+◌, ◌∙◌, inl, inr, ℤ, pos, ◌+ℤ◌, ◌-ℤ◌, List, [], IsTrue, true, length, map, sym, ap, arith}
 use Rattle.std.specs.List.{count_by}
-use Rattle.std.proofs.lemmas.List.Elements.{All-nil}
-use Rattle.std.proofs.lemmas.List.Sums.{sum_by-cons}
 use Rattle.kh_types.specs.Acceptance.{accepted}
 use Rattle.kh_types.specs.Code.{Code}
 use Rattle.kh_types.specs.Complex.{Pivot, alive_count, degree_of, dimension_of, is_zero}
@@ -11,7 +9,6 @@ use Rattle.kh_types.specs.Generators.{Generator, generators_at}
 use Rattle.kh_types.specs.History.{IsLegal, block, replay}
 use Rattle.kh_types.specs.Rank.{rank}
 use Rattle.kh_types.specs.Table.{dimension}
-use Rattle.kh_types.proofs.RankLemmas.{rank-zeros}
 use Rattle.prime_field.specs.Residues.{IsField}
 use Rattle.cube_squares.proofs.BlockComplexes.{IsComplex-block, alive-block}
 use Rattle.cube_squares.proofs.BlockDegrees.{degree-block}

@@ -1,10 +1,8 @@
 -- The generators of two degrees, counted state by state, and that their alternating sum is the state sum.
-use Rattle.std.proofs.Common.{◌≡◌, ◌≢◌, ℕ, ◌+◌, ◌*◌, ◌^◌, ◌∙◌, ℤ, pos, ◌+ℤ◌, ◌-ℤ◌, List, sym, refl, length, ap, arith, Bool, true, false, cond, ◌&&◌}
+use Rattle.std.proofs.Common.{◌≡◌, ℕ, ◌+◌, ◌*◌, ◌^◌, ◌∙◌, ℤ, pos, ◌+ℤ◌, ◌-ℤ◌, List, sym, refl, length, ap, Bool, true, false, cond, ◌&&◌}
 use Rattle.std.specs.List.{sum_by, count_by, range_with_len}
 use Rattle.std.specs.Ordering.{int_eq}
-use Rattle.std.proofs.lemmas.Bool.{false_from_ne_true}
 use Rattle.std.proofs.lemmas.Bool.Decides.{Decides-int_eq}
-use Rattle.std.proofs.lemmas.Int.{ints}
 use Rattle.std.proofs.lemmas.List.Sums.{length-filter}
 use Rattle.kh_types.specs.Code.{Code}
 use Rattle.kh_types.specs.Directions.{plus_count, minus_count}
@@ -15,7 +13,7 @@ use Rattle.kh_types.proofs.QuantumDegrees.{homological_degree-within}
 use Rattle.kh_types.proofs.ListSums.{sum_by-alike, sum_by-flat_map, sum_by-map, sum_by-zeros}
 use Rattle.kh_types.proofs.AlternatingSums.{alternating, alternating-alike, alternating-sum, signed_by-zero}
 use Rattle.kh_types.proofs.IntSums.{int_sum-alike, int_sum-within}
-use Rattle.kh_types.proofs.LabelDegrees.{degree_of_label, int_eq-iff, labels_with-is, degree_of_state, label_part, shifted-test}
+use Rattle.kh_types.proofs.LabelDegrees.{degree_of_label, labels_with-is, degree_of_state, label_part, shifted-test}
 use Rattle.kh_types.proofs.Integers.{int_eq-other}
 
 -- how many labels of a state give the degree j

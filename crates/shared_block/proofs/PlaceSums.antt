@@ -6,7 +6,10 @@ use Rattle.std.proofs.lemmas.List.Sums.{sum_by-append, sum_by-cons}
 use Rattle.kh_types.specs.Complex.{Complex, Degree, alive_count, empty_degree}
 use Rattle.kh_types.proofs.ComplexLemmas.{degree_of-number}
 use Rattle.cancel_step.specs.RankSums.{live_places}
-use Rattle.shared_block.specs.Places.{live_places_to}
+
+-- the places alive of the first degrees together, from the least on
+abbrev pub live_places_to : Complex → ℕ → ℕ
+live_places_to complex count = sum_by (λ degree. count_by (λ is_alive. is_alive) degree.alive) (take count complex.degrees)
 
 abbrev live_in : Degree → ℕ
 live_in degree = count_by (λ is_alive. is_alive) degree.alive

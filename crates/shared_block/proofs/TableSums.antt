@@ -1,18 +1,16 @@
 -- The graded Euler characteristic of a table is an alternating sum of dimensions, and so the state sum.
-use Rattle.std.proofs.Common.{◌≡◌, ◌≢◌, ℕ, inl, inr, ◌+◌, ◌≤◌, ◌∙◌, List, [], ℤ, pos, ◌+ℤ◌, ◌-ℤ◌, IsTrue, sym, refl, length, map, ap, arith, subst, Bool, true, false, cond}
+use Rattle.std.proofs.Common.{◌≡◌, ℕ, ◌+◌, ◌≤◌, ◌∙◌, [], ℤ, pos, ◌+ℤ◌, ◌-ℤ◌, IsTrue, sym, length, ap, arith}
 use Rattle.std.proofs.lemmas.Int.{ints}
-use Rattle.std.proofs.lemmas.List.{nil_from_length}
 use Rattle.kh_types.specs.declared.limits.TheConstants.{CROSSINGS, EXPONENT}
 use Rattle.kh_types.specs.Acceptance.{accepted}
 use Rattle.kh_types.specs.Code.{Code}
 use Rattle.kh_types.specs.Differential.{differential}
-use Rattle.kh_types.specs.Generators.{generators_at, homological_degree, quantum_degree}
+use Rattle.kh_types.specs.Generators.{generators_at}
 use Rattle.kh_types.specs.Rank.{rank}
 use Rattle.kh_types.specs.StateSum.{euler, state_sum}
 use Rattle.kh_types.specs.Table.{dimension, table}
 use Rattle.kh_types.proofs.AcceptedLemmas.{IsAccepted-is}
-use Rattle.kh_types.proofs.Lists.{All-some}
-use Rattle.kh_types.proofs.QuantumDegrees.{generators_at-degrees, homological_degree-within, place-IsWithin}
+use Rattle.kh_types.proofs.QuantumDegrees.{place-IsWithin}
 use Rattle.jones_sum.proofs.StateSumLemmas.{state_sum-outside}
 use Rattle.prime_field.specs.Residues.{IsField}
 use Rattle.kh_types.proofs.AlternatingSums.{alternating, alternating-add, alternating-alike, alternating-neighbours}

@@ -1,4 +1,3 @@
 pub mod BlockHistories
 pub mod Commits
-pub mod Places
 pub mod AllBlocks

@@ -7,7 +7,6 @@ ghost use Rattle.circle_smoothing.specs.declared.limits.TheConstants.{GENERATORS
 ghost use Rattle.cube_signs.specs.Blocks.{block_degrees};
 ghost use Rattle.cancel_step.specs.RankSums.{live_places};
 ghost use Rattle.shared_block.specs.BlockHistories.{block_with};
-ghost use Rattle.shared_block.specs.Places.{live_places_to};
 
 use crate::SharedBlock;
 use cube_signs::Cube;

@@ -47,7 +47,7 @@ impl<F: PrimeField> SharedBlock<F> {
 
     /// Cancels a pivot that others name, where it is an entry other than zero, and answers whether
     /// it is; else the block is unchanged, and where memory runs out. Many calls can share the
-    /// memory in which lines are made.
+    /// list in which lines are made. It takes memory by that list's allocator.
     #[tactic(auto, using(crate::proofs::PivotTests::passing))]
     pub fn cancel_at(&mut self, scratch: &mut Vec<Entry>, pivot: Pivot) -> Result<bool, NoMemory>
         ensures taken { IfOk result (λ taken. taken ≡ is_pivot (complex_of F.P self.old) pivot) }

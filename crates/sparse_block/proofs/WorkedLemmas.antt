@@ -7,14 +7,14 @@ use Rattle.std.proofs.lemmas.Bool.Decides.{eqb_tells}
 use Rattle.std.proofs.lemmas.List.Elements.{All-nil, All-cons, All-from_recursion}
 use Rattle.smallvec.specs.SmallVec.{SmallVec}
 use Rattle.kh_types.specs.Complex.{IsComplex, IsPivot, Pivot, cancel, pivot_at}
-use Rattle.kh_types.specs.Generators.{Generator}
+use Rattle.kh_types.specs.Generators.{Generator, generator_of}
 use Rattle.kh_types.proofs.ComplexLemmas.{complex-from_test}
 use Rattle.sparse_block.specs.declared.entry.Entry.{Entry}
 use Rattle.sparse_block.specs.Changes.{Exchange, PlacedLine, AreChanged, placed}
 use Rattle.sparse_block.specs.Entries.{AreEntries, entry_at, entries_of}
 use Rattle.sparse_block.specs.Complexes.{HaveEntries, NamedComplex, SquaresToZero, column_of, place_count, row_of, sparse_complex}
 use Rattle.sparse_block.specs.Inside.{lists_in, lines_in, entries_in}
-use Rattle.sparse_block.specs.Worked.{worked_names, worked_columns, worked_complex, worked_change, middle_names, middle_columns, middle_complex, middle_change, point_names, point_columns}
+use Rattle.sparse_block.specs.Worked.{worked_names, worked_columns, worked_complex, worked_change, middle_names, middle_columns, middle_complex, middle_change}
 use Rattle.sparse_block.proofs.AscendingLemmas.{entries-from_ascend}
 use Rattle.sparse_block.proofs.ReadingLemmas.{column-entries}
 
@@ -115,6 +115,13 @@ worked-build p x y z names columns are_names are_columns have squares =
       entries = have;
       squares = squares;
     })
+
+-- a complex with one place, and so without entries
+abbrev pub point_names : List (List Generator)
+point_names = (generator_of 0 0 ∷ []) ∷ []
+
+abbrev pub point_columns : List (List (List Entry))
+point_columns = ([] ∷ []) ∷ []
 
 point-entries : (p : ℕ) → HaveEntries p point_names point_columns
 point-entries p zero = All-cons (AreEntries p 0) [] [] (no-entry p 0) (All-nil (AreEntries p 0))

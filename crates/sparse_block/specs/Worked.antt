@@ -61,10 +61,3 @@ middle_complex = sparse_complex (neg_ℤ (pos 1)) middle_names middle_columns
 abbrev pub middle_change : Exchange
 middle_change =
     record { pivot = pivot_at (pos 0) 0 0; columns = placed 0 [] ∷ placed 1 [] ∷ []; rows = placed 0 [] ∷ placed 1 [] ∷ [] }
-
--- a complex with one place, and so without entries
-abbrev pub point_names : List (List Generator)
-point_names = (generator_of 0 0 ∷ []) ∷ []
-
-abbrev pub point_columns : List (List (List Entry))
-point_columns = ([] ∷ []) ∷ []

@@ -1,6 +1,6 @@
 use Rattle.std.proofs.Common.{◌≡◌}
 use Rattle.kh_types.specs.declared.limits.TheConstants.{EXPONENT}
-use Rattle.cube_signs.specs.Shapes.{degrees_to}
+use Rattle.cube_signs.proofs.ShapeLemmas.{degrees_to}
 use Rattle.cube_signs.proofs.quantum_degrees.degrees.Given as goal
 
 abbrev pub invariant-degrees : goal.invariant-degrees

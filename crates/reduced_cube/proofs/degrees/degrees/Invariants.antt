@@ -1,6 +1,6 @@
 use Rattle.std.proofs.Common.{◌≡◌}
 use Rattle.kh_types.specs.declared.limits.TheConstants.{EXPONENT}
-use Rattle.reduced_cube.specs.Degrees.{reduced_degrees_to}
+use Rattle.reduced_cube.proofs.DegreeLemmas.{reduced_degrees_to}
 use Rattle.reduced_cube.proofs.degrees.degrees.Given as goal
 
 abbrev pub invariant-degrees : goal.invariant-degrees

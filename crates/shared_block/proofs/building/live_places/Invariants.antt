@@ -1,5 +1,5 @@
 use Rattle.std.proofs.Common.{◌≡◌, ◌*◌, ◌≤◌, ◌^◌}
-use Rattle.shared_block.specs.Places.{live_places_to}
+use Rattle.shared_block.proofs.PlaceSums.{live_places_to}
 use Rattle.shared_block.proofs.building.live_places.Given as goal
 
 abbrev pub invariant-degrees : goal.invariant-degrees

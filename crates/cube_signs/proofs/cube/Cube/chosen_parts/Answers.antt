@@ -7,7 +7,8 @@ use Rattle.smallvec.specs.SmallVec.{SmallVec}
 use Rattle.sparse_block.specs.declared.entry.Entry.{Entry}
 use Rattle.sparse_block.specs.Inside.{entries_in, lines_in, lists_in}
 use Rattle.cube_signs.specs.Chosen.{chosen_at, has_minus}
-use Rattle.cube_signs.specs.ChosenParts.{all_places_to, chosen_to, AreChosenColumns, AreChosenParts}
+use Rattle.cube_signs.specs.ChosenParts.{all_places_to, chosen_to, AreChosenParts}
+use Rattle.cube_signs.proofs.ChosenColumns.{AreChosenColumns}
 use Rattle.cube_signs.proofs.ChosenBlocks.{AreChosenParts-columns, chosen_columns-more, places-behind}
 use Rattle.cube_signs.proofs.ChosenLoops.{chosen-names, chosen-tails, length-chosen}
 use Rattle.cube_signs.proofs.cube.Cube.chosen_parts.Goals as goal

@@ -1,6 +1,6 @@
 use Rattle.sparse_block.specs.Inside.{lines_in}
 use Rattle.cube_signs.specs.Chosen.{has_minus}
-use Rattle.cube_signs.specs.ChosenParts.{AreChosenColumns}
+use Rattle.cube_signs.proofs.ChosenColumns.{AreChosenColumns}
 use Rattle.cube_signs.proofs.cube.Cube.chosen_parts.Given as goal
 
 abbrev pub invariant-degrees : goal.invariant-degrees
