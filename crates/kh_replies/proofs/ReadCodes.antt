@@ -14,7 +14,6 @@ use Rattle.kh_lex.specs.Lines.{with_feed}
 use Rattle.code_passes.specs.Labels.{listed_number}
 use Rattle.code_passes.specs.Passes.{Pass, all_passes, pass_of, slots_between, slots_by_passes}
 use Rattle.pd_code.specs.Items.{crossings_among}
-use Rattle.pd_code.specs.Reading as pd
 use Rattle.pd_code.specs.declared.item.Item.{Item}
 use Rattle.pd_code.specs.declared.item.Item.TheVariants.{Crossing, Loop}
 use Rattle.pd_code.proofs.AcceptedSlots.{HasFourSlots-accepted}
@@ -22,9 +21,7 @@ use Rattle.pd_code.proofs.PrintingLemmas as pd_prints
 use Rattle.gauss_code.specs.Codes.{listed_code}
 use Rattle.gauss_code.specs.Listings.{Body, crossing_count, groups_of}
 use Rattle.gauss_code.specs.Faults as gauss_faults
-use Rattle.gauss_code.specs.Reading as gauss
 use Rattle.gauss_code.proofs.PrintedCodes as gauss_prints
-use Rattle.json_code.specs.Reading as json
 use Rattle.word_line.specs.declared.command.Form.{Form}
 use Rattle.word_line.specs.declared.command.Form.TheVariants as printed
 use Rattle.kh_replies.specs.declared.input.InputForm.{InputForm}

@@ -1,7 +1,6 @@
 pub mod Statuses
 pub mod Replies
 pub mod Refusals
-pub mod Intakes
 pub mod Parts
 pub mod Inputs
 pub mod InputStops

@@ -1,4 +1,4 @@
-//! What a task reads, how its input is cut and read, every line of a refusal, the replies that need
+//! How an input is cut and read, every line of a refusal, the replies that need
 //! no cube, and what a run promises, whatever answers it.
 #![tactic(auto)]
 
@@ -7,7 +7,6 @@ mod convert;
 mod draw;
 mod ending;
 mod input;
-mod intake;
 mod jones;
 mod laws;
 mod parts;
@@ -25,7 +24,6 @@ pub use convert::reply_to_convert;
 pub use draw::reply_to_draw;
 pub use ending::written;
 pub use input::{InputStop, read_diagram};
-pub use intake::{Intake, intake_of};
 pub use jones::{jones_line, reply_to_jones};
 pub use laws::{
     codes_of_texts_are_small, inputs_are_cut_at_the_first_semicolon, printed_diagrams_are_read_back,

@@ -3,7 +3,7 @@ use Rattle.std.proofs.Common.{◌≡◌, ◌≤◌, ◌<◌, ◌++◌, ℕ, List
 use Rattle.std.specs.declared.option.Option.{Option}
 use Rattle.kh_types.specs.declared.limits.TheConstants.{INPUT_BYTES}
 use Rattle.kh_types.specs.Code.{Code}
-use Rattle.std.specs.Prelude.{false, is_none, nat_lt, IsTrue}
+use Rattle.std.specs.Prelude.{false, is_none, nat_lt, unwrap_or, IsTrue}
 use Rattle.std.proofs.lemmas.Grind.{common_steps}
 use Rattle.kh_types.specs.Acceptance.{accepted, first_fault}
 use Rattle.kh_types.specs.Table.{table, table_text}
@@ -11,12 +11,11 @@ use Rattle.kh_types.specs.declared.fault.CodeFault.{CodeFault}
 use Rattle.circle_smoothing.specs.GeneratorCounts.{generator_count}
 use Rattle.circle_smoothing.specs.declared.limits.TheConstants.{GENERATORS}
 use Rattle.word_line.specs.declared.command.Task.{Task}
-use Rattle.word_line.specs.declared.command.Task.TheVariants.{Bench, Edit, Homology, Jones, Schedule}
+use Rattle.word_line.specs.declared.command.Task.TheVariants as tasks
 use Rattle.word_line.specs.declared.command.Command.{Command}
 use Rattle.word_line.specs.Commands.{IsCommand, IsUsage}
 use Rattle.word_line.proofs.Readings.{IsCommand-one}
 use Rattle.kh_replies.specs.declared.status.Status.TheVariants.{Done}
-use Rattle.kh_replies.specs.Intakes.{intake_of}
 use Rattle.kh_work.specs.ByteLimits.{byte_limit}
 use Rattle.kh_replies.specs.Replies.{Reply, reply_of}
 use Rattle.kh_replies.specs.Refusals.{usage, too_large_number}
@@ -38,61 +37,65 @@ use Rattle.braid_maker.specs.Closures.{code_of_number}
 use Rattle.braid_maker.specs.declared.limits.TheConstants.{NUMBERS}
 use Rattle.jones_sum.specs.Tables.{total_of}
 use Rattle.kh_work.specs.Bench.{bench_counts, bench_lines, bench_reply, bench_text}
-use Rattle.kh_work.specs.Answer.{IsBlindReply, IsIntakeReply, IsNumberReply, IsLimitedReply, IsCommandReply, IsAnswer, ReadsUpTo}
+use Rattle.kh_work.specs.declared.order.Order.{Order}
+use Rattle.kh_work.specs.declared.order.Order.TheVariants.{Bench}
+use Rattle.kh_work.specs.Orders.{order_for, order_of}
+use Rattle.kh_work.specs.Answer.{IsAnswer, IsBlindReply, IsInputReply, IsOrderReply, ReadsUpTo}
 use Rattle.kh_work.specs.declared.draft.Draft.{Draft}
 use Rattle.kh_work.specs.Drafts.{reply_in}
 use Rattle.kh_work.specs.Runs.{IsBlindAnswer}
 use Rattle.kh_work.specs.Told.{IsKnownAnswer, IsKnownReply}
 use Rattle.kh_replies.specs.Told.{IsReadOut}
-use Rattle.kh_work.proofs.ReplyLemmas.{cond-false, cond-true, IsCommandReply-few, less-false, less-true}
+use Rattle.kh_work.proofs.ReplyLemmas.{IsInputReply-few, cond-false, cond-true, less-false, less-true}
 
 -- nothing of a source is needed where the bytes do not matter
-pub IsKnownReply-blind : (left : Option (List ℕ)) (command : Command) (reply : Reply) → IsBlindReply command reply
-    → IsKnownReply left command reply
-IsKnownReply-blind None command reply is = record { known = tt }
-IsKnownReply-blind (Some bytes) command reply is = record { known = is bytes }
+pub IsKnownReply-blind : (left : Option (List ℕ)) (order : Order) (reply : Reply) → IsBlindReply order reply
+    → IsKnownReply left order reply
+IsKnownReply-blind None order reply is = record { known = tt }
+IsKnownReply-blind (Some bytes) order reply is = record { known = is bytes }
 
--- words are answered by their command, or by the usage line
-answer-command : (words : List (List ℕ)) (bytes : List ℕ) (command : Command) (reply : Reply) → IsCommand words command
-    → IsCommandReply command bytes reply → IsAnswer words bytes reply
+-- words are answered by the order of their command, or by the usage line
+answer-command : (words : List (List ℕ)) (bytes : List ℕ) (command : Command) (order : Order) (reply : Reply) → IsCommand words command
+    → order ≡ order_of command → IsInputReply order bytes reply → IsAnswer words bytes reply
 unfolding IsAnswer
-answer-command words bytes command reply is_command replied = inl (command, is_command, replied)
+answer-command words bytes command order reply is_command is replied =
+    inl (command, is_command, subst (λ (o : Order). IsInputReply o bytes reply) is replied)
 
 pub IsBlindAnswer-usage : (words : List (List ℕ)) (reply : Reply) → IsUsage words → reply ≡ usage → IsBlindAnswer words reply
 unfolding IsAnswer
 IsBlindAnswer-usage words reply none is bytes = inr (none, is)
 
 pub IsKnownAnswer-command : {E : Type 0} (result : Result Draft E) (left : Option (List ℕ)) (words : List (List ℕ)) (command : Command)
-    → IsCommand words command → IfOk result (λ draft. IsKnownReply left command (reply_in draft))
+    (order : Order) → IsCommand words command → order ≡ order_of command → IfOk result (λ draft. IsKnownReply left order (reply_in draft))
     → IfOk result (λ draft. IsKnownAnswer left words (reply_in draft))
-IsKnownAnswer-command (Ok draft) None words command is_command replied = record { known = tt }
-IsKnownAnswer-command (Ok draft) (Some bytes) words command is_command replied =
-    record { known = answer-command words bytes command (reply_in draft) is_command replied.known }
-IsKnownAnswer-command (Err stop) left words command is_command replied = tt
+IsKnownAnswer-command (Ok draft) None words command order is_command is replied = record { known = tt }
+IsKnownAnswer-command (Ok draft) (Some bytes) words command order is_command is replied =
+    record { known = answer-command words bytes command order (reply_in draft) is_command is replied.known }
+IsKnownAnswer-command (Err stop) left words command order is_command is replied = tt
 
 pub IsKnownAnswer-blind : (left : Option (List ℕ)) (words : List (List ℕ)) (reply : Reply) → IsBlindAnswer words reply
     → IsKnownAnswer left words reply
 IsKnownAnswer-blind None words reply is = record { known = tt }
 IsKnownAnswer-blind (Some bytes) words reply is = record { known = is bytes }
 
-pub IsBlindAnswer-command : {E : Type 0} (result : Result Draft E) (words : List (List ℕ)) (command : Command)
-    → IsCommand words command → IfOk result (λ draft. IsBlindReply command (reply_in draft))
+pub IsBlindAnswer-command : {E : Type 0} (result : Result Draft E) (words : List (List ℕ)) (command : Command) (order : Order)
+    → IsCommand words command → order ≡ order_of command → IfOk result (λ draft. IsBlindReply order (reply_in draft))
     → IfOk result (λ draft. IsBlindAnswer words (reply_in draft))
-IsBlindAnswer-command (Ok draft) words command is_command replied =
-    λ bytes. answer-command words bytes command (reply_in draft) is_command (replied bytes)
-IsBlindAnswer-command (Err stop) words command is_command replied = tt
+IsBlindAnswer-command (Ok draft) words command order is_command is replied =
+    λ bytes. answer-command words bytes command order (reply_in draft) is_command is (replied bytes)
+IsBlindAnswer-command (Err stop) words command order is_command is replied = tt
 
 -- words that read up to a limit
 pub usage_reads_nothing : {P : Type 0} (words : List (List ℕ)) (limit : ℕ) → IsUsage words → ReadsUpTo words limit → P
 usage_reads_nothing words limit none reads = absurd (none reads.command reads.meant)
 
-pub IsReadOut-command : {E : Type 0} (result : Result Draft E) (words : List (List ℕ)) (command : Command)
-    (before after : Option (List ℕ)) → IsCommand words command
-    → ((limit : ℕ) → byte_limit (intake_of command.task) ≡ Some limit → OnOk result (IsReadOut limit before after))
+pub IsReadOut-command : {E : Type 0} (result : Result Draft E) (words : List (List ℕ)) (command : Command) (order : Order)
+    (before after : Option (List ℕ)) → IsCommand words command → order ≡ order_of command
+    → ((limit : ℕ) → byte_limit order ≡ Some limit → OnOk result (IsReadOut limit before after))
     → (limit : ℕ) → ReadsUpTo words limit → OnOk result (IsReadOut limit before after)
-IsReadOut-command result words command before after meant read limit reads =
+IsReadOut-command result words command order before after meant is read limit reads =
     let same : reads.command ≡ command = IsCommand-one words reads.command command reads.meant meant in
-    read limit (subst (λ (c : Command). byte_limit (intake_of c.task) ≡ Some limit) same reads.limited)
+    read limit (ap byte_limit (is ∙ sym (ap order_of same)) ∙ reads.limited)
 
 -- no fault, by its test
 none-from_test : (fault : Option CodeFault) → IsTrue (is_none fault) → fault ≡ None
@@ -110,22 +113,27 @@ homology_reply-table field code few =
     let short : nat_lt GENERATORS (generator_count code) ≡ false = grind (arith, common_steps) in
     rw short refl
 
--- a command of this task is answered so where the task is
-pub answer-task : (words : List (List ℕ)) (bytes : List ℕ) (command : Command) (task : Task) (reply : Reply) {limit : ℕ} → IsCommand words command
-    → command.task ≡ task → byte_limit (intake_of task) ≡ Some limit → length bytes ≤ limit
-    → IsIntakeReply (intake_of task) task command bytes reply → IsAnswer words bytes reply
-answer-task words bytes command task reply {limit = limit} is_command is_task reads few replied =
-    answer-command words bytes command reply is_command
-    (IsCommandReply-few command bytes reply limit (ap (λ (t : Task). byte_limit (intake_of t)) is_task ∙ reads) few
-    (subst (λ (t : Task). IsIntakeReply (intake_of t) t command bytes reply) (sym is_task) replied))
+-- words are answered by a reply of what their command orders
+pub answer-order : (words : List (List ℕ)) (bytes : List ℕ) (command : Command) (order : Order) (reply : Reply) {limit : ℕ}
+    → IsCommand words command → order_of command ≡ order → byte_limit order ≡ Some limit → length bytes ≤ limit
+    → IsOrderReply order bytes reply → IsAnswer words bytes reply
+answer-order words bytes command order reply {limit = limit} is_command is reads few replied =
+    answer-command words bytes command order reply is_command (sym is) (IsInputReply-few order bytes reply limit reads few replied)
+
+-- and so where their command has this task
+pub answer-task : (words : List (List ℕ)) (bytes : List ℕ) (command : Command) (task : Task) (reply : Reply) {limit : ℕ}
+    → IsCommand words command → command.task ≡ task → byte_limit (order_for task command) ≡ Some limit → length bytes ≤ limit
+    → IsOrderReply (order_for task command) bytes reply → IsAnswer words bytes reply
+answer-task words bytes command task reply is_command is_task =
+    answer-order words bytes command (order_for task command) reply is_command (ap (λ (t : Task). order_for t command) is_task)
 
 -- the code of an accepted diagram is answered by its table and its Jones line
 pub IsAnswer-table : (words : List (List ℕ)) (bytes : List ℕ) (command : Command) (code : Code) → IsCommand words command
-    → command.task ≡ Homology → length bytes ≤ INPUT_BYTES → IsCodeRead bytes (Ok code) → IsTrue (accepted code)
+    → command.task ≡ tasks.Homology → length bytes ≤ INPUT_BYTES → IsCodeRead bytes (Ok code) → IsTrue (accepted code)
     → generator_count code ≤ GENERATORS
     → IsAnswer words bytes (reply_of Done (table_text (table command.field code) ++ jones_line code))
 IsAnswer-table words bytes command code is_command is_homology few_bytes read is_accepted few =
-    answer-task words bytes command Homology (reply_of Done (table_text (table command.field code) ++ jones_line code)) is_command
+    answer-task words bytes command tasks.Homology (reply_of Done (table_text (table command.field code) ++ jones_line code)) is_command
     is_homology refl few_bytes
     (record {
       outcome = Ok code;
@@ -135,10 +143,10 @@ IsAnswer-table words bytes command code is_command is_homology few_bytes read is
 
 -- and by its Jones line alone
 pub IsAnswer-jones : (words : List (List ℕ)) (bytes : List ℕ) (command : Command) (code : Code) → IsCommand words command
-    → command.task ≡ Jones → length bytes ≤ INPUT_BYTES → IsCodeRead bytes (Ok code) → IsTrue (accepted code)
+    → command.task ≡ tasks.Jones → length bytes ≤ INPUT_BYTES → IsCodeRead bytes (Ok code) → IsTrue (accepted code)
     → IsAnswer words bytes (reply_of Done (jones_line code))
 IsAnswer-jones words bytes command code is_command is_jones few_bytes read is_accepted =
-    answer-task words bytes command Jones (reply_of Done (jones_line code)) is_command is_jones refl few_bytes
+    answer-task words bytes command tasks.Jones (reply_of Done (jones_line code)) is_command is_jones refl few_bytes
     (record { outcome = Ok code; read = (read, first_fault-accepted code is_accepted); answered = refl })
 
 -- the text of a schedule, where the cube has few enough generators
@@ -153,13 +161,13 @@ schedule_reply-text field code script few =
 
 -- the code of an accepted diagram with a script is answered by the lines of the script, its table and its Jones line
 pub IsAnswer-schedule : (words : List (List ℕ)) (bytes : List ℕ) (command : Command) (code : Code) (script : List (ℕ × ScheduleLine))
-    → IsCommand words command → command.task ≡ Schedule → length bytes ≤ INPUT_BYTES → IsCodeRead (code_part bytes) (Ok code)
+    → IsCommand words command → command.task ≡ tasks.Schedule → length bytes ≤ INPUT_BYTES → IsCodeRead (code_part bytes) (Ok code)
     → IsTrue (accepted code) → IsSchedule (part_behind bytes) (Ok script) → generator_count code ≤ GENERATORS
     → IsAnswer words bytes (reply_of Done
     (answer_lines script (answers command.field code WORKERS (events_of script))
     ++ (table_text (table command.field code) ++ jones_line code)))
 IsAnswer-schedule words bytes command code script is_command is_schedule few_bytes read is_accepted read_script few =
-    answer-task words bytes command Schedule
+    answer-task words bytes command tasks.Schedule
     (reply_of Done
     (answer_lines script (answers command.field code WORKERS (events_of script))
     ++ (table_text (table command.field code) ++ jones_line code))) is_command is_schedule refl few_bytes
@@ -171,12 +179,12 @@ IsAnswer-schedule words bytes command code script is_command is_schedule few_byt
 
 -- the code of an accepted diagram with a script is answered by what comes of the lines of the script
 pub IsAnswer-edit : (words : List (List ℕ)) (bytes : List ℕ) (command : Command) (code : Code) (script : List (ℕ × EditLine))
-    → IsCommand words command → command.task ≡ Edit → length bytes ≤ INPUT_BYTES → IsCodeRead (code_part bytes) (Ok code)
+    → IsCommand words command → command.task ≡ tasks.Edit → length bytes ≤ INPUT_BYTES → IsCodeRead (code_part bytes) (Ok code)
     → IsTrue (accepted code) → IsEdit (part_behind bytes) (Ok script)
     → IsAnswer words bytes (outcome_reply code script (edited (edits_in script) (opening_history code)))
 unfolding edit_reply
 IsAnswer-edit words bytes command code script is_command is_edit few_bytes read is_accepted read_script =
-    answer-task words bytes command Edit (outcome_reply code script (edited (edits_in script) (opening_history code))) is_command is_edit
+    answer-task words bytes command tasks.Edit (outcome_reply code script (edited (edits_in script) (opening_history code))) is_command is_edit
     refl few_bytes
     (record {
       outcome = Ok code;
@@ -186,12 +194,12 @@ IsAnswer-edit words bytes command code script is_command is_edit few_bytes read 
 
 -- a number is answered by the table of its diagram, where it has one
 pub IsAnswer-number : (words : List (List ℕ)) (bytes : List ℕ) (command : Command) (number : ℕ) → IsCommand words command
-    → command.task ≡ Bench → command.number ≡ Some number → IsAnswer words bytes (bench_reply command.field number)
+    → command.task ≡ tasks.Bench → command.number ≡ Some number → IsAnswer words bytes (bench_reply command.field number)
 IsAnswer-number words bytes command number is_command is_bench is_number =
-    let P : Task → Type 0 = λ task.
-    IsLimitedReply (byte_limit (intake_of task)) bytes (IsIntakeReply (intake_of task) task command bytes) (bench_reply command.field number) in
-    let Q : Option ℕ → Type 0 = λ o. IsNumberReply Bench command.field o (bench_reply command.field number) in
-    answer-command words bytes command (bench_reply command.field number) is_command (subst P (sym is_bench) (subst Q (sym is_number) refl))
+    answer-command words bytes command (Bench command.field command.workers number) (bench_reply command.field number) is_command
+    (sym
+    (ap (λ (t : Task). order_for t command) is_bench
+    ∙ ap (λ (o : Option ℕ). Bench command.field command.workers (unwrap_or o 0)) is_number)) refl
 
 bench_reply-table : (field number : ℕ) → number < NUMBERS
     → bench_reply field number ≡ reply_of Done
@@ -208,7 +216,7 @@ bench_reply-limit field number large =
     (less-false number NUMBERS large)
 
 pub IsAnswer-bench : (words : List (List ℕ)) (bytes : List ℕ) (command : Command) (number : ℕ) → IsCommand words command
-    → command.task ≡ Bench → command.number ≡ Some number → number < NUMBERS
+    → command.task ≡ tasks.Bench → command.number ≡ Some number → number < NUMBERS
     → IsAnswer words bytes (reply_of Done
     (bench_lines (bench_counts number (code_of_number number) (total_of (table command.field (code_of_number number))))
     ++ jones_line (code_of_number number)))
@@ -217,7 +225,7 @@ IsAnswer-bench words bytes command number is_command is_bench is_number small =
     (IsAnswer-number words bytes command number is_command is_bench is_number)
 
 pub IsAnswer-large : (words : List (List ℕ)) (bytes : List ℕ) (command : Command) (number : ℕ) → IsCommand words command
-    → command.task ≡ Bench → command.number ≡ Some number → NUMBERS ≤ number → IsAnswer words bytes (too_large_number number)
+    → command.task ≡ tasks.Bench → command.number ≡ Some number → NUMBERS ≤ number → IsAnswer words bytes (too_large_number number)
 IsAnswer-large words bytes command number is_command is_bench is_number large =
     subst (IsAnswer words bytes) (bench_reply-limit command.field number large)
     (IsAnswer-number words bytes command number is_command is_bench is_number)

@@ -1,5 +1,5 @@
 -- The cases of an answer that come before what a command tells.
-use Rattle.std.proofs.Common.{◌≡◌, ◌<◌, ◌≤◌, ◌⊎◌, ◌∙◌, inl, inr, ℕ, List, length, nat_lt, true, refl, sym, ap, subst, Result, Ok, Err, None, Some}
+use Rattle.std.proofs.Common.{◌≡◌, ◌<◌, ◌≤◌, ◌⊎◌, inl, inr, ℕ, List, length, nat_lt, true, refl, sym, subst, Result, Ok, Err, Some}
 use Rattle.std.specs.Prelude.{IsTrue, Option}
 use Rattle.kh_types.specs.Acceptance.{accepted, first_fault}
 use Rattle.kh_types.specs.Code.{Code}
@@ -19,26 +19,27 @@ use Rattle.undo_stack.specs.declared.schedule.ScheduleLine.{ScheduleLine}
 use Rattle.undo_stack.specs.declared.stop.ScriptStop.{ScriptStop}
 use Rattle.word_line.specs.Commands.{IsCommand, IsUsage}
 use Rattle.word_line.specs.declared.command.Command.{Command}
-use Rattle.word_line.specs.declared.command.Task.{Task}
 use Rattle.word_line.specs.declared.command.Task.TheVariants as tasks
 use Rattle.kh_replies.specs.Inputs.{IsCodeRead, IsDiagramRead}
-use Rattle.kh_replies.specs.Intakes.{intake_of}
 use Rattle.kh_replies.specs.Parts.{code_part, part_behind}
 use Rattle.kh_replies.specs.Refusals.{IsFaultRefusal, too_many_bytes, too_many_generators, usage}
 use Rattle.kh_replies.specs.Replies.{Reply, reply_of}
-use Rattle.kh_replies.specs.declared.intake.Intake.{Intake}
-use Rattle.kh_replies.specs.declared.intake.Intake.TheVariants as intakes
 use Rattle.kh_replies.specs.declared.status.Status.TheVariants.{Done}
-use Rattle.kh_work.specs.Answer.{IsAnswer, IsIntakeReply, IsLimitedReply}
+use Rattle.kh_work.specs.declared.order.Order.{Order}
+use Rattle.kh_work.specs.declared.order.Order.TheVariants as orders
+use Rattle.kh_work.specs.declared.order.CodeOrder.{CodeOrder}
+use Rattle.kh_work.specs.declared.order.CodeOrder.TheVariants.{Reduced}
+use Rattle.kh_work.specs.declared.order.ScriptOrder.{ScriptOrder}
+use Rattle.kh_work.specs.Orders.{order_of}
+use Rattle.kh_work.specs.Answer.{IsAnswer, IsLimitedReply, IsOrderReply}
 use Rattle.kh_work.specs.ByteLimits.{byte_limit}
 use Rattle.kh_work.specs.Edit.{IsEditedReply}
 use Rattle.kh_work.specs.Homology.{homology_reply, homology_text}
-use Rattle.kh_work.specs.Reduced.{IsReducedReply}
 use Rattle.kh_work.specs.Schedule.{IsScriptReply, schedule_reply, schedule_text}
 use Rattle.kh_work.specs.Verify.{IsVerdictReply}
-use Rattle.kh_work.proofs.AnswerLemmas.{answer-task, first_fault-accepted}
-use Rattle.kh_work.proofs.ReducedLemmas.{reduced_reply-large}
-use Rattle.kh_work.proofs.ReplyLemmas.{IsCommandReply-few, cond-true, less-true}
+use Rattle.kh_work.proofs.AnswerLemmas.{answer-order, answer-task, first_fault-accepted}
+use Rattle.kh_work.proofs.ReducedLemmas.{order-reduced, reduced_reply-large}
+use Rattle.kh_work.proofs.ReplyLemmas.{cond-true, less-true}
 
 -- words without a command, and too many bytes
 
@@ -47,57 +48,45 @@ unfolding IsAnswer
 IsAnswer-usage words bytes none = inr (none, refl)
 
 pub IsAnswer-many_bytes : (words : List (List ℕ)) (bytes : List ℕ) (command : Command) (limit : ℕ) → IsCommand words command
-    → byte_limit (intake_of command.task) ≡ Some limit → limit < length bytes → IsAnswer words bytes (too_many_bytes limit)
+    → byte_limit (order_of command) ≡ Some limit → limit < length bytes → IsAnswer words bytes (too_many_bytes limit)
 unfolding IsAnswer
 IsAnswer-many_bytes words bytes command limit meant reads many =
-    let P : Option ℕ → Type 0 = λ most.
-    IsLimitedReply most bytes (IsIntakeReply (intake_of command.task) command.task command bytes) (too_many_bytes limit) in
+    let P : Option ℕ → Type 0 = λ most. IsLimitedReply most bytes (IsOrderReply (order_of command) bytes) (too_many_bytes limit) in
     inl (command, meant, subst P (sym reads) (inl (many, refl)))
 
 -- the limits are two
 same_limit : (limit other : ℕ) → Some other ≡ Some limit → limit ≡ other
 same_limit limit other same = cc
 
-limit-two : (intake : Intake) (limit : ℕ) → byte_limit intake ≡ Some limit → (limit ≡ LOG_BYTES) ⊎ (limit ≡ INPUT_BYTES)
-limit-two intakes.Code limit is = inr (same_limit limit INPUT_BYTES is)
-limit-two intakes.CodeAndScript limit is = inr (same_limit limit INPUT_BYTES is)
-limit-two intakes.TwoCodes limit is = inr (same_limit limit INPUT_BYTES is)
-limit-two intakes.Log limit is = inl (same_limit limit LOG_BYTES is)
-limit-two intakes.Nothing limit is = absurd (cc)
-
-pub byte_limit-two : (task : Task) (limit : ℕ) → byte_limit (intake_of task) ≡ Some limit → (limit ≡ LOG_BYTES) ⊎ (limit ≡ INPUT_BYTES)
-byte_limit-two task = limit-two (intake_of task)
+pub byte_limit-two : (order : Order) (limit : ℕ) → byte_limit order ≡ Some limit → (limit ≡ LOG_BYTES) ⊎ (limit ≡ INPUT_BYTES)
+byte_limit-two (orders.Code order) limit is = inr (same_limit limit INPUT_BYTES is)
+byte_limit-two (orders.Script order) limit is = inr (same_limit limit INPUT_BYTES is)
+byte_limit-two orders.Pair limit is = inr (same_limit limit INPUT_BYTES is)
+byte_limit-two orders.Log limit is = inl (same_limit limit LOG_BYTES is)
+byte_limit-two (orders.Bench field workers number) limit is = absurd (cc)
 
 -- texts and codes that are refused
 
--- a command that reads so is answered so
-answer-intake : (words : List (List ℕ)) (bytes : List ℕ) (command : Command) (intake : Intake) (reply : Reply) → IsCommand words command
-    → intake_of command.task ≡ intake → byte_limit intake ≡ Some INPUT_BYTES → length bytes ≤ INPUT_BYTES
-    → IsIntakeReply intake command.task command bytes reply → IsAnswer words bytes reply
-unfolding IsAnswer
-answer-intake words bytes command intake reply meant is reads few replied =
-    let P : Intake → Type 0 = λ i. IsIntakeReply i command.task command bytes reply in
-    inl (
-      command,
-      meant,
-      IsCommandReply-few command bytes reply INPUT_BYTES (ap byte_limit is ∙ reads) few (subst P (sym is) replied),
-    )
-
 -- a refused diagram is its refusal
-answer-refused : (words : List (List ℕ)) (bytes : List ℕ) (command : Command) (refusal : Reply) → IsCommand words command
-    → intake_of command.task ≡ intakes.Code → length bytes ≤ INPUT_BYTES → IsDiagramRead bytes (Err refusal) → IsAnswer words bytes refusal
-answer-refused words bytes command refusal meant is few refused =
-    answer-intake words bytes command intakes.Code refusal meant is refl few (record { outcome = Err refusal; read = refused; answered = refl })
+answer-refused : (words : List (List ℕ)) (bytes : List ℕ) (command : Command) (order : CodeOrder) (refusal : Reply)
+    → IsCommand words command → order_of command ≡ orders.Code order → length bytes ≤ INPUT_BYTES → IsDiagramRead bytes (Err refusal)
+    → IsAnswer words bytes refusal
+answer-refused words bytes command order refusal meant is few refused =
+    answer-order words bytes command (orders.Code order) refusal meant is refl few
+    (record { outcome = Err refusal; read = refused; answered = refl })
 
--- and so it is before what follows a semicolon
+-- more is read behind the first semicolon: a script, or a second code
+abbrev ReadsBehind : Command → Type 0
+ReadsBehind command = ((order : ScriptOrder) × (order_of command ≡ orders.Script order)) ⊎ (order_of command ≡ orders.Pair)
+
+-- and so a refused diagram is before that
 answer-refused_before : (words : List (List ℕ)) (bytes : List ℕ) (command : Command) (refusal : Reply) → IsCommand words command
-    → (intake_of command.task ≡ intakes.CodeAndScript) ⊎ (intake_of command.task ≡ intakes.TwoCodes) → length bytes ≤ INPUT_BYTES
-    → IsDiagramRead (code_part bytes) (Err refusal) → IsAnswer words bytes refusal
-answer-refused_before words bytes command refusal meant (inl is) few refused =
-    answer-intake words bytes command intakes.CodeAndScript refusal meant is refl few
+    → ReadsBehind command → length bytes ≤ INPUT_BYTES → IsDiagramRead (code_part bytes) (Err refusal) → IsAnswer words bytes refusal
+answer-refused_before words bytes command refusal meant (inl (order, is)) few refused =
+    answer-order words bytes command (orders.Script order) refusal meant is refl few
     (record { outcome = Err refusal; read = refused; answered = refl })
 answer-refused_before words bytes command refusal meant (inr is) few refused =
-    answer-intake words bytes command intakes.TwoCodes refusal meant is refl few
+    answer-order words bytes command orders.Pair refusal meant is refl few
     (record { outcome = Err refusal; read = refused; answered = refl })
 
 -- a code with a fault is a refused diagram
@@ -106,28 +95,28 @@ faulty-read : (text : List ℕ) (code : Code) (fault : CodeFault) (refusal : Rep
 faulty-read text code fault refusal read breaks line =
     inr (record { code = code; fault = fault; read = read; breaks = breaks; line = line })
 
-pub IsAnswer-unread : (words : List (List ℕ)) (bytes : List ℕ) (command : Command) (refusal : Reply) → IsCommand words command
-    → intake_of command.task ≡ intakes.Code → length bytes ≤ INPUT_BYTES → IsCodeRead bytes (Err refusal) → IsAnswer words bytes refusal
-IsAnswer-unread words bytes command refusal meant is few refused = answer-refused words bytes command refusal meant is few (inl refused)
+pub IsAnswer-unread : (words : List (List ℕ)) (bytes : List ℕ) (command : Command) (order : CodeOrder) (refusal : Reply)
+    → IsCommand words command → order_of command ≡ orders.Code order → length bytes ≤ INPUT_BYTES → IsCodeRead bytes (Err refusal)
+    → IsAnswer words bytes refusal
+IsAnswer-unread words bytes command order refusal meant is few refused =
+    answer-refused words bytes command order refusal meant is few (inl refused)
 
-pub IsAnswer-faulty : (words : List (List ℕ)) (bytes : List ℕ) (command : Command) (code : Code) (fault : CodeFault) (refusal : Reply)
-    → IsCommand words command → intake_of command.task ≡ intakes.Code → length bytes ≤ INPUT_BYTES → IsCodeRead bytes (Ok code)
-    → first_fault code ≡ Some fault → IsFaultRefusal fault refusal → IsAnswer words bytes refusal
-IsAnswer-faulty words bytes command code fault refusal meant is few read breaks line =
-    answer-refused words bytes command refusal meant is few (faulty-read bytes code fault refusal read breaks line)
+pub IsAnswer-faulty : (words : List (List ℕ)) (bytes : List ℕ) (command : Command) (order : CodeOrder) (code : Code) (fault : CodeFault)
+    (refusal : Reply) → IsCommand words command → order_of command ≡ orders.Code order → length bytes ≤ INPUT_BYTES
+    → IsCodeRead bytes (Ok code) → first_fault code ≡ Some fault → IsFaultRefusal fault refusal → IsAnswer words bytes refusal
+IsAnswer-faulty words bytes command order code fault refusal meant is few read breaks line =
+    answer-refused words bytes command order refusal meant is few (faulty-read bytes code fault refusal read breaks line)
 
 pub IsAnswer-unread_before : (words : List (List ℕ)) (bytes : List ℕ) (command : Command) (refusal : Reply) → IsCommand words command
-    → (intake_of command.task ≡ intakes.CodeAndScript) ⊎ (intake_of command.task ≡ intakes.TwoCodes) → length bytes ≤ INPUT_BYTES
-    → IsCodeRead (code_part bytes) (Err refusal) → IsAnswer words bytes refusal
-IsAnswer-unread_before words bytes command refusal meant is few refused =
-    answer-refused_before words bytes command refusal meant is few (inl refused)
+    → ReadsBehind command → length bytes ≤ INPUT_BYTES → IsCodeRead (code_part bytes) (Err refusal) → IsAnswer words bytes refusal
+IsAnswer-unread_before words bytes command refusal meant behind few refused =
+    answer-refused_before words bytes command refusal meant behind few (inl refused)
 
 pub IsAnswer-faulty_before : (words : List (List ℕ)) (bytes : List ℕ) (command : Command) (code : Code) (fault : CodeFault) (refusal : Reply)
-    → IsCommand words command → (intake_of command.task ≡ intakes.CodeAndScript) ⊎ (intake_of command.task ≡ intakes.TwoCodes)
-    → length bytes ≤ INPUT_BYTES → IsCodeRead (code_part bytes) (Ok code) → first_fault code ≡ Some fault
-    → IsFaultRefusal fault refusal → IsAnswer words bytes refusal
-IsAnswer-faulty_before words bytes command code fault refusal meant is few read breaks line =
-    answer-refused_before words bytes command refusal meant is few (faulty-read (code_part bytes) code fault refusal read breaks line)
+    → IsCommand words command → ReadsBehind command → length bytes ≤ INPUT_BYTES → IsCodeRead (code_part bytes) (Ok code)
+    → first_fault code ≡ Some fault → IsFaultRefusal fault refusal → IsAnswer words bytes refusal
+IsAnswer-faulty_before words bytes command code fault refusal meant behind few read breaks line =
+    answer-refused_before words bytes command refusal meant behind few (faulty-read (code_part bytes) code fault refusal read breaks line)
 
 -- scripts that are refused
 
@@ -195,13 +184,12 @@ pub IsAnswer-many_marked : (words : List (List ℕ)) (bytes : List ℕ) (command
     → IsTrue (accepted code) → is_mark code mark ≡ true → GENERATORS < generator_count code
     → IsAnswer words bytes (too_many_generators (generator_count code))
 IsAnswer-many_marked words bytes command mark code meant is given few read is_accepted marked many =
-    let P : Option ℕ → Type 0 = λ o. IsReducedReply command.field o code (many_reply code) in
-    answer-task words bytes command tasks.Reduced (many_reply code) meant is refl few
+    answer-order words bytes command (orders.Code (Reduced command.field mark)) (many_reply code) meant
+    (order-reduced command mark is given) refl few
     (record {
       outcome = Ok code;
       read = (read, first_fault-accepted code is_accepted);
-      answered = subst P (sym given)
-          (reduced_reply-large command.field mark code marked (less-true GENERATORS (generator_count code) many));
+      answered = reduced_reply-large command.field mark code marked (less-true GENERATORS (generator_count code) many);
     })
 
 pub IsAnswer-many_scheduled : (words : List (List ℕ)) (bytes : List ℕ) (command : Command) (code : Code) (script : List (ℕ × ScheduleLine))

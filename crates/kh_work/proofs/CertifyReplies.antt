@@ -1,5 +1,5 @@
 -- The replies of `certify` to texts: there is one to each, and one alone where it is not done.
-use Rattle.std.proofs.Common.{◌≡◌, ◌≢◌, ◌⊎◌, ◌∙◌, ℕ, inl, inr, List, Bool, true, false, nat_lt, IsTrue, refl, sym, ap, subst, Result, Ok, Err, None, arith}
+use Rattle.std.proofs.Common.{◌≡◌, ◌≢◌, ◌∙◌, ℕ, inl, inr, List, Bool, true, false, nat_lt, IsTrue, refl, sym, ap, subst, Result, Ok, Err, None, arith}
 use Rattle.std.specs.Prelude.{is_none}
 use Rattle.std.proofs.lemmas.Bool.{ltb-false, ltb-true}
 use Rattle.kh_types.specs.Acceptance.{accepted, first_fault}
@@ -8,9 +8,6 @@ use Rattle.circle_smoothing.specs.GeneratorCounts.{generator_count}
 use Rattle.circle_smoothing.specs.declared.limits.TheConstants.{GENERATORS}
 use Rattle.cancel_log.proofs.LogsExist.{log-some}
 use Rattle.word_line.specs.Values.{IsFieldSize}
-use Rattle.word_line.specs.declared.command.Command.{Command}
-use Rattle.word_line.specs.declared.command.Task.{Task}
-use Rattle.word_line.specs.declared.command.Task.TheVariants.{Certify}
 use Rattle.kh_replies.specs.DiagramReplies.{IsDiagramReply, IsOutcomeReply}
 use Rattle.kh_replies.specs.Inputs.{IsDiagramRead}
 use Rattle.kh_replies.specs.Refusals.{too_many_generators}
@@ -19,7 +16,6 @@ use Rattle.kh_replies.specs.declared.status.Status.TheVariants.{Done}
 use Rattle.kh_replies.proofs.DiagramReadings.{IsDiagramRead-one, IsDiagramRead-some}
 use Rattle.kh_replies.proofs.ReadCodes.{four_slots-read}
 use Rattle.kh_replies.proofs.TextFaults.{few_crossings-read, few_loops-read}
-use Rattle.kh_work.specs.Answer.{IsCodeReply}
 use Rattle.kh_work.specs.Certify.{IsCertifyReply}
 
 -- a code without a fault is accepted
@@ -28,52 +24,46 @@ unfolding accepted
 accepted-faultless code none = ap is_none none
 
 -- a diagram that is read has too many generators, or a log that is short enough
-certified-by : (command : Command) (bytes : List ℕ) (code : Code) → IsFieldSize command.field → IsDiagramRead bytes (Ok code)
-    → (many : Bool) → nat_lt GENERATORS (generator_count code) ≡ many → (reply : Reply) × IsCertifyReply command.field code reply
-certified-by command bytes code sized read true is =
+certified-by : (field : ℕ) (bytes : List ℕ) (code : Code) → IsFieldSize field → IsDiagramRead bytes (Ok code)
+    → (many : Bool) → nat_lt GENERATORS (generator_count code) ≡ many → (reply : Reply) × IsCertifyReply field code reply
+certified-by field bytes code sized read true is =
     (too_many_generators (generator_count code), inl (ltb-true GENERATORS (generator_count code) is, refl))
-certified-by command bytes code sized read false is =
+certified-by field bytes code sized read false is =
     let few = ltb-false GENERATORS (generator_count code) is in
-    let log = log-some command.field code sized (accepted-faultless code read.1) (four_slots-read bytes code read.0)
+    let log = log-some field code sized (accepted-faultless code read.1) (four_slots-read bytes code read.0)
     (few_crossings-read bytes code read.0) (few_loops-read bytes code read.0) few in
     (reply_of Done log.0, inr (few, record { status = refl; log = log.1; few = log.2 }))
 
 -- so what a text was read as is answered
-certified-some : (command : Command) (bytes : List ℕ) (outcome : Result Code Reply) → IsFieldSize command.field
-    → IsDiagramRead bytes outcome → (reply : Reply) × IsDiagramReply (IsCodeReply Certify command) bytes reply
-certified-some command bytes (Ok code) sized read =
-    let reply = certified-by command bytes code sized read (nat_lt GENERATORS (generator_count code)) refl in
+certified-some : (field : ℕ) (bytes : List ℕ) (outcome : Result Code Reply) → IsFieldSize field
+    → IsDiagramRead bytes outcome → (reply : Reply) × IsDiagramReply (IsCertifyReply field) bytes reply
+certified-some field bytes (Ok code) sized read =
+    let reply = certified-by field bytes code sized read (nat_lt GENERATORS (generator_count code)) refl in
     (reply.0, record { outcome = Ok code; read = read; answered = reply.1 })
-certified-some command bytes (Err refusal) sized read = (refusal, record { outcome = Err refusal; read = read; answered = refl })
+certified-some field bytes (Err refusal) sized read = (refusal, record { outcome = Err refusal; read = read; answered = refl })
 
 -- and each text is
-pub IsCertified-some : (command : Command) (bytes : List ℕ) → IsFieldSize command.field
-    → (reply : Reply) × IsDiagramReply (IsCodeReply Certify command) bytes reply
-IsCertified-some command bytes sized =
-    let read = IsDiagramRead-some bytes in certified-some command bytes read.0 sized read.1
+pub IsCertified-some : (field : ℕ) (bytes : List ℕ) → IsFieldSize field → (reply : Reply) × IsDiagramReply (IsCertifyReply field) bytes reply
+IsCertified-some field bytes sized =
+    let read = IsDiagramRead-some bytes in certified-some field bytes read.0 sized read.1
 
--- a task has one reply, or this reply of it is not done
-abbrev pub IsFixed : Task → Reply → Type 0
-IsFixed task reply = (task ≢ Certify) ⊎ (reply.status ≢ Done)
-
--- a reply of `certify` that is not done is one
-IsCertifyReply-one : (field : ℕ) (code : Code) (a b : Reply) → IsFixed Certify a → IsCertifyReply field code a
+-- a reply that is not done is one
+IsCertifyReply-one : (field : ℕ) (code : Code) (a b : Reply) → a.status ≢ Done → IsCertifyReply field code a
     → IsCertifyReply field code b → a ≡ b
-IsCertifyReply-one field code a b (inl other) is_a is_b = absurd (other refl)
-IsCertifyReply-one field code a b (inr undone) (inl is_a) (inl is_b) = is_a.1 ∙ sym is_b.1
-IsCertifyReply-one field code a b (inr undone) (inl is_a) (inr is_b) = absurd (omega (arith, is_a.0, is_b.0))
-IsCertifyReply-one field code a b (inr undone) (inr is_a) is_b = absurd (undone is_a.1.status)
+IsCertifyReply-one field code a b undone (inl is_a) (inl is_b) = is_a.1 ∙ sym is_b.1
+IsCertifyReply-one field code a b undone (inl is_a) (inr is_b) = absurd (omega (arith, is_a.0, is_b.0))
+IsCertifyReply-one field code a b undone (inr is_a) is_b = absurd (undone is_a.1.status)
 
 -- and so is one to what a text was read as
-certified-one : (command : Command) (outcome : Result Code Reply) (a b : Reply) → IsFixed Certify a
-    → IsOutcomeReply (IsCodeReply Certify command) outcome a → IsOutcomeReply (IsCodeReply Certify command) outcome b → a ≡ b
-certified-one command (Ok code) a b fixed is_a is_b = IsCertifyReply-one command.field code a b fixed is_a is_b
-certified-one command (Err refusal) a b fixed is_a is_b = is_a ∙ sym is_b
+certified-one : (field : ℕ) (outcome : Result Code Reply) (a b : Reply) → a.status ≢ Done
+    → IsOutcomeReply (IsCertifyReply field) outcome a → IsOutcomeReply (IsCertifyReply field) outcome b → a ≡ b
+certified-one field (Ok code) a b undone is_a is_b = IsCertifyReply-one field code a b undone is_a is_b
+certified-one field (Err refusal) a b undone is_a is_b = is_a ∙ sym is_b
 
 -- and to a text
-pub IsCertified-one : (command : Command) (bytes : List ℕ) (a b : Reply) → IsFixed Certify a
-    → IsDiagramReply (IsCodeReply Certify command) bytes a → IsDiagramReply (IsCodeReply Certify command) bytes b → a ≡ b
-IsCertified-one command bytes a b fixed is_a is_b =
+pub IsCertified-one : (field : ℕ) (bytes : List ℕ) (a b : Reply) → a.status ≢ Done
+    → IsDiagramReply (IsCertifyReply field) bytes a → IsDiagramReply (IsCertifyReply field) bytes b → a ≡ b
+IsCertified-one field bytes a b undone is_a is_b =
     let same : is_a.outcome ≡ is_b.outcome = IsDiagramRead-one bytes is_a.outcome is_b.outcome is_a.read is_b.read in
-    certified-one command is_b.outcome a b fixed
-    (subst (λ (outcome : Result Code Reply). IsOutcomeReply (IsCodeReply Certify command) outcome a) same is_a.answered) is_b.answered
+    certified-one field is_b.outcome a b undone
+    (subst (λ (outcome : Result Code Reply). IsOutcomeReply (IsCertifyReply field) outcome a) same is_a.answered) is_b.answered

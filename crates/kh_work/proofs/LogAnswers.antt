@@ -13,19 +13,19 @@ use Rattle.cancel_log.specs.declared.limits.TheConstants.{LOG_BYTES}
 use Rattle.cancel_log.specs.declared.stop.LogStop.{LogStop}
 use Rattle.cancel_log.specs.declared.stop.LogStop.TheVariants.{Line, SizeLimit, NoMemory}
 use Rattle.word_line.specs.declared.command.Task.{Task}
-use Rattle.word_line.specs.declared.command.Task.TheVariants.{Certify, Verify}
+use Rattle.word_line.specs.declared.command.Task.TheVariants as tasks
 use Rattle.word_line.specs.declared.command.Command.{Command}
 use Rattle.word_line.specs.Commands.{IsCommand}
 use Rattle.word_line.proofs.Readings.{IsCommand-one}
 use Rattle.kh_replies.specs.declared.status.Status.TheVariants.{CodeRefused, Done, Limit}
 use Rattle.kh_replies.specs.Inputs.{IsCodeRead}
-use Rattle.kh_replies.specs.Intakes.{intake_of}
 use Rattle.kh_replies.specs.Refusals.{too_many_bytes}
 use Rattle.kh_replies.specs.Replies.{Reply, reply_of}
 use Rattle.kh_replies.specs.DiagramReplies.{IsDiagramReply, IsOutcomeReply}
 use Rattle.kh_replies.proofs.DiagramReadings.{IsDiagramRead-one}
-use Rattle.kh_work.specs.Answer.{IsAnswer, IsCodeReply, IsCommandReply, IsIntakeReply, IsLimitedReply}
-use Rattle.kh_work.specs.ByteLimits.{byte_limit}
+use Rattle.kh_work.specs.Answer.{IsAnswer, IsCodeReply, IsCommandReply, IsInputReply, IsLimitedReply}
+use Rattle.kh_work.specs.Orders.{order_for}
+use Rattle.kh_work.specs.declared.order.CodeOrder.TheVariants.{Certify}
 use Rattle.kh_work.specs.Certify.{IsCertifyReply, IsCertificate}
 use Rattle.kh_work.specs.Verify.{IsVerdictReply, IsVerifyReply, verified_text}
 use Rattle.kh_work.proofs.AnswerLemmas.{answer-task, first_fault-accepted}
@@ -39,13 +39,11 @@ answered-command words bytes command reply meant (inl (other, is_other, replied)
     subst (λ (c : Command). IsCommandReply c bytes reply) same replied
 answered-command words bytes command reply meant (inr none) = absurd (none.0 command meant)
 
--- and where they mean a command of this task, by one that the limit of the task and what it reads allow
+-- and where they mean a command of this task, by a reply of what it orders
 answered-task : (words : List (List ℕ)) (bytes : List ℕ) (command : Command) (task : Task) (reply : Reply) → IsCommand words command
-    → command.task ≡ task → IsAnswer words bytes reply
-    → IsLimitedReply (byte_limit (intake_of task)) bytes (IsIntakeReply (intake_of task) task command bytes) reply
+    → command.task ≡ task → IsAnswer words bytes reply → IsInputReply (order_for task command) bytes reply
 answered-task words bytes command task reply meant is_task answered =
-    let P : Task → Type 0 = λ t. IsLimitedReply (byte_limit (intake_of t)) bytes (IsIntakeReply (intake_of t) t command bytes) reply in
-    subst P is_task (answered-command words bytes command reply meant answered)
+    subst (λ (t : Task). IsInputReply (order_for t command) bytes reply) is_task (answered-command words bytes command reply meant answered)
 
 -- bytes within a limit are not refused for it
 within_limit : (limit : ℕ) (bytes : List ℕ) (Answers : Reply → Type 0) (reply : Reply) → length bytes ≤ limit
@@ -68,11 +66,11 @@ few_certified field code reply few (inr log) = log.1
 
 -- each log of an accepted diagram that is short enough answers its code
 pub IsAnswer-log : (words : List (List ℕ)) (bytes : List ℕ) (command : Command) (code : Code) (text : List ℕ) → IsCommand words command
-    → command.task ≡ Certify → length bytes ≤ INPUT_BYTES → IsCodeRead bytes (Ok code) → IsTrue (accepted code)
+    → command.task ≡ tasks.Certify → length bytes ≤ INPUT_BYTES → IsCodeRead bytes (Ok code) → IsTrue (accepted code)
     → generator_count code ≤ GENERATORS → IsLog command.field code text → length text ≤ LOG_BYTES
     → IsAnswer words bytes (reply_of Done text)
 IsAnswer-log words bytes command code text meant is_certify few_bytes read is_accepted few log short =
-    answer-task words bytes command Certify (reply_of Done text) meant is_certify refl few_bytes
+    answer-task words bytes command tasks.Certify (reply_of Done text) meant is_certify refl few_bytes
     (record {
       outcome = Ok code;
       read = (read, first_fault-accepted code is_accepted);
@@ -81,19 +79,20 @@ IsAnswer-log words bytes command code text meant is_certify few_bytes read is_ac
 
 -- and nothing else does
 pub IsAnswer-only_logs : (words : List (List ℕ)) (bytes : List ℕ) (command : Command) (code : Code) (reply : Reply)
-    → IsCommand words command → command.task ≡ Certify → length bytes ≤ INPUT_BYTES → IsCodeRead bytes (Ok code)
+    → IsCommand words command → command.task ≡ tasks.Certify → length bytes ≤ INPUT_BYTES → IsCodeRead bytes (Ok code)
     → IsTrue (accepted code) → generator_count code ≤ GENERATORS → IsAnswer words bytes reply → IsCertificate command.field code reply
 IsAnswer-only_logs words bytes command code reply meant is_certify few_bytes read is_accepted few answered =
-    let limited = answered-task words bytes command Certify reply meant is_certify answered in
-    let replied = within_limit INPUT_BYTES bytes (IsDiagramReply (IsCodeReply Certify command) bytes) reply few_bytes limited in
-    few_certified command.field code reply few (answered-code (IsCodeReply Certify command) bytes code reply read is_accepted replied)
+    let limited = answered-task words bytes command tasks.Certify reply meant is_certify answered in
+    let Certified : Code → Reply → Type 0 = IsCodeReply (Certify command.field) in
+    let replied = within_limit INPUT_BYTES bytes (IsDiagramReply Certified bytes) reply few_bytes limited in
+    few_certified command.field code reply few (answered-code Certified bytes code reply read is_accepted replied)
 
 -- a log is answered by the table that it proves
 pub IsAnswer-verified : (words : List (List ℕ)) (bytes : List ℕ) (command : Command) (field : ℕ) (code : Code) → IsCommand words command
-    → command.task ≡ Verify → length bytes ≤ LOG_BYTES → IsLog field code bytes
+    → command.task ≡ tasks.Verify → length bytes ≤ LOG_BYTES → IsLog field code bytes
     → IsAnswer words bytes (reply_of Done (codes "verified\n" ++ table_text (table field code)))
 IsAnswer-verified words bytes command field code meant is_verify few log =
-    answer-task words bytes command Verify (reply_of Done (verified_text (table field code))) meant is_verify refl few
+    answer-task words bytes command tasks.Verify (reply_of Done (verified_text (table field code))) meant is_verify refl few
     (record {
       verdict = Ok (table field code);
       reached = log-verified field code bytes log;
@@ -133,16 +132,16 @@ done_within bytes reply (inr few) done = done_verdict bytes few.1.verdict reply 
 
 -- bytes that are answered as done are a log, and the reply tells the table that it proves
 pub IsAnswer-only_verified : (words : List (List ℕ)) (bytes : List ℕ) (command : Command) (reply : Reply) → IsCommand words command
-    → command.task ≡ Verify → IsAnswer words bytes reply → reply.status ≡ Done
+    → command.task ≡ tasks.Verify → IsAnswer words bytes reply → reply.status ≡ Done
     → (field : ℕ) × (code : Code) × IsLog field code bytes × (reply.text ≡ codes "verified\n" ++ table_text (table field code))
 IsAnswer-only_verified words bytes command reply meant is_verify answered done =
-    done_within bytes reply (answered-task words bytes command Verify reply meant is_verify answered) done
+    done_within bytes reply (answered-task words bytes command tasks.Verify reply meant is_verify answered) done
 
 -- what `certify` answers is such a log
 pub IsAnswer-certified : (words other : List (List ℕ)) (bytes : List ℕ) (command verifier : Command) (code : Code) (reply : Reply)
-    → IsCommand words command → command.task ≡ Certify → length bytes ≤ INPUT_BYTES → IsCodeRead bytes (Ok code)
+    → IsCommand words command → command.task ≡ tasks.Certify → length bytes ≤ INPUT_BYTES → IsCodeRead bytes (Ok code)
     → IsTrue (accepted code) → generator_count code ≤ GENERATORS → IsAnswer words bytes reply → IsCommand other verifier
-    → verifier.task ≡ Verify
+    → verifier.task ≡ tasks.Verify
     → IsAnswer other reply.text (reply_of Done (codes "verified\n" ++ table_text (table command.field code)))
 IsAnswer-certified words other bytes command verifier code reply meant is_certify few_bytes read is_accepted few answered is_meant is_verify =
     let made = IsAnswer-only_logs words bytes command code reply meant is_certify few_bytes read is_accepted few answered in

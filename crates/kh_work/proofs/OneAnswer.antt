@@ -10,15 +10,13 @@ use Rattle.undo_stack.specs.Schedule.{IsSchedule}
 use Rattle.undo_stack.specs.declared.limits.TheConstants.{SCRIPT_LINES}
 use Rattle.undo_stack.specs.ScheduleSteps.{schedule_of}
 use Rattle.undo_stack.proofs.ScheduleReadings.{IsSchedule-one, IsSchedule-schedule_of}
-use Rattle.kh_work.proofs.ReducedLemmas.{IsReducedReply-one, IsReducedReply-some}
 use Rattle.kh_work.proofs.EditLemmas.{IsEditReply-one, IsEditReply-some}
 use Rattle.word_line.specs.declared.command.Task.{Task}
-use Rattle.word_line.specs.declared.command.Task.TheVariants.{Homology, Jones, Check, Convert, Edit, Draw, Schedule, Bench, Certify, Verify, Reduced, Mirror, Reverse, Union}
+use Rattle.word_line.specs.declared.command.Task.TheVariants as tasks
 use Rattle.word_line.specs.declared.command.Command.{Command}
 use Rattle.word_line.specs.Commands.{IsCommand, IsUsage}
-use Rattle.word_line.specs.Values.{HasMark, HasNumber, IsFieldSize}
+use Rattle.word_line.specs.Values.{IsFieldSize}
 use Rattle.word_line.proofs.Readings.{IsCommand-decided, IsCommand-one, IsCommand-sizes}
-use Rattle.kh_replies.specs.Intakes.{intake_of}
 use Rattle.kh_work.specs.ByteLimits.{byte_limit}
 use Rattle.kh_work.proofs.VerifyLemmas.{IsVerifyReply-one, IsVerifyReply-some}
 use Rattle.kh_replies.specs.Replies.{Reply}
@@ -27,18 +25,18 @@ use Rattle.kh_replies.specs.declared.status.Status.TheVariants as statuses
 use Rattle.kh_replies.specs.declared.status.Status.TheVariants.{Done}
 use Rattle.kh_replies.specs.Refusals.{usage, too_many_bytes, too_many_lines, refused_line}
 use Rattle.kh_replies.specs.Parts.{code_part, part_behind}
-use Rattle.kh_replies.specs.Convert.{convert_reply}
-use Rattle.kh_replies.specs.Check.{check_reply}
-use Rattle.kh_replies.specs.Draw.{draw_reply}
-use Rattle.kh_replies.specs.Jones.{jones_reply}
-use Rattle.kh_replies.specs.Turns.{mirror_reply, reverse_reply}
 use Rattle.kh_replies.proofs.DiagramReadings.{IsDiagramReply-some, IsDiagramReply-one}
 use Rattle.kh_replies.proofs.UnionReplies.{IsUnionReply-one, IsUnionReply-some}
-use Rattle.kh_work.specs.Homology.{homology_reply}
 use Rattle.kh_work.specs.Schedule.{schedule_reply, IsScriptReply, IsScheduleReply}
 use Rattle.kh_work.specs.Bench.{bench_reply}
-use Rattle.kh_work.proofs.CertifyReplies.{IsCertified-one, IsCertified-some, IsFixed}
-use Rattle.kh_work.specs.Answer.{IsCodeReply, IsNumberReply, IsScriptedReply, IsTwoCodesReply, IsIntakeReply, IsLimitedReply, IsCommandReply, IsAnswer, HaveOneReply}
+use Rattle.kh_work.proofs.CertifyReplies.{IsCertified-one, IsCertified-some}
+use Rattle.kh_replies.specs.Union.{IsUnionReply}
+use Rattle.kh_work.specs.declared.order.Order.{Order}
+use Rattle.kh_work.specs.declared.order.Order.TheVariants as orders
+use Rattle.kh_work.specs.declared.order.CodeOrder.TheVariants.{Certify}
+use Rattle.kh_work.specs.declared.order.ScriptOrder.TheVariants.{Edit, Schedule}
+use Rattle.kh_work.specs.Orders.{order_for, order_of}
+use Rattle.kh_work.specs.Answer.{HaveOneReply, IsAnswer, IsCodeReply, IsCommandReply, IsLimitedReply, IsOrderReply, IsScriptedReply}
 
 -- what a script was read as is answered once
 IsScriptReply-some : (field : ℕ) (code : Code) (text : List ℕ) (reading : Result (List (ℕ × ScheduleLine)) ScriptStop)
@@ -67,76 +65,55 @@ IsScheduleReply-one field code text a b is_a is_b =
     let same : is_a.reading ≡ is_b.reading = IsSchedule-one text is_a.reading is_b.reading is_a.read is_b.read in
     IsScriptReply-one field code is_b.reading a b (subst (λ reading. IsScriptReply field code reading a) same is_a.answered) is_b.answered
 
--- each task answers each input once
+-- each order answers each input once, but for a log that is done
 
-same_reply : (this a b : Reply) → a ≡ this → b ≡ this → a ≡ b
-same_reply this a b is_a is_b = is_a ∙ sym is_b
+-- the field of a log is one of the fields
+abbrev IsSized : Order → Type 0
+IsSized (orders.Code (Certify field)) = IsFieldSize field
+IsSized _ = Unit {0}
 
-IsNumberReply-some : (field : ℕ) (number : Option ℕ) → HasNumber Bench number → (reply : Reply) × IsNumberReply Bench field number reply
-IsNumberReply-some field None needed = absurd needed
-IsNumberReply-some field (Some number) needed = (bench_reply field number, refl)
+-- an order has one reply, or this reply of it is not done
+abbrev IsFixed : Order → Reply → Type 0
+IsFixed (orders.Code (Certify field)) reply = reply.status ≢ Done
+IsFixed _ reply = Unit {0}
 
-IsNumberReply-one : (field : ℕ) (number : Option ℕ) (a b : Reply) → IsNumberReply Bench field number a
-    → IsNumberReply Bench field number b → a ≡ b
-IsNumberReply-one field None a b is_a is_b = absurd is_a
-IsNumberReply-one field (Some number) a b is_a is_b = is_a ∙ sym is_b
+sized-order : (task : Task) (command : Command) → IsFieldSize command.field → IsSized (order_for task command)
+sized-order tasks.Certify command sized = sized
+sized-order _ command sized = tt
 
-IsIntakeReply-some : (task : Task) (command : Command) (bytes : List ℕ) → IsFieldSize command.field → HasNumber task command.number
-    → HasMark task command.mark → (reply : Reply) × IsIntakeReply (intake_of task) task command bytes reply
-IsIntakeReply-some Homology command bytes sized needed marked =
-    IsDiagramReply-some (IsCodeReply Homology command) (λ code. (homology_reply command.field code, refl)) bytes
-IsIntakeReply-some Convert command bytes sized needed marked =
-    IsDiagramReply-some (IsCodeReply Convert command) (λ code. (convert_reply command.to code, refl)) bytes
-IsIntakeReply-some Check command bytes sized needed marked = IsDiagramReply-some (IsCodeReply Check command) (λ code. (check_reply code, refl)) bytes
-IsIntakeReply-some Jones command bytes sized needed marked = IsDiagramReply-some (IsCodeReply Jones command) (λ code. (jones_reply code, refl)) bytes
-IsIntakeReply-some Schedule command bytes sized needed marked =
-    IsDiagramReply-some (IsScriptedReply Schedule command (part_behind bytes))
-    (λ code. IsScheduleReply-some command.field code (part_behind bytes)) (code_part bytes)
-IsIntakeReply-some Edit command bytes sized needed marked =
-    IsDiagramReply-some (IsScriptedReply Edit command (part_behind bytes)) (λ code. IsEditReply-some code (part_behind bytes))
+fixed-order : (task : Task) (command : Command) (reply : Reply) → (task ≢ tasks.Certify) ⊎ (reply.status ≢ Done)
+    → IsFixed (order_for task command) reply
+fixed-order tasks.Certify command reply (inl other) = absurd (other refl)
+fixed-order tasks.Certify command reply (inr undone) = undone
+fixed-order _ command reply either = tt
+
+IsOrderReply-some : (order : Order) (bytes : List ℕ) → IsSized order → (reply : Reply) × IsOrderReply order bytes reply
+IsOrderReply-some (orders.Code (Certify field)) bytes sized = IsCertified-some field bytes sized
+IsOrderReply-some (orders.Code order) bytes sized = IsDiagramReply-some (IsCodeReply order) (λ code. (_, refl)) bytes
+IsOrderReply-some (orders.Script Edit) bytes sized =
+    IsDiagramReply-some (IsScriptedReply Edit (part_behind bytes)) (λ code. IsEditReply-some code (part_behind bytes)) (code_part bytes)
+IsOrderReply-some (orders.Script (Schedule field)) bytes sized =
+    IsDiagramReply-some (IsScriptedReply (Schedule field) (part_behind bytes)) (λ code. IsScheduleReply-some field code (part_behind bytes))
     (code_part bytes)
-IsIntakeReply-some Bench command bytes sized needed marked = IsNumberReply-some command.field command.number needed
-IsIntakeReply-some Certify command bytes sized needed marked = IsCertified-some command bytes sized
-IsIntakeReply-some Verify command bytes sized needed marked = IsVerifyReply-some bytes
-IsIntakeReply-some Draw command bytes sized needed marked = IsDiagramReply-some (IsCodeReply Draw command) (λ code. (draw_reply code, refl)) bytes
-IsIntakeReply-some Reduced command bytes sized needed marked =
-    IsDiagramReply-some (IsCodeReply Reduced command) (λ code. IsReducedReply-some command.field command.mark code marked) bytes
-IsIntakeReply-some Mirror command bytes sized needed marked = IsDiagramReply-some (IsCodeReply Mirror command) (λ code. (mirror_reply code, refl)) bytes
-IsIntakeReply-some Reverse command bytes sized needed marked =
-    IsDiagramReply-some (IsCodeReply Reverse command) (λ code. (reverse_reply code, refl)) bytes
-IsIntakeReply-some Union command bytes sized needed marked =
-    IsDiagramReply-some (IsTwoCodesReply Union (part_behind bytes)) (λ code. IsUnionReply-some code (part_behind bytes)) (code_part bytes)
+IsOrderReply-some orders.Pair bytes sized =
+    IsDiagramReply-some (λ code. IsUnionReply code (part_behind bytes)) (λ code. IsUnionReply-some code (part_behind bytes)) (code_part bytes)
+IsOrderReply-some orders.Log bytes sized = IsVerifyReply-some bytes
+IsOrderReply-some (orders.Bench field workers number) bytes sized = (bench_reply field number, refl)
 
-IsIntakeReply-one : (task : Task) (command : Command) (bytes : List ℕ) (a b : Reply) → IsFixed task a
-    → IsIntakeReply (intake_of task) task command bytes a → IsIntakeReply (intake_of task) task command bytes b → a ≡ b
-IsIntakeReply-one Homology command bytes a b fixed =
-    IsDiagramReply-one (IsCodeReply Homology command) (λ code. same_reply (homology_reply command.field code)) bytes a b
-IsIntakeReply-one Convert command bytes a b fixed =
-    IsDiagramReply-one (IsCodeReply Convert command) (λ code. same_reply (convert_reply command.to code)) bytes a b
-IsIntakeReply-one Check command bytes a b fixed =
-    IsDiagramReply-one (IsCodeReply Check command) (λ code. same_reply (check_reply code)) bytes a b
-IsIntakeReply-one Jones command bytes a b fixed =
-    IsDiagramReply-one (IsCodeReply Jones command) (λ code. same_reply (jones_reply code)) bytes a b
-IsIntakeReply-one Schedule command bytes a b fixed =
-    IsDiagramReply-one (IsScriptedReply Schedule command (part_behind bytes))
-    (λ code. IsScheduleReply-one command.field code (part_behind bytes)) (code_part bytes) a b
-IsIntakeReply-one Edit command bytes a b fixed =
-    IsDiagramReply-one (IsScriptedReply Edit command (part_behind bytes)) (λ code. IsEditReply-one code (part_behind bytes))
+IsOrderReply-one : (order : Order) (bytes : List ℕ) (a b : Reply) → IsFixed order a → IsOrderReply order bytes a
+    → IsOrderReply order bytes b → a ≡ b
+IsOrderReply-one (orders.Code (Certify field)) bytes a b undone = IsCertified-one field bytes a b undone
+IsOrderReply-one (orders.Code order) bytes a b fixed =
+    IsDiagramReply-one (IsCodeReply order) (λ code x y is_x is_y. is_x ∙ sym is_y) bytes a b
+IsOrderReply-one (orders.Script Edit) bytes a b fixed =
+    IsDiagramReply-one (IsScriptedReply Edit (part_behind bytes)) (λ code. IsEditReply-one code (part_behind bytes)) (code_part bytes) a b
+IsOrderReply-one (orders.Script (Schedule field)) bytes a b fixed =
+    IsDiagramReply-one (IsScriptedReply (Schedule field) (part_behind bytes)) (λ code. IsScheduleReply-one field code (part_behind bytes))
     (code_part bytes) a b
-IsIntakeReply-one Bench command bytes a b fixed = IsNumberReply-one command.field command.number a b
-IsIntakeReply-one Certify command bytes a b fixed = IsCertified-one command bytes a b fixed
-IsIntakeReply-one Verify command bytes a b fixed = IsVerifyReply-one bytes a b
-IsIntakeReply-one Draw command bytes a b fixed =
-    IsDiagramReply-one (IsCodeReply Draw command) (λ code. same_reply (draw_reply code)) bytes a b
-IsIntakeReply-one Reduced command bytes a b fixed =
-    IsDiagramReply-one (IsCodeReply Reduced command) (λ code. IsReducedReply-one command.field command.mark code) bytes a b
-IsIntakeReply-one Mirror command bytes a b fixed =
-    IsDiagramReply-one (IsCodeReply Mirror command) (λ code. same_reply (mirror_reply code)) bytes a b
-IsIntakeReply-one Reverse command bytes a b fixed =
-    IsDiagramReply-one (IsCodeReply Reverse command) (λ code. same_reply (reverse_reply code)) bytes a b
-IsIntakeReply-one Union command bytes a b fixed =
-    IsDiagramReply-one (IsTwoCodesReply Union (part_behind bytes)) (λ code. IsUnionReply-one code (part_behind bytes)) (code_part bytes)
-    a b
+IsOrderReply-one orders.Pair bytes a b fixed =
+    IsDiagramReply-one (λ code. IsUnionReply code (part_behind bytes)) (λ code. IsUnionReply-one code (part_behind bytes)) (code_part bytes) a b
+IsOrderReply-one orders.Log bytes a b fixed = IsVerifyReply-one bytes a b
+IsOrderReply-one (orders.Bench field workers number) bytes a b fixed = λ is_a is_b. is_a ∙ sym is_b
 
 -- within a limit or beyond it
 
@@ -160,17 +137,16 @@ IsLimitedReply-one (Some limit) bytes Answers a b one (inl is_a) (inr is_b) = ab
 IsLimitedReply-one (Some limit) bytes Answers a b one (inr is_a) (inl is_b) = absurd (omega (arith, is_a.0, is_b.0))
 IsLimitedReply-one (Some limit) bytes Answers a b one (inr is_a) (inr is_b) = one is_a.1 is_b.1
 
-IsCommandReply-some : (command : Command) (bytes : List ℕ) → IsFieldSize command.field → HasNumber command.task command.number
-    → HasMark command.task command.mark → (reply : Reply) × IsCommandReply command bytes reply
-IsCommandReply-some command bytes sized needed marked =
-    IsLimitedReply-some (byte_limit (intake_of command.task)) bytes (IsIntakeReply (intake_of command.task) command.task command bytes)
-    (IsIntakeReply-some command.task command bytes sized needed marked)
+IsCommandReply-some : (command : Command) (bytes : List ℕ) → IsFieldSize command.field → (reply : Reply) × IsCommandReply command bytes reply
+IsCommandReply-some command bytes sized =
+    IsLimitedReply-some (byte_limit (order_of command)) bytes (IsOrderReply (order_of command) bytes)
+    (IsOrderReply-some (order_of command) bytes (sized-order command.task command sized))
 
-IsCommandReply-one : (command : Command) (bytes : List ℕ) (a b : Reply) → IsFixed command.task a → IsCommandReply command bytes a
-    → IsCommandReply command bytes b → a ≡ b
-IsCommandReply-one command bytes a b fixed =
-    IsLimitedReply-one (byte_limit (intake_of command.task)) bytes (IsIntakeReply (intake_of command.task) command.task command bytes)
-    a b (IsIntakeReply-one command.task command bytes a b fixed)
+IsCommandReply-one : (command : Command) (bytes : List ℕ) (a b : Reply) → (command.task ≢ tasks.Certify) ⊎ (a.status ≢ Done)
+    → IsCommandReply command bytes a → IsCommandReply command bytes b → a ≡ b
+IsCommandReply-one command bytes a b either =
+    IsLimitedReply-one (byte_limit (order_of command)) bytes (IsOrderReply (order_of command) bytes) a b
+    (IsOrderReply-one (order_of command) bytes a b (fixed-order command.task command a either))
 
 -- words
 
@@ -180,13 +156,13 @@ IsAnswer-some words bytes = answered (IsCommand-decided words)
   where
     answered : ((command : Command) × IsCommand words command) ⊎ IsUsage words → (reply : Reply) × IsAnswer words bytes reply
     answered (inl (command, is)) =
-        let reply = IsCommandReply-some command bytes (IsCommand-sizes words command is).0 is.needed is.marked in
+        let reply = IsCommandReply-some command bytes (IsCommand-sizes words command is).0 in
         (reply.0, inl (command, is, reply.1))
     answered (inr none) = (usage, inr (none, refl))
 
 -- an answer is one, where that of each command that the words mean is
 IsAnswer-fixed : (words : List (List ℕ)) (bytes : List ℕ) (a b : Reply)
-    → ((command : Command) → IsCommand words command → IsFixed command.task a) → IsAnswer words bytes a → IsAnswer words bytes b → a ≡ b
+    → ((command : Command) → IsCommand words command → (command.task ≢ tasks.Certify) ⊎ (a.status ≢ Done)) → IsAnswer words bytes a → IsAnswer words bytes b → a ≡ b
 unfolding IsAnswer
 IsAnswer-fixed words bytes a b fixed (inl (x, is_x, is_a)) (inl (y, is_y, is_b)) =
     let same : x ≡ y = IsCommand-one words x y is_x is_y in
@@ -231,7 +207,7 @@ IsAnswer-status words bytes a b is_a is_b = go (done_or a.status) (done_or b.sta
 
 -- words that mean a command of another task than `certify` have one
 pub HaveOneReply-task : (words : List (List ℕ)) (command : Command) (task : Task) → IsCommand words command → command.task ≡ task
-    → task ≢ Certify → HaveOneReply words
+    → task ≢ tasks.Certify → HaveOneReply words
 HaveOneReply-task words command task meant is_task differs other is_other is_certify =
     let same : command ≡ other = IsCommand-one words command other meant is_other in
     differs (sym is_task ∙ ap (λ (c : Command). c.task) same ∙ is_certify)

@@ -1,18 +1,22 @@
 -- What answers a diagram at a mark.
-use Rattle.std.proofs.Common.{◌≡◌, ◌++◌, ◌∙◌, ℕ, Bool, true, false, ap, sym, refl, IfOk, Result, Ok, Err, None, Some, nat_lt, cond}
-use Rattle.std.specs.Prelude.{Option}
+use Rattle.std.proofs.Common.{◌≡◌, ◌++◌, ◌∙◌, ℕ, Bool, true, false, ap, sym, IfOk, Result, Ok, Err, Some, nat_lt, cond}
+use Rattle.std.specs.Prelude.{Option, unwrap_or}
 use Rattle.kh_types.specs.Code.{Code}
 use Rattle.kh_types.specs.Table.{Table, table_text}
 use Rattle.circle_smoothing.specs.GeneratorCounts.{generator_count}
 use Rattle.circle_smoothing.specs.declared.limits.TheConstants.{GENERATORS}
 use Rattle.reduced_cube.specs.Reduced.{is_mark, reduced_table}
-use Rattle.word_line.specs.Values.{HasMark}
-use Rattle.word_line.specs.declared.command.Task.TheVariants.{Reduced}
+use Rattle.word_line.specs.declared.command.Command.{Command}
+use Rattle.word_line.specs.declared.command.Task.{Task}
+use Rattle.word_line.specs.declared.command.Task.TheVariants as tasks
 use Rattle.kh_replies.specs.declared.status.Status.TheVariants.{Done}
 use Rattle.kh_replies.specs.Jones.{jones_line}
 use Rattle.kh_replies.specs.Replies.{Reply, reply_of}
 use Rattle.kh_replies.specs.Refusals.{refused_mark, too_many_generators}
-use Rattle.kh_work.specs.Reduced.{IsReducedReply, mark_line, reduced_reply, reduced_text}
+use Rattle.kh_work.specs.declared.order.Order.TheVariants as orders
+use Rattle.kh_work.specs.declared.order.CodeOrder.TheVariants.{Reduced}
+use Rattle.kh_work.specs.Orders.{order_for, order_of}
+use Rattle.kh_work.specs.Reduced.{mark_line, reduced_reply, reduced_text}
 
 -- the reply where the number is a mark, and where it is none
 abbrev marked_reply : ℕ → ℕ → Code → Reply
@@ -57,12 +61,8 @@ reduced_reply-large field mark code marked many =
     ∙ chosen (nat_lt GENERATORS (generator_count code)) (too_many_generators (generator_count code))
     (reply_of Done (reduced_text field mark code)) true many)
 
--- there is one reply at the mark of a command
-pub IsReducedReply-some : (field : ℕ) (mark : Option ℕ) (code : Code) → HasMark Reduced mark → (reply : Reply) × IsReducedReply field mark code reply
-IsReducedReply-some field None code marked = absurd marked
-IsReducedReply-some field (Some mark) code marked = (reduced_reply field mark code, refl)
-
-pub IsReducedReply-one : (field : ℕ) (mark : Option ℕ) (code : Code) (a b : Reply) → IsReducedReply field mark code a
-    → IsReducedReply field mark code b → a ≡ b
-IsReducedReply-one field None code a b is_a is_b = absurd is_a
-IsReducedReply-one field (Some mark) code a b is_a is_b = is_a ∙ sym is_b
+-- what a command with a mark orders
+pub order-reduced : (command : Command) (mark : ℕ) → command.task ≡ tasks.Reduced → command.mark ≡ Some mark
+    → order_of command ≡ orders.Code (Reduced command.field mark)
+order-reduced command mark is_reduced is_given =
+    ap (λ (t : Task). order_for t command) is_reduced ∙ ap (λ (o : Option ℕ). orders.Code (Reduced command.field (unwrap_or o 0))) is_given

@@ -1,5 +1,5 @@
 -- From what a text was read as to the reply of a command, step by step.
-use Rattle.std.proofs.Common.{◌≡◌, ◌≤◌, ◌<◌, ◌++◌, ℕ, Bool, true, false, cond, nat_lt, List, length, IfOk, arith, inr, refl, ap, sym, subst, ◌∙◌, Result, Ok, Err, None, Some}
+use Rattle.std.proofs.Common.{◌≡◌, ◌≤◌, ◌<◌, ◌++◌, ℕ, Bool, true, false, cond, nat_lt, List, length, IfOk, arith, inr, refl, ap, ap₂, sym, subst, ◌∙◌, Result, Ok, Err, None, Some}
 use Rattle.std.specs.Prelude.{Option}
 use Rattle.std.proofs.lemmas.Grind.{common_steps}
 use Rattle.kh_types.specs.Code.{Code}
@@ -15,45 +15,40 @@ use Rattle.undo_stack.specs.declared.stop.ScriptStop.{ScriptStop}
 use Rattle.undo_stack.specs.declared.stop.ScriptStop.TheVariants as stops
 use Rattle.circle_smoothing.specs.GeneratorCounts.{generator_count}
 use Rattle.circle_smoothing.specs.declared.limits.TheConstants.{GENERATORS}
-use Rattle.word_line.specs.declared.command.Task.{Task}
-use Rattle.word_line.specs.declared.command.Task.TheVariants.{Homology, Jones, Check, Convert, Edit, Draw, Schedule, Bench, Certify, Verify, Reduced, Mirror, Reverse, Union}
-use Rattle.word_line.specs.declared.command.Command.{Command}
 use Rattle.kh_replies.specs.declared.status.Status.TheVariants.{Done}
 use Rattle.kh_replies.specs.Statuses.{IsReplyStatus}
 use Rattle.braid_maker.specs.Closures.{code_of_number}
 use Rattle.braid_maker.specs.declared.limits.TheConstants.{NUMBERS}
-use Rattle.kh_replies.specs.Intakes.{intake_of}
 use Rattle.kh_work.specs.ByteLimits.{byte_limit}
 use Rattle.kh_replies.specs.Replies.{Reply, reply_of}
 use Rattle.kh_replies.specs.Refusals.{too_large_number, too_many_generators}
 use Rattle.kh_replies.specs.Inputs.{IsDiagramRead}
 use Rattle.kh_replies.specs.DiagramReplies.{IsDiagramReply}
 use Rattle.kh_replies.proofs.ReplyStatuses.{diagram_reply-status, status-of}
-use Rattle.kh_replies.proofs.UnionReplies.{IsUnionReply-status}
-use Rattle.kh_work.specs.declared.draft.Draft.{Draft}
-use Rattle.kh_work.specs.Drafts.{reply_in}
 use Rattle.kh_work.specs.Schedule.{IsScriptReply, schedule_reply, schedule_text}
 use Rattle.kh_work.specs.Edit.{IsEditedReply, edit_reply, edit_status, edits_in}
 use Rattle.kh_work.specs.Bench.{bench_counts, bench_lines, bench_reply, bench_text}
-use Rattle.kh_work.specs.Answer.{IsScriptedReply, IsTwoCodesReply, IsIntakeReply, IsLimitedReply, IsCommandReply}
+use Rattle.kh_work.specs.declared.order.Order.{Order}
+use Rattle.kh_work.specs.declared.order.ScriptOrder.{ScriptOrder}
+use Rattle.kh_work.specs.declared.order.ScriptOrder.TheVariants.{Edit, Schedule}
+use Rattle.kh_work.specs.Answer.{IsInputReply, IsLimitedReply, IsOrderReply, IsScriptedReply}
 
 -- a diagram that is read is answered, and a refusal is its own answer
-pub IsDiagramReply-read : {E : Type 0} (result : Result Draft E) (Answers : Code → Reply → Type 0) (text : List ℕ) (code : Code)
-    → IsDiagramRead text (Ok code) → IfOk result (λ draft. Answers code (reply_in draft))
-    → IfOk result (λ draft. IsDiagramReply Answers text (reply_in draft))
-IsDiagramReply-read (Ok draft) Answers text code read replied = record { outcome = Ok code; read = read; answered = replied }
-IsDiagramReply-read (Err stop) Answers text code read replied = tt
+pub IsDiagramReply-read : {X E : Type 0} (result : Result X E) (reply_from : X → Reply) (Answers : Code → Reply → Type 0) (text : List ℕ)
+    (code : Code) → IsDiagramRead text (Ok code) → IfOk result (λ made. Answers code (reply_from made))
+    → IfOk result (λ made. IsDiagramReply Answers text (reply_from made))
+IsDiagramReply-read (Ok made) reply_from Answers text code read replied = record { outcome = Ok code; read = read; answered = replied }
+IsDiagramReply-read (Err stop) reply_from Answers text code read replied = tt
 
 pub IsDiagramReply-refused : (Answers : Code → Reply → Type 0) (text : List ℕ) (reply : Reply) → IsDiagramRead text (Err reply)
     → IsDiagramReply Answers text reply
 IsDiagramReply-refused Answers text reply read = record { outcome = Err reply; read = read; answered = refl }
 
 -- bytes within the limit are answered
-pub IsCommandReply-few : (command : Command) (bytes : List ℕ) (reply : Reply) (limit : ℕ) → byte_limit (intake_of command.task) ≡ Some limit
-    → length bytes ≤ limit → IsIntakeReply (intake_of command.task) command.task command bytes reply → IsCommandReply command bytes reply
-IsCommandReply-few command bytes reply limit reads few replied =
-    let P : Option ℕ → Type 0 = λ most. IsLimitedReply most bytes (IsIntakeReply (intake_of command.task) command.task command bytes) reply in
-    subst P (sym reads) (inr (few, replied))
+pub IsInputReply-few : (order : Order) (bytes : List ℕ) (reply : Reply) (limit : ℕ) → byte_limit order ≡ Some limit
+    → length bytes ≤ limit → IsOrderReply order bytes reply → IsInputReply order bytes reply
+IsInputReply-few order bytes reply limit reads few replied =
+    subst (λ (most : Option ℕ). IsLimitedReply most bytes (IsOrderReply order bytes) reply) (sym reads) (inr (few, replied))
 
 -- statuses
 
@@ -93,13 +88,15 @@ generators_of_diagram number code diagram same is few =
     subst (λ (c : Code). generator_count c ≤ GENERATORS) (sym (same ∙ is)) (few number)
 
 -- the reply with the table that was made
-pub bench_reply-made : {E : Type 0} (result : Result Reply E) (field number : ℕ) (code : Code) (made : Table) → made ≡ table field code
-    → IfOk result (λ reply. reply ≡ reply_of Done (bench_lines (bench_counts number code (total_of made)) ++ jones_line code))
+pub bench_reply-made : {E : Type 0} (result : Result Reply E) (field number : ℕ) (code counted : Code) (made : Table) → counted ≡ code
+    → made ≡ table field code
+    → IfOk result (λ reply. reply ≡ reply_of Done (bench_lines (bench_counts number counted (total_of made)) ++ jones_line counted))
     → IfOk result (λ reply. reply ≡ reply_of Done (bench_text field number code))
 unfolding bench_text
-bench_reply-made (Ok reply) field number code made same is =
-    is ∙ ap (λ (t : Table). reply_of Done (bench_lines (bench_counts number code (total_of t)) ++ jones_line code)) same
-bench_reply-made (Err stop) field number code made same is = tt
+bench_reply-made (Ok reply) field number code counted made is_counted is_made is =
+    is
+    ∙ ap₂ (λ (c : Code) (t : Table). reply_of Done (bench_lines (bench_counts number c (total_of t)) ++ jones_line c)) is_counted is_made
+bench_reply-made (Err stop) field number code counted made is_counted is_made is = tt
 
 schedule-status : (field : ℕ) (code : Code) (script : List (ℕ × ScheduleLine)) → IsReplyStatus (schedule_reply field code script).status
 schedule-status field code script = go (nat_lt GENERATORS (generator_count code))
@@ -130,53 +127,12 @@ edited-status code (Err (stops.LineLimit count)) reply is = status-of reply _ is
 edited-status code (Err (stops.Line line)) reply is = status-of reply _ is tt
 edited-status code (Err stops.NoMemory) reply is = absurd is
 
-scripted_reply-status : (task : Task) (command : Command) (script : List ℕ) (code : Code) (reply : Reply)
-    → IsScriptedReply task command script code reply → IsReplyStatus reply.status
-scripted_reply-status Edit command script code reply is = edited-status code is.reading reply is.answered
-scripted_reply-status Schedule command script code reply is = script-status command.field code is.reading reply is.answered
-scripted_reply-status Homology command script code reply is = absurd is
-scripted_reply-status Jones command script code reply is = absurd is
-scripted_reply-status Check command script code reply is = absurd is
-scripted_reply-status Convert command script code reply is = absurd is
-scripted_reply-status Draw command script code reply is = absurd is
-scripted_reply-status Bench command script code reply is = absurd is
-scripted_reply-status Certify command script code reply is = absurd is
-scripted_reply-status Verify command script code reply is = absurd is
-scripted_reply-status Reduced command script code reply is = absurd is
-scripted_reply-status Mirror command script code reply is = absurd is
-scripted_reply-status Reverse command script code reply is = absurd is
-scripted_reply-status Union command script code reply is = absurd is
-
-two_codes_reply-status : (task : Task) (second : List ℕ) (code : Code) (reply : Reply) → IsTwoCodesReply task second code reply
+scripted_reply-status : (order : ScriptOrder) (script : List ℕ) (code : Code) (reply : Reply) → IsScriptedReply order script code reply
     → IsReplyStatus reply.status
-two_codes_reply-status Union second code reply is = IsUnionReply-status code second reply is
-two_codes_reply-status Homology second code reply is = absurd is
-two_codes_reply-status Jones second code reply is = absurd is
-two_codes_reply-status Check second code reply is = absurd is
-two_codes_reply-status Convert second code reply is = absurd is
-two_codes_reply-status Edit second code reply is = absurd is
-two_codes_reply-status Draw second code reply is = absurd is
-two_codes_reply-status Schedule second code reply is = absurd is
-two_codes_reply-status Bench second code reply is = absurd is
-two_codes_reply-status Certify second code reply is = absurd is
-two_codes_reply-status Verify second code reply is = absurd is
-two_codes_reply-status Reduced second code reply is = absurd is
-two_codes_reply-status Mirror second code reply is = absurd is
-two_codes_reply-status Reverse second code reply is = absurd is
+scripted_reply-status Edit script code reply is = edited-status code is.reading reply is.answered
+scripted_reply-status (Schedule field) script code reply is = script-status field code is.reading reply is.answered
 
 -- what answers a code and a script has a status of a reply
-pub scripted-status : {E : Type 0} (result : Result Draft E) (command : Command) (text script : List ℕ)
-    → IfOk result (λ draft. IsDiagramReply (IsScriptedReply command.task command script) text (reply_in draft))
-    → IfOk result (λ draft. IsReplyStatus (reply_in draft).status)
-scripted-status (Ok draft) command text script replied =
-    diagram_reply-status (IsScriptedReply command.task command script) (scripted_reply-status command.task command script) text
-    (reply_in draft) replied
-scripted-status (Err stop) command text script replied = tt
-
--- and so has what answers two codes
-pub two_codes-status : {E : Type 0} (result : Result Draft E) (task : Task) (text second : List ℕ)
-    → IfOk result (λ draft. IsDiagramReply (IsTwoCodesReply task second) text (reply_in draft))
-    → IfOk result (λ draft. IsReplyStatus (reply_in draft).status)
-two_codes-status (Ok draft) task text second replied =
-    diagram_reply-status (IsTwoCodesReply task second) (two_codes_reply-status task second) text (reply_in draft) replied
-two_codes-status (Err stop) task text second replied = tt
+pub scripted-status : (order : ScriptOrder) (text script : List ℕ) (reply : Reply)
+    → IsDiagramReply (IsScriptedReply order script) text reply → IsReplyStatus reply.status
+scripted-status order text script = diagram_reply-status (IsScriptedReply order script) (scripted_reply-status order script) text

@@ -40,14 +40,11 @@ run_text-is script answers found wanted made homology text first second same is 
     is ∙ ap (λ xs. answer_lines script xs ++ table_text made) (first ∙ second) ∙ ap (λ t. answer_lines script wanted ++ table_text t) same
 
 -- that of a schedule is the text of its run with the Jones line behind it
-pub schedule_text-is : (field : ℕ) (code run : Code) (script : List (ℕ × ScheduleLine)) (text line next : List ℕ) → run ≡ code
-    → text ≡ answer_lines script (answers field run WORKERS (events_of script)) ++ table_text (table field run)
-    → line ≡ jones_line code → next ≡ text ++ line → next ≡ schedule_text field code script
+pub schedule_text-is : (field : ℕ) (code counted : Code) (script : List (ℕ × ScheduleLine)) (text line next : List ℕ) → counted ≡ code
+    → text ≡ answer_lines script (answers field code WORKERS (events_of script)) ++ table_text (table field code)
+    → line ≡ jones_line counted → next ≡ text ++ line → next ≡ schedule_text field code script
 unfolding schedule_text homology_text
-schedule_text-is field code run script text line next same is_text is_line is_next =
+schedule_text-is field code counted script text line next same is_text is_line is_next =
     is_next
-    ∙ ap₂ (λ (xs ys : List ℕ). xs ++ ys)
-    (is_text
-    ∙ ap (λ (c : Code). answer_lines script (answers field c WORKERS (events_of script)) ++ table_text (table field c)) same)
-    is_line
+    ∙ ap₂ (λ (xs ys : List ℕ). xs ++ ys) is_text (is_line ∙ ap jones_line same)
     ∙ append_assoc (answer_lines script (answers field code WORKERS (events_of script))) (table_text (table field code)) (jones_line code)

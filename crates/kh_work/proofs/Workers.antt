@@ -2,35 +2,18 @@
 use Rattle.std.proofs.Common.{◌≡◌, ℕ, inl, inr, List, subst, None, Some}
 use Rattle.std.specs.Prelude.{Option}
 use Rattle.word_line.specs.declared.command.Task.{Task}
-use Rattle.word_line.specs.declared.command.Task.TheVariants.{Homology, Jones, Check, Convert, Edit, Draw, Schedule, Bench, Certify, Verify, Reduced, Mirror, Reverse, Union}
+use Rattle.word_line.specs.declared.command.Task.TheVariants.{Homology}
 use Rattle.word_line.specs.declared.command.Command.{Command}
 use Rattle.word_line.specs.Commands.{IsCommand}
 use Rattle.word_line.proofs.Readings.{IsCommand-one}
-use Rattle.kh_replies.specs.Intakes.{intake_of}
-use Rattle.kh_work.specs.ByteLimits.{byte_limit}
+use Rattle.kh_types.specs.declared.limits.TheConstants.{INPUT_BYTES}
+use Rattle.kh_work.specs.Orders.{order_for}
 use Rattle.kh_replies.specs.Replies.{Reply}
-use Rattle.kh_work.specs.Answer.{IsIntakeReply, IsLimitedReply, IsCommandReply, IsAnswer}
+use Rattle.kh_work.specs.Answer.{IsAnswer, IsCommandReply, IsInputReply, IsLimitedReply, IsOrderReply}
 
 -- the command with another number of workers
 abbrev with_count : Command → ℕ → Command
 with_count command workers = record command { workers = workers }
-
-IsIntakeReply-workers : (task : Task) (command : Command) (workers : ℕ) (bytes : List ℕ) (reply : Reply)
-    → IsIntakeReply (intake_of task) task command bytes reply → IsIntakeReply (intake_of task) task (with_count command workers) bytes reply
-IsIntakeReply-workers Homology command workers bytes reply is = record { outcome = is.outcome; read = is.read; answered = is.answered }
-IsIntakeReply-workers Jones command workers bytes reply is = is
-IsIntakeReply-workers Check command workers bytes reply is = is
-IsIntakeReply-workers Convert command workers bytes reply is = is
-IsIntakeReply-workers Edit command workers bytes reply is = is
-IsIntakeReply-workers Draw command workers bytes reply is = is
-IsIntakeReply-workers Schedule command workers bytes reply is = is
-IsIntakeReply-workers Bench command workers bytes reply is = is
-IsIntakeReply-workers Certify command workers bytes reply is = record { outcome = is.outcome; read = is.read; answered = is.answered }
-IsIntakeReply-workers Verify command workers bytes reply is = is
-IsIntakeReply-workers Reduced command workers bytes reply is = is
-IsIntakeReply-workers Mirror command workers bytes reply is = is
-IsIntakeReply-workers Reverse command workers bytes reply is = is
-IsIntakeReply-workers Union command workers bytes reply is = is
 
 IsLimitedReply-weaker : (limit : Option ℕ) (bytes : List ℕ) (Answers Other : Reply → Type 0) (reply : Reply)
     → (Answers reply → Other reply) → IsLimitedReply limit bytes Answers reply → IsLimitedReply limit bytes Other reply
@@ -38,12 +21,14 @@ IsLimitedReply-weaker None bytes Answers Other reply weaker is = weaker is
 IsLimitedReply-weaker (Some limit) bytes Answers Other reply weaker (inl many) = inl many
 IsLimitedReply-weaker (Some limit) bytes Answers Other reply weaker (inr few) = inr (few.0, weaker few.1)
 
-IsCommandReply-workers : (command : Command) (workers : ℕ) (bytes : List ℕ) (reply : Reply) → IsCommandReply command bytes reply
-    → IsCommandReply (with_count command workers) bytes reply
-IsCommandReply-workers command workers bytes reply =
-    IsLimitedReply-weaker (byte_limit (intake_of command.task)) bytes (IsIntakeReply (intake_of command.task) command.task command bytes)
-    (IsIntakeReply (intake_of command.task) command.task (with_count command workers) bytes) reply
-    (IsIntakeReply-workers command.task command workers bytes reply)
+-- a table is the same, however many make it, and what else is ordered is the same order
+IsInputReply-workers : (task : Task) (command : Command) (workers : ℕ) (bytes : List ℕ) (reply : Reply)
+    → IsInputReply (order_for task command) bytes reply → IsInputReply (order_for task (with_count command workers)) bytes reply
+IsInputReply-workers Homology command workers bytes reply =
+    IsLimitedReply-weaker (Some INPUT_BYTES) bytes (IsOrderReply (order_for Homology command) bytes)
+    (IsOrderReply (order_for Homology (with_count command workers)) bytes) reply
+    (λ is. record { outcome = is.outcome; read = is.read; answered = is.answered })
+IsInputReply-workers _ command workers bytes reply = λ is. is
 
 pub IsAnswer-workers : (words other : List (List ℕ)) (command : Command) (workers : ℕ) (bytes : List ℕ) (reply : Reply)
     → IsCommand words command → IsCommand other (record command { workers = workers }) → IsAnswer words bytes reply
@@ -54,7 +39,7 @@ IsAnswer-workers words other command workers bytes reply is is_other (inl (meant
     inl (
       with_count command workers,
       is_other,
-      IsCommandReply-workers command workers bytes reply
+      IsInputReply-workers command.task command workers bytes reply
           (subst (λ (c : Command). IsCommandReply c bytes reply) same replied),
     )
 IsAnswer-workers words other command workers bytes reply is is_other (inr none) = absurd (none.0 command is)

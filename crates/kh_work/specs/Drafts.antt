@@ -1,7 +1,4 @@
 -- Drafts of replies: what a reply is to be made of, where its homology table is still to be made. All of it is this project's rule.
-use Rattle.std.specs.Prelude.{◌≤◌}
-use Rattle.circle_smoothing.specs.GeneratorCounts.{generator_count}
-use Rattle.circle_smoothing.specs.declared.limits.TheConstants.{GENERATORS}
 use Rattle.kh_work.specs.declared.draft.Draft.{Draft}
 use Rattle.kh_work.specs.declared.draft.Draft.TheVariants.{Bench, Made, Table}
 use Rattle.kh_replies.specs.declared.status.Status.TheVariants.{Done}
@@ -16,8 +13,8 @@ reply_in (Made reply) = reply
 reply_in (Table field workers code) = reply_of Done (homology_text field code)
 reply_in (Bench field workers number code) = reply_of Done (bench_text field number code)
 
--- the table of a draft, where one is still to be made, can be made: the cube has few enough generators, and there are workers
-abbrev pub IsReady : Draft → Type 0
-IsReady (Made reply) = Unit {0}
-IsReady (Table field workers code) = (generator_count code ≤ GENERATORS) × AreWorkers workers
-IsReady (Bench field workers number code) = (generator_count code ≤ GENERATORS) × AreWorkers workers
+-- the workers that are to make the table of a draft, where one is still to be made, are as many as there may be
+abbrev pub AwaitsWorkers : Draft → Type 0
+AwaitsWorkers (Made reply) = Unit {0}
+AwaitsWorkers (Table field workers code) = AreWorkers workers
+AwaitsWorkers (Bench field workers number code) = AreWorkers workers

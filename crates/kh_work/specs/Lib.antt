@@ -3,6 +3,7 @@ pub mod Reduced
 pub mod Schedule
 pub mod Edit
 pub mod Bench
+pub mod Orders
 pub mod ByteLimits
 pub mod Certify
 pub mod Verify

@@ -1,5 +1,5 @@
 -- The reply of the command `reduced` to a diagram: its reduced homology (Khovanov 2003, section 3), in a text of this project's own.
-use Rattle.std.specs.Prelude.{◌≡◌, ℕ, List, ◌++◌, codes, nat_lt, if◌then◌else◌, Option, None, Some}
+use Rattle.std.specs.Prelude.{ℕ, List, ◌++◌, codes, nat_lt, if◌then◌else◌}
 use Rattle.std.specs.Fmt.{decimal}
 use Rattle.kh_types.specs.Code.{Code}
 use Rattle.kh_types.specs.Table.{table_text}
@@ -27,8 +27,3 @@ reduced_reply field mark code =
     then (if nat_lt GENERATORS (generator_count code) then too_many_generators (generator_count code)
     else reply_of Done (reduced_text field mark code))
     else refused_mark mark
-
--- the reply at the mark of a command, which has one
-abbrev pub IsReducedReply : ℕ → Option ℕ → Code → Reply → Type 0
-IsReducedReply field None code reply = ⊥
-IsReducedReply field (Some mark) code reply = reply ≡ reduced_reply field mark code

@@ -1,19 +1,20 @@
-//! How many bytes a task reads.
+//! How many bytes an order reads.
 
 ghost use Rattle.std.specs.Prelude.{◌≡◌};
 ghost use Rattle.kh_work.specs.ByteLimits.{byte_limit};
 
+use crate::order::Order;
 use cancel_log::LOG_BYTES;
-use kh_replies::Intake;
 use kh_types::INPUT_BYTES;
 
-/// The most bytes of what is read; none is for what reads nothing. Source: this project's rule.
-pub fn byte_limit(intake: Intake) -> Option<u32>
-    ensures { result ≡ byte_limit intake }
+/// The most bytes of what is read; none is for an order that reads nothing. Source: this project's
+/// rule.
+pub fn byte_limit(order: Order) -> Option<u32>
+    ensures { result ≡ byte_limit order }
 {
-    match intake {
-        Intake::Code | Intake::CodeAndScript | Intake::TwoCodes => Some(INPUT_BYTES as u32),
-        Intake::Log => Some(LOG_BYTES as u32),
-        Intake::Nothing => None,
+    match order {
+        Order::Code(_) | Order::Script(_) | Order::Pair => Some(INPUT_BYTES as u32),
+        Order::Log => Some(LOG_BYTES as u32),
+        Order::Bench { .. } => None,
     }
 }

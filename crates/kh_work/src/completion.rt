@@ -1,7 +1,7 @@
 //! From a draft to the reply, whose homology table is made on the caller's thread or by workers.
 
 ghost use Rattle.std.specs.Prelude.{◌≡◌, IfOk};
-ghost use Rattle.kh_work.specs.Drafts.{IsReady, reply_in};
+ghost use Rattle.kh_work.specs.Drafts.{AwaitsWorkers, reply_in};
 
 use crate::commands::{reply_with_dimension, reply_with_table};
 use crate::draft::Draft;
@@ -16,23 +16,22 @@ use worker_pool::Gate;
 /// The reply of a draft, with no other thread. Source: this project's rule.
 #[tactic(auto, unfolding(crate::specs::Homology::homology_text))]
 pub fn completed_alone(alloc: Global, draft: Draft) -> Result<Reply, NoMemory>
-    requires { IsReady draft }
     ensures { IfOk result (λ reply. reply ≡ reply_in draft) }
 {
     match draft {
         Draft::Made(reply) => Ok(reply),
-        Draft::Table { field, kinds, .. } => {
-            let table = table_alone(alloc, field, &kinds)?;
-            reply_with_table(alloc, &kinds, &table)
+        Draft::Table { field, small, .. } => {
+            let table = table_alone(alloc, field, &small)?;
+            reply_with_table(alloc, small.counted(), &table)
         }
         Draft::Bench {
             field,
             number,
-            kinds,
+            small,
             ..
         } => {
-            let table = table_alone(alloc, field, &kinds)?;
-            reply_with_dimension(alloc, number, &kinds, &table)
+            let table = table_alone(alloc, field, &small)?;
+            reply_with_dimension(alloc, number, small.counted(), &table)
         }
     }
 }
@@ -46,7 +45,7 @@ pub fn completed_by<R: Threads + Wait + Sync, G: Gate + Sync>(
     draft: Draft,
     gate: &G,
 ) -> Result<Reply, NoMemory>
-    requires { IsReady draft }
+    requires { AwaitsWorkers draft }
     ensures { IfOk result (λ reply. reply ≡ reply_in draft) }
 {
     match draft {
@@ -54,19 +53,19 @@ pub fn completed_by<R: Threads + Wait + Sync, G: Gate + Sync>(
         Draft::Table {
             field,
             workers,
-            kinds,
+            small,
         } => {
-            let table = table_by(rt, alloc, field, workers, &kinds, gate)?;
-            reply_with_table(alloc, &kinds, &table)
+            let table = table_by(rt, alloc, field, workers, &small, gate)?;
+            reply_with_table(alloc, small.counted(), &table)
         }
         Draft::Bench {
             field,
             workers,
             number,
-            kinds,
+            small,
         } => {
-            let table = table_by(rt, alloc, field, workers, &kinds, gate)?;
-            reply_with_dimension(alloc, number, &kinds, &table)
+            let table = table_by(rt, alloc, field, workers, &small, gate)?;
+            reply_with_dimension(alloc, number, small.counted(), &table)
         }
     }
 }

@@ -1,6 +1,6 @@
 //! Drafts of replies.
 
-use circle_smoothing::CountedDiagram;
+use cube_signs::SmallDiagram;
 use kh_replies::Reply;
 use prime_field::FieldSize;
 
@@ -10,12 +10,12 @@ pub enum Draft {
     /// The reply is made.
     Made(Reply),
     /// The homology table of a diagram over a field, by its number of elements, is still to be
-    /// made, by so many workers, and the Jones line, which is read from the kinds of the diagram's
+    /// made, by so many workers, and the Jones line, which is read from the counts of the diagram's
     /// states.
     Table {
         field: FieldSize,
         workers: u32,
-        kinds: CountedDiagram,
+        small: SmallDiagram,
     },
     /// The same table of the diagram of a number, for the counts and the dimension that `bench`
     /// writes.
@@ -23,6 +23,6 @@ pub enum Draft {
         field: FieldSize,
         workers: u32,
         number: u32,
-        kinds: CountedDiagram,
+        small: SmallDiagram,
     },
 }

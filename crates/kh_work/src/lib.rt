@@ -8,6 +8,7 @@ mod commands;
 mod completion;
 mod draft;
 pub mod laws;
+mod order;
 mod tables;
 mod top;
 

@@ -10,18 +10,17 @@ use Rattle.circle_smoothing.specs.GeneratorCounts.{generator_count}
 use Rattle.circle_smoothing.specs.declared.limits.TheConstants.{GENERATORS}
 use Rattle.word_line.specs.declared.command.Command.{Command}
 use Rattle.word_line.specs.declared.command.Task.{Task}
-use Rattle.word_line.specs.declared.command.Task.TheVariants.{Homology}
 use Rattle.word_line.specs.Commands.{IsCommand, IsUsage}
 use Rattle.word_line.proofs.Readings.{IsCommand-decided, IsCommand-one}
 use Rattle.kh_replies.specs.declared.status.Status.TheVariants.{Done}
 use Rattle.kh_replies.specs.DiagramReplies.{IsDiagramReply, IsOutcomeReply}
 use Rattle.kh_replies.specs.Inputs.{IsDiagramRead, IsDiagramText}
-use Rattle.kh_replies.specs.Intakes.{intake_of}
 use Rattle.kh_replies.specs.Refusals.{usage}
 use Rattle.kh_replies.specs.Replies.{Reply, reply_of}
 use Rattle.kh_replies.proofs.DiagramReadings.{IsDiagramReply-one, IsDiagramReply-some}
-use Rattle.kh_work.specs.Answer.{IsAnswer, IsCodeReply, IsIntakeReply, IsLimitedReply}
-use Rattle.kh_work.specs.ByteLimits.{byte_limit}
+use Rattle.kh_work.specs.Answer.{IsAnswer, IsCodeReply, IsInputReply, IsLimitedReply}
+use Rattle.kh_work.specs.Orders.{order_for}
+use Rattle.kh_work.specs.declared.order.CodeOrder.TheVariants.{Homology}
 use Rattle.kh_work.specs.Homology.{homology_reply, homology_text}
 use Rattle.kh_work.proofs.OneAnswer.{IsLimitedReply-one, IsLimitedReply-some}
 use Rattle.scan_main.specs.Scans.{IsScanAnswer, IsScanReply, IsTableReply, words_of_kh}
@@ -71,7 +70,7 @@ reply-table field code few =
 
 outcome-scan : (bytes : List ℕ) (command : Command) (reply : Reply)
     → ((code : Code) → IsDiagramText bytes code → generator_count code ≤ GENERATORS) → length bytes ≤ INPUT_BYTES
-    → (outcome : Result Code Reply) → IsDiagramRead bytes outcome → IsOutcomeReply (IsCodeReply Homology command) outcome reply
+    → (outcome : Result Code Reply) → IsDiagramRead bytes outcome → IsOutcomeReply (IsCodeReply (Homology command.field command.workers)) outcome reply
     → IsOutcomeReply (IsTableReply command.field) outcome reply
 outcome-scan bytes command reply small few (Ok code) read answered =
     answered ∙ reply-table command.field code
@@ -80,7 +79,7 @@ outcome-scan bytes command reply small few (Err refusal) read answered = answere
 
 limited-scan : (bytes : List ℕ) (command : Command) (reply : Reply)
     → ((code : Code) → IsDiagramText bytes code → generator_count code ≤ GENERATORS)
-    → IsLimitedReply (Some INPUT_BYTES) bytes (IsDiagramReply (IsCodeReply Homology command) bytes) reply
+    → IsLimitedReply (Some INPUT_BYTES) bytes (IsDiagramReply (IsCodeReply (Homology command.field command.workers)) bytes) reply
     → IsScanReply command.field bytes reply
 limited-scan bytes command reply small (inl long) = inl long
 limited-scan bytes command reply small (inr (few, replied)) =
@@ -98,6 +97,6 @@ pub IsScanAnswer-cube : (words : List (List ℕ)) (bytes : List ℕ) (reply : Re
     → IsAnswer (words_of_kh words) bytes reply → IsScanAnswer words bytes reply
 unfolding IsAnswer IsScanAnswer
 IsScanAnswer-cube words bytes reply small (inl (command, meant, replied)) =
-    let Replied : Task → Type 0 = λ task. IsLimitedReply (byte_limit (intake_of task)) bytes (IsIntakeReply (intake_of task) task command bytes) reply in
+    let Replied : Task → Type 0 = λ task. IsInputReply (order_for task command) bytes reply in
     inl (command, meant, limited-scan bytes command reply small (subst Replied (task-homology words command meant) replied))
 IsScanAnswer-cube words bytes reply small (inr (none, is)) = inr (none, is)

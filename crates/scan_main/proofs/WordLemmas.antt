@@ -5,7 +5,7 @@ use Rattle.std.proofs.lemmas.List.{take_more}
 use Rattle.std.proofs.lemmas.Option.{get_or_from_slice_get}
 use Rattle.word_line.specs.declared.command.Command.{Command}
 use Rattle.word_line.specs.declared.command.Task.{Task}
-use Rattle.word_line.specs.declared.command.Task.TheVariants.{Homology, Jones, Check, Convert, Edit, Draw, Schedule, Bench, Certify, Verify, Reduced, Mirror, Reverse, Union}
+use Rattle.word_line.specs.declared.command.Task.TheVariants.{Homology}
 use Rattle.word_line.specs.Commands.{IsCommand}
 use Rattle.word_line.specs.Pieces.{IsEnd, Piece, positional, apart, joined, positionals, written}
 use Rattle.word_line.specs.Values.{task_name}
@@ -27,19 +27,7 @@ initial (byte ∷ word) = byte
 -- one task has this name: the others begin with another letter
 named_homology : (task : Task) → task_name task ≡ codes "homology" → task ≡ Homology
 named_homology Homology is = refl
-named_homology Jones is = let letter : 106 ≡ 104 = ap initial is in absurd (omega (arith, letter))
-named_homology Check is = let letter : 99 ≡ 104 = ap initial is in absurd (omega (arith, letter))
-named_homology Convert is = let letter : 99 ≡ 104 = ap initial is in absurd (omega (arith, letter))
-named_homology Edit is = let letter : 101 ≡ 104 = ap initial is in absurd (omega (arith, letter))
-named_homology Draw is = let letter : 100 ≡ 104 = ap initial is in absurd (omega (arith, letter))
-named_homology Schedule is = let letter : 115 ≡ 104 = ap initial is in absurd (omega (arith, letter))
-named_homology Bench is = let letter : 98 ≡ 104 = ap initial is in absurd (omega (arith, letter))
-named_homology Certify is = let letter : 99 ≡ 104 = ap initial is in absurd (omega (arith, letter))
-named_homology Verify is = let letter : 118 ≡ 104 = ap initial is in absurd (omega (arith, letter))
-named_homology Reduced is = let letter : 114 ≡ 104 = ap initial is in absurd (omega (arith, letter))
-named_homology Mirror is = let letter : 109 ≡ 104 = ap initial is in absurd (omega (arith, letter))
-named_homology Reverse is = let letter : 114 ≡ 104 = ap initial is in absurd (omega (arith, letter))
-named_homology Union is = let letter : 117 ≡ 104 = ap initial is in absurd (omega (arith, letter))
+named_homology _ is = let letter = ap initial is in absurd (omega (arith, letter))
 
 -- the first word, and the first byte of it
 abbrev first_word : List (List ℕ) → List ℕ

@@ -29,19 +29,7 @@ chosen false x o y same this other = other same
 -- tasks
 pub task_of-name : (task : Task) → task_of (task_name task) ≡ Some task
 task_of-name Homology = refl
-task_of-name Jones = refl
-task_of-name Check = refl
-task_of-name Convert = refl
-task_of-name Edit = refl
-task_of-name Draw = refl
-task_of-name Schedule = refl
-task_of-name Bench = refl
-task_of-name Certify = refl
-task_of-name Verify = refl
-task_of-name Reduced = refl
-task_of-name Mirror = refl
-task_of-name Reverse = refl
-task_of-name Union = refl
+task_of-name _ = refl
 
 named : (name : List ℕ) (text : List ℕ) (this task : Task) → text ≡ task_name this → bytes_eq name text ≡ true → this ≡ task → name ≡ task_name task
 named name text this task text_is is same = same_text name text is ∙ text_is ∙ ap task_name same
@@ -162,38 +150,16 @@ IsGiven-once names default (first ∷ second ∷ more) x given = absurd given
 -- `bench` has a number, and `reduced` a mark
 pub needs-read : (command made : Command) (task : Task) (number mark : Option ℕ) → finished_with command task number mark ≡ Some made
     → HasNumber task number × HasMark task mark × (command ≡ made)
-needs-read command made Homology number mark same = (tt, tt, same_Some command made same)
-needs-read command made Jones number mark same = (tt, tt, same_Some command made same)
-needs-read command made Check number mark same = (tt, tt, same_Some command made same)
-needs-read command made Convert number mark same = (tt, tt, same_Some command made same)
-needs-read command made Edit number mark same = (tt, tt, same_Some command made same)
-needs-read command made Draw number mark same = (tt, tt, same_Some command made same)
-needs-read command made Schedule number mark same = (tt, tt, same_Some command made same)
 needs-read command made Bench None mark same = absurd (none-some made same)
 needs-read command made Bench (Some number) mark same = (tt, tt, same_Some command made same)
-needs-read command made Certify number mark same = (tt, tt, same_Some command made same)
-needs-read command made Verify number mark same = (tt, tt, same_Some command made same)
 needs-read command made Reduced number None same = absurd (none-some made same)
 needs-read command made Reduced number (Some mark) same = (tt, tt, same_Some command made same)
-needs-read command made Mirror number mark same = (tt, tt, same_Some command made same)
-needs-read command made Reverse number mark same = (tt, tt, same_Some command made same)
-needs-read command made Union number mark same = (tt, tt, same_Some command made same)
+needs-read command made _ number mark same = (tt, tt, same_Some command made same)
 
 pub read-needs : (command : Command) (task : Task) (number mark : Option ℕ) → HasNumber task number → HasMark task mark
     → finished_with command task number mark ≡ Some command
-read-needs command Homology number mark needed marked = refl
-read-needs command Jones number mark needed marked = refl
-read-needs command Check number mark needed marked = refl
-read-needs command Convert number mark needed marked = refl
-read-needs command Edit number mark needed marked = refl
-read-needs command Draw number mark needed marked = refl
-read-needs command Schedule number mark needed marked = refl
 read-needs command Bench None mark needed marked = absurd needed
 read-needs command Bench (Some number) mark needed marked = refl
-read-needs command Certify number mark needed marked = refl
-read-needs command Verify number mark needed marked = refl
 read-needs command Reduced number None needed marked = absurd marked
 read-needs command Reduced number (Some mark) needed marked = refl
-read-needs command Mirror number mark needed marked = refl
-read-needs command Reverse number mark needed marked = refl
-read-needs command Union number mark needed marked = refl
+read-needs command _ number mark needed marked = refl

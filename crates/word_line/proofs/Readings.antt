@@ -17,7 +17,7 @@ use Rattle.clap.proofs.WalkLemmas.{first_value-rows}
 use Rattle.word_line.specs.declared.command.Command.{Command}
 use Rattle.word_line.specs.declared.limits.TheConstants.{MARK_DIGITS, NUMBER_DIGITS, WORKERS_DIGITS}
 use Rattle.word_line.specs.declared.command.Task.{Task}
-use Rattle.word_line.specs.declared.command.Task.TheVariants.{Homology, Jones, Check, Convert, Edit, Draw, Schedule, Bench, Certify, Verify, Reduced, Mirror, Reverse, Union}
+use Rattle.word_line.specs.declared.command.Task.TheVariants.{Homology}
 use Rattle.word_line.specs.declared.command.Form.{Form}
 use Rattle.word_line.specs.declared.command.Form.TheVariants.{Pd, Gauss}
 use Rattle.word_line.specs.Commands.{IsCommand}
@@ -39,19 +39,7 @@ use Rattle.word_line.proofs.Rules.{built_is, shape}
 
 task_no_dash : (task : Task) → HasNoDash (task_name task)
 task_no_dash Homology = λ is. absurd (omega (arith, is))
-task_no_dash Jones = λ is. absurd (omega (arith, is))
-task_no_dash Check = λ is. absurd (omega (arith, is))
-task_no_dash Convert = λ is. absurd (omega (arith, is))
-task_no_dash Edit = λ is. absurd (omega (arith, is))
-task_no_dash Draw = λ is. absurd (omega (arith, is))
-task_no_dash Schedule = λ is. absurd (omega (arith, is))
-task_no_dash Bench = λ is. absurd (omega (arith, is))
-task_no_dash Certify = λ is. absurd (omega (arith, is))
-task_no_dash Verify = λ is. absurd (omega (arith, is))
-task_no_dash Reduced = λ is. absurd (omega (arith, is))
-task_no_dash Mirror = λ is. absurd (omega (arith, is))
-task_no_dash Reverse = λ is. absurd (omega (arith, is))
-task_no_dash Union = λ is. absurd (omega (arith, is))
+task_no_dash _ = λ is. absurd (omega (arith, is))
 
 digits_no_dash : (limit : ℕ) (value : Text) (number : ℕ) → WritesNumber limit value number → HasNoDash value
 digits_no_dash limit [] number written = tt

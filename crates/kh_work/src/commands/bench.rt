@@ -5,7 +5,7 @@ ghost use Rattle.std.specs.Prelude.{◌≡◌, ◌++◌, IfOk, string_bytes};
 ghost use Rattle.word_line.specs.Values.{AreWorkers};
 ghost use Rattle.jones_sum.specs.Tables.{total_of};
 ghost use Rattle.kh_work.specs.Bench.{bench_counts, bench_lines, bench_reply};
-ghost use Rattle.kh_work.specs.Drafts.{IsReady, reply_in};
+ghost use Rattle.kh_work.specs.Drafts.{AwaitsWorkers, reply_in};
 ghost use Rattle.kh_replies.specs.Jones.{jones_line};
 ghost use Rattle.kh_replies.specs.Replies.{reply_of};
 ghost use Rattle.kh_replies.specs.declared.status.Status.{Status};
@@ -14,6 +14,7 @@ use crate::draft::Draft;
 use braid_maker::from_number;
 use braid_maker::laws::numbers_give_small_diagrams;
 use circle_smoothing::CountedDiagram;
+use cube_signs::SmallDiagram;
 use jones_sum::Table;
 use kh_replies::{Reply, Status, jones_line, reply_made, too_large_number};
 use kh_types::NoMemory;
@@ -46,7 +47,7 @@ pub fn draft_of_bench(
 ) -> Result<Draft, NoMemory>
     requires workers { AreWorkers workers }
     ensures reply { IfOk result (λ draft. reply_in draft ≡ bench_reply field number) }
-    ensures ready { IfOk result IsReady }
+    ensures ready { IfOk result AwaitsWorkers }
 {
     numbers_give_small_diagrams();
     match from_number(number) {
@@ -54,14 +55,14 @@ pub fn draft_of_bench(
             field,
             workers,
             number,
-            kinds: CountedDiagram::of_diagram(&diagram),
+            small: SmallDiagram::known(CountedDiagram::of_diagram(&diagram)),
         }),
         Err(limit) => Ok(Draft::Made(too_large_number(alloc, limit.number)?)),
     }
 }
 
 /// The lines of the counts and of the sum of all dimensions of the homology table, and the Jones
-/// line, which is read from the kinds of the diagram's states. Source: this project's rule.
+/// line, which is read from the counts of the diagram's states. Source: this project's rule.
 pub fn reply_with_dimension(
     alloc: Global,
     number: u32,

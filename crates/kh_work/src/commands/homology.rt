@@ -3,7 +3,7 @@
 ghost use Rattle.std.specs.Prelude.{◌≡◌, ◌++◌, IfOk};
 ghost use Rattle.kh_types.specs.Table.{table_text};
 ghost use Rattle.word_line.specs.Values.{AreWorkers};
-ghost use Rattle.kh_work.specs.Drafts.{IsReady, reply_in};
+ghost use Rattle.kh_work.specs.Drafts.{AwaitsWorkers, reply_in};
 ghost use Rattle.kh_work.specs.Homology.{homology_reply};
 ghost use Rattle.kh_replies.specs.Jones.{jones_line};
 ghost use Rattle.kh_replies.specs.Replies.{reply_of};
@@ -11,7 +11,7 @@ ghost use Rattle.kh_replies.specs.declared.status.Status.{Status};
 
 use crate::draft::Draft;
 use circle_smoothing::CountedDiagram;
-use cube_signs::check_kinds;
+use cube_signs::SmallDiagram;
 use jones_sum::Table;
 use kh_replies::{Reply, Status, jones_line, reply_made, too_many_generators};
 use kh_types::{Diagram, NoMemory};
@@ -29,14 +29,13 @@ pub fn draft_of_homology(
 ) -> Result<Draft, NoMemory>
     requires workers { AreWorkers workers }
     ensures reply { IfOk result (λ draft. reply_in draft ≡ homology_reply field diagram.now) }
-    ensures ready { IfOk result IsReady }
+    ensures ready { IfOk result AwaitsWorkers }
 {
-    let counted = CountedDiagram::of_diagram(diagram);
-    match check_kinds(&counted) {
-        Ok(_) => Ok(Draft::Table {
+    match SmallDiagram::try_new(CountedDiagram::of_diagram(diagram)) {
+        Ok(small) => Ok(Draft::Table {
             field,
             workers,
-            counted,
+            small,
         }),
         Err(limit) => Ok(Draft::Made(too_many_generators(alloc, limit.generators)?)),
     }
@@ -44,14 +43,18 @@ pub fn draft_of_homology(
 
 /// The reply with the text of a homology table of a diagram and the Jones line. Source: this
 /// project's rule.
-pub fn reply_with_table(alloc: Global, counted: &CountedDiagram, table: &Table) -> Result<Reply, NoMemory>
+pub fn reply_with_table(
+    alloc: Global,
+    counted: &CountedDiagram,
+    table: &Table,
+) -> Result<Reply, NoMemory>
     ensures { IfOk result (λ reply. reply
         ≡ reply_of Status.Done (table_text table.now ++ jones_line counted.now)) }
 {
     Ok(reply_made(Status::Done, text_with_table(alloc, counted, table)?))
 }
 
-/// The text of a table of a diagram, and the Jones line behind it, which is read from the kinds of
+/// The text of a table of a diagram, and the Jones line behind it, which is read from the counts of
 /// the diagram's states. Source: this project's rule.
 pub fn text_with_table(
     alloc: Global,

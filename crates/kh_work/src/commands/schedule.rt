@@ -2,8 +2,6 @@
 //! table.
 
 ghost use Rattle.std.specs.Prelude.{◌≡◌, ◌≤◌, ◌++◌, All, IfOk, OnOk, length, string_bytes};
-ghost use Rattle.circle_smoothing.specs.GeneratorCounts.{generator_count};
-ghost use Rattle.circle_smoothing.specs.declared.limits.TheConstants.{GENERATORS};
 ghost use Rattle.commit_core.specs.Answering.{answers};
 ghost use Rattle.kh_types.specs.Table.{table, table_text};
 ghost use Rattle.kh_types.specs.declared.limits.TheConstants.{INPUT_BYTES};
@@ -13,7 +11,7 @@ ghost use Rattle.undo_stack.specs.Schedule.{HasWorker};
 
 use circle_smoothing::CountedDiagram;
 use commit_core::{Answer, Event, run_events};
-use cube_signs::check_kinds;
+use cube_signs::SmallDiagram;
 use jones_sum::Table;
 use kh_replies::{
     Reply, Status, jones_line, refused_line, reply_made, too_many_generators, too_many_lines,
@@ -53,10 +51,9 @@ fn reply_to_script(
     requires workers { All HasWorker script.now }
     ensures { IfOk result (λ reply. reply ≡ schedule_reply field diagram.now script.now) }
 {
-    let counted = CountedDiagram::of_diagram(diagram);
-    match check_kinds(&counted) {
-        Ok(_) => {
-            let text = schedule_text(alloc, field, &counted, script)?;
+    match SmallDiagram::try_new(CountedDiagram::of_diagram(diagram)) {
+        Ok(small) => {
+            let text = schedule_text(alloc, field, &small, script)?;
             Ok(reply_made(Status::Done, text))
         }
         Err(limit) => too_many_generators(alloc, limit.generators),
@@ -64,19 +61,18 @@ fn reply_to_script(
 }
 
 /// The lines of the answers, the text of the homology table and the Jones line, which is read from
-/// the kinds of the diagram's states.
+/// the counts of the diagram's states.
 fn schedule_text(
     alloc: Global,
     field: FieldSize,
-    counted: &CountedDiagram,
+    small: &SmallDiagram,
     script: &[(u32, ScheduleLine)],
 ) -> Result<Vec<u8>, NoMemory>
-    requires size { generator_count counted.now ≤ GENERATORS }
     requires workers { All HasWorker script.now }
-    ensures { IfOk result (λ text. text.items ≡ schedule_text field counted.now script.now) }
+    ensures { IfOk result (λ text. text.items ≡ schedule_text field small.now script.now) }
 {
-    let mut text = run_text(alloc, field, counted.diagram(), script)?;
-    text.extend_from_slice(&jones_line(alloc, counted)?)?;
+    let mut text = run_text(alloc, field, small, script)?;
+    text.extend_from_slice(&jones_line(alloc, small.counted())?)?;
     Ok(text)
 }
 
@@ -84,29 +80,28 @@ fn schedule_text(
 fn run_text(
     alloc: Global,
     field: FieldSize,
-    diagram: &Diagram,
+    small: &SmallDiagram,
     script: &[(u32, ScheduleLine)],
 ) -> Result<Vec<u8>, NoMemory>
-    requires size { generator_count diagram.now ≤ GENERATORS }
     requires workers { All HasWorker script.now }
     ensures { IfOk result (λ text. text.items
-        ≡ answer_lines script.now (answers field diagram.now WORKERS (events_of script.now))
-        ++ table_text (table field diagram.now)) }
+        ≡ answer_lines script.now (answers field small.now WORKERS (events_of script.now))
+        ++ table_text (table field small.now)) }
 {
-    over_field!(field, run_text_over(alloc, diagram, script))
+    over_field!(field, run_text_over(alloc, small, script))
 }
 
 fn run_text_over<F: PrimeField>(
     alloc: Global,
-    diagram: &Diagram,
+    small: &SmallDiagram,
     script: &[(u32, ScheduleLine)],
 ) -> Result<Vec<u8>, NoMemory>
-    requires size { generator_count diagram.now ≤ GENERATORS }
     requires workers { All HasWorker script.now }
     ensures { IfOk result (λ text. text.items
-        ≡ answer_lines script.now (answers F.P diagram.now WORKERS (events_of script.now))
-        ++ table_text (table F.P diagram.now)) }
+        ≡ answer_lines script.now (answers F.P small.now WORKERS (events_of script.now))
+        ++ table_text (table F.P small.now)) }
 {
+    let diagram = small.counted().diagram();
     let events = events_of(alloc, script)?;
     let run = run_events::<F>(alloc, diagram, WORKERS, &events)?;
     let text = text_of_run(alloc, script, &run.answers, &run.table)?;

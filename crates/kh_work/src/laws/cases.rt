@@ -23,14 +23,16 @@ ghost use Rattle.word_line.specs.Commands.{IsCommand, IsUsage};
 ghost use Rattle.word_line.specs.declared.command.Command.{Command};
 ghost use Rattle.word_line.specs.declared.command.Task.{Task};
 ghost use Rattle.kh_replies.specs.Inputs.{IsCodeRead};
-ghost use Rattle.kh_replies.specs.Intakes.{intake_of};
 ghost use Rattle.kh_replies.specs.Parts.{code_part, part_behind};
 ghost use Rattle.kh_replies.specs.Refusals.{IsFaultRefusal, refused_line, refused_log_line, too_many_bytes, too_many_generators, too_many_lines, usage};
 ghost use Rattle.kh_replies.specs.Replies.{Reply};
-ghost use Rattle.kh_replies.specs.declared.intake.Intake.{Intake};
 ghost use Rattle.kh_work.specs.Answer.{IsAnswer};
 ghost use Rattle.kh_work.specs.ByteLimits.{byte_limit};
+ghost use Rattle.kh_work.specs.Orders.{order_of};
 ghost use Rattle.kh_work.specs.Verify.{cause_word};
+ghost use Rattle.kh_work.specs.declared.order.CodeOrder.{CodeOrder};
+ghost use Rattle.kh_work.specs.declared.order.Order.{Order};
+ghost use Rattle.kh_work.specs.declared.order.ScriptOrder.{ScriptOrder};
 
 /// Words that mean no command are answered by the usage line, whatever the bytes are.
 pub fn other_words_are_answered_by_the_usage_line()
@@ -41,9 +43,9 @@ pub fn other_words_are_answered_by_the_usage_line()
 /// whatever the bytes are. It is that of logs where the command reads one, else that of inputs.
 pub fn too_many_bytes_are_answered_by_their_limit()
     ensures answer { (words : List (List ℕ)) (bytes : List ℕ) (command : Command) (limit : ℕ)
-        → IsCommand words command → byte_limit (intake_of command.task) ≡ Some limit
+        → IsCommand words command → byte_limit (order_of command) ≡ Some limit
         → limit < length bytes → IsAnswer words bytes (too_many_bytes limit) }
-    ensures limits { (command : Command) (limit : ℕ) → byte_limit (intake_of command.task) ≡ Some limit
+    ensures limits { (command : Command) (limit : ℕ) → byte_limit (order_of command) ≡ Some limit
         → (limit ≡ LOG_BYTES) ⊎ (limit ≡ INPUT_BYTES) }
 {}
 
@@ -51,25 +53,25 @@ pub fn too_many_bytes_are_answered_by_their_limit()
 /// that refusal; and bytes that are the text of a code which is refused by the line of its first
 /// fault. Before a script, and before a second code, the text ends at the semicolon.
 pub fn refused_codes_are_answered_by_their_refusal()
-    ensures text { (words : List (List ℕ)) (bytes : List ℕ) (command : Command) (refusal : Reply)
-        → IsCommand words command → intake_of command.task ≡ Intake.Code
+    ensures text { (words : List (List ℕ)) (bytes : List ℕ) (command : Command) (order : CodeOrder) (refusal : Reply)
+        → IsCommand words command → order_of command ≡ Order.Code order
         → length bytes ≤ INPUT_BYTES → IsCodeRead bytes (Err refusal)
         → IsAnswer words bytes refusal }
-    ensures code { (words : List (List ℕ)) (bytes : List ℕ) (command : Command) (code : Code)
-        (fault : CodeFault) (refusal : Reply)
-        → IsCommand words command → intake_of command.task ≡ Intake.Code
+    ensures code { (words : List (List ℕ)) (bytes : List ℕ) (command : Command) (order : CodeOrder)
+        (code : Code) (fault : CodeFault) (refusal : Reply)
+        → IsCommand words command → order_of command ≡ Order.Code order
         → length bytes ≤ INPUT_BYTES → IsCodeRead bytes (Ok code)
         → first_fault code ≡ Some fault → IsFaultRefusal fault refusal
         → IsAnswer words bytes refusal }
     ensures text_before { (words : List (List ℕ)) (bytes : List ℕ) (command : Command) (refusal : Reply)
         → IsCommand words command
-        → (intake_of command.task ≡ Intake.CodeAndScript) ⊎ (intake_of command.task ≡ Intake.TwoCodes)
+        → ((order : ScriptOrder) × (order_of command ≡ Order.Script order)) ⊎ (order_of command ≡ Order.Pair)
         → length bytes ≤ INPUT_BYTES → IsCodeRead (code_part bytes) (Err refusal)
         → IsAnswer words bytes refusal }
     ensures code_before { (words : List (List ℕ)) (bytes : List ℕ) (command : Command) (code : Code)
         (fault : CodeFault) (refusal : Reply)
         → IsCommand words command
-        → (intake_of command.task ≡ Intake.CodeAndScript) ⊎ (intake_of command.task ≡ Intake.TwoCodes)
+        → ((order : ScriptOrder) × (order_of command ≡ Order.Script order)) ⊎ (order_of command ≡ Order.Pair)
         → length bytes ≤ INPUT_BYTES → IsCodeRead (code_part bytes) (Ok code)
         → first_fault code ≡ Some fault → IsFaultRefusal fault refusal
         → IsAnswer words bytes refusal }

@@ -1,10 +1,12 @@
-use Rattle.std.proofs.Common.{ap, Err}
+use Rattle.std.proofs.Common.{◌∙◌, ap, Err}
+use Rattle.kh_work.specs.ByteLimits.{byte_limit}
 use Rattle.kh_work.proofs.AnswerLemmas.{IsBlindAnswer-command, IsBlindAnswer-usage, IsKnownAnswer-blind, IsKnownAnswer-command, IsReadOut-command, usage_reads_nothing}
 use Rattle.kh_work.proofs.answer.draft_to.Goals as goal
 
 pub returns-in-Ok-clause-known : goal.returns-in-Ok-clause-known
 returns-in-Ok-clause-known g c =
-    IsKnownAnswer-command c.draft_to_command.result _ c.args.words.now c.in-Ok.command c.in-Ok.ensures.command c.draft_to_command.ensures.known
+    IsKnownAnswer-command c.draft_to_order.result _ c.args.words.now c.in-Ok.command c.order_of.result c.in-Ok.ensures.command
+    c.order_of.ensures.order c.draft_to_order.ensures.known
 
 pub returns-in_ok-usage-in-Err-Usage-clause-known : goal.returns-in_ok-usage-in-Err-Usage-clause-known
 returns-in_ok-usage-in-Err-Usage-clause-known g c =
@@ -22,21 +24,18 @@ pub returns-in_ok-usage-in-Err-Usage-clause-read_out : goal.returns-in_ok-usage-
 returns-in_ok-usage-in-Err-Usage-clause-read_out g c =
     λ limit reads. usage_reads_nothing c.args.words.now limit (c.in-Err-Usage.ensures.usage (ap Err c.in-Err-Usage.field-0-is)) reads
 
-pub draft_to_command-requires-clause-number : goal.draft_to_command-requires-clause-number
-draft_to_command-requires-clause-number g c = c.in-Ok.ensures.command.needed
-
-pub draft_to_command-requires-clause-mark : goal.draft_to_command-requires-clause-mark
-draft_to_command-requires-clause-mark g c = c.in-Ok.ensures.command.marked
-
 pub returns-in-Ok-clause-blind : goal.returns-in-Ok-clause-blind
 returns-in-Ok-clause-blind g c =
-    λ nothing. IsBlindAnswer-command c.draft_to_command.result c.args.words.now c.in-Ok.command c.in-Ok.ensures.command
-    (c.draft_to_command.ensures.blind (nothing c.in-Ok.command c.in-Ok.ensures.command))
+    λ nothing. IsBlindAnswer-command c.draft_to_order.result c.args.words.now c.in-Ok.command c.order_of.result c.in-Ok.ensures.command
+    c.order_of.ensures.order
+    (c.draft_to_order.ensures.blind (ap byte_limit c.order_of.ensures.order ∙ nothing c.in-Ok.command c.in-Ok.ensures.command))
 
 pub returns-in-Ok-clause-unread : goal.returns-in-Ok-clause-unread
 returns-in-Ok-clause-unread g c =
-    λ nothing. c.draft_to_command.ensures.unread (nothing c.in-Ok.command c.in-Ok.ensures.command)
+    λ nothing. c.draft_to_order.ensures.unread
+    (ap byte_limit c.order_of.ensures.order ∙ nothing c.in-Ok.command c.in-Ok.ensures.command)
 
 pub returns-in-Ok-clause-read_out : goal.returns-in-Ok-clause-read_out
 returns-in-Ok-clause-read_out g c =
-    IsReadOut-command c.draft_to_command.result c.args.words.now c.in-Ok.command _ _ c.in-Ok.ensures.command c.draft_to_command.ensures.read_out
+    IsReadOut-command c.draft_to_order.result c.args.words.now c.in-Ok.command c.order_of.result _ _ c.in-Ok.ensures.command
+    c.order_of.ensures.order c.draft_to_order.ensures.read_out

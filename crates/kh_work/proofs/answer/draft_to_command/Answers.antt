@@ -1,6 +1,0 @@
-use Rattle.kh_work.proofs.AnswerLemmas.{IsKnownReply-blind}
-use Rattle.kh_work.proofs.answer.draft_to_command.Goals as goal
-
-pub returns-in_ok-draft_to_number-in-None-clause-known : goal.returns-in_ok-draft_to_number-in-None-clause-known
-returns-in_ok-draft_to_number-in-None-clause-known g c =
-    IsKnownReply-blind (g.S.Source.left c.args.source.now) c.args.command _ c.in_ok-draft_to_number-in-None.ensures.blind
