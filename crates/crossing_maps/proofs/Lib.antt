@@ -12,6 +12,7 @@ pub mod Placed
 pub mod NewLemmas
 pub mod SeamPlaces
 pub mod Composable
+pub mod Labelled
 pub mod AddedTerms
 pub mod TrefoilPlaces
 pub mod FewClosed

@@ -1,4 +1,4 @@
--- The seam that code makes at a crossing is the seam of the surface that the crossing adds.
+-- The bridge that code makes at a crossing is that of the surface which the crossing adds.
 use Rattle.std.proofs.Common.{◌≡◌, ℕ, ◌+◌, ◌<◌, ◌≤◌, ◌∙◌, List, [], ◌∷◌, ◌++◌, length, map, take, refl, sym, subst, ap, ap₂, arith, Bool, cond}
 use Rattle.std.specs.Prelude.{slice_index, slice_index_or}
 use Rattle.std.specs.List.{filter, AllByRecursion}
@@ -11,16 +11,17 @@ use Rattle.kh_types.specs.Code.{Code, arc_count, arc_in}
 use Rattle.kh_types.specs.Darts.{HasArcsTwice}
 use Rattle.dotted_surfaces.specs.Points.{AreAmong, discs, least_points}
 use Rattle.dotted_maps.proofs.LeastPoints.{AllByRecursion-filter, AreAmong-append, AreBelow-among}
-use Rattle.added_crossings.specs.Codes.{discs_behind, pairing_behind, points_at, saddle_strips, step_at}
+use Rattle.added_crossings.specs.Codes.{discs_behind, pairing_behind, points_at, step_at}
 use Rattle.added_crossings.specs.Steps.{near}
 use Rattle.added_crossings.proofs.CodeSums.{AreAmong-behind}
 use Rattle.added_crossings.proofs.Members.{All-contained}
 use Rattle.tangle_maps.specs.declared.pairing.TheConstants.{POINTS}
-use Rattle.tangle_maps.specs.declared.seam.Seam.{Seam}
 use Rattle.tangle_maps.specs.Pairings.{with_partner}
 use Rattle.tangle_maps.proofs.SizeLemmas.{least_points-sizes}
-use Rattle.crossing_maps.specs.AddedSeams.{IsAddedSeam, IsSeamAt, joins_there, places_there}
+use Rattle.crossing_maps.specs.AddedSeams.{joins_there, places_there}
+use Rattle.crossing_maps.specs.Bridges.{IsBridge, IsBridgeAt, IsSaddleBridge}
 use Rattle.crossing_maps.specs.Counts.{Places, on}
+use Rattle.crossing_maps.specs.declared.bridges.Bridge.{Bridge}
 use Rattle.crossing_maps.specs.ListedPlaces.{IsArcs}
 use Rattle.crossing_maps.specs.NewTerms.{first_end}
 use Rattle.crossing_maps.specs.Sides.{IsSplit}
@@ -60,16 +61,15 @@ pub faces_there : (code : Code) (k : ℕ) (m n : List (ℕ × ℕ)) (ds opened :
 faces_there code k m n ds opened place before first second are =
     are ∙ ap (λ xs. least_points POINTS xs (m ++ n)) before ∙ discs-sized code k m n place.twice place.fits first second
 
-pub seam_there : (code : Code) (k first second : ℕ) (m n behind other_behind : List (ℕ × ℕ)) (opened around next slots : List ℕ)
-    (closed others classes rims ds lowers closed_list other_list : List ℕ) (label other : ℕ) (seam : Seam) → IsPlace code k
+pub bridge_there : (code : Code) (k first second : ℕ) (m n behind other_behind : List (ℕ × ℕ)) (opened around next slots : List ℕ)
+    (closed others classes rims ds lowers closed_list other_list : List ℕ) (bridge : Bridge) → IsPlace code k
     → IsSite code k opened around next slots → IsSplit code k first m behind closed → IsSplit code k second n other_behind others
     → classes ≡ classes_of POINTS ((m ++ smoothing_of first slots) ++ (n ++ smoothing_of second slots))
     → rims ≡ least_points POINTS next (behind ++ other_behind) → closed_list ≡ closed → other_list ≡ others
-    → IsAddedSeam (filter (is_least classes) around) (on (slice_index classes) (made rims ds closed_list other_list lowers next)) label other
-    seam
-    → length seam.second.items ≤ POINTS → IsSeamAt code k first second m n ds lowers label other seam
-seam_there code k first second m n behind other_behind opened around next slots closed others classes rims ds lowers closed_list other_list
-    label other seam place site split other_split are_classes are_rims are_closed are_others is room =
+    → IsBridge (filter (is_least classes) around) (on (slice_index classes) (made rims ds closed_list other_list lowers next)) bridge
+    → IsBridgeAt code k first second m n ds lowers bridge
+bridge_there code k first second m n behind other_behind opened around next slots closed others classes rims ds lowers closed_list other_list
+    bridge place site split other_split are_classes are_rims are_closed are_others is =
     let joins = joins_there code k first second m n in
     let whole : classes ≡ classes_of POINTS joins =
     are_classes ∙ ap (λ s. classes_of POINTS ((m ++ smoothing_of first s) ++ (n ++ smoothing_of second s))) site.crossing in
@@ -80,29 +80,24 @@ seam_there code k first second m n behind other_behind opened around next slots 
     (AreAmong-behind code k second n place.twice place.crossing other_split.among) in
     let there : made rims ds closed_list other_list lowers next ≡ places_there code k first second m n ds lowers =
     places-same rims_there refl (are_closed ∙ split.circles) (are_others ∙ other_split.circles) refl site.behind in
-    record {
-      added = subst (λ at. IsAddedSeam (least_points POINTS (near (step_at code k)) joins) (on (slice_index (classes_of POINTS joins)) at)
-          label other seam) there
-          (subst (λ cs. IsAddedSeam (filter (is_least cs) (near (step_at code k)))
-          (on (slice_index cs) (made rims ds closed_list other_list lowers next)) label other seam) whole
-          (subst (λ xs. IsAddedSeam (filter (is_least classes) xs) (on (slice_index classes) (made rims ds closed_list other_list lowers next))
-          label other seam) site.here is));
-      room = room;
-    }
+    subst (λ at. IsBridge (least_points POINTS (near (step_at code k)) joins) (on (slice_index (classes_of POINTS joins)) at) bridge) there
+    (subst (λ cs. IsBridge (filter (is_least cs) (near (step_at code k)))
+    (on (slice_index cs) (made rims ds closed_list other_list lowers next)) bridge) whole
+    (subst (λ xs. IsBridge (filter (is_least classes) xs) (on (slice_index classes) (made rims ds closed_list other_list lowers next)) bridge)
+    site.here is))
 
 -- the half strips that code puts on a saddle, and its discs, at the first ends of pairs
-pub saddle_there : (code : Code) (k first second : ℕ) (m n : List (ℕ × ℕ)) (ds lowers opened slots : List ℕ) (label other : ℕ) (seam : Seam)
+pub saddle_there : (code : Code) (k first second : ℕ) (m n : List (ℕ × ℕ)) (ds lowers opened slots : List ℕ) (bridge : Bridge)
     → first ≡ 0 → second ≡ 1 → n ≡ m → ds ≡ map first_end m → lowers ≡ arc_in slots 0 ∷ arc_in slots 0 ∷ opened
     → opened ≡ (points_at code k).opened → slots ≡ slice_index_or code.crossings k []
-    → IsSeamAt code k first second m n ds lowers label other seam
-    → IsSeamAt code k 0 1 m m (map first_end m) (saddle_strips code k) label other seam
-saddle_there code k first second m n ds lowers opened slots label other seam zero one same ends strips before crossing is =
-    subst (λ xs. IsSeamAt code k 0 1 m m (map first_end m) xs label other seam)
+    → IsBridgeAt code k first second m n ds lowers bridge → IsSaddleBridge code k m bridge
+saddle_there code k first second m n ds lowers opened slots bridge zero one same ends strips before crossing is =
+    subst (λ xs. IsBridgeAt code k 0 1 m m (map first_end m) xs bridge)
     (strips ∙ ap₂ (λ s (xs : List ℕ). arc_in s 0 ∷ arc_in s 0 ∷ xs) crossing before)
-    (subst (λ xs. IsSeamAt code k 0 1 m m xs lowers label other seam) ends
-    (subst (λ o. IsSeamAt code k 0 1 m o ds lowers label other seam) same
-    (subst (λ t. IsSeamAt code k 0 t m n ds lowers label other seam) one
-    (subst (λ s. IsSeamAt code k s second m n ds lowers label other seam) zero is))))
+    (subst (λ xs. IsBridgeAt code k 0 1 m m xs lowers bridge) ends
+    (subst (λ o. IsBridgeAt code k 0 1 m o ds lowers bridge) same
+    (subst (λ t. IsBridgeAt code k 0 t m n ds lowers bridge) one
+    (subst (λ s. IsBridgeAt code k s second m n ds lowers bridge) zero is))))
 
 -- the first ends of pairs with partners
 pub ends-first : (partners xs : List ℕ) → map first_end (map (with_partner partners) xs) ≡ xs

@@ -1,37 +1,33 @@
-//! The seams of new maps: of the surface that a crossing adds where it has one smoothing, and of the
-//! saddle between its two.
+//! The bridges of new maps: of the surface that a crossing adds where it has one smoothing, and of
+//! the saddle between its two.
 
 ghost use Rattle.std.specs.Prelude.{◌≡◌, ℕ, ◌*◌, ◌<◌, ◌≤◌, ◌++◌, ◌∷◌, length, map};
 ghost use Rattle.kh_types.specs.Code.{Code, arc_in};
-ghost use Rattle.dotted_surfaces.specs.Points.{discs, least_points};
-ghost use Rattle.added_crossings.specs.Codes.{points_at, saddle_strips};
+ghost use Rattle.dotted_surfaces.specs.Points.{least_points};
 ghost use Rattle.tangle_maps.specs.declared.pairing.TheConstants.{POINTS};
 ghost use Rattle.tangle_maps.specs.Pairings.{IsOpened, joins_of, leads};
-ghost use Rattle.tangle_maps.specs.Seams.{CanCompose};
-ghost use Rattle.crossing_maps.specs.AddedSeams.{IsSeamAt};
+ghost use Rattle.crossing_maps.specs.Bridges.{CanLabel, IsAddedBridge, IsBridgeAt, IsSaddleBridge};
 ghost use Rattle.crossing_maps.specs.ListedPlaces.{IsArcs};
 ghost use Rattle.crossing_maps.specs.NewTerms.{first_end};
 ghost use Rattle.crossing_maps.specs.Sides.{CanAdd, IsSideAt, IsSiteAt, pairs_before};
 ghost use Rattle.crossing_maps.specs.Sites.{IsPlace};
 
 use crate::added::added_classes;
+use crate::bridges::{Bridge, STRIPS, bridge_on};
 use crate::genus::Lists;
-use crate::seams::{Labels, STRIPS, seam_on};
 use crate::site::push_if;
 use crate::splitting::{Site, Split};
 use arrayvec::ArrayVec;
 use kh_types::Crossing;
 use tangle_maps::Pairing;
-use tangle_maps::seam::{Arcs, Seam, joined, least_names};
+use tangle_maps::seam::{Arcs, joined, least_names};
 
-/// A pairing before a crossing, a smoothing, what that makes of the pairing, and labels of the
-/// circles that are closed.
+/// A pairing before a crossing, a smoothing, and what that makes of the pairing.
 #[derive(Clone, Copy)]
 pub struct Side<'a> {
     pub pairing: &'a Pairing,
     pub smoothing: u8,
     pub split: &'a Split,
-    pub label: u64,
 }
 
 /// The discs of two pairings of these arcs, by their least arcs.
@@ -93,23 +89,23 @@ fn strips_with(arc: u8, arcs: &[u8]) -> ArrayVec<u8, STRIPS>
     made
 }
 
-/// The seam of a surface that a crossing adds between two sides, with these discs before it and
+/// The bridge of a surface that a crossing adds between two sides, with these discs before it and
 /// these half strips.
-fn seam_between(
+fn bridge_between(
     site: &Site<'_>,
     from: &Side<'_>,
     to: &Side<'_>,
     discs: &[u8],
     lowers: &[u8],
-) -> Seam
+) -> Bridge
     requires sides { CanAdd site.now from.now to.now }
     requires discs { IsArcs POINTS discs.now }
     requires lowers { IsArcs (2 * POINTS) lowers.now }
-    ensures composes { CanCompose result }
-    ensures seam { (code : Code) (k : ℕ) → IsPlace code k → IsSiteAt code k site.now
+    ensures labels { CanLabel result }
+    ensures bridge { (code : Code) (k : ℕ) → IsPlace code k → IsSiteAt code k site.now
         → IsSideAt code k site.now from.now → IsSideAt code k site.now to.now
-        → IsSeamAt code k from.now.smoothing to.now.smoothing (pairs_before site.now from.now)
-        (pairs_before site.now to.now) discs.now lowers.now from.now.label to.now.label result }
+        → IsBridgeAt code k from.now.smoothing to.now.smoothing (pairs_before site.now from.now)
+        (pairs_before site.now to.now) discs.now lowers.now result }
 {
     let classes = added_classes(site, from.pairing, from.smoothing, to.pairing, to.smoothing);
     let rims = discs_of(&from.split.pairing, &to.split.pairing, site.next);
@@ -121,43 +117,35 @@ fn seam_between(
         lowers,
         raises: site.next,
     };
-    let labels = Labels {
-        before: from.label,
-        behind: to.label,
-    };
-    seam_on(&classes, site.near, &places, labels)
+    bridge_on(&classes, site.near, &places)
 }
 
-/// The seam of the surface that a crossing adds between two sides.
-pub fn added_seam(site: &Site<'_>, from: &Side<'_>, to: &Side<'_>) -> Seam
+/// The bridge of the surface that a crossing adds between two sides.
+pub fn added_bridge(site: &Site<'_>, from: &Side<'_>, to: &Side<'_>) -> Bridge
     requires sides { CanAdd site.now from.now to.now }
-    ensures composes { CanCompose result }
-    ensures seam { (code : Code) (k : ℕ) → IsPlace code k → IsSiteAt code k site.now
+    ensures labels { CanLabel result }
+    ensures bridge { (code : Code) (k : ℕ) → IsPlace code k → IsSiteAt code k site.now
         → IsSideAt code k site.now from.now → IsSideAt code k site.now to.now
-        → IsSeamAt code k from.now.smoothing to.now.smoothing (pairs_before site.now from.now)
-        (pairs_before site.now to.now)
-        (discs (points_at code k) (pairs_before site.now from.now) (pairs_before site.now to.now))
-        (points_at code k).opened from.now.label to.now.label result }
+        → IsAddedBridge code k from.now.smoothing to.now.smoothing (pairs_before site.now from.now)
+        (pairs_before site.now to.now) result }
 {
     let discs = discs_of(from.pairing, to.pairing, site.opened);
-    seam_between(site, from, to, &discs, site.opened)
+    bridge_between(site, from, to, &discs, site.opened)
 }
 
-/// The seam of the saddle of a pairing at a crossing, from its 0-smoothing to its 1-smoothing.
-pub fn saddle_seam(site: &Site<'_>, from: &Side<'_>, to: &Side<'_>) -> Seam
+/// The bridge of the saddle of a pairing at a crossing, from its 0-smoothing to its 1-smoothing.
+pub fn saddle_bridge(site: &Site<'_>, from: &Side<'_>, to: &Side<'_>) -> Bridge
     requires sides { CanAdd site.now from.now to.now }
     requires zero { from.now.smoothing ≡ 0 }
     requires one { to.now.smoothing ≡ 1 }
     requires pairing { to.now.pairing.now.partners ≡ from.now.pairing.now.partners }
-    ensures composes { CanCompose result }
-    ensures seam { (code : Code) (k : ℕ) → IsPlace code k → IsSiteAt code k site.now
+    ensures labels { CanLabel result }
+    ensures bridge { (code : Code) (k : ℕ) → IsPlace code k → IsSiteAt code k site.now
         → IsSideAt code k site.now from.now → IsSideAt code k site.now to.now
-        → IsSeamAt code k 0 1 (pairs_before site.now from.now) (pairs_before site.now from.now)
-        (map first_end (pairs_before site.now from.now)) (saddle_strips code k) from.now.label
-        to.now.label result }
+        → IsSaddleBridge code k (pairs_before site.now from.now) result }
 {
     let arc = first_slot(site.crossing);
     let ends = first_ends(from.pairing, site.opened);
     let strips = strips_with(arc, site.opened);
-    seam_between(site, from, to, &ends, &strips)
+    bridge_between(site, from, to, &ends, &strips)
 }

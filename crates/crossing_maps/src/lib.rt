@@ -4,6 +4,7 @@
 pub mod added;
 pub mod behind;
 pub mod between;
+pub mod bridges;
 pub mod closed;
 pub mod genus;
 pub mod laws;

@@ -1,24 +1,17 @@
-//! The surface that a crossing adds between two pairings, as a seam.
+//! The surface that a crossing adds between two pairings, with labels of closed circles: a seam.
 
-ghost use Rattle.std.specs.Prelude.{◌≡◌, ◌+◌, ◌≤◌, ◌++◌, length, map, slice_index};
-ghost use Rattle.std.specs.List.{filter};
-ghost use Rattle.kh_types.specs.Classes.{is_least};
+ghost use Rattle.std.specs.Prelude.{◌≡◌, ◌+◌, ◌≤◌, ◌++◌, length};
 ghost use Rattle.tangle_maps.specs.declared.pairing.TheConstants.{POINTS};
-ghost use Rattle.tangle_maps.specs.Pairings.{IsOpened};
-ghost use Rattle.crossing_maps.specs.AddedSeams.{IsAddedSeam, with_bit};
-ghost use Rattle.crossing_maps.specs.Counts.{on};
-ghost use Rattle.crossing_maps.specs.ListedPlaces.{AreArcs, IsArcs, places_in};
+ghost use Rattle.tangle_maps.specs.Seams.{CanCompose};
+ghost use Rattle.crossing_maps.specs.AddedSeams.{with_bit};
+ghost use Rattle.crossing_maps.specs.Bridges.{CanLabel, IsLabelled};
 
-use crate::genus::{Lists, genera_in};
+use crate::bridges::Bridge;
 use crate::site::push_if;
 use arrayvec::ArrayVec;
 use kh_types::bit;
 use tangle_maps::POINTS;
-use tangle_maps::names::{Names, at};
-use tangle_maps::seam::{Arcs, Seam, least_names, named};
-
-/// Numbers of the half strips that lower the Euler count.
-pub const STRIPS: usize = 2 * POINTS;
+use tangle_maps::seam::{Arcs, Seam};
 
 /// Labels of the circles that are closed on either side, as numbers.
 #[derive(Clone, Copy)]
@@ -52,49 +45,31 @@ fn marked(closed: &[u8], others: &[u8], labels: Labels) -> Arcs
     made
 }
 
-/// The components of half strips.
-fn strips_on(classes: &Names, strips: &[u8]) -> ArrayVec<u8, STRIPS>
-    requires below { IsOpened strips.now }
-    requires room { length strips.now ≤ STRIPS }
-    ensures { result.items ≡ map (slice_index classes.now) strips.now }
+/// The same numbers of arcs.
+fn copied(arcs: &Arcs) -> Arcs
+    ensures { result.items ≡ arcs.now.items }
 {
     let mut made = ArrayVec::new();
-    'strips: for strip in strips {
-        made.push(at(classes, *strip));
+    match made.try_extend_from_slice(arcs.as_slice()) {
+        Ok(()) => made,
+        Err(_) => unreachable!(),
     }
-    made
 }
 
-/// The seam of a surface of these classes of arcs, by the arcs near a crossing and its places.
-pub fn seam_on(classes: &Names, near: &[u8], places: &Lists<'_>, labels: Labels) -> Seam
-    requires near { IsArcs POINTS near.now }
-    requires places { AreArcs (places_in places.now) }
-    ensures seam { IsAddedSeam (filter (is_least classes.now) near.now)
-        (on (slice_index classes.now) (places_in places.now)) labels.before labels.behind result }
-    ensures room { length result.second.items ≤ POINTS }
-{
-    let rims = named(classes, places.rims);
-    let discs = named(classes, places.discs);
-    let closed = named(classes, places.closed);
-    let others = named(classes, places.others);
-    let lowers = strips_on(classes, places.lowers);
-    let raises = named(classes, places.raises);
-    let lists = Lists {
-        rims: &rims,
-        discs: &discs,
-        closed: &closed,
-        others: &others,
-        lowers: &lowers,
-        raises: &raises,
-    };
-    let components = least_names(classes, classes, near);
-    let genera = genera_in(&components, &lists);
-    let second = marked(&closed, &others, labels);
-    Seam {
-        first: discs,
-        second,
-        whole: rims,
-        components,
-        genera,
+impl Bridge {
+    /// The seam that labels of the closed circles make of the bridge.
+    pub fn labelled(&self, labels: Labels) -> Seam
+        requires { CanLabel self.now }
+        ensures labelled { IsLabelled self.now labels.before labels.behind result }
+        ensures composes { CanCompose result }
+        ensures room { length result.second.items ≤ POINTS }
+    {
+        Seam {
+            first: copied(&self.discs),
+            second: marked(&self.closed, &self.others, labels),
+            whole: copied(&self.rims),
+            components: copied(&self.components),
+            genera: self.genera,
+        }
     }
 }

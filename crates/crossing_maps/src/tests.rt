@@ -9,8 +9,9 @@ ghost use Rattle.added_crossings.specs.Codes.{points_at};
 ghost use Rattle.tangle_maps.specs.Pairings.{joins_of, paired_arcs};
 ghost use Rattle.crossing_maps.specs.Sides.{IsSiteAt, IsSplit};
 
-use crate::between::Side;
+use crate::between::{Side, added_bridge, saddle_bridge};
 use crate::maps::{added_map, saddle_map};
+use crate::seams::Labels;
 use crate::site::{near_arcs, next_arcs};
 use crate::splitting::{Site, Split, split_at};
 use dotted_maps::term::Term;
@@ -105,6 +106,14 @@ fn split_there(place: usize, site: &Site<'_>, pairing: &Pairing, smoothing: u8) 
     split_at(site, pairing, smoothing)
 }
 
+/// A row's labels.
+fn labels_of(row: &Row) -> Labels {
+    Labels {
+        before: row.labels.0,
+        behind: row.labels.1,
+    }
+}
+
 /// The saddle of a row's first pairing at one of the first crossings, with the sign -1.
 fn saddle_there(alloc: Global, place: usize, site: &Site<'_>, row: &Row) -> Result<Terms, NoMemory>
     requires place { place < 2 }
@@ -120,15 +129,14 @@ fn saddle_there(alloc: Global, place: usize, site: &Site<'_>, row: &Row) -> Resu
         pairing: &pairing,
         smoothing: 0,
         split: &none,
-        label: row.labels.0,
     };
     let to = Side {
         pairing: &pairing,
         smoothing: 1,
         split: &one,
-        label: row.labels.1,
     };
-    saddle_map(alloc, site, &from, &to, F3::of(2))
+    let bridge = saddle_bridge(site, &from, &to);
+    saddle_map(alloc, &bridge, labels_of(row), F3::of(2))
 }
 
 /// What the map of one term without dots becomes between a row's pairings, where one of the first
@@ -148,19 +156,18 @@ fn added_there(alloc: Global, place: usize, site: &Site<'_>, row: &Row) -> Resul
         pairing: &pairing,
         smoothing: 0,
         split: &split,
-        label: row.labels.0,
     };
     let to = Side {
         pairing: &other,
         smoothing: 0,
         split: &other_split,
-        label: row.labels.1,
     };
     let bare = [Term {
         dots: 0,
         coefficient: 1,
     }];
-    added_map::<F3>(alloc, site, &from, &to, &bare)
+    let bridge = added_bridge(site, &from, &to);
+    added_map::<F3>(alloc, &bridge, labels_of(row), &bare)
 }
 
 /// The terms of a row, where these arcs are open and this is the crossing.

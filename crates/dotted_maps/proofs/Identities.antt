@@ -57,7 +57,7 @@ sum-some t (x ∷ xs) (suc i) below is =
     let later = sum-some t xs i (omega (arith, below)) is in
     omega (arith, split, later)
 
-sum-one : (t : ℕ → Bool) (g : ℕ → ℕ) (xs : List ℕ) (k i : ℕ) → sum_by (λ x. cond (t x) 1 0) xs ≡ 1 → i < length xs
+pub sum-one : (t : ℕ → Bool) (g : ℕ → ℕ) (xs : List ℕ) (k i : ℕ) → sum_by (λ x. cond (t x) 1 0) xs ≡ 1 → i < length xs
     → t (get_or xs i 0) ≡ true → sum_by (λ at. cond (t at.1) (g at.0) 0) (enumerate_from k xs) ≡ g (k + i)
 sum-one t g [] k i one below is = absurd (omega (arith, below))
 sum-one t g (x ∷ xs) k zero one below is =

@@ -7,5 +7,6 @@ pub mod ComposeLemmas
 pub mod PairedLemmas
 pub mod WayLemmas
 pub mod LawLemmas
+pub mod Multiples
 pub mod SizeLemmas
 pub mod PartSizes

@@ -1,6 +1,6 @@
 //! What partners, sums and sizes are for the definitions of maps.
 
-ghost use Rattle.std.specs.Prelude.{◌≡◌, ℕ, ◌+◌, ◌*◌, ◌%◌, ◌^◌, ◌<◌, ◌≤◌, List, [], ◌++◌, length, slice_index, Some};
+ghost use Rattle.std.specs.Prelude.{◌≡◌, ℕ, ◌+◌, ◌*◌, ◌%◌, ◌^◌, ◌<◌, ◌≤◌, List, [], ◌∷◌, ◌++◌, length, slice_index, Some};
 ghost use Rattle.kh_types.specs.Products.{product_at};
 ghost use Rattle.kh_types.specs.Residues.{Same};
 ghost use Rattle.dotted_maps.specs.Choices.{listed};
@@ -12,7 +12,7 @@ ghost use Rattle.kh_types.specs.Classes.{AreBelow, classes_of};
 ghost use Rattle.dotted_maps.specs.Terms.{AreGlued};
 ghost use Rattle.dotted_maps.specs.declared.term.Term.{Term};
 ghost use Rattle.tangle_maps.specs.Pairings.{ArePartners, joins_of, numbered, opened_points, paired_arcs};
-ghost use Rattle.tangle_maps.specs.Sums.{AreReduced, IsSum, number_in};
+ghost use Rattle.tangle_maps.specs.Sums.{AreReduced, IsSum, number_in, term_of};
 
 /// Partners pair the arcs that have another arc for a partner.
 pub fn partners_pair_arcs()
@@ -35,6 +35,15 @@ pub fn reduced_sums_tell_numbers()
         (coefficient_in (scaled number identity) dots)) → number_in terms ≡ Some number }
     ensures told { (number : ℕ) (terms : List Term) → number_in terms ≡ Some number
         → terms ≡ scaled number identity }
+{}
+
+/// A number times the identity of a pairing, and a map behind it, compose to that map times the
+/// number.
+pub fn multiples_of_the_identity_scale()
+    ensures { (points : Points) (m o : List (ℕ × ℕ)) (number : ℕ) (second : List Term)
+        → ArePlaced points → IsPairing points m → AreAmong points.opened m
+        → AreAmong points.opened o → AreDotted points m o second
+        → listed points m m o (term_of 0 number ∷ []) second ≡ scaled number second }
 {}
 
 /// A sum with more added to it is one map with the two lists together. So what a cancellation makes

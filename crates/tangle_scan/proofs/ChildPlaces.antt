@@ -154,7 +154,7 @@ heads-more f head xs k d within =
     ∙ ap (λ ys. flat_map f (map head (take k xs)) ++ ys) (append-none (f (head one))))
 
 pub origin-same : (child : Child) (object smoothing label : ℕ) → child.parent ≡ object → child.side.smoothing ≡ smoothing
-    → child.side.label ≡ label → origin_in child ≡ origin_of object smoothing label
+    → child.label ≡ label → origin_in child ≡ origin_of object smoothing label
 origin-same child object smoothing label same_object same_smoothing same_label =
-    ap (λ o. origin_of o child.side.smoothing child.side.label) same_object
+    ap (λ o. origin_of o child.side.smoothing child.label) same_object
     ∙ ap₂ (λ e l. origin_of object e l) same_smoothing same_label

@@ -7,6 +7,7 @@ pub mod CountLemmas
 pub mod ZippedLists
 pub mod ChildPlaces
 pub mod NewObjects
+pub mod NewBridges
 pub mod NewEntries
 pub mod NewColumns
 pub mod ColumnTargets

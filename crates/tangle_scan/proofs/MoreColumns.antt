@@ -20,7 +20,7 @@ use Rattle.tangle_scan.proofs.NewColumns.{own-terms}
 module _ (p : ℕ) (adding : Adding) where
   -- labels one after the other
   pub columns-more : (from : List Origin) (object smoothing label : ℕ) (child : Child) (made more : List (Vec Entry)) (column : Vec Entry)
-      → child.parent ≡ object → child.side.smoothing ≡ smoothing → child.side.label ≡ label
+      → child.parent ≡ object → child.side.smoothing ≡ smoothing → child.label ≡ label
       → AreColumnsFrom p adding (from ++ map (origin_of object smoothing) (range_with_len 0 label)) made
       → IsColumnFrom p adding (origin_in child) column.items → more ≡ made ++ column ∷ []
       → AreColumnsFrom p adding (from ++ map (origin_of object smoothing) (range_with_len 0 (label + 1))) more

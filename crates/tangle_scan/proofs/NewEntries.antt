@@ -13,19 +13,15 @@ use Rattle.kh_types.proofs.Residues.{same-equal}
 use Rattle.dotted_surfaces.specs.Surfaces.{value}
 use Rattle.dotted_maps.specs.declared.term.Term.{Term}
 use Rattle.added_crossings.specs.Entries.{saddle_surface}
-use Rattle.tangle_maps.specs.Pairings.{joins_of}
 use Rattle.tangle_maps.specs.Sums.{AreReduced, HaveDotsBelow}
 use Rattle.crossing_maps.specs.NewTerms.{AreAddedTerms, AreSaddleTerms, sets_behind}
-use Rattle.crossing_maps.specs.Sides.{CanAdd, IsSideAt, IsSplit, closed_on, pairs_after}
-use Rattle.crossing_maps.specs.declared.between.Side.{Side}
 use Rattle.crossing_maps.specs.declared.splitting.Split.{Split}
-use Rattle.crossing_maps.proofs.PlaceLaws.{can-add}
 use Rattle.scan_laws.specs.Scans.{pairs_of}
 use Rattle.scan_laws.specs.Adding.{Origin, added_coefficient, new_coefficient, origin_of, origins_with, saddle_coefficient, sign_at}
 use Rattle.tangle_scan.specs.declared.adding.Adding.{Adding}
 use Rattle.tangle_scan.specs.declared.adding.children.Child.{Child}
 use Rattle.tangle_scan.specs.declared.column.Entry.{Entry}
-use Rattle.tangle_scan.specs.Additions.{HasEntriesTo, IsChild, IsEntryTo, IsReady, IsSplitAt, StandsAt, code_in, done_in, has_terms, head_of, objects_in, origin_in, saddle_targets, scan_in, sets_from, targets_along}
+use Rattle.tangle_scan.specs.Additions.{HasEntriesTo, IsEntryTo, IsSplitAt, StandsAt, code_in, done_in, has_terms, head_of, objects_in, origin_in, saddle_targets, scan_in, sets_from, targets_along}
 use Rattle.tangle_scan.specs.Held.{is_alive_at, terms_between}
 use Rattle.tangle_scan.proofs.ZippedLists.{zip-push}
 use Rattle.tangle_scan.proofs.ChildPlaces.{append-none, heads-more, labels-more, origin-same, origins-split}
@@ -38,51 +34,6 @@ entries-pushed p adding from to targets column more entry has is made = record {
   each = zip-push (IsEntryTo p adding from) targets to has.all entry has.each is;
   kept = made ∙ ap (λ xs. xs ++ filter has_terms (entry ∷ [])) has.kept ∙ sym (filter-append has_terms has.all (entry ∷ []));
 }
-
--- a new object as a side of the surface that the crossing adds
-pub side-there : (adding : Adding) (child : Child) → IsChild adding child
-    → IsSideAt (code_in adding) (done_in adding) adding.site child.side
-side-there adding child is =
-    subst
-    (λ (m : List (ℕ × ℕ)).
-    IsSplit (code_in adding) (done_in adding) child.side.smoothing m (pairs_after adding.site child.side) (closed_on child.side))
-    (sym is.pairs) is.split.made
-
-pub sides-add : (adding : Adding) (from to : Child) → IsReady adding → IsChild adding from → IsChild adding to
-    → CanAdd adding.site from.side to.side
-sides-add adding from to ready first second =
-    can-add (code_in adding) (done_in adding) adding.site from.side to.side ready.place ready.site (side-there adding from first)
-    (side-there adding to second)
-
--- the same where the second side is of the first one's pairing
-pub saddle-side : (adding : Adding) (from to : Child) (side : Side) → IsChild adding from → IsChild adding to → from.parent ≡ to.parent
-    → side.pairing.now.partners ≡ from.side.pairing.now.partners → side.split.now ≡ to.side.split.now
-    → side.smoothing ≡ to.side.smoothing → IsSideAt (code_in adding) (done_in adding) adding.site side
-saddle-side adding from to side first second parent partners split smoothing =
-    let made = second.split.made in
-    let same : joins_of side.pairing.now.partners adding.site.opened.now ≡ pairs_of (scan_in adding) to.parent =
-    ap (λ (xs : List ℕ). joins_of xs adding.site.opened.now) partners ∙ first.pairs ∙ ap (λ o. pairs_of (scan_in adding) o) parent in
-    subst
-    (λ (m : List (ℕ × ℕ)).
-    IsSplit (code_in adding) (done_in adding) side.smoothing m (pairs_after adding.site side) (closed_on side))
-    (sym same)
-    (subst
-    (λ (s : Split).
-    IsSplit (code_in adding) (done_in adding) side.smoothing (pairs_of (scan_in adding) to.parent)
-    (joins_of s.pairing.partners adding.site.next.now) s.closed.items)
-    (sym split)
-    (subst
-    (λ e.
-    IsSplit (code_in adding) (done_in adding) e (pairs_of (scan_in adding) to.parent)
-    (joins_of to.side.split.now.pairing.partners adding.site.next.now) to.side.split.now.closed.items)
-    (sym smoothing) made))
-
-pub saddle-adds : (adding : Adding) (from to : Child) (side : Side) → IsReady adding → IsChild adding from → IsChild adding to
-    → from.parent ≡ to.parent → side.pairing.now.partners ≡ from.side.pairing.now.partners → side.split.now ≡ to.side.split.now
-    → side.smoothing ≡ to.side.smoothing → CanAdd adding.site from.side side
-saddle-adds adding from to side ready first second parent partners split smoothing =
-    can-add (code_in adding) (done_in adding) adding.site from.side side ready.place ready.site (side-there adding from first)
-    (saddle-side adding from to side first second parent partners split smoothing)
 
 pub entry-on-ok : {T E : Type 0} (r : Result T E) (p : ℕ) (adding : Adding) (from to : Origin) (targets : List Origin)
     (column more : List Entry) (entry : Entry) → HasEntriesTo p adding from targets column → IsEntryTo p adding from to entry
@@ -165,7 +116,7 @@ entry-saddled p adding from to m sign degree entry same_m same_object zero one s
 
 -- labels one after the other
 pub entries-more : (p : ℕ) (adding : Adding) (from : Origin) (targets : List Origin) (object smoothing label : ℕ) (to : Child)
-    (column : List Entry) → to.parent ≡ object → to.side.smoothing ≡ smoothing → to.side.label ≡ label
+    (column : List Entry) → to.parent ≡ object → to.side.smoothing ≡ smoothing → to.label ≡ label
     → HasEntriesTo p adding from ((targets ++ map (origin_of object smoothing) (range_with_len 0 label)) ++ origin_in to ∷ []) column
     → HasEntriesTo p adding from (targets ++ map (origin_of object smoothing) (range_with_len 0 (label + 1))) column
 entries-more p adding from targets object smoothing label to column same_object same_smoothing same_label has =

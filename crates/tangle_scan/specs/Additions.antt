@@ -13,6 +13,7 @@ use Rattle.crossing_maps.specs.NewTerms.{sets_behind}
 use Rattle.crossing_maps.specs.Partners.{HasArcsBelow}
 use Rattle.crossing_maps.specs.Sides.{IsSplit}
 use Rattle.crossing_maps.specs.Sites.{IsPlace, IsSite}
+use Rattle.crossing_maps.specs.declared.between.Side.{Side}
 use Rattle.crossing_maps.specs.declared.splitting.Site.{Site}
 use Rattle.crossing_maps.specs.declared.splitting.Split.{Split}
 use Rattle.scan_laws.specs.Scans.{Scan, pairs_of}
@@ -127,16 +128,20 @@ pub record IsObjectFrom (adding : Adding) (origin : Origin) (object : Object) : 
 abbrev pub AreObjectsFrom : Adding → List Origin → List Object → Type 0
 AreObjectsFrom adding from objects = AllZip (IsObjectFrom adding) from objects
 
+-- a side has the pairing of the object at a place, and what its smoothing makes of it
+pub record IsSideOf (adding : Adding) (place : ℕ) (side : Side) : Type 0 where
+  pub pairs : joins_of side.pairing.now.partners adding.site.opened.now ≡ pairs_of (scan_in adding) place
+  pub split : IsSplitAt adding place side.smoothing side.split.now
+  pub smoothing : side.smoothing < 2
+
 -- the origin of a new object
 abbrev pub origin_in : Child → Origin
-origin_in child = origin_of child.parent child.side.smoothing child.side.label
+origin_in child = origin_of child.parent child.side.smoothing child.label
 
--- a new object is known: it stands at the place of its origin, and its side has the pairing of its parent and what the smoothing makes of it
+-- a new object is known: it stands at the place of its origin, and its side is that of its parent
 pub record IsChild (adding : Adding) (child : Child) : Type 0 where
   pub stands : StandsAt adding (origin_in child) child.place
-  pub pairs : joins_of child.side.pairing.now.partners adding.site.opened.now ≡ pairs_of (scan_in adding) child.parent
-  pub split : IsSplitAt adding child.parent child.side.smoothing child.side.split.now
-  pub smoothing : child.side.smoothing < 2
+  pub side : IsSideOf adding child.parent child.side
 
 -- an object that is there, with its successors
 pub record IsParent (adding : Adding) (parent : Parent) : Type 0 where

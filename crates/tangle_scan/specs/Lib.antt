@@ -3,4 +3,5 @@ pub mod Scanned
 pub mod Tallies
 pub mod CountedRows
 pub mod Additions
+pub mod AddedBridges
 pub mod Eliminations

@@ -6,6 +6,7 @@ ghost use Rattle.scan_laws.specs.Scans.{IsScanOf};
 ghost use Rattle.tangle_scan.specs.Additions.{IsNextFront, IsReady, code_in, done_in, scan_in};
 ghost use Rattle.tangle_scan.specs.Held.{IsComplexAt, IsComplexBehind, IsFront, scan_at, scan_behind};
 
+pub mod bridges;
 pub mod children;
 mod columns;
 mod entries;

@@ -1,14 +1,17 @@
 //! Old objects with their successors, and new objects as ends of maps.
 
 ghost use Rattle.std.specs.Prelude.{◌≡◌, ℕ, ◌^◌, ◌<◌, length, nat_eq, false, IfNone, IfSome, if◌then◌else◌};
-ghost use Rattle.tangle_scan.specs.Additions.{AreLinks, IsChild, IsParent, objects_in};
-ghost use Rattle.tangle_scan.specs.Held.{is_alive_at};
+ghost use Rattle.scan_laws.specs.Scans.{pairs_of};
+ghost use Rattle.tangle_maps.specs.Pairings.{joins_of};
+ghost use Rattle.tangle_scan.specs.Additions.{AreLinks, IsChild, IsParent, IsSideOf, objects_in, scan_in};
+ghost use Rattle.tangle_scan.specs.Held.{is_alive_at, partners_at};
 
 use crate::adding::Adding;
 use crate::adding::successors::Successors;
 use crossing_maps::between::Side;
 use crossing_maps::splitting::Split;
 use std::alloc::Global;
+use tangle_maps::Pairing;
 
 /// What new maps are made of: the old complex, the successors of each of its objects, and how many
 /// these are.
@@ -27,12 +30,14 @@ pub struct Parent<'a> {
     pub successors: &'a Successors,
 }
 
-/// A new object: its place, that of the object from which it comes, and the side of that.
+/// A new object: its place, that of the object from which it comes, the side of that, and labels of
+/// the circles that this closes.
 #[derive(Clone, Copy)]
 pub struct Child<'a> {
     pub place: usize,
     pub parent: usize,
     pub side: Side<'a>,
+    pub label: u64,
 }
 
 impl<'a> Parent<'a> {
@@ -61,6 +66,35 @@ impl<'a> Parent<'a> {
     }
 }
 
+/// The pairing of an object.
+pub fn pairing_of<'a>(links: &Links<'a>, parent: &Parent<'a>) -> &'a Pairing
+    requires links { (p : ℕ) × AreLinks p links.now }
+    requires parent { IsParent links.now.adding.now parent.now }
+    ensures pairs { joins_of result.now.partners links.now.adding.now.site.opened.now
+        ≡ pairs_of (scan_in links.now.adding.now) parent.now.place }
+    ensures partners { result.now.partners
+        ≡ partners_at (objects_in links.now.adding.now) parent.now.place }
+{
+    &links.adding.complex.objects[parent.place].pairing
+}
+
+/// What a smoothing makes of an object.
+pub fn side_of<'a>(links: &Links<'a>, parent: &Parent<'a>, smoothing: u8) -> Side<'a>
+    requires links { (p : ℕ) × AreLinks p links.now }
+    requires parent { IsParent links.now.adding.now parent.now }
+    requires smoothing { smoothing < 2 }
+    ensures side { IsSideOf links.now.adding.now parent.now.place result }
+    ensures smoothing { result.smoothing ≡ smoothing }
+    ensures partners { result.pairing.now.partners
+        ≡ partners_at (objects_in links.now.adding.now) parent.now.place }
+{
+    Side {
+        pairing: pairing_of(links, parent),
+        smoothing,
+        split: parent.split(smoothing),
+    }
+}
+
 /// The successor of an object with a smoothing and labels.
 pub fn child_of<'a>(links: &Links<'a>, parent: &Parent<'a>, smoothing: u8, label: u64) -> Child<'a>
     requires links { (p : ℕ) × AreLinks p links.now }
@@ -71,18 +105,13 @@ pub fn child_of<'a>(links: &Links<'a>, parent: &Parent<'a>, smoothing: u8, label
     ensures child { IsChild links.now.adding.now result }
     ensures parent { result.parent ≡ parent.now.place }
     ensures smoothing { result.side.smoothing ≡ smoothing }
-    ensures label { result.side.label ≡ label }
+    ensures label { result.label ≡ label }
 {
-    let split = parent.split(smoothing);
     Child {
         place: parent.first(smoothing) + label as usize,
         parent: parent.place,
-        side: Side {
-            pairing: &links.adding.complex.objects[parent.place].pairing,
-            smoothing,
-            split,
-            label,
-        },
+        side: side_of(links, parent, smoothing),
+        label,
     }
 }
 

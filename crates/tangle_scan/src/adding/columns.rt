@@ -3,12 +3,14 @@
 ghost use Rattle.std.specs.Prelude.{◌≡◌, ℕ, ◌+◌, ◌<◌, List, [], ◌++◌, length, map, take, IfOk, OnOk};
 ghost use Rattle.std.specs.List.{flat_map};
 ghost use Rattle.scan_laws.specs.Adding.{Origin, origins_with};
+ghost use Rattle.tangle_scan.specs.AddedBridges.{AreBridgesFrom};
 ghost use Rattle.tangle_scan.specs.Additions.{AreColumnsFrom, AreLinks, HasEntriesTo, IsChild, IsColumnFrom, IsParent};
 ghost use Rattle.tangle_scan.specs.Additions.{all_origins, code_in, head_of, objects_in, origin_in, origins_to, scan_in, targets_along};
 ghost use Rattle.tangle_scan.specs.Held.{column_at};
 
+use crate::adding::bridges::Bridges;
 use crate::adding::children::{Child, Links, Parent, child_of, parent_at};
-use crate::adding::entries::{Arrow, push_along, push_saddles};
+use crate::adding::entries::{push_along, push_saddles};
 use crate::adding::successors::label_count;
 use crate::column::{Column, Entry};
 use kh_types::NoMemory;
@@ -78,9 +80,10 @@ fn push_columns_of<'a, F: PrimeField>(
         ++ origins_with (code_in links.now.adding.now) (scan_in links.now.adding.now)
         parent.now.place smoothing) made.new.items) }
 {
+    let mut bridges = Vec::new(links.alloc);
     'labels: for label in 0..label_count(parent.split(smoothing)) {
         let child = child_of(links, parent, smoothing, label);
-        made.push(column_from::<F>(links, &child, parent)?)?;
+        made.push(column_from::<F>(links, &mut bridges, &child, parent)?)?;
     }
     Ok(())
 }
@@ -88,19 +91,24 @@ fn push_columns_of<'a, F: PrimeField>(
 /// The column of a new object, with what comes from maps out of the old one, and with its saddles.
 fn column_from<'a, F: PrimeField>(
     links: &'a Links<'a>,
+    bridges: &mut Bridges,
     child: &'a Child<'a>,
     parent: &Parent<'a>,
 ) -> Result<Column, NoMemory>
     requires links { AreLinks F.P links.now }
+    requires bridges { AreBridgesFrom links.now.adding.now child.now.side.smoothing
+        child.now.parent bridges.old.items }
     requires child { IsChild links.now.adding.now child.now }
     requires parent { IsParent links.now.adding.now parent.now }
     requires same { child.now.parent ≡ parent.now.place }
-    ensures { IfOk result (λ column. IsColumnFrom F.P links.now.adding.now
+    ensures column { IfOk result (λ column. IsColumnFrom F.P links.now.adding.now
         (origin_in child.now) column.items) }
+    ensures bridges { OnOk result (AreBridgesFrom links.now.adding.now
+        child.now.side.smoothing child.now.parent bridges.new.items) }
 {
     let mut column = Vec::new(links.alloc);
     let entries = &links.adding.complex.columns[child.parent];
-    push_all::<F>(&mut column, links, child, entries)?;
+    push_all::<F>(&mut column, links, bridges, child, entries)?;
     push_saddles::<F>(&mut column, links, child, parent)?;
     Ok(column)
 }
@@ -109,25 +117,26 @@ fn column_from<'a, F: PrimeField>(
 fn push_all<'a, F: PrimeField>(
     column: &mut Column,
     links: &'a Links<'a>,
+    bridges: &mut Bridges,
     child: &'a Child<'a>,
-    entries: &'a [Entry],
+    entries: &[Entry],
 ) -> Result<(), NoMemory>
     requires links { AreLinks F.P links.now }
+    requires bridges { AreBridgesFrom links.now.adding.now child.now.side.smoothing
+        child.now.parent bridges.old.items }
     requires child { IsChild links.now.adding.now child.now }
     requires within { child.now.parent < length (objects_in links.now.adding.now) }
     requires none { column.old.items ≡ [] }
     requires entries { entries.now
         ≡ column_at links.now.adding.now.complex.now child.now.parent }
-    ensures { OnOk result (HasEntriesTo F.P links.now.adding.now (origin_in child.now)
+    ensures entries { OnOk result (HasEntriesTo F.P links.now.adding.now (origin_in child.now)
         (flat_map (targets_along links.now.adding.now child.now.side.smoothing)
         (map head_of entries.now)) column.new.items) }
+    ensures bridges { OnOk result (AreBridgesFrom links.now.adding.now
+        child.now.side.smoothing child.now.parent bridges.new.items) }
 {
     'entries: for entry in entries {
-        let arrow = Arrow {
-            from: child,
-            terms: entry.terms.as_slice(),
-        };
-        push_along::<F>(column, links, &arrow, entry.head)?;
+        push_along::<F>(column, links, bridges, child, entry)?;
     }
     Ok(())
 }

@@ -4,26 +4,38 @@ ghost use Rattle.std.specs.Prelude.{◌≡◌, ℕ, ◌<◌, List, [], ◌∷◌
 ghost use Rattle.std.specs.List.{filter};
 ghost use Rattle.scan_laws.specs.Adding.{Origin, origins_with, sign_at};
 ghost use Rattle.tangle_maps.specs.Sums.{AreReduced};
+ghost use Rattle.tangle_scan.specs.AddedBridges.{AreBridgesFrom, IsBridgeOver, IsSaddleOf};
 ghost use Rattle.tangle_scan.specs.Additions.{AreLinks, HasEntriesTo, IsChild, IsParent};
 ghost use Rattle.tangle_scan.specs.Additions.{code_in, has_terms, objects_in, origin_in, saddle_targets, scan_in, targets_along};
 ghost use Rattle.tangle_scan.specs.Held.{degree_at, terms_between};
 
+use crate::adding::bridges::{Bridges, bridge_to, saddle_of};
 use crate::adding::children::{Child, Links, Parent, child_of, parent_at};
 use crate::adding::successors::label_count;
 use crate::column::{Column, Entry};
-use crossing_maps::between::Side;
+use crossing_maps::bridges::Bridge;
 use crossing_maps::maps::{added_map, saddle_map};
+use crossing_maps::seams::Labels;
 use dotted_maps::term::Term;
 use kh_types::NoMemory;
 use prime_field::PrimeField;
 use prime_field::laws::element_laws;
 use tangle_maps::{Terms, is_zero};
 
-/// An old map, or a new one along it: from a new object, with the terms of the old map.
+/// An old map, or a new one along it: from a new object, with the terms of the old map, over the
+/// bridge to the object to which that leads.
 #[derive(Clone, Copy)]
-pub struct Arrow<'a> {
-    pub from: &'a Child<'a>,
-    pub terms: &'a [Term],
+struct Arrow<'a> {
+    from: &'a Child<'a>,
+    terms: &'a [Term],
+    bridge: &'a Bridge,
+}
+
+/// Saddles from a new object, with the bridge of the old one's saddle.
+#[derive(Clone, Copy)]
+struct Saddle<'a> {
+    from: &'a Child<'a>,
+    bridge: &'a Bridge,
 }
 
 /// Adds an entry with these terms, if there are any.
@@ -35,6 +47,16 @@ fn push_entry(column: &mut Column, head: usize, terms: Terms) -> Result<(), NoMe
         column.push(Entry { head, terms })?;
     }
     Ok(())
+}
+
+/// The labels of two new objects.
+fn labels_between(from: &Child<'_>, to: &Child<'_>) -> Labels
+    ensures { result ≡ record { before = from.now.label; behind = to.now.label } }
+{
+    Labels {
+        before: from.label,
+        behind: to.label,
+    }
 }
 
 /// Adds the entry to a new object along an old map, which keeps its smoothing.
@@ -51,14 +73,15 @@ fn push_added<F: PrimeField>(
     requires terms { arrow.now.terms.now ≡ terms_between links.now.adding.now.complex.now
         arrow.now.from.now.parent to.now.parent }
     requires reduced { AreReduced F.P arrow.now.terms.now }
+    requires bridge { IsBridgeOver links.now.adding.now arrow.now.from.now.side.smoothing
+        arrow.now.from.now.parent to.now.parent arrow.now.bridge.now }
     ensures { (targets : List Origin) → HasEntriesTo F.P links.now.adding.now
         (origin_in arrow.now.from.now) targets column.old.items
         → OnOk result (HasEntriesTo F.P links.now.adding.now (origin_in arrow.now.from.now)
         (targets ++ (origin_in to.now ∷ [])) column.new.items) }
 {
-    let site = &links.adding.site;
-    let from = &arrow.from.side;
-    let terms = added_map::<F>(links.alloc, site, from, &to.side, arrow.terms)?;
+    let labels = labels_between(arrow.from, to);
+    let terms = added_map::<F>(links.alloc, arrow.bridge, labels, arrow.terms)?;
     push_entry(column, to.place, terms)
 }
 
@@ -75,6 +98,8 @@ fn push_all_along<'a, F: PrimeField>(
     requires terms { arrow.now.terms.now ≡ terms_between links.now.adding.now.complex.now
         arrow.now.from.now.parent head.now.place }
     requires reduced { AreReduced F.P arrow.now.terms.now }
+    requires bridge { IsBridgeOver links.now.adding.now arrow.now.from.now.side.smoothing
+        arrow.now.from.now.parent head.now.place arrow.now.bridge.now }
     ensures { (targets : List Origin) → HasEntriesTo F.P links.now.adding.now
         (origin_in arrow.now.from.now) targets column.old.items
         → OnOk result (HasEntriesTo F.P links.now.adding.now (origin_in arrow.now.from.now)
@@ -89,28 +114,67 @@ fn push_all_along<'a, F: PrimeField>(
     Ok(())
 }
 
-/// Adds the entries along an old map to the object at a place, if that is there.
+/// Adds the entries along an old map to the object to which it leads, which is there.
+fn push_over<'a, F: PrimeField>(
+    column: &mut Column,
+    links: &Links<'a>,
+    bridges: &mut Bridges,
+    from: &Child<'a>,
+    old: &Entry,
+    head: &Parent<'a>,
+) -> Result<(), NoMemory>
+    requires links { AreLinks F.P links.now }
+    requires from { IsChild links.now.adding.now from.now }
+    requires head { IsParent links.now.adding.now head.now }
+    requires terms { old.now.terms.items ≡ terms_between links.now.adding.now.complex.now
+        from.now.parent head.now.place }
+    requires reduced { AreReduced F.P old.now.terms.items }
+    requires bridges { AreBridgesFrom links.now.adding.now from.now.side.smoothing
+        from.now.parent bridges.old.items }
+    ensures entries { (targets : List Origin) → HasEntriesTo F.P links.now.adding.now
+        (origin_in from.now) targets column.old.items
+        → OnOk result (HasEntriesTo F.P links.now.adding.now (origin_in from.now)
+        (targets ++ origins_with (code_in links.now.adding.now) (scan_in links.now.adding.now)
+        head.now.place from.now.side.smoothing) column.new.items) }
+    ensures bridges { OnOk result (AreBridgesFrom links.now.adding.now
+        from.now.side.smoothing from.now.parent bridges.new.items) }
+{
+    let place = bridge_to(bridges, links, from, head)?;
+    let arrow = Arrow {
+        from,
+        terms: old.terms.as_slice(),
+        bridge: &bridges[place].bridge,
+    };
+    push_all_along::<F>(column, links, &arrow, head)
+}
+
+/// Adds the entries along an old map to the object to which it leads, if that is there.
 pub fn push_along<'a, F: PrimeField>(
     column: &mut Column,
     links: &Links<'a>,
-    arrow: &Arrow<'a>,
-    head: usize,
+    bridges: &mut Bridges,
+    from: &Child<'a>,
+    old: &Entry,
 ) -> Result<(), NoMemory>
     requires links { AreLinks F.P links.now }
-    requires from { IsChild links.now.adding.now arrow.now.from.now }
-    requires head { head < length (objects_in links.now.adding.now) }
-    requires terms { arrow.now.terms.now ≡ terms_between links.now.adding.now.complex.now
-        arrow.now.from.now.parent head }
-    requires reduced { AreReduced F.P arrow.now.terms.now }
-    ensures { (targets : List Origin) → HasEntriesTo F.P links.now.adding.now
-        (origin_in arrow.now.from.now) targets column.old.items
-        → OnOk result (HasEntriesTo F.P links.now.adding.now (origin_in arrow.now.from.now)
-        (targets ++ targets_along links.now.adding.now arrow.now.from.now.side.smoothing head)
+    requires from { IsChild links.now.adding.now from.now }
+    requires head { old.now.head < length (objects_in links.now.adding.now) }
+    requires terms { old.now.terms.items ≡ terms_between links.now.adding.now.complex.now
+        from.now.parent old.now.head }
+    requires reduced { AreReduced F.P old.now.terms.items }
+    requires bridges { AreBridgesFrom links.now.adding.now from.now.side.smoothing
+        from.now.parent bridges.old.items }
+    ensures entries { (targets : List Origin) → HasEntriesTo F.P links.now.adding.now
+        (origin_in from.now) targets column.old.items
+        → OnOk result (HasEntriesTo F.P links.now.adding.now (origin_in from.now)
+        (targets ++ targets_along links.now.adding.now from.now.side.smoothing old.now.head)
         column.new.items) }
+    ensures bridges { OnOk result (AreBridgesFrom links.now.adding.now
+        from.now.side.smoothing from.now.parent bridges.new.items) }
 {
-    match parent_at(links, head) {
+    match parent_at(links, old.head) {
         None => Ok(()),
-        Some(parent) => push_all_along::<F>(column, links, arrow, &parent),
+        Some(head) => push_over::<F>(column, links, bridges, from, old, &head),
     }
 }
 
@@ -127,33 +191,28 @@ fn sign_of<F: PrimeField>(degree: u8) -> F
 }
 
 /// Adds the saddle from a new object to one with the other smoothing of the same old object.
-fn push_saddle<'a, F: PrimeField>(
+fn push_saddle<F: PrimeField>(
     column: &mut Column,
     links: &Links<'_>,
-    from: &Child<'a>,
-    to: &Child<'a>,
+    saddle: &Saddle<'_>,
+    to: &Child<'_>,
 ) -> Result<(), NoMemory>
     requires links { AreLinks F.P links.now }
-    requires from { IsChild links.now.adding.now from.now }
     requires to { IsChild links.now.adding.now to.now }
-    requires parent { from.now.parent ≡ to.now.parent }
-    requires within { from.now.parent < length (objects_in links.now.adding.now) }
-    requires before { from.now.side.smoothing ≡ 0 }
+    requires parent { saddle.now.from.now.parent ≡ to.now.parent }
+    requires within { saddle.now.from.now.parent < length (objects_in links.now.adding.now) }
+    requires before { saddle.now.from.now.side.smoothing ≡ 0 }
     requires behind { to.now.side.smoothing ≡ 1 }
+    requires bridge { IsSaddleOf links.now.adding.now saddle.now.from.now.parent
+        saddle.now.bridge.now }
     ensures { (targets : List Origin) → HasEntriesTo F.P links.now.adding.now
-        (origin_in from.now) targets column.old.items
-        → OnOk result (HasEntriesTo F.P links.now.adding.now (origin_in from.now)
+        (origin_in saddle.now.from.now) targets column.old.items
+        → OnOk result (HasEntriesTo F.P links.now.adding.now (origin_in saddle.now.from.now)
         (targets ++ (origin_in to.now ∷ [])) column.new.items) }
 {
-    let sign = sign_of::<F>(links.adding.complex.objects[from.parent].degree);
-    let site = &links.adding.site;
-    let side = Side {
-        pairing: from.side.pairing,
-        smoothing: 1,
-        split: to.side.split,
-        label: to.side.label,
-    };
-    let terms = saddle_map::<F>(links.alloc, site, &from.side, &side, sign)?;
+    let sign = sign_of::<F>(links.adding.complex.objects[saddle.from.parent].degree);
+    let labels = labels_between(saddle.from, to);
+    let terms = saddle_map::<F>(links.alloc, saddle.bridge, labels, sign)?;
     push_entry(column, to.place, terms)
 }
 
@@ -166,7 +225,6 @@ fn push_all_saddles<'a, F: PrimeField>(
     parent: &Parent<'a>,
 ) -> Result<(), NoMemory>
     requires links { AreLinks F.P links.now }
-    requires from { IsChild links.now.adding.now from.now }
     requires parent { IsParent links.now.adding.now parent.now }
     requires same { from.now.parent ≡ parent.now.place }
     requires before { from.now.side.smoothing ≡ 0 }
@@ -176,9 +234,14 @@ fn push_all_saddles<'a, F: PrimeField>(
         (targets ++ origins_with (code_in links.now.adding.now) (scan_in links.now.adding.now)
         parent.now.place 1) column.new.items) }
 {
+    let bridge = saddle_of(links, parent);
+    let saddle = Saddle {
+        from,
+        bridge: &bridge,
+    };
     'labels: for label in 0..label_count(parent.split(1)) {
         let to = child_of(links, parent, 1, label);
-        push_saddle::<F>(column, links, from, &to)?;
+        push_saddle::<F>(column, links, &saddle, &to)?;
     }
     Ok(())
 }

@@ -1,9 +1,7 @@
 use Rattle.std.proofs.Common.{◌+◌, subst, sym, arith}
 use Rattle.scan_laws.specs.Adding.{origin_of}
-use Rattle.crossing_maps.specs.declared.splitting.Split.{Split}
-use Rattle.tangle_scan.specs.Additions.{IsSplitAt, StandsAt}
-use Rattle.tangle_scan.proofs.ChildPlaces.{chosen-split, chosen-stands}
-use Rattle.tangle_scan.proofs.NewObjects.{child-pairs}
+use Rattle.tangle_scan.specs.Additions.{StandsAt}
+use Rattle.tangle_scan.proofs.ChildPlaces.{chosen-stands}
 use Rattle.tangle_scan.proofs.adding.children.child_of.Goals as goal
 
 pub overflow_add-result : goal.overflow_add-result
@@ -21,11 +19,9 @@ returns-clause-child c =
     let adding = c.args.links.now.adding.now in
     let place = c.args.parent.now.place in
     record {
-      stands = subst (λ n. StandsAt adding (origin_of place c.args.smoothing c.args.label) (n + c.args.label)) (sym c.first.ensures)
+      stands = subst (λ e. StandsAt adding (origin_of place e c.args.label) (c.first.result + c.args.label)) (sym c.side_of.ensures.smoothing)
+          (subst (λ n. StandsAt adding (origin_of place c.args.smoothing c.args.label) (n + c.args.label)) (sym c.first.ensures)
           (chosen-stands adding place c.args.smoothing c.args.label c.args.parent.now.successors.now c.requires.parent.within
-          c.requires.smoothing c.requires.parent.successors c.requires.label);
-      pairs = child-pairs adding place c.index.result.now c.requires.links.1.ready c.requires.parent.within (sym c.index.ensures);
-      split = subst (λ (s : Split). IsSplitAt adding place c.args.smoothing s) (sym c.split-split.ensures)
-          (chosen-split adding place c.args.smoothing c.args.parent.now.successors.now c.requires.smoothing c.requires.parent.successors);
-      smoothing = c.requires.smoothing;
+          c.requires.smoothing c.requires.parent.successors c.requires.label));
+      side = c.side_of.ensures.side;
     }

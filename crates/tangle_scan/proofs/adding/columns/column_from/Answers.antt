@@ -12,8 +12,8 @@ push_all-requires-clause-entries g c =
     ∙ column-read g.F.PrimeField.P c.args.links.now.adding.now c.args.child.now.parent c.index-entries.result.now c.requires.links.complex
     (omega (arith, c.requires.parent.within, c.requires.same)) c.index-entries.ensures
 
-pub returns : goal.returns
-returns g c =
+pub returns-clause-column : goal.returns-clause-column
+returns-clause-column g c =
     let p = g.F.PrimeField.P in
     let adding = c.args.links.now.adding.now in
     let child = c.args.child.now in
@@ -23,4 +23,4 @@ returns g c =
     (c.deref.ensures.value
     ∙ column-read p adding child.parent c.index-entries.result.now c.requires.links.complex
     (omega (arith, c.requires.parent.within, c.requires.same)) c.index-entries.ensures)
-    c.in_ok-push_all.ensures)
+    c.in_ok-push_all.ensures.entries)

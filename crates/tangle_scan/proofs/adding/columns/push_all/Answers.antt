@@ -1,7 +1,5 @@
-use Rattle.std.proofs.Common.{◌∙◌, List, map, take, subst, sym}
+use Rattle.std.proofs.Common.{map, take}
 use Rattle.std.specs.List.{flat_map}
-use Rattle.dotted_maps.specs.declared.term.Term.{Term}
-use Rattle.tangle_maps.specs.Sums.{AreReduced}
 use Rattle.tangle_scan.specs.Additions.{head_of, origin_in, targets_along}
 use Rattle.tangle_scan.proofs.MoreColumns.{item-at}
 use Rattle.tangle_scan.proofs.NewEntries.{entries-next}
@@ -14,13 +12,11 @@ push_along-requires-clause-head g c =
 
 pub push_along-requires-clause-terms : goal.push_along-requires-clause-terms
 push_along-requires-clause-terms g c =
-    c.as_slice.ensures
-    ∙ (item-at g.F.PrimeField.P c.args.links.now.adding.now c.args.child.now.parent c.args.entries.now c.entries.entry-index
+    (item-at g.F.PrimeField.P c.args.links.now.adding.now c.args.child.now.parent c.args.entries.now c.entries.entry-index
     c.entry-item.result c.requires.links.complex c.requires.within c.requires.entries c.entries-test.true c.entry-item.is).terms
 
 pub push_along-requires-clause-reduced : goal.push_along-requires-clause-reduced
 push_along-requires-clause-reduced g c =
-    subst (λ (terms : List Term). AreReduced g.F.PrimeField.P terms) (sym c.as_slice.ensures)
     (item-at g.F.PrimeField.P c.args.links.now.adding.now c.args.child.now.parent c.args.entries.now c.entries.entry-index
     c.entry-item.result c.requires.links.complex c.requires.within c.requires.entries c.entries-test.true c.entry-item.is).reduced
 
@@ -29,6 +25,10 @@ entries-preserved g c =
     let adding = c.args.links.now.adding.now in
     let child = c.args.child.now in
     let f = targets_along adding child.side.smoothing in
-    entries-next g.F.PrimeField.P adding (origin_in child) f c.args.entries.now c.entries.entry-index c.entry-item.result
-    c.push_along.new.column.items c.entries-test.true c.entry-item.is
-    (c.in_ok-push_along.ensures (flat_map f (map head_of (take c.entries.entry-index c.args.entries.now))) c.entries.invariant)
+    record {
+      all = entries-next g.F.PrimeField.P adding (origin_in child) f c.args.entries.now c.entries.entry-index c.entry-item.result
+          c.push_along.new.column.items c.entries-test.true c.entry-item.is
+          (c.in_ok-push_along.ensures.entries (flat_map f (map head_of (take c.entries.entry-index c.args.entries.now)))
+          c.entries.invariant.all);
+      bridges = c.in_ok-push_along.ensures.bridges;
+    }

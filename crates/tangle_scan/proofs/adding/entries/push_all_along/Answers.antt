@@ -8,7 +8,7 @@ use Rattle.tangle_scan.proofs.NewEntries.{entries-all, entries-more}
 use Rattle.tangle_scan.proofs.adding.entries.push_all_along.Goals as goal
 
 pub child_of-to-requires-clause-smoothing : goal.child_of-to-requires-clause-smoothing
-child_of-to-requires-clause-smoothing g c = c.requires.from.smoothing
+child_of-to-requires-clause-smoothing g c = c.requires.from.side.smoothing
 
 pub labels-preserved : goal.labels-preserved
 labels-preserved g c = λ targets has.
@@ -29,5 +29,5 @@ returns g c = λ targets has.
     entries-all g.F.PrimeField.P adding (origin_in from) targets head.place smoothing c.labels.label c.split.result.now
     c.labels.column.items
     (subst (λ (s : Split). IsSplitAt adding head.place smoothing s) (sym c.split.ensures)
-    (chosen-split adding head.place smoothing head.successors.now c.requires.from.smoothing c.requires.head.successors))
+    (chosen-split adding head.place smoothing head.successors.now c.requires.from.side.smoothing c.requires.head.successors))
     (omega (arith, c.labels-test.false, c.labels.auto.label-end, c.label_count-label-end.ensures)) (c.labels.invariant targets has)

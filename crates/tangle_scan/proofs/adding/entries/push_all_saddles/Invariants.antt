@@ -6,6 +6,6 @@ use Rattle.tangle_scan.proofs.adding.entries.push_all_saddles.Given as goal
 
 abbrev pub invariant-labels : goal.invariant-labels
 invariant-labels g l =
-    (targets : List Origin) → HasEntriesTo g.F.PrimeField.P l.links.adding.now (origin_in l.from) targets l.initial.column.items
-    → HasEntriesTo g.F.PrimeField.P l.links.adding.now (origin_in l.from)
+    (targets : List Origin) → HasEntriesTo g.F.PrimeField.P l.links.adding.now (origin_in l.saddle.from.now) targets l.initial.column.items
+    → HasEntriesTo g.F.PrimeField.P l.links.adding.now (origin_in l.saddle.from.now)
     (targets ++ map (origin_of l.parent.place 1) (range_with_len 0 l.label)) l.column.items

@@ -1,13 +1,12 @@
-use Rattle.std.proofs.Common.{ℕ, List, ◌++◌, ◌∙◌, sym, subst, ap, ap₂, arith, length}
+use Rattle.std.proofs.Common.{ℕ, List, ◌∙◌, sym, subst, ap, arith, length}
 use Rattle.std.proofs.lemmas.List.{length-map}
 use Rattle.std.specs.Prelude.{slice_index}
 use Rattle.std.specs.List.{Contains}
 use Rattle.tangle_maps.specs.Pairings.{IsOpened}
 use Rattle.tangle_maps.proofs.SeamLemmas.{components_opened, least-named}
-use Rattle.crossing_maps.specs.AddedSeams.{with_bit}
 use Rattle.crossing_maps.specs.Counts.{genus_at}
 use Rattle.crossing_maps.proofs.Placed.{places-same}
-use Rattle.crossing_maps.proofs.seams.seam_on.Goals as goal
+use Rattle.crossing_maps.proofs.bridges.bridge_on.Goals as goal
 
 pub genera_in-genera-requires-clause-components : goal.genera_in-genera-requires-clause-components
 genera_in-genera-requires-clause-components c =
@@ -15,16 +14,15 @@ genera_in-genera-requires-clause-components c =
     (components_opened c.args.classes.now c.args.near.now c.least_names-components.result.items c.requires.near.below
     c.least_names-components.ensures)
 
-pub returns-clause-seam : goal.returns-clause-seam
-returns-clause-seam c =
+pub returns-clause-bridge : goal.returns-clause-bridge
+returns-clause-bridge c =
     let parts = c.least_names-components.ensures ∙ least-named c.args.classes.now c.args.near.now in
     record {
       parts = parts;
-      first = c.named-discs.ensures;
-      second = c.marked-second.ensures.marked
-          ∙ ap₂ (λ xs ys. with_bit 1 c.args.labels.before xs ++ with_bit 0 c.args.labels.behind ys)
-          (c.deref-8.ensures.0 ∙ c.named-closed.ensures) (c.deref-9.ensures.0 ∙ c.named-others.ensures);
-      whole = c.named-rims.ensures;
+      discs = c.named-discs.ensures;
+      rims = c.named-rims.ensures;
+      closed = c.named-closed.ensures;
+      others = c.named-others.ensures;
       genera = λ k has.
           c.genera_in-genera.ensures k (subst (λ xs. Contains xs k) (sym (c.deref-7.ensures.0 ∙ parts)) has)
           ∙ ap (λ at. genus_at at k)
@@ -33,15 +31,14 @@ returns-clause-seam c =
           (c.deref-5.ensures.0 ∙ c.strips_on-lowers.ensures) (c.deref-6.ensures.0 ∙ c.named-raises.ensures));
     }
 
-pub returns-clause-room : goal.returns-clause-room
-returns-clause-room c =
+pub returns-clause-circles : goal.returns-clause-circles
+returns-clause-circles c =
     let f = slice_index c.args.classes.now in
     omega (
       arith,
-      c.marked-second.ensures.bound,
       c.requires.places.both,
-      ap (λ (xs : List ℕ). length xs) (c.deref-8.ensures.0 ∙ c.named-closed.ensures),
-      ap (λ (xs : List ℕ). length xs) (c.deref-9.ensures.0 ∙ c.named-others.ensures),
+      ap (λ (xs : List ℕ). length xs) c.named-closed.ensures,
+      ap (λ (xs : List ℕ). length xs) c.named-others.ensures,
       length-map c.args.places.now.closed.now f,
       length-map c.args.places.now.others.now f,
     )

@@ -1,5 +1,5 @@
 use Rattle.std.proofs.Common.{◌≡◌, ◌≤◌, take, map, length, slice_index}
-use Rattle.crossing_maps.proofs.seams.strips_on.Given as goal
+use Rattle.crossing_maps.proofs.bridges.strips_on.Given as goal
 
 abbrev pub invariant-strips : goal.invariant-strips
 invariant-strips l = record {
