@@ -33,7 +33,7 @@ pub fn reply_to_reduced(
 {
     match reduced_table_over(alloc, field, mark, diagram) {
         Ok(table) => reply_with_mark(alloc, mark, diagram, &table),
-        Err(ReducedStop::Mark { mark }) => refused_mark(alloc, mark),
+        Err(ReducedStop::Mark { arc }) => refused_mark(alloc, arc),
         Err(ReducedStop::SizeLimit { generators }) => too_many_generators(alloc, generators),
         Err(ReducedStop::NoMemory) => Err(NoMemory),
     }
