@@ -2,10 +2,10 @@
 -- Where the first two of three pairings are one, the components are the discs of it and the third (`components-same`), so each component has one
 -- disc of the second map and one of the composition; its genus is 0 (`genus-none`). The dots that are left to choose are then those of the
 -- second map: each of its dot sets has one choice, itself (`choices-itself`).
-use Rattle.std.proofs.Common.{◌≡◌, ◌≢◌, ℕ, zero, suc, inl, inr, ◌+◌, ◌-◌, ◌*◌, ◌/◌, ◌%◌, ◌^◌, ◌<◌, ◌≤◌, ◌∙◌, List, [], ◌∷◌, ◌++◌, map, length, get_or, refl, sym, subst, ap, ap₂, arith, Bool, true, false, cond, ◌&&◌, eq-eqb}
+use Rattle.std.proofs.Common.{◌≡◌, ◌≢◌, ℕ, zero, suc, inl, inr, ◌+◌, ◌-◌, ◌*◌, ◌/◌, ◌%◌, ◌^◌, ◌<◌, ◌≤◌, ◌∙◌, List, [], ◌∷◌, ◌++◌, map, length, get_or, refl, sym, subst, ap, ap₂, arith, Bool, true, false, cond, ◌&&◌, eq-eqb, Some}
 use Rattle.std.specs.Prelude.{nat_eq, slice_index}
 use Rattle.std.specs.List.{count_by, enumerate_from, filter, flat_map, list_all, sum_by, AllByRecursion, Contains}
-use Rattle.std.proofs.Math.Nat.{div-div-eq-div-mul, pow-suc, zero-div}
+use Rattle.std.proofs.Math.Nat.{div-div-eq-div-mul, mod-mod, pow-suc, zero-div}
 use Rattle.std.proofs.lemmas.Bool.{cases_eq, ne_eqb}
 use Rattle.std.proofs.lemmas.Bool.Decides.{nat_tests}
 use Rattle.std.proofs.lemmas.List.{append-nil, get_or_default, get_or-map}
@@ -15,20 +15,27 @@ use Rattle.kh_types.specs.Bits.{bit}
 use Rattle.kh_types.specs.Classes.{classes_of, is_least, Respects}
 use Rattle.kh_types.proofs.ClassLemmas.{classes-together}
 use Rattle.kh_types.proofs.JoinedClasses.{classes_of-same}
+use Rattle.kh_types.proofs.Residues.{same-mul}
 use Rattle.kh_types.proofs.ListSums.{sum_by-alike, sum_by-zeros}
 use Rattle.kh_types.proofs.Lists.{AllByRecursion-append, AllByRecursion-first, AllByRecursion-second, count_by-map}
 use Rattle.dotted_surfaces.specs.Points.{ArePlaced, AreAmong, IsPairing, Points, discs, ends_of}
 use Rattle.dotted_surfaces.proofs.Components.{AllByRecursion-at, AllByRecursion-weaker}
 use Rattle.dotted_maps.specs.declared.term.Term.{Term}
 use Rattle.dotted_maps.specs.Choices.{choices, composed_terms, factor_at, fewer, listed, load_on, undotted_at}
-use Rattle.dotted_maps.specs.Maps.{AreDotted, scaled}
+use Rattle.dotted_maps.specs.Maps.{AreDotted, coefficient_in, scaled}
 use Rattle.dotted_maps.specs.Parts.{component_in, components, dotted_on, genus_in, how_many, product_over}
 use Rattle.dotted_maps.proofs.LeastPoints.{AreAmong-append, AreJoins, joins-below}
 use Rattle.dotted_maps.proofs.Identities.{sum-one}
 use Rattle.dotted_maps.proofs.Pairs.{pairs-counted}
 use Rattle.tangle_maps.proofs.ChoiceLemmas.{choices-none}
 use Rattle.tangle_maps.proofs.SeamLemmas.{least-named}
-use Rattle.tangle_maps.specs.Sums.{term_of, term_with}
+use Rattle.tangle_maps.proofs.LawLemmas.{number-told}
+use Rattle.tangle_maps.proofs.SumLemmas.{IsSum-alike, coefficient-scaled}
+use Rattle.tangle_maps.proofs.WayLemmas.{WayFacts}
+use Rattle.tangle_maps.specs.declared.way.Way.{Way}
+use Rattle.tangle_maps.specs.Pairings.{joins_of}
+use Rattle.tangle_maps.specs.Sums.{AreReduced, HaveDotsBelow, IsSum, number_in, term_of, term_with}
+use Rattle.tangle_maps.specs.Ways.{HasReducedMaps, IsMultiple, joins_from, joins_over, joins_to, listed_along, points_on}
 
 -- lists without doubles
 
@@ -352,3 +359,51 @@ multiples points m o number second is dotted = append-nil (flat_map compose seco
     all [] dots = refl
     all (term ∷ terms) dots =
         ap₂ (λ (xs ys : List Term). xs ++ ys) (term-scaled points m o number term is dots.0) (all terms dots.1)
+
+-- so a way whose first map is a number times the identity is its second map, times the number
+
+number-below : (p number : ℕ) (terms : List Term) → AreReduced p terms → number_in terms ≡ Some number → number < p
+number-below p number terms reduced told =
+    let single = subst (AreReduced p) (number-told number terms told) reduced in
+    omega (arith, single.below 0 (term_of 0 (number * 1)) (omega arith))
+
+pub multiple-below : (p number : ℕ) (way : Way) → HasReducedMaps p way → IsMultiple number way → number < p
+multiple-below p number way reduced is = number-below p number way.first.now reduced.front is.told
+
+listed-multiple : (number : ℕ) (way : Way) → WayFacts way → IsMultiple number way → listed_along way ≡ scaled number way.second.now
+listed-multiple number way facts is =
+    let points = points_on way in
+    let m = joins_from way in
+    let o = joins_to way in
+    let over : joins_over way ≡ m = ap (λ ps. joins_of ps way.opened.now) (sym is.same) in
+    ap₂ (λ n (first : List Term). listed points m n o first way.second.now) over (number-told number way.first.now is.told)
+    ∙ multiples points m o (number * 1) way.second.now
+    (record { placed = facts.listed.placed; pairing = facts.listed.pairing; first = facts.listed.first; third = facts.listed.third })
+    (subst (λ n. AreDotted points n o way.second.now) over is.dots)
+    ∙ ap (λ c. scaled c way.second.now) (one_time number)
+  where
+    one_time : (x : ℕ) → x * 1 ≡ x
+    one_time x = omega arith
+
+pub multiple_taken : (p factor minus number : ℕ) (way : Way) (old new : List Term) → WayFacts way → IsMultiple number way
+    → factor ≡ minus * number % p → IsSum p old (scaled factor way.second.now) new → IsSum p old (scaled minus (listed_along way)) new
+multiple_taken p factor minus number way old new facts is product sum =
+    subst (λ xs. IsSum p old (scaled minus xs) new) (sym (listed-multiple number way facts is))
+    (IsSum-alike p old (scaled factor second) (scaled minus (scaled number second)) new sum
+    (λ dots.
+    let n = coefficient_in second dots in
+    ap (λ z. z % p) (coefficient-scaled factor second dots ∙ ap (λ f. f * n) product)
+    ∙ same-mul p (minus * number % p) (minus * number) n n (mod-mod (minus * number) p) refl
+    ∙ ap (λ z. z % p) (grouped minus number n ∙ ap (λ z. minus * z) (sym (coefficient-scaled number second dots))
+    ∙ sym (coefficient-scaled minus (scaled number second) dots)))
+    (λ limit below. alone limit second below))
+  where
+    second : List Term
+    second = way.second.now
+
+    grouped : (a b c : ℕ) → a * b * c ≡ a * (b * c)
+    grouped a b c = omega arith
+
+    alone : (limit : ℕ) (terms : List Term) → HaveDotsBelow limit (scaled minus (scaled number terms)) → HaveDotsBelow limit (scaled factor terms)
+    alone limit [] all = tt
+    alone limit (term ∷ terms) all = (all.0, alone limit terms all.1)

@@ -1,5 +1,5 @@
 -- Ways from a pairing over a second one to a third: two maps that follow one another, and what these compose to.
-use Rattle.std.specs.Prelude.{◌≡◌, ℕ, ◌+◌, ◌*◌, ◌^◌, ◌<◌, List, length}
+use Rattle.std.specs.Prelude.{◌≡◌, ℕ, ◌+◌, ◌*◌, ◌^◌, ◌<◌, List, length, Some}
 use Rattle.kh_types.specs.Rank.{inverse}
 use Rattle.kh_types.specs.Residues.{Same}
 use Rattle.dotted_surfaces.specs.Points.{Points, discs}
@@ -7,7 +7,7 @@ use Rattle.dotted_maps.specs.declared.term.Term.{Term}
 use Rattle.dotted_maps.specs.Choices.{listed}
 use Rattle.dotted_maps.specs.Maps.{AreDotted, IsComposition, coefficient_in, composed_in}
 use Rattle.tangle_maps.specs.Pairings.{joins_of, opened_points, paired_arcs}
-use Rattle.tangle_maps.specs.Sums.{AreReduced}
+use Rattle.tangle_maps.specs.Sums.{AreReduced, number_in}
 use Rattle.tangle_maps.specs.declared.way.Way.{Way}
 
 -- the opened arcs of a way, as points
@@ -59,3 +59,9 @@ pub record IsCancelledAlong (p pivot : ℕ) (way : Way) (old new : List Term) : 
   pub coefficients : (kept : ℕ) → kept < 2 ^ length (discs (points_on way) (joins_from way) (joins_to way))
       → Same p (coefficient_in new kept + inverse p pivot * composed_along way kept) (coefficient_in old kept)
   pub dots : AreDottedAlong way old → AreDottedAlong way new
+
+-- the first map of a way is a number times the identity, and the dots of the second are dots of discs
+pub record IsMultiple (number : ℕ) (way : Way) : Type 0 where
+  pub same : way.from.now.partners ≡ way.over.now.partners
+  pub told : number_in way.first.now ≡ Some number
+  pub dots : AreDotted (points_on way) (joins_over way) (joins_to way) way.second.now

@@ -13,7 +13,7 @@ mod sum;
 mod tests;
 mod way;
 
-pub use cancelling::cancel;
+pub use cancelling::{cancel, cancel_multiple};
 pub use composing::{add_all, add_composition, compose};
 pub use pairing::{ALONE, POINTS, Pairing, join_pairs};
 pub use sum::{INLINE_TERMS, Terms, add_scaled, add_term, is_zero, number_of};

@@ -1,18 +1,19 @@
 -- One way that is taken off a column in memory: at an entry that is there, or as a new one.
-use Rattle.std.proofs.Common.{◌≡◌, ℕ, zero, suc, ◌<◌, ◌∙◌, List, [], ◌∷◌, get_or, set, length, sym, subst, subst₂, ap, arith}
-use Rattle.std.specs.Prelude.{All}
+use Rattle.std.proofs.Common.{◌≡◌, ℕ, zero, suc, ◌<◌, ◌∙◌, List, [], ◌∷◌, get_or, set, length, sym, subst, subst₂, ap, arith, true, None, Some, Option}
+use Rattle.std.specs.Prelude.{All, IfSome}
 use Rattle.std.proofs.lemmas.List.{get_or-map}
 use Rattle.std.proofs.lemmas.List.Elements.{All-head, All-tail}
 use Rattle.dotted_maps.specs.declared.term.Term.{Term}
+use Rattle.dotted_maps.specs.Maps.{AreDotted}
 use Rattle.tangle_maps.specs.declared.way.Way.{Way}
-use Rattle.tangle_maps.specs.Pairings.{paired_arcs}
-use Rattle.tangle_maps.specs.Sums.{AreReduced}
-use Rattle.tangle_maps.specs.Ways.{IsCancelledAlong, IsWay}
+use Rattle.tangle_maps.specs.Pairings.{joins_of, opened_points, paired_arcs}
+use Rattle.tangle_maps.specs.Sums.{AreReduced, number_in}
+use Rattle.tangle_maps.specs.Ways.{IsCancelledAlong, IsMultiple, IsWay, joins_over, joins_to, points_on}
 use Rattle.tangle_scan.specs.declared.clearing.Turn.{Turn}
 use Rattle.tangle_scan.specs.declared.column.Entry.{Entry}
 use Rattle.tangle_scan.specs.declared.object.Object.{Object}
-use Rattle.tangle_scan.specs.Held.{partners_at, terms_to}
-use Rattle.tangle_scan.specs.Eliminations.{HasHead, HasHeadsOf, HasOneEach, IsChanged, IsLess, IsLessOver, IsTrimmed, IsTurn, head_at}
+use Rattle.tangle_scan.specs.Held.{is_alive_at, partners_at, terms_to}
+use Rattle.tangle_scan.specs.Eliminations.{HasHead, HasHeadsOf, HasOneEach, IsChanged, IsDottedTo, IsLess, IsLessOver, IsMultipleAt, IsTrimmed, IsTurn, head_at}
 use Rattle.tangle_scan.proofs.Columns.{column-set, heads-kept_set, once-heads, heads-set, terms-at, terms-none}
 use Rattle.tangle_scan.proofs.Ways.{changed-as, changed-trimmed, less-along}
 
@@ -102,6 +103,25 @@ way-through p turn x z first second way is x_below z_below through =
       middle = through.opened ∙ arcs turn.pivot.tail is.tail ∙ ap paired_arcs (sym through.middle);
       target = through.opened ∙ arcs z z_below ∙ ap paired_arcs (sym through.target);
     }
+
+-- whose first map is a number times the identity
+pub multiple-through : (turn : Turn) (x : ℕ) (entry : Entry) (first : List Term) (way : Way) (multiple : Option ℕ)
+    → IsThrough turn x entry.head first entry.terms.items way → IfSome multiple (IsMultipleAt turn x first)
+    → IsDottedTo turn entry → is_alive_at turn.objects.now entry.head ≡ true → IfSome multiple (λ m. IsMultiple m way)
+multiple-through turn x entry first way None through is dotted alive = tt
+multiple-through turn x entry first way (Some m) through is dotted alive = record {
+  same = through.source ∙ is.partners ∙ sym through.middle;
+  told = ap number_in through.front ∙ is.told;
+  dots =
+      subst (λ (ts : List Term). AreDotted (points_on way) (joins_over way) (joins_to way) ts) (sym through.back)
+      (subst₂ (λ (v t : List ℕ). AreDotted (points_on way) (joins_of v way.opened.now) (joins_of t way.opened.now) entry.terms.items)
+      (sym through.middle) (sym through.target)
+      (subst
+      (λ (opened : List ℕ).
+      AreDotted (opened_points opened) (joins_of (partners_at turn.objects.now turn.pivot.tail) opened)
+      (joins_of (partners_at turn.objects.now entry.head) opened) entry.terms.items)
+      (sym through.opened) (dotted alive)));
+}
 
 pub less-through : (p c : ℕ) (turn : Turn) (x z : ℕ) (first second : List Term) (way : Way) (old new : List Term)
     → c ≡ turn.pivot.number → IsThrough turn x z first second way → IsCancelledAlong p c way old new

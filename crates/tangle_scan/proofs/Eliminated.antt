@@ -2,11 +2,12 @@
 -- A column that was named is cleared. One that was not did not lead to the pivot's head, since the rows name all that do: it is cleared as
 -- it is. So each map that is left is the old one less the way through the pivot, over the numbers of a program, and these are those of the
 -- code.
-use Rattle.std.proofs.Common.{◌≡◌, ◌≢◌, ℕ, ◌⊎◌, zero, suc, inl, inr, ◌+◌, ◌*◌, ◌%◌, ◌^◌, ◌<◌, ◌≤◌, ◌∙◌, pos, ◌+ℤ◌, ◌≤ℤ◌, List, [], ◌∷◌, get_or, length, map, refl, sym, subst, subst₂, ap, arith, true, cond, None, Some}
+use Rattle.std.proofs.Common.{◌≡◌, ◌≢◌, ℕ, ◌⊎◌, zero, suc, inl, inr, ◌+◌, ◌*◌, ◌%◌, ◌^◌, ◌<◌, ◌≤◌, ◌∙◌, pos, ◌+ℤ◌, ◌≤ℤ◌, List, [], ◌∷◌, get_or, length, map, refl, sym, subst, subst₂, ap, ap₂, arith, true, cond, None, Some}
 use Rattle.std.specs.Prelude.{nat_eq, All}
-use Rattle.std.specs.List.{Contains}
+use Rattle.std.specs.List.{AllByRecursion, Contains}
 use Rattle.std.specs.Global.{Vec}
 use Rattle.std.proofs.lemmas.Bool.{cases_eq}
+use Rattle.std.proofs.lemmas.List.{get_or-map}
 use Rattle.std.proofs.lemmas.List.Elements.{All-head, All-nil, All-tail}
 use Rattle.kh_types.specs.Code.{Code}
 use Rattle.kh_types.specs.Rank.{inverse}
@@ -21,7 +22,7 @@ use Rattle.scan_laws.specs.Scans.{HasDots, Scan, dot_sets, first_object, pairs_o
 use Rattle.scan_laws.specs.Scans as scans
 use Rattle.scan_laws.specs.Eliminating.{IsEliminating, IsNumber, way_coefficient}
 use Rattle.scan_laws.proofs.Possible.{no-head, no-tail, others, others-listed}
-use Rattle.tangle_maps.specs.Pairings.{joins_of, paired_arcs}
+use Rattle.tangle_maps.specs.Pairings.{joins_of, opened_points, paired_arcs}
 use Rattle.tangle_maps.specs.Sums.{AreReduced, number_in}
 use Rattle.tangle_maps.proofs.LawLemmas.{number-told}
 use Rattle.tangle_scan.specs.declared.clearing.Turn.{Turn}
@@ -30,10 +31,10 @@ use Rattle.tangle_scan.specs.declared.complex.TangleComplex.{TangleComplex}
 use Rattle.tangle_scan.specs.declared.front.Front.{Front}
 use Rattle.tangle_scan.specs.declared.object.Object.{Object}
 use Rattle.tangle_scan.specs.Held.{AreObjects, IsColumn, IsComplexAt, IsFront, IsOpenAt, IsPivot, alive_places, column_at, degree_at, is_alive_at, object_at, object_of, partners_at, scan_at, terms_between, terms_to}
-use Rattle.tangle_scan.specs.Eliminations.{AllHaveDots, AreCleared, AreColumns, HasHead, HasRows, IsCleared, IsKilled, IsLess, IsNoted, IsTurn, column_in, killed, named_in}
-use Rattle.tangle_scan.proofs.Columns.{terms-first, terms-later, terms-some}
+use Rattle.tangle_scan.specs.Eliminations.{AllHaveDots, AreCleared, AreColumns, HasHead, HasRows, IsCleared, IsDottedTo, IsKilled, IsLess, IsNoted, IsTurn, column_in, head_at, killed, named_in}
+use Rattle.tangle_scan.proofs.Columns.{terms-at, terms-first, terms-later, terms-some}
 use Rattle.tangle_scan.proofs.Killed.{TwoKilled, alive-place, alive-within, all-heads, heads-all, is-left, killed-all, killed-map, killed-size, place-alive, places-left, places-once, two-killed}
-use Rattle.tangle_scan.proofs.OpenSizes.{ArePairs, dotted-open, less-open, pairs-at}
+use Rattle.tangle_scan.proofs.OpenSizes.{ArePairs, discs-open, dotted-open, less-open, pairs-at}
 use Rattle.tangle_scan.proofs.Turns.{column-at}
 use Rattle.tangle_scan.proofs.Ways.{cleared-none}
 
@@ -178,15 +179,58 @@ module _ (p : ℕ) (front : Front) (before : TangleComplex) (middle : List Objec
       (reduced-to p (column_at before tail) head (column-is tail tail-within).reduced)
       (number-told turn.pivot.number (terms_between before tail head) is.pivot.told)
 
+  pairs-are : All (λ (object : Object). turn.opened.now ≡ paired_arcs object.pairing.partners) new
+  pairs-are =
+      subst (λ (opened : List ℕ). All (λ (object : Object). opened ≡ paired_arcs object.pairing.partners) new) (sym is.opened)
+      objects-are.pairs
+
+  at-front : IsOpenAt front.diagram front.done turn.opened.now
+  at-front = subst (IsOpenAt front.diagram front.done) (sym is.opened) is.at
+
+  paired-there : (z : ℕ) → z < length old → ArePairs turn.opened.now (partners_at new z)
+  paired-there z below = pairs-at turn.opened.now new z pairs-are (omega (arith, below, two.size))
+
+  pairs-scan : (z : ℕ) → z < length old → pairs_of (scan_at front before) z ≡ joins_of (partners_at new z) turn.opened.now
+  pairs-scan z below =
+      pairs-there front.opened.items old z below
+      ∙ ap (λ (ps : List ℕ). joins_of ps front.opened.items) (sym (partners-stay z))
+      ∙ ap (joins_of (partners_at new z)) (sym is.opened)
+
+  -- the maps out of the tail have dots of discs, over the numbers of a program
+  dotted-to : (z : ℕ) → is_alive_at new z ≡ true
+      → AreDotted (opened_points turn.opened.now) (joins_of (partners_at new tail) turn.opened.now)
+      (joins_of (partners_at new z) turn.opened.now) (terms_between before tail z)
+  dotted-to z alive =
+      let there = is-left tail head old new z two alive in
+      let below = alive-within old z there.alive in
+      let points = points_at front.diagram front.done in
+      let same = discs-open front.diagram front.done turn.opened.now at-front (joins_of (partners_at new tail) turn.opened.now)
+      (joins_of (partners_at new z) turn.opened.now) (paired-there tail tail-within).among (paired-there z below).among in
+      subst (λ ds. AllByRecursion (λ (term : Term). term.dots < 2 ^ length ds) (terms_between before tail z))
+      (ap₂ (discs points) (pairs-scan tail tail-within) (pairs-scan z below) ∙ sym same)
+      (is.dots tail z (place-alive old tail is.pivot.is_there) (place-alive old z there.alive))
+
+  entries-dotted : All (IsDottedTo turn) (column_at before tail)
+  entries-dotted k d within alive =
+      let column = column_at before tail in
+      let entry = get_or column k d in
+      let once = (column-is tail tail-within).once in
+      let here : head_at column k ≡ entry.head = get_or-map (λ (e : Entry). e.head) column k d 0 within in
+      subst
+      (λ (ts : List Term).
+      AreDotted (opened_points turn.opened.now) (joins_of (partners_at new tail) turn.opened.now)
+      (joins_of (partners_at new entry.head) turn.opened.now) ts)
+      (ap (terms_to column) (sym here) ∙ terms-at column k d within once) (dotted-to entry.head alive)
+
   pub turn-is : IsTurn p turn
   turn-is = record {
-    pairs = subst (λ (opened : List ℕ). All (λ (object : Object). opened ≡ paired_arcs object.pairing.partners) new) (sym is.opened)
-        objects-are.pairs;
+    pairs = pairs-are;
     tail = omega (arith, tail-within, two.size);
     dead = two.head_gone;
     some = number-is.some;
     below = number-is.below;
     column = subst₂ (λ (n : ℕ) (column : List Entry). IsColumn p n column) (sym two.size) (sym is.column) (column-is tail tail-within);
+    dots = subst (λ (column : List Entry). All (IsDottedTo turn) column) (sym is.column) entries-dotted;
   }
 
   module _ (columns : List (Vec Entry)) (left : List (Vec ℕ)) (named : List ℕ) (out : AreTakenOut before rows turn columns left named) where
@@ -300,22 +344,10 @@ module _ (p : ℕ) (front : Front) (before : TangleComplex) (middle : List Objec
         abbrev next_scan : Scan
         next_scan = scan_at front next
 
-        at-front : IsOpenAt front.diagram front.done turn.opened.now
-        at-front = subst (IsOpenAt front.diagram front.done) (sym is.opened) is.at
-
-        paired-there : (z : ℕ) → z < length old → ArePairs turn.opened.now (partners_at new z)
-        paired-there z below = pairs-at turn.opened.now new z turn-is.pairs (omega (arith, below, two.size))
-
         same-object : (z : ℕ) → next_scan.object z ≡ scan.object z
         same-object z =
             ap (λ (objects : List Object). get_or (map (object_of front.opened.items) objects) z first_object) same_objects
             ∙ ap (λ (xs : List scans.Object). get_or xs z first_object) objects-stay
-
-        pairs-scan : (z : ℕ) → z < length old → pairs_of scan z ≡ joins_of (partners_at new z) turn.opened.now
-        pairs-scan z below =
-            pairs-there front.opened.items old z below
-            ∙ ap (λ (ps : List ℕ). joins_of ps front.opened.items) (sym (partners-stay z))
-            ∙ ap (joins_of (partners_at new z)) (sym is.opened)
 
         pairs-next : (z : ℕ) → z < length old → pairs_of next_scan z ≡ joins_of (partners_at new z) turn.opened.now
         pairs-next z below = ap (λ (object : scans.Object). object.pairs) (same-object z) ∙ pairs-scan z below

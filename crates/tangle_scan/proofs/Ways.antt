@@ -21,7 +21,7 @@ use Rattle.tangle_scan.specs.declared.clearing.Turn.{Turn}
 use Rattle.tangle_scan.specs.declared.column.Entry.{Entry}
 use Rattle.tangle_maps.specs.Sums.{AreReduced}
 use Rattle.tangle_scan.specs.Held.{IsColumn, has_head, is_alive_at, partners_at, terms_to}
-use Rattle.tangle_scan.specs.Eliminations.{AreTaken, HasHead, HasOneEach, IsChanged, IsCleared, IsLess, IsLessIf, IsLessOver, IsNext, IsTrimmed, IsTurn, head_at}
+use Rattle.tangle_scan.specs.Eliminations.{AreTaken, HasHead, HasOneEach, IsChanged, IsCleared, IsDottedTo, IsLess, IsLessIf, IsLessOver, IsNext, IsTrimmed, IsTurn, head_at}
 use Rattle.tangle_scan.proofs.Columns.{counted-once, gone-remove, head-there, heads-remove, others-remove, push-here, push-others, terms-at, terms-none}
 
 plus-none : (p a b : ℕ) → Same p (a + b * 0) a
@@ -233,4 +233,5 @@ next-read p turn at entry is within read =
     record {
       head = subst (λ (e : Entry). e.head < length turn.objects.now) (sym read) (is.column.heads at entry within);
       terms = subst (λ (e : Entry). AreReduced p e.terms.items) (sym read) (is.column.reduced at entry within);
+      dots = subst (IsDottedTo turn) (sym read) (is.dots at entry within);
     }

@@ -1,5 +1,5 @@
 -- What eliminating makes of the columns and the rows in memory.
-use Rattle.std.specs.Prelude.{◌≡◌, ◌≢◌, ℕ, ◌+◌, ◌*◌, ◌^◌, ◌<◌, ◌≤◌, ◌⊎◌, List, [], length, map, slice_index_or, slice_set, All, true, false, Some}
+use Rattle.std.specs.Prelude.{◌≡◌, ◌≢◌, ℕ, ◌+◌, ◌*◌, ◌^◌, ◌<◌, ◌≤◌, ◌⊎◌, List, [], length, map, slice_index_or, slice_set, All, IfSome, true, false, Some}
 use Rattle.std.specs.List.{count_by, Contains}
 use Rattle.std.specs.Global.{Vec}
 use Rattle.kh_types.specs.Code.{Code}
@@ -121,6 +121,13 @@ pub record IsTrimmed (p : ℕ) (old new : List Entry) : Type 0 where
   pub heads : HasHeadsOf old new
   pub column : (n : ℕ) → IsColumn p n old → IsColumn p n new
 
+-- an entry of the pivot's column has dots of discs, if its head is there
+abbrev pub IsDottedTo : Turn → Entry → Type 0
+IsDottedTo turn entry =
+    is_alive_at turn.objects.now entry.head ≡ true
+    → AreDotted (opened_points turn.opened.now) (joins_of (partners_at turn.objects.now turn.pivot.tail) turn.opened.now)
+    (joins_of (partners_at turn.objects.now entry.head) turn.opened.now) entry.terms.items
+
 -- a turn: the objects pair the opened arcs, the pivot's head is not there any more, and its number is one from 1 to p - 1
 pub record IsTurn (p : ℕ) (turn : Turn) : Type 0 where
   pub pairs : All (λ object. turn.opened.now ≡ paired_arcs object.pairing.partners) turn.objects.now
@@ -129,16 +136,24 @@ pub record IsTurn (p : ℕ) (turn : Turn) : Type 0 where
   pub some : 0 < turn.pivot.number
   pub below : turn.pivot.number < p
   pub column : IsColumn p (length turn.objects.now) turn.column.now
+  pub dots : All (IsDottedTo turn) turn.column.now
+
+-- a map from the object at a place to the pivot's head is a number times the identity
+pub record IsMultipleAt (turn : Turn) (place : ℕ) (first : List Term) (number : ℕ) : Type 0 where
+  pub partners : partners_at turn.objects.now place ≡ partners_at turn.objects.now turn.pivot.tail
+  pub told : number_in first ≡ Some number
 
 -- the first map of a way within a turn: from an object, and reduced
 pub record IsStart (p : ℕ) (turn : Turn) (start : Start) : Type 0 where
   pub place : start.place < length turn.objects.now
   pub first : AreReduced p start.first.now
+  pub multiple : IfSome start.multiple (IsMultipleAt turn start.place start.first.now)
 
--- an entry of the pivot's column: to an object, and reduced
+-- an entry of the pivot's column: to an object, reduced, and with dots of discs
 pub record IsNext (p : ℕ) (turn : Turn) (entry : Entry) : Type 0 where
   pub head : entry.head < length turn.objects.now
   pub terms : AreReduced p entry.terms.items
+  pub dots : IsDottedTo turn entry
 
 -- what is to be done with one entry of the pivot's column: if its head is there, the way over it is taken off
 abbrev pub IsLessIf : ℕ → Turn → ℕ → List Term → Entry → List Term → List Term → Type 0

@@ -4,24 +4,22 @@
 
 ghost use Rattle.std.specs.Prelude.{◌≡◌, ◌≢◌, ℕ, ◌<◌, List, length, false, true, IfOk, IfSome, None, OnOk};
 ghost use Rattle.std.specs.List.{position};
-ghost use Rattle.tangle_maps.specs.Sums.{AreReduced};
-ghost use Rattle.tangle_maps.specs.Ways.{HasReducedMaps, IsCancelledAlong, IsWay};
 ghost use Rattle.tangle_scan.specs.Held.{IsColumn, has_head, is_alive_at, partners_at};
 ghost use Rattle.tangle_scan.specs.Eliminations.{AreCleared, AreColumns, AreMore, AreTaken, HasHead};
-ghost use Rattle.tangle_scan.specs.Eliminations.{HasHeadsOf, HasOneEach, IsChanged, IsCleared};
-ghost use Rattle.tangle_scan.specs.Eliminations.{IsClearStep, IsLess, IsLessIf, IsNext, IsNoted};
-ghost use Rattle.tangle_scan.specs.Eliminations.{IsStart, IsTrimmed, IsTurn, head_at};
+ghost use Rattle.tangle_scan.specs.Eliminations.{HasHeadsOf, IsChanged, IsCleared, IsClearStep};
+ghost use Rattle.tangle_scan.specs.Eliminations.{IsLess, IsLessIf, IsMultipleAt, IsNext, IsNoted};
+ghost use Rattle.tangle_scan.specs.Eliminations.{IsStart, IsTurn, head_at};
 
 use crate::column::{Column, Entry};
 use crate::object::Object;
-use crate::pivots::Pivot;
+use crate::pivots::{Pivot, have_one_pairing};
 use crate::rows::{Rows, note_if};
+use crate::taking::{cancel_in, cancel_new};
 use dotted_maps::term::Term;
 use kh_types::NoMemory;
 use prime_field::PrimeField;
 use prime_field::laws::element_laws;
-use smallvec::SmallVec;
-use tangle_maps::{Pairing, Terms, Way, cancel, is_zero};
+use tangle_maps::{Pairing, Way, number_of};
 
 /// A pivot that is being cancelled: the opened arcs, the objects, of which its tail and its head are
 /// not there any more, and the column that was taken out at its tail.
@@ -33,11 +31,13 @@ pub(crate) struct Turn<'a> {
     pub(crate) column: &'a [Entry],
 }
 
-/// The first map of a way: from the object at a place to the pivot's head.
+/// The first map of a way: from the object at a place to the pivot's head; and the number that it is
+/// times the identity, if it is one.
 #[derive(Clone, Copy)]
 struct Start<'a> {
     place: usize,
     first: &'a [Term],
+    multiple: Option<u8>,
 }
 
 /// Clears the columns that are named.
@@ -106,9 +106,29 @@ fn clear<F: PrimeField>(
         Some(at) => {
             let entry = column.remove(at);
             let first = entry.terms.as_slice();
-            take_ways::<F>(column, rows, turn, &Start { place, first })
+            let start = Start {
+                place,
+                first,
+                multiple: multiple_at(turn, place, first),
+            };
+            take_ways::<F>(column, rows, turn, &start)
         }
         None => Ok(()),
+    }
+}
+
+/// The number that a map from the object at a place to a pivot's head is, times the identity, if it
+/// is one: the object has the pairing of the pivot's tail.
+fn multiple_at(turn: &Turn<'_>, place: usize, first: &[Term]) -> Option<u8>
+    requires place { place < length turn.now.objects.now }
+    requires tail { turn.now.pivot.tail < length turn.now.objects.now }
+    ensures { IfSome result (IsMultipleAt turn.now place first.now) }
+{
+    match number_of(first) {
+        Some(number) if have_one_pairing(&turn.objects[place], &turn.objects[turn.pivot.tail]) => {
+            Some(number)
+        }
+        _ => None,
     }
 }
 
@@ -178,6 +198,7 @@ fn take_noted<F: PrimeField>(
     requires turn { IsTurn F.P turn.now }
     requires start { IsStart F.P turn.now start.now }
     requires entry { IsNext F.P turn.now entry.now }
+    requires alive { is_alive_at turn.now.objects.now entry.now.head ≡ true }
     requires column { IsColumn F.P (length turn.now.objects.now) column.old.items }
     requires rows { length rows.old.items ≡ length turn.now.objects.now }
     requires noted { IsNoted turn.now.objects.now rows.old.items start.now.place column.old.items }
@@ -203,6 +224,7 @@ fn take_way<F: PrimeField>(
     requires turn { IsTurn F.P turn.now }
     requires start { IsStart F.P turn.now start.now }
     requires entry { IsNext F.P turn.now entry.now }
+    requires alive { is_alive_at turn.now.objects.now entry.now.head ≡ true }
     requires column { IsColumn F.P (length turn.now.objects.now) column.old.items }
     ensures changed { OnOk result (IsChanged
         (IsLess F.P turn.now start.now.place entry.now.head start.now.first.now
@@ -222,10 +244,10 @@ fn take_way<F: PrimeField>(
     let number = F::of(turn.pivot.number);
     match place_of(column, entry.head) {
         Some(at) => {
-            cancel_in(column, at, &way, number)?;
+            cancel_in(column, at, &way, start.multiple, number)?;
             Ok(false)
         }
-        None => cancel_new(column, entry.head, &way, number),
+        None => cancel_new(column, entry.head, &way, start.multiple, number),
     }
 }
 
@@ -251,75 +273,4 @@ fn first_place(column: &[Entry], head: usize) -> Option<usize>
     ensures { result ≡ position (has_head head) column.now }
 {
     column.iter().position(|entry| entry.head == head)
-}
-
-/// Takes a way off the entry at a place, which goes if it becomes 0.
-fn cancel_in<F: PrimeField>(
-    column: &mut Column,
-    at: usize,
-    way: &Way<'_>,
-    number: F,
-) -> Result<(), NoMemory>
-    requires at { at < length column.old.items }
-    requires column { (n : ℕ) × IsColumn F.P n column.old.items }
-    requires way { IsWay way.now }
-    requires maps { HasReducedMaps F.P way.now }
-    requires number { F.value_of number ≢ 0 }
-    ensures changed { OnOk result (IsChanged (IsCancelledAlong F.P (F.value_of number) way.now) (Unit {0})
-        F.P (head_at column.old.items at) column.old.items column.new.items) }
-    ensures same_heads { OnOk result (HasHeadsOf column.old.items column.new.items) }
-{
-    cancel(&mut column[at].terms, way, number)?;
-    trim(column, at);
-    Ok(())
-}
-
-/// Takes the entry at a place out, if it is 0.
-fn trim(column: &mut Column, at: usize)
-    requires at { at < length column.old.items }
-    requires once { HasOneEach column.old.items }
-    ensures { (p : ℕ) → IsTrimmed p column.old.items column.new.items }
-{
-    if is_zero(column[at].terms.as_slice()) {
-        column.remove(at);
-    }
-}
-
-/// Takes a way off 0, for a head to which a column does not lead, and tells whether it leads there
-/// then.
-fn cancel_new<F: PrimeField>(
-    column: &mut Column,
-    head: usize,
-    way: &Way<'_>,
-    number: F,
-) -> Result<bool, NoMemory>
-    requires column { (n : ℕ) × IsColumn F.P n column.old.items }
-    requires new { HasHead column.old.items head → ⊥ }
-    requires way { IsWay way.now }
-    requires maps { HasReducedMaps F.P way.now }
-    requires number { F.value_of number ≢ 0 }
-    ensures changed { OnOk result (IsChanged (IsCancelledAlong F.P (F.value_of number) way.now) (Unit {0})
-        F.P head column.old.items column.new.items) }
-    ensures same_heads { IfOk result (λ is_new. is_new ≡ false
-        → HasHeadsOf column.old.items column.new.items) }
-{
-    let alloc = *column.allocator();
-    let mut terms: Terms = SmallVec::new(alloc);
-    cancel(&mut terms, way, number)?;
-    add_map(column, Entry { head, terms })
-}
-
-/// Adds a map to a column, if it is not 0, and tells whether it is not.
-fn add_map(column: &mut Column, entry: Entry) -> Result<bool, NoMemory>
-    requires { HasHead column.old.items entry.head → ⊥ }
-    ensures changed { OnOk result ((p : ℕ) → AreReduced p entry.terms.items → IsChanged
-        (λ old new. new ≡ entry.terms.items) (Unit {0}) p entry.head column.old.items column.new.items) }
-    ensures same_heads { IfOk result (λ is_new. is_new ≡ false
-        → HasHeadsOf column.old.items column.new.items) }
-{
-    if is_zero(entry.terms.as_slice()) {
-        return Ok(false);
-    }
-    column.push(entry)?;
-    Ok(true)
 }

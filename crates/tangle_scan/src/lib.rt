@@ -24,6 +24,7 @@ mod scan;
 mod scan_count;
 mod scanning;
 mod table;
+mod taking;
 mod tally;
 mod tallying;
 #[cfg(test)]

@@ -125,7 +125,7 @@ fn can_cancel(objects: &[Object], tail: usize, head: usize) -> bool
 }
 
 /// Whether two objects have the same partners.
-fn have_one_pairing(one: &Object, other: &Object) -> bool
+pub(crate) fn have_one_pairing(one: &Object, other: &Object) -> bool
     ensures { (result ≡ true) ↔ (one.now.pairing.partners ≡ other.now.pairing.partners) }
 {
     one.pairing.partners == other.pairing.partners

@@ -6,6 +6,12 @@ use Rattle.tangle_scan.specs.Eliminations.{IsLess}
 use Rattle.tangle_scan.proofs.NotedRows.{alive-read, changed-if}
 use Rattle.tangle_scan.proofs.clearing.take_if_alive.Goals as goal
 
+pub take_noted-requires-clause-alive : goal.take_noted-requires-clause-alive
+take_noted-requires-clause-alive g c =
+    let object = c.index-turn-entry.result in
+    alive-read c.args.turn.now.objects.now c.args.entry.now.head object c.requires.entry.head c.index-turn-entry.is
+    ∙ ap (λ (o : Object). o.is_alive) c.index-turn-entry.is ∙ c.if-not-turn-entry.false
+
 pub returns-clause-changed : goal.returns-clause-changed
 returns-clause-changed g c =
     let p = g.F.PrimeField.P in

@@ -4,7 +4,7 @@ use Rattle.tangle_maps.specs.declared.way.Way.{Way}
 use Rattle.tangle_maps.specs.Sums.{AreReduced}
 use Rattle.tangle_maps.specs.Ways.{IsCancelledAlong}
 use Rattle.tangle_scan.specs.Eliminations.{IsChanged, IsLess}
-use Rattle.tangle_scan.proofs.Cancels.{IsThrough, less-through, way-through}
+use Rattle.tangle_scan.proofs.Cancels.{IsThrough, less-through, multiple-through, way-through}
 use Rattle.tangle_scan.proofs.Ways.{changed-as}
 use Rattle.tangle_scan.proofs.clearing.take_way.Goals as goal
 
@@ -41,6 +41,30 @@ cancel_in-requires-clause-maps g c =
       front = c.requires.start.first;
       back = subst (AreReduced g.F.PrimeField.P) (sym c.as_slice.ensures) c.requires.entry.terms;
     }
+
+pub cancel_in-requires-clause-multiple : goal.cancel_in-requires-clause-multiple
+cancel_in-requires-clause-multiple g c =
+    let turn = c.args.turn.now in
+    let start = c.args.start.now in
+    let entry = c.args.entry.now in
+    let way : Way = record {
+      opened = turn.opened;
+      from = c.pairing_at.result;
+      over = c.pairing_at-2.result;
+      to = c.pairing_at-3.result;
+      first = start.first;
+      second = c.as_slice.result;
+    } in
+    multiple-through turn start.place entry start.first.now way start.multiple
+    (record {
+      opened = refl;
+      source = c.pairing_at.ensures;
+      middle = c.pairing_at-2.ensures;
+      target = c.pairing_at-3.ensures;
+      front = refl;
+      back = c.as_slice.ensures;
+    })
+    c.requires.start.multiple c.requires.entry.dots c.requires.alive
 
 pub cancel_in-requires-clause-number : goal.cancel_in-requires-clause-number
 cancel_in-requires-clause-number g c none = omega (arith, c.requires.turn.some, c.of-number.ensures, none)
@@ -113,6 +137,30 @@ cancel_new-requires-clause-maps g c =
       front = c.requires.start.first;
       back = subst (AreReduced g.F.PrimeField.P) (sym c.as_slice.ensures) c.requires.entry.terms;
     }
+
+pub cancel_new-requires-clause-multiple : goal.cancel_new-requires-clause-multiple
+cancel_new-requires-clause-multiple g c =
+    let turn = c.args.turn.now in
+    let start = c.args.start.now in
+    let entry = c.args.entry.now in
+    let way : Way = record {
+      opened = turn.opened;
+      from = c.pairing_at.result;
+      over = c.pairing_at-2.result;
+      to = c.pairing_at-3.result;
+      first = start.first;
+      second = c.as_slice.result;
+    } in
+    multiple-through turn start.place entry start.first.now way start.multiple
+    (record {
+      opened = refl;
+      source = c.pairing_at.ensures;
+      middle = c.pairing_at-2.ensures;
+      target = c.pairing_at-3.ensures;
+      front = refl;
+      back = c.as_slice.ensures;
+    })
+    c.requires.start.multiple c.requires.entry.dots c.requires.alive
 
 pub cancel_new-requires-clause-number : goal.cancel_new-requires-clause-number
 cancel_new-requires-clause-number g c none = omega (arith, c.requires.turn.some, c.of-number.ensures, none)

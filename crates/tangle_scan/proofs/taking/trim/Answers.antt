@@ -1,6 +1,6 @@
 use Rattle.std.proofs.Common.{◌∙◌, sym}
 use Rattle.tangle_scan.proofs.Columns.{trimmed-read}
-use Rattle.tangle_scan.proofs.clearing.trim.Goals as goal
+use Rattle.tangle_scan.proofs.taking.trim.Goals as goal
 
 pub returns-then-is_zero : goal.returns-then-is_zero
 returns-then-is_zero c p =

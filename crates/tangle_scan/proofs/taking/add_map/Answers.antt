@@ -2,7 +2,7 @@ use Rattle.std.proofs.Common.{◌≡◌, ◌∙◌, List, subst, sym}
 use Rattle.tangle_scan.specs.declared.column.Entry.{Entry}
 use Rattle.tangle_scan.specs.Eliminations.{IsChanged}
 use Rattle.tangle_scan.proofs.Columns.{added-none, column-push}
-use Rattle.tangle_scan.proofs.clearing.add_map.Goals as goal
+use Rattle.tangle_scan.proofs.taking.add_map.Goals as goal
 
 pub returns-then-is_zero-clause-changed : goal.returns-then-is_zero-clause-changed
 returns-then-is_zero-clause-changed c p reduced =

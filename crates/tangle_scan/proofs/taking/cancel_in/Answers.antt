@@ -4,10 +4,10 @@ use Rattle.tangle_maps.specs.Ways.{IsCancelledAlong}
 use Rattle.tangle_scan.specs.declared.column.Entry.{Entry}
 use Rattle.tangle_scan.proofs.Cancels.{changed-in, written-heads, written-once}
 use Rattle.tangle_scan.proofs.Ways.{read-reduced}
-use Rattle.tangle_scan.proofs.clearing.cancel_in.Goals as goal
+use Rattle.tangle_scan.proofs.taking.cancel_in.Goals as goal
 
-pub cancel-requires-clause-entry : goal.cancel-requires-clause-entry
-cancel-requires-clause-entry g c =
+pub take_off-requires-clause-entry : goal.take_off-requires-clause-entry
+take_off-requires-clause-entry g c =
     read-reduced g.F.PrimeField.P c.requires.column.0 c.args.column.now.items c.args.at c.index_mut.result.now c.requires.at
     c.requires.column.1 c.index_mut.ensures.value
 
@@ -15,7 +15,7 @@ pub trim-requires-clause-once : goal.trim-requires-clause-once
 trim-requires-clause-once g c =
     let column = c.args.column.now.items in
     let entry = c.index_mut.result.now in
-    let written : Entry = record { head = entry.head; terms = c.cancel.new.entry } in
+    let written : Entry = record { head = entry.head; terms = c.take_off.new.terms } in
     written-once column c.args.at entry written (slice_set column c.args.at written)
     (record {
       within = c.requires.at;
@@ -30,7 +30,7 @@ returns-clause-changed g c =
     let p = g.F.PrimeField.P in
     let column = c.args.column.now.items in
     let entry = c.index_mut.result.now in
-    let written : Entry = record { head = entry.head; terms = c.cancel.new.entry } in
+    let written : Entry = record { head = entry.head; terms = c.take_off.new.terms } in
     changed-in (IsCancelledAlong p (g.F.PrimeField.value_of c.args.number) c.args.way.now) p column c.args.at entry written
     (slice_set column c.args.at written) c.trim.new.column.items
     (record {
@@ -40,14 +40,14 @@ returns-clause-changed g c =
       head = refl;
       made = refl;
     })
-    c.cancel.ensures.reduced c.in_ok-cancel.ensures.entry (c.trim.ensures p)
+    c.take_off.ensures.reduced c.in_ok-take_off.ensures.entry (c.trim.ensures p)
 
 pub returns-clause-same_heads : goal.returns-clause-same_heads
 returns-clause-same_heads g c =
     let p = g.F.PrimeField.P in
     let column = c.args.column.now.items in
     let entry = c.index_mut.result.now in
-    let written : Entry = record { head = entry.head; terms = c.cancel.new.entry } in
+    let written : Entry = record { head = entry.head; terms = c.take_off.new.terms } in
     written-heads p column c.args.at entry written (slice_set column c.args.at written) c.trim.new.column.items
     (record {
       within = c.requires.at;
