@@ -1,4 +1,4 @@
--- Kinks, by the two passes of a crossing.
+-- Kinks and bigons, by the two passes of each crossing.
 use Rattle.std.specs.Prelude.{◌≡◌, ◌⊎◌, ℕ, List}
 use Rattle.kh_types.specs.Code.{place_of, slots_of}
 use Rattle.kh_types.specs.Directions.{is_positive}
@@ -13,8 +13,10 @@ under_pass_of crossings crossing = under_pass (slots_of crossings crossing) (pla
 abbrev pub over_pass_of : List (List ℕ) → ℕ → Pass
 over_pass_of crossings crossing = over_pass (slots_of crossings crossing) (is_positive crossings crossing) (place_of crossing)
 
--- one of the two passes of a crossing leaves on the arc on which the other enters
+-- one of two passes leaves on the arc on which the other enters
+abbrev pub AreNeighbours : Pass → Pass → Type 0
+AreNeighbours pass other = (pass.leaves ≡ other.enters) ⊎ (other.leaves ≡ pass.enters)
+
+-- the two passes of a crossing do so
 abbrev pub HasKink : List (List ℕ) → ℕ → Type 0
-HasKink crossings crossing =
-    ((under_pass_of crossings crossing).leaves ≡ (over_pass_of crossings crossing).enters)
-    ⊎ ((over_pass_of crossings crossing).leaves ≡ (under_pass_of crossings crossing).enters)
+HasKink crossings crossing = AreNeighbours (under_pass_of crossings crossing) (over_pass_of crossings crossing)

@@ -8,7 +8,7 @@ ghost use Rattle.kinks_and_fingers.specs.Dropping.{HasBigonAt};
 ghost use Rattle.kinks_and_fingers.specs.DropRule.{IsLeft};
 ghost use Rattle.kinks_and_fingers.specs.Drops.{is_of_two};
 ghost use Rattle.orient_arcs.specs.Renumbered.{renumber};
-ghost use Rattle.diagram_moves.specs.DropPasses.{HasKink};
+ghost use Rattle.diagram_moves.specs.DropPasses.{AreNeighbours, HasKink, over_pass_of, under_pass_of};
 ghost use Rattle.diagram_moves.specs.Moved.{moved};
 ghost use Rattle.diagram_moves.specs.declared.change.Move.TheVariants.{FingerDrop, KinkDrop};
 ghost use Rattle.diagram_moves.specs.declared.fault.MoveFault.TheVariants.{NoBigon, NoCrossing, NoKink};
@@ -30,8 +30,9 @@ pub fn kinks_are_dropped_by_the_rule()
 {}
 
 /// The drop of two crossings is refused exactly where there is no such crossing, the first named
-/// one first, or where they meet in no bigon from any slot of the first and any of the second. What
-/// it leaves is the rule's, renumbered.
+/// one first, or where they meet in no bigon from any slot of the first and any of the second. In a
+/// bigon the two over passes follow one another, and so do the two under passes. What it leaves is
+/// the rule's, renumbered.
 pub fn bigons_are_dropped_by_the_rule()
     ensures first { (code : Code) (first second : ℕ) → ¬ IsCrossing code.crossings first
         → moved code (FingerDrop first second) ≡ Err (NoCrossing first) }
@@ -42,6 +43,12 @@ pub fn bigons_are_dropped_by_the_rule()
         → IsCrossing code.crossings second
         → (moved code (FingerDrop first second) ≡ Err (NoBigon first second))
         ↔ ((p q : ℕ) → ¬ HasBigonAt code.crossings (place_of first) (place_of second) p q) }
+    ensures passes { (code : Code) (first second p q : ℕ) → IsTrue (accepted code)
+        → IsCrossing code.crossings first → IsCrossing code.crossings second
+        → HasBigonAt code.crossings (place_of first) (place_of second) p q
+        → AreNeighbours (over_pass_of code.crossings first) (over_pass_of code.crossings second)
+        × AreNeighbours (under_pass_of code.crossings first) (under_pass_of code.crossings
+        second) }
     ensures left { (code new : Code) (first second : ℕ) → IsTrue (accepted code)
         → moved code (FingerDrop first second) ≡ Ok new
         → (parts : Parts) × IsLeft code (is_of_two (place_of first) (place_of second)) parts
