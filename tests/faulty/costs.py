@@ -100,7 +100,7 @@ def best_times(child, true, case):
 
 
 def answer_faults(child, commands):
-    """What the answers to a large diagram take too much memory for, if they do: its table, its log, which is verified, its reduced table."""
+    """Which answers to a large diagram take too much memory: its table, its log, which is verified, and its reduced table."""
     text = dict(known_diagrams.begun())[LARGE].encode()
     generators, given = plain.cube.generator_count(codes.read(text.decode())), {"certify": text, "reduced": text}
     table = child.run(["homology"], text)

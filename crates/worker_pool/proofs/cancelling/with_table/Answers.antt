@@ -8,6 +8,9 @@ pub table_of-requires-clause-blocks : goal.table_of-requires-clause-blocks
 table_of-requires-clause-blocks g c =
     subst (AreBlocksOf c.args.diagram.now) (sym c.deref.ensures.value) (blocks_all c.args.diagram.now c.args.done.blocks.items c.requires.blocks)
 
+pub returns-clause-table : goal.returns-clause-table
+returns-clause-table g c = c.in_ok-table.ensures
+
 pub returns-clause-blocks : goal.returns-clause-blocks
 returns-clause-blocks g c =
     all_cancelled g.F.PrimeField.P c.args.diagram.now c.args.done.blocks.items c.args.done.committed.items c.requires.blocks c.requires.done
