@@ -4,7 +4,7 @@ ghost use Rattle.std.specs.Prelude.{◌≡◌};
 
 use circle_smoothing::CountedDiagram;
 use cube_signs::{
-    Cube, Generator, SizeLimit, block_columns, block_degrees, check_kinds, check_size,
+    Cube, Generator, SizeLimit, SmallDiagram, block_columns, block_degrees, check_size,
 };
 use kh_types::{Diagram, NoMemory};
 use known_links::{TREFOIL, diagram_of};
@@ -167,7 +167,7 @@ fn twenty_curls_have_too_many_generators(rt: HostRuntime) -> Result<(), Fail> {
     let diagram = diagram_of(&crossings, 0)?;
     let counted = CountedDiagram::of_diagram(&diagram);
     assert!(rt; check_size(&diagram) == Err(SizeLimit { generators }));
-    assert!(rt; check_kinds(&counted) == Err(SizeLimit { generators }));
+    assert!(rt; SmallDiagram::try_new(counted).err() == Some(SizeLimit { generators }));
     assert!(rt; check_size(&diagram_of(TREFOIL, 0)?) == Ok(30));
     Ok(())
 }
