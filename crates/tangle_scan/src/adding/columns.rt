@@ -111,7 +111,8 @@ fn push_columns_of<'a, F: PrimeField>(
     requires saddle { IsSaddleOf links.now.adding.now parent.now.place saddle.now }
     requires parent { IsParent links.now.adding.now parent.now }
     requires smoothing { smoothing < 2 }
-    ensures columns { (from : List Origin) → AreColumnsFrom F.P links.now.adding.now from made.old.items
+    ensures columns { (from : List Origin)
+        → AreColumnsFrom F.P links.now.adding.now from made.old.items
         → OnOk result (AreColumnsFrom F.P links.now.adding.now (from
         ++ origins_with (code_in links.now.adding.now) (scan_in links.now.adding.now)
         parent.now.place smoothing) made.new.items) }
