@@ -146,8 +146,8 @@ fn column_from<'a, F: PrimeField>(
     ensures bridges { OnOk result (AreBridgesFrom links.now.adding.now
         child.now.side.smoothing child.now.parent bridges.new.items) }
 {
+    let mut column = Vec::new(links.alloc);
     let entries = &links.adding.complex.columns[child.parent];
-    let mut column = Vec::with_capacity(links.alloc, entries.len())?;
     push_all::<F>(&mut column, links, bridges, child, entries)?;
     push_saddles::<F>(&mut column, links, saddle, child, parent)?;
     Ok(column)
