@@ -14,7 +14,8 @@ use Rattle.crossing_maps.proofs.PlaceLaws.{can-add}
 use Rattle.scan_laws.specs.Scans.{pairs_of}
 use Rattle.tangle_scan.specs.declared.adding.Adding.{Adding}
 use Rattle.tangle_scan.specs.declared.adding.bridges.BridgeTo.{BridgeTo}
-use Rattle.tangle_scan.specs.AddedBridges.{AreBridgesFrom, HasBridgeAt, IsBridgeFrom, IsBridgeIn, IsBridgeOver, IsSaddleOf}
+use Rattle.tangle_scan.specs.declared.adding.bridges.BridgesOf.{BridgesOf}
+use Rattle.tangle_scan.specs.AddedBridges.{AreAllBridges, AreBridgesFrom, AreBridgesOf, HasBridgeAt, HasBridgesAt, IsBridgeFrom, IsBridgeIn, IsBridgeOver, IsSaddleIn, IsSaddleOf, LeadFrom, pairs_in}
 use Rattle.tangle_scan.specs.Additions.{IsReady, IsSideOf, code_in, done_in, scan_in}
 
 module _ (adding : Adding) where
@@ -59,7 +60,7 @@ module _ (adding : Adding) where
 
   -- and to its pairing
   bridge-from : (tail head e : ℕ) (to : BridgeTo) → joins_of to.pairing.partners adding.site.opened.now ≡ pairs head
-      → IsBridgeOver adding e tail head to.bridge → IsBridgeFrom adding e tail to
+      → IsBridgeOver adding e tail head to.bridge → IsBridgeFrom adding e (pairs tail) to
   bridge-from tail head e to same is = subst (λ n. IsBridgeIn adding e (pairs tail) n to.bridge) (sym same) is
 
   pub bridges-pushed : (tail head e : ℕ) (to : BridgeTo) (old new : List BridgeTo)
@@ -67,7 +68,7 @@ module _ (adding : Adding) where
       → new ≡ old ++ to ∷ [] → AreBridgesFrom adding e tail old → AreBridgesFrom adding e tail new
   bridges-pushed tail head e to old new same is pushed are =
       subst (λ (xs : List BridgeTo). AreBridgesFrom adding e tail xs) (sym pushed)
-      (All-push (IsBridgeFrom adding e tail) old to are (bridge-from tail head e to same is))
+      (All-push (IsBridgeFrom adding e (pairs tail)) old to are (bridge-from tail head e to same is))
 
   pub bridge-pushed : (tail head e place : ℕ) (to : BridgeTo) (old new : List BridgeTo) → IsBridgeOver adding e tail head to.bridge
       → new ≡ old ++ to ∷ [] → place ≡ length old → HasBridgeAt adding e tail head new place
@@ -99,3 +100,29 @@ module _ (adding : Adding) where
     saddle = subst (λ m. IsSaddleBridge (code_in adding) (done_in adding) m bridge) first.pairs
         (is (code_in adding) (done_in adding) ready.place ready.site (side-there place from first) (side-there place to second));
   }
+
+  -- bridges of a pairing, before any is made, and with the saddle's
+  pub bridges-begun : (tail : ℕ) (bridges : BridgesOf) → pairs_in adding bridges ≡ pairs tail → bridges.zero.items ≡ []
+      → bridges.one.items ≡ [] → IsSaddleOf adding tail bridges.saddle → AreBridgesOf adding bridges
+  bridges-begun tail bridges same zero one saddle = record {
+    zero = subst (λ (xs : List BridgeTo). LeadFrom adding 0 (pairs_in adding bridges) xs) (sym zero) (nothing 0);
+    one = subst (λ (xs : List BridgeTo). LeadFrom adding 1 (pairs_in adding bridges) xs) (sym one) (nothing 1);
+    saddle = subst (λ m. IsSaddleIn adding m bridges.saddle) (sym same) saddle;
+  }
+    where
+      nothing : (e : ℕ) → LeadFrom adding e (pairs_in adding bridges) []
+      nothing e place d within = absurd (omega (arith, within))
+
+  pub all-pushed : (bridges : BridgesOf) (old new : List BridgesOf) → AreBridgesOf adding bridges → new ≡ old ++ bridges ∷ []
+      → AreAllBridges adding old → AreAllBridges adding new
+  all-pushed bridges old new is pushed are =
+      subst (λ (xs : List BridgesOf). AreAllBridges adding xs) (sym pushed) (All-push (AreBridgesOf adding) old bridges are is)
+
+  pub place-pushed : (tail place : ℕ) (bridges : BridgesOf) (old new : List BridgesOf) → pairs_in adding bridges ≡ pairs tail
+      → new ≡ old ++ bridges ∷ [] → place ≡ length old → HasBridgesAt adding tail new place
+  place-pushed tail place bridges old new same pushed here =
+      subst (λ (xs : List BridgesOf). HasBridgesAt adding tail xs place) (sym pushed)
+      (record {
+        within = omega (arith, here, length_push old bridges);
+        pairs = λ d. ap (λ (b : BridgesOf). pairs_in adding b) (get_or_push old bridges d place (sym here)) ∙ same;
+      })

@@ -1,8 +1,8 @@
-//! The bridges of new maps: one from an object to each pairing to which it has maps, and that of its
-//! saddle.
+//! The bridges of new maps, each made once: those from one pairing to another with either smoothing,
+//! and those of saddles.
 
 ghost use Rattle.std.specs.Prelude.{◌≡◌, ℕ, ◌<◌, length, slice_index_or, true, IfOk, IfSome, OnOk};
-ghost use Rattle.tangle_scan.specs.AddedBridges.{AreBridgesFrom, HasBridgeAt, IsSaddleOf};
+ghost use Rattle.tangle_scan.specs.AddedBridges.{AreAllBridges, AreBridgesFrom, HasBridgeAt, HasBridgesAt, IsSaddleOf};
 ghost use Rattle.tangle_scan.specs.Additions.{AreLinks, IsChild, IsParent};
 
 use crate::adding::children::{Child, Links, Parent, pairing_of, side_of};
@@ -11,15 +11,27 @@ use crossing_maps::bridges::Bridge;
 use kh_types::NoMemory;
 use tangle_maps::Pairing;
 
-/// A bridge from an object, and the pairing to which it leads.
+/// A bridge, and the pairing to which it leads.
 #[derive(Drop)]
 pub struct BridgeTo {
     pub pairing: Pairing,
     pub bridge: Bridge,
 }
 
-/// The bridges from an object with one smoothing that have been made, each to another pairing.
+/// The bridges from a pairing with one smoothing that have been made, each to another pairing.
 pub type Bridges = Vec<BridgeTo>;
+
+/// The bridges of a pairing: those with either smoothing, and that of its saddle.
+#[derive(Drop)]
+pub struct BridgesOf {
+    pub pairing: Pairing,
+    pub zero: Bridges,
+    pub one: Bridges,
+    pub saddle: Bridge,
+}
+
+/// The bridges of the pairings of objects, as far as they have been made.
+pub type AllBridges = Vec<BridgesOf>;
 
 /// Whether two pairings have the same partners.
 fn are_alike(one: &Pairing, other: &Pairing) -> bool
@@ -94,7 +106,7 @@ pub fn bridge_to(
 }
 
 /// The bridge of the saddle of an object.
-pub fn saddle_of(links: &Links<'_>, parent: &Parent<'_>) -> Bridge
+fn saddle_of(links: &Links<'_>, parent: &Parent<'_>) -> Bridge
     requires links { (p : ℕ) × AreLinks p links.now }
     requires parent { IsParent links.now.adding.now parent.now }
     ensures { IsSaddleOf links.now.adding.now parent.now.place result }
@@ -102,4 +114,62 @@ pub fn saddle_of(links: &Links<'_>, parent: &Parent<'_>) -> Bridge
     let from = side_of(links, parent, 0);
     let to = side_of(links, parent, 1);
     saddle_bridge(&links.adding.site, &from, &to)
+}
+
+/// The place of the bridges of a pairing, if there are any.
+fn place_of(all: &[BridgesOf], pairing: &Pairing) -> Option<usize>
+    ensures within { IfSome result (λ place. place < length all.now) }
+    ensures found { IfSome result (λ place. (d : BridgesOf)
+        → (slice_index_or all.now place d).pairing.partners ≡ pairing.now.partners) }
+{
+    'all: for place in 0..all.len() {
+        if are_alike(&all[place].pairing, pairing) {
+            return Some(place);
+        }
+    }
+    None
+}
+
+/// Begins the bridges of an object's pairing, and tells their place.
+fn push_bridges(
+    all: &mut AllBridges,
+    links: &Links<'_>,
+    parent: &Parent<'_>,
+) -> Result<usize, NoMemory>
+    requires links { (p : ℕ) × AreLinks p links.now }
+    requires parent { IsParent links.now.adding.now parent.now }
+    requires all { AreAllBridges links.now.adding.now all.old.items }
+    ensures all { OnOk result (AreAllBridges links.now.adding.now all.new.items) }
+    ensures place { IfOk result (λ place. HasBridgesAt links.now.adding.now parent.now.place
+        all.new.items place) }
+{
+    let pairing = pairing_of(links, parent);
+    let saddle = saddle_of(links, parent);
+    let place = all.len();
+    all.push(BridgesOf {
+        pairing: *pairing,
+        zero: Vec::new(links.alloc),
+        one: Vec::new(links.alloc),
+        saddle,
+    })?;
+    Ok(place)
+}
+
+/// The place of the bridges of an object's pairing, which are begun if there are none.
+pub fn bridges_of(
+    all: &mut AllBridges,
+    links: &Links<'_>,
+    parent: &Parent<'_>,
+) -> Result<usize, NoMemory>
+    requires links { (p : ℕ) × AreLinks p links.now }
+    requires parent { IsParent links.now.adding.now parent.now }
+    requires all { AreAllBridges links.now.adding.now all.old.items }
+    ensures all { OnOk result (AreAllBridges links.now.adding.now all.new.items) }
+    ensures place { IfOk result (λ place. HasBridgesAt links.now.adding.now parent.now.place
+        all.new.items place) }
+{
+    match place_of(all, pairing_of(links, parent)) {
+        Some(place) => Ok(place),
+        None => push_bridges(all, links, parent),
+    }
 }

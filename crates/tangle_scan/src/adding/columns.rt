@@ -3,16 +3,18 @@
 ghost use Rattle.std.specs.Prelude.{◌≡◌, ℕ, ◌+◌, ◌<◌, List, [], ◌++◌, length, map, take, IfOk, OnOk};
 ghost use Rattle.std.specs.List.{flat_map};
 ghost use Rattle.scan_laws.specs.Adding.{Origin, origins_with};
-ghost use Rattle.tangle_scan.specs.AddedBridges.{AreBridgesFrom};
+ghost use Rattle.scan_laws.specs.Scans.{pairs_of};
+ghost use Rattle.tangle_scan.specs.AddedBridges.{AreAllBridges, AreBridgesFrom, AreBridgesOf, IsSaddleOf, pairs_in};
 ghost use Rattle.tangle_scan.specs.Additions.{AreColumnsFrom, AreLinks, HasEntriesTo, IsChild, IsColumnFrom, IsParent};
 ghost use Rattle.tangle_scan.specs.Additions.{all_origins, code_in, head_of, objects_in, origin_in, origins_to, scan_in, targets_along};
 ghost use Rattle.tangle_scan.specs.Held.{column_at};
 
-use crate::adding::bridges::Bridges;
+use crate::adding::bridges::{AllBridges, Bridges, BridgesOf, bridges_of};
 use crate::adding::children::{Child, Links, Parent, child_of, parent_at};
 use crate::adding::entries::{push_along, push_saddles};
 use crate::adding::successors::label_count;
 use crate::column::{Column, Entry};
+use crossing_maps::bridges::Bridge;
 use kh_types::NoMemory;
 use prime_field::PrimeField;
 
@@ -23,8 +25,9 @@ pub fn columns_of<F: PrimeField>(links: &Links<'_>) -> Result<Vec<Column>, NoMem
         (all_origins links.now.adding.now) columns.items) }
 {
     let mut made = Vec::with_capacity(links.alloc, links.count)?;
+    let mut all = Vec::new(links.alloc);
     'places: for place in 0..links.successors.len() {
-        push_columns::<F>(&mut made, links, place)?;
+        push_columns::<F>(&mut made, links, &mut all, place)?;
     }
     Ok(made)
 }
@@ -33,57 +36,92 @@ pub fn columns_of<F: PrimeField>(links: &Links<'_>) -> Result<Vec<Column>, NoMem
 fn push_columns<'a, F: PrimeField>(
     made: &mut Vec<Column>,
     links: &Links<'a>,
+    all: &mut AllBridges,
     place: usize,
 ) -> Result<(), NoMemory>
     requires links { AreLinks F.P links.now }
+    requires all { AreAllBridges links.now.adding.now all.old.items }
     requires place { place < length (objects_in links.now.adding.now) }
     requires made { AreColumnsFrom F.P links.now.adding.now
         (origins_to links.now.adding.now place) made.old.items }
-    ensures { OnOk result (AreColumnsFrom F.P links.now.adding.now
+    ensures columns { OnOk result (AreColumnsFrom F.P links.now.adding.now
         (origins_to links.now.adding.now (place + 1)) made.new.items) }
+    ensures all { OnOk result (AreAllBridges links.now.adding.now all.new.items) }
 {
     match parent_at(links, place) {
         None => Ok(()),
-        Some(parent) => push_both::<F>(made, links, &parent),
+        Some(parent) => push_alive::<F>(made, links, all, &parent),
     }
+}
+
+/// Adds the columns of the successors of an object, with the bridges of its pairing.
+fn push_alive<'a, F: PrimeField>(
+    made: &mut Vec<Column>,
+    links: &Links<'a>,
+    all: &mut AllBridges,
+    parent: &Parent<'a>,
+) -> Result<(), NoMemory>
+    requires links { AreLinks F.P links.now }
+    requires all { AreAllBridges links.now.adding.now all.old.items }
+    requires parent { IsParent links.now.adding.now parent.now }
+    requires made { AreColumnsFrom F.P links.now.adding.now
+        (origins_to links.now.adding.now parent.now.place) made.old.items }
+    ensures columns { OnOk result (AreColumnsFrom F.P links.now.adding.now
+        (origins_to links.now.adding.now (parent.now.place + 1)) made.new.items) }
+    ensures all { OnOk result (AreAllBridges links.now.adding.now all.new.items) }
+{
+    let place = bridges_of(all, links, parent)?;
+    push_both::<F>(made, links, &mut all[place], parent)
 }
 
 /// Adds the columns of the successors of an object, with one smoothing and with the other.
 fn push_both<'a, F: PrimeField>(
     made: &mut Vec<Column>,
     links: &Links<'a>,
+    bridges: &mut BridgesOf,
     parent: &Parent<'a>,
 ) -> Result<(), NoMemory>
     requires links { AreLinks F.P links.now }
     requires parent { IsParent links.now.adding.now parent.now }
+    requires bridges { AreBridgesOf links.now.adding.now bridges.old }
+    requires pairs { pairs_in links.now.adding.now bridges.old
+        ≡ pairs_of (scan_in links.now.adding.now) parent.now.place }
     requires made { AreColumnsFrom F.P links.now.adding.now
         (origins_to links.now.adding.now parent.now.place) made.old.items }
-    ensures { OnOk result (AreColumnsFrom F.P links.now.adding.now
+    ensures columns { OnOk result (AreColumnsFrom F.P links.now.adding.now
         (origins_to links.now.adding.now (parent.now.place + 1)) made.new.items) }
+    ensures bridges { OnOk result (AreBridgesOf links.now.adding.now bridges.new) }
 {
-    push_columns_of::<F>(made, links, parent, 0)?;
-    push_columns_of::<F>(made, links, parent, 1)
+    push_columns_of::<F>(made, links, &mut bridges.zero, &bridges.saddle, parent, 0)?;
+    push_columns_of::<F>(made, links, &mut bridges.one, &bridges.saddle, parent, 1)
 }
 
 /// Adds the columns of the successors of an object that have a smoothing.
 fn push_columns_of<'a, F: PrimeField>(
     made: &mut Vec<Column>,
     links: &Links<'a>,
+    bridges: &mut Bridges,
+    saddle: &Bridge,
     parent: &Parent<'a>,
     smoothing: u8,
 ) -> Result<(), NoMemory>
     requires links { AreLinks F.P links.now }
+    requires bridges { AreBridgesFrom links.now.adding.now smoothing parent.now.place
+        bridges.old.items }
+    requires saddle { IsSaddleOf links.now.adding.now parent.now.place saddle.now }
     requires parent { IsParent links.now.adding.now parent.now }
     requires smoothing { smoothing < 2 }
-    ensures { (from : List Origin) → AreColumnsFrom F.P links.now.adding.now from made.old.items
+    ensures columns { (from : List Origin)
+        → AreColumnsFrom F.P links.now.adding.now from made.old.items
         → OnOk result (AreColumnsFrom F.P links.now.adding.now (from
         ++ origins_with (code_in links.now.adding.now) (scan_in links.now.adding.now)
         parent.now.place smoothing) made.new.items) }
+    ensures bridges { OnOk result (AreBridgesFrom links.now.adding.now smoothing
+        parent.now.place bridges.new.items) }
 {
-    let mut bridges = Vec::new(links.alloc);
     'labels: for label in 0..label_count(parent.split(smoothing)) {
         let child = child_of(links, parent, smoothing, label);
-        made.push(column_from::<F>(links, &mut bridges, &child, parent)?)?;
+        made.push(column_from::<F>(links, bridges, saddle, &child, parent)?)?;
     }
     Ok(())
 }
@@ -92,10 +130,12 @@ fn push_columns_of<'a, F: PrimeField>(
 fn column_from<'a, F: PrimeField>(
     links: &'a Links<'a>,
     bridges: &mut Bridges,
+    saddle: &'a Bridge,
     child: &'a Child<'a>,
     parent: &Parent<'a>,
 ) -> Result<Column, NoMemory>
     requires links { AreLinks F.P links.now }
+    requires saddle { IsSaddleOf links.now.adding.now parent.now.place saddle.now }
     requires bridges { AreBridgesFrom links.now.adding.now child.now.side.smoothing
         child.now.parent bridges.old.items }
     requires child { IsChild links.now.adding.now child.now }
@@ -109,7 +149,7 @@ fn column_from<'a, F: PrimeField>(
     let mut column = Vec::new(links.alloc);
     let entries = &links.adding.complex.columns[child.parent];
     push_all::<F>(&mut column, links, bridges, child, entries)?;
-    push_saddles::<F>(&mut column, links, child, parent)?;
+    push_saddles::<F>(&mut column, links, saddle, child, parent)?;
     Ok(column)
 }
 

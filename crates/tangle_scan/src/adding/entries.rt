@@ -9,7 +9,7 @@ ghost use Rattle.tangle_scan.specs.Additions.{AreLinks, HasEntriesTo, IsChild, I
 ghost use Rattle.tangle_scan.specs.Additions.{code_in, has_terms, objects_in, origin_in, saddle_targets, scan_in, targets_along};
 ghost use Rattle.tangle_scan.specs.Held.{degree_at, terms_between};
 
-use crate::adding::bridges::{Bridges, bridge_to, saddle_of};
+use crate::adding::bridges::{Bridges, bridge_to};
 use crate::adding::children::{Child, Links, Parent, child_of, parent_at};
 use crate::adding::successors::label_count;
 use crate::column::{Column, Entry};
@@ -217,14 +217,16 @@ fn push_saddle<F: PrimeField>(
 }
 
 /// Adds the saddles from a new object with the 0-smoothing to all that have the 1-smoothing of the
-/// same old object.
+/// same old object, over the bridge of its saddle.
 fn push_all_saddles<'a, F: PrimeField>(
     column: &mut Column,
     links: &Links<'a>,
-    from: &Child<'a>,
+    bridge: &'a Bridge,
+    from: &'a Child<'a>,
     parent: &Parent<'a>,
 ) -> Result<(), NoMemory>
     requires links { AreLinks F.P links.now }
+    requires bridge { IsSaddleOf links.now.adding.now parent.now.place bridge.now }
     requires parent { IsParent links.now.adding.now parent.now }
     requires same { from.now.parent ≡ parent.now.place }
     requires before { from.now.side.smoothing ≡ 0 }
@@ -234,11 +236,7 @@ fn push_all_saddles<'a, F: PrimeField>(
         (targets ++ origins_with (code_in links.now.adding.now) (scan_in links.now.adding.now)
         parent.now.place 1) column.new.items) }
 {
-    let bridge = saddle_of(links, parent);
-    let saddle = Saddle {
-        from,
-        bridge: &bridge,
-    };
+    let saddle = Saddle { from, bridge };
     'labels: for label in 0..label_count(parent.split(1)) {
         let to = child_of(links, parent, 1, label);
         push_saddle::<F>(column, links, &saddle, &to)?;
@@ -246,14 +244,17 @@ fn push_all_saddles<'a, F: PrimeField>(
     Ok(())
 }
 
-/// Adds the saddles from a new object, if it has the 0-smoothing.
+/// Adds the saddles from a new object over the bridge of its parent's saddle, if it has the
+/// 0-smoothing.
 pub fn push_saddles<'a, F: PrimeField>(
     column: &mut Column,
     links: &Links<'a>,
-    from: &Child<'a>,
+    bridge: &'a Bridge,
+    from: &'a Child<'a>,
     parent: &Parent<'a>,
 ) -> Result<(), NoMemory>
     requires links { AreLinks F.P links.now }
+    requires bridge { IsSaddleOf links.now.adding.now parent.now.place bridge.now }
     requires from { IsChild links.now.adding.now from.now }
     requires parent { IsParent links.now.adding.now parent.now }
     requires same { from.now.parent ≡ parent.now.place }
@@ -263,7 +264,7 @@ pub fn push_saddles<'a, F: PrimeField>(
         (targets ++ saddle_targets links.now.adding.now (origin_in from.now)) column.new.items) }
 {
     if from.side.smoothing == 0 {
-        push_all_saddles::<F>(column, links, from, parent)
+        push_all_saddles::<F>(column, links, bridge, from, parent)
     } else {
         Ok(())
     }

@@ -6,4 +6,4 @@ pub returns : goal.returns
 returns g c =
     let adding = c.args.links.now.adding.now in
     subst (λ n. AreColumnsFrom g.F.PrimeField.P adding (origins_to adding n) c.places.made.items)
-    (omega (arith, c.places-test.false, c.places.auto.place-end, c.requires.links.many)) c.places.invariant
+    (omega (arith, c.places-test.false, c.places.auto.place-end, c.requires.links.many)) c.places.invariant.columns

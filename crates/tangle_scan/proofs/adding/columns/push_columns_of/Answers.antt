@@ -22,8 +22,8 @@ labels-preserved g c = record {
       c.child_of-child.ensures.parent c.in_ok-column_from.ensures.bridges;
 }
 
-pub returns : goal.returns
-returns g c = λ from all.
+pub returns-clause-columns : goal.returns-clause-columns
+returns-clause-columns g c = λ from all.
     let adding = c.args.links.now.adding.now in
     let parent = c.args.parent.now in
     columns-all g.F.PrimeField.P adding from parent.place c.args.smoothing c.labels.label c.split.result.now c.labels.made.items

@@ -21,7 +21,10 @@ returns g c = λ targets has.
     entry has
     (entry-added p adding (origin_in from) (origin_in to) m n c.args.arrow.now.terms.now entry refl refl c.requires.terms
     c.requires.smoothing c.requires.to.stands c.in_ok-terms.ensures.reduced
-    (subst (λ (l : Labels). AreAddedTerms p (code_in adding) (done_in adding) from.side.smoothing m n l.before l.behind c.args.arrow.now.terms.now entry.terms.items)
+    (subst
+    (λ (l : Labels).
+    AreAddedTerms p (code_in adding) (done_in adding) from.side.smoothing m n l.before l.behind c.args.arrow.now.terms.now
+    entry.terms.items)
     c.labels_between-labels.ensures
     (c.in_ok-terms.ensures.terms (code_in adding) (done_in adding) from.side.smoothing m n bridge.pairs bridge.added)))
     c.push_entry.ensures
