@@ -87,7 +87,8 @@ pub fn closures_have_the_signs_of_their_letters()
 {}
 
 /// The arc through the bottom of a position has that position as its name, before the arcs are
-/// numbered; and each component of a closure begins with the least bottom that it passes.
+/// numbered; and each component of a closure begins with the least bottom that it passes, before
+/// components are turned.
 pub fn components_of_closures_begin_at_their_least_bottoms()
     ensures names { (strands : ℕ) (letters : List ℤ) (position : ℕ)
         → HasBottom strands letters position → bottom_name strands letters position ≡ position }

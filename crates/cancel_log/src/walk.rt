@@ -114,7 +114,7 @@ impl<F: PrimeField> Walk<F> {
         Ok(None)
     }
 
-    /// Makes the next block, where none is held: so one is in memory at a time.
+    /// Makes the next block, where none is held. No other call makes one.
     fn hold(&mut self, alloc: Global, cube: &Cube, j: i16) -> Result<(), NoMemory>
         requires none_held { self.old.current ≡ None }
         requires degree { Contains (block_degrees cube.now) j }

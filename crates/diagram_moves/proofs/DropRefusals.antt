@@ -187,6 +187,31 @@ no_bigon-refused code first second is other_is =
       ]),
     )
 
+-- drops that are made
+
+pub kink-dropped : (code : Code) (crossing : ℕ) → IsTrue (accepted code) → IsCrossing code.crossings crossing
+    → HasKink code.crossings crossing → (new : Code) × (moved code (KinkDrop crossing) ≡ Ok new)
+unfolding moved
+kink-dropped code crossing holds is has = (
+  renumber (without_kink code (place_of crossing)),
+  ap (λ o. answered (option_or o (no_kink code crossing)) (renumber (without_kink code (place_of crossing)))) (no_crossing-none code crossing is)
+      ∙ ap (λ b. answered (refused_where (not b) (NoKink crossing)) (renumber (without_kink code (place_of crossing))))
+      ((kink-made code crossing holds is).1 has),
+)
+
+pub bigon-dropped : (code : Code) (first second p q : ℕ) → IsCrossing code.crossings first → IsCrossing code.crossings second
+    → HasBigonAt code.crossings (place_of first) (place_of second) p q → (new : Code) × (moved code (FingerDrop first second) ≡ Ok new)
+unfolding moved
+bigon-dropped code first second p q is other_is has = (
+  renumber (without_finger code (place_of first) (place_of second)),
+  ap (λ o. answered (option_or o (option_or (no_crossing code second) (no_bigon code first second)))
+      (renumber (without_finger code (place_of first) (place_of second)))) (no_crossing-none code first is)
+      ∙ ap (λ o. answered (option_or o (no_bigon code first second)) (renumber (without_finger code (place_of first) (place_of second))))
+      (no_crossing-none code second other_is)
+      ∙ ap (λ b. answered (refused_where (not b) (NoBigon first second)) (renumber (without_finger code (place_of first) (place_of second))))
+      (bigon-found code.crossings (place_of first) (place_of second) p q has),
+)
+
 -- crossings that there are not
 
 pub no_crossing-refused : (code : Code) (crossing : ℕ)

@@ -23,6 +23,9 @@ pub fn kinks_are_dropped_by_the_rule()
         → IsCrossing code.crossings crossing
         → (moved code (KinkDrop crossing) ≡ Err (NoKink crossing))
         ↔ ¬ HasKink code.crossings crossing }
+    ensures made { (code : Code) (crossing : ℕ) → IsTrue (accepted code)
+        → IsCrossing code.crossings crossing → HasKink code.crossings crossing
+        → (new : Code) × (moved code (KinkDrop crossing) ≡ Ok new) }
     ensures left { (code new : Code) (crossing : ℕ) → IsTrue (accepted code)
         → moved code (KinkDrop crossing) ≡ Ok new
         → (parts : Parts) × IsLeft code (nat_eq (place_of crossing)) parts
@@ -43,6 +46,10 @@ pub fn bigons_are_dropped_by_the_rule()
         → IsCrossing code.crossings second
         → (moved code (FingerDrop first second) ≡ Err (NoBigon first second))
         ↔ ((p q : ℕ) → ¬ HasBigonAt code.crossings (place_of first) (place_of second) p q) }
+    ensures made { (code : Code) (first second p q : ℕ) → IsCrossing code.crossings first
+        → IsCrossing code.crossings second
+        → HasBigonAt code.crossings (place_of first) (place_of second) p q
+        → (new : Code) × (moved code (FingerDrop first second) ≡ Ok new) }
     ensures passes { (code : Code) (first second p q : ℕ) → IsTrue (accepted code)
         → IsCrossing code.crossings first → IsCrossing code.crossings second
         → HasBigonAt code.crossings (place_of first) (place_of second) p q

@@ -21,7 +21,7 @@ pub fn reply_to_jones(alloc: Global, diagram: &Diagram) -> Result<Reply, NoMemor
     ))
 }
 
-/// The text of this line, with its line feed, given the kinds of the diagram's states. Source: this
+/// The text of this line, with its line feed, of a diagram with its states counted. Source: this
 /// project's rule.
 pub fn jones_line(alloc: Global, counted: &CountedDiagram) -> Result<Vec<u8>, NoMemory>
     ensures { IfOk result (λ text. text.items ≡ jones_line counted.now) }

@@ -13,7 +13,7 @@ reply_in (Made reply) = reply
 reply_in (Table field workers code) = reply_of Done (homology_text field code)
 reply_in (Bench field workers number code) = reply_of Done (bench_text field number code)
 
--- the workers that are to make the table of a draft, where one is still to be made, are as many as there may be
+-- from 1 to WORKERS workers are to make the table of a draft, where one is still to be made
 abbrev pub AwaitsWorkers : Draft → Type 0
 AwaitsWorkers (Made reply) = Unit {0}
 AwaitsWorkers (Table field workers code) = AreWorkers workers

@@ -31,7 +31,7 @@ order_for tasks.Bench command = Bench command.field command.workers (unwrap_or c
 abbrev pub order_of : Command → Order
 order_of command = order_for command.task command
 
--- the workers that an order names are as many as there may be
+-- an order names from 1 to WORKERS workers, where it names any
 abbrev pub HasWorkers : Order → Type 0
 HasWorkers (Code (Homology field workers)) = AreWorkers workers
 HasWorkers (Bench field workers number) = AreWorkers workers

@@ -55,9 +55,9 @@ pub enum CodeOrder {
 /// What is written of a diagram and a script. Source: this project's rule.
 #[derive(Clone, Copy)]
 pub enum ScriptOrder {
-    /// The diagram after each move.
+    /// The diagram after each line.
     Edit,
-    /// What workers are answered, and the homology table.
+    /// What workers are answered, the homology table, and the Jones polynomial.
     Schedule { field: FieldSize },
 }
 

@@ -4,6 +4,7 @@ use crate::top::run;
 use kh_io::{MemSink, MemSource};
 use kh_replies::Status;
 use kh_types::Words;
+use prime_field::{FieldSize, PrimeField, over_field};
 use std::process::Abort;
 use std::test::Fail;
 
@@ -50,4 +51,18 @@ fn words_and_an_input_come_to_a_status_and_a_text(rt: HostRuntime) -> Result<(),
     comes_to(&rt, &[], &TREFOIL[..37], 1_000, refused)?;
     let cut = (Status::WriteFault, "table 2\nfiel");
     comes_to(&rt, &["--field", "3"], TREFOIL, 12, cut)
+}
+
+/// The number of elements of a field.
+fn elements_of<F: PrimeField>() -> u8 {
+    F::P
+}
+
+#[test]
+fn each_size_chooses_its_field(rt: HostRuntime) -> Result<(), Fail> {
+    assert!(&rt; over_field!(FieldSize::TWO, elements_of()) == 2);
+    assert!(&rt; over_field!(FieldSize::THREE, elements_of()) == 3);
+    assert!(&rt; over_field!(FieldSize::FIVE, elements_of()) == 5);
+    assert!(&rt; over_field!(FieldSize::SEVEN, elements_of()) == 7);
+    Ok(())
 }

@@ -47,7 +47,7 @@ pub fn draft_of_bench(
 ) -> Result<Draft, NoMemory>
     requires workers { AreWorkers workers }
     ensures reply { IfOk result (λ draft. reply_in draft ≡ bench_reply field number) }
-    ensures ready { IfOk result AwaitsWorkers }
+    ensures workers { IfOk result AwaitsWorkers }
 {
     numbers_give_small_diagrams();
     match from_number(number) {

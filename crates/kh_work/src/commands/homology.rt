@@ -29,7 +29,7 @@ pub fn draft_of_homology(
 ) -> Result<Draft, NoMemory>
     requires workers { AreWorkers workers }
     ensures reply { IfOk result (λ draft. reply_in draft ≡ homology_reply field diagram.now) }
-    ensures ready { IfOk result AwaitsWorkers }
+    ensures workers { IfOk result AwaitsWorkers }
 {
     match SmallDiagram::try_new(CountedDiagram::of_diagram(diagram)) {
         Ok(small) => Ok(Draft::Table {
