@@ -53,7 +53,7 @@ IsSaddleOf adding place bridge = IsSaddleIn adding (pairs_of (scan_in adding) pl
 abbrev pub pairs_in : Adding → BridgesOf → List (ℕ × ℕ)
 pairs_in adding bridges = joins_of bridges.pairing.partners adding.site.opened.now
 
--- the bridges of a pairing are those from it with either smoothing, and that of its saddle
+-- each bridge that is kept of a pairing leads from it, with its smoothing; and that of its saddle is there
 pub record AreBridgesOf (adding : Adding) (bridges : BridgesOf) : Type 0 where
   pub zero : LeadFrom adding 0 (pairs_in adding bridges) bridges.zero.items
   pub one : LeadFrom adding 1 (pairs_in adding bridges) bridges.one.items

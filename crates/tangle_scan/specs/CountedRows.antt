@@ -13,7 +13,7 @@ use Rattle.tangle_scan.specs.declared.object.Object.{Object}
 abbrev pub dims_of : Counted → ℤ → ℤ → ℕ
 dims_of counted i j = tallied (count_at counted.loops counted.plus counted.minus i j) counted.tallies.items
 
--- the rows of some numbers at each (i, j)
+-- the row of some numbers at j and i
 abbrev pub row_by : (ℤ → ℤ → ℕ) → ℤ → ℤ → Row
 row_by dims j i = record { j = j; i = i; dim = dims i j }
 
@@ -32,3 +32,9 @@ pub record IsCountedFor (code : Code) (objects : List Object) (counted : Counted
   pub crossings : counted.crossings ≡ length code.crossings
   pub plus : counted.plus ≡ plus_count code.crossings
   pub minus : counted.minus ≡ minus_count code.crossings
+
+-- rows are all that objects have, counted for the table of a code
+pub record AreCountedRows (code : Code) (objects : List Object) (rows : List Row) : Type 0 where
+  pub counted : Counted
+  pub of_objects : IsCountedFor code objects counted
+  pub all : rows ≡ all_rows_by (dims_of counted) counted.crossings

@@ -115,7 +115,7 @@ HasHeadsOf old new = (z : ℕ) → HasHead new z → HasHead old z
 abbrev pub head_at : List Entry → ℕ → ℕ
 head_at column at = slice_index_or (map (λ entry. entry.head) column) at 0
 
--- entries of 0 are gone from a column
+-- a column without some entries of 0
 pub record IsTrimmed (p : ℕ) (old new : List Entry) : Type 0 where
   pub terms : (z : ℕ) → terms_to new z ≡ terms_to old z
   pub heads : HasHeadsOf old new
@@ -128,7 +128,8 @@ IsDottedTo turn entry =
     → AreDotted (opened_points turn.opened.now) (joins_of (partners_at turn.objects.now turn.pivot.tail) turn.opened.now)
     (joins_of (partners_at turn.objects.now entry.head) turn.opened.now) entry.terms.items
 
--- a turn: the objects pair the opened arcs, the pivot's head is not there any more, and its number is one from 1 to p - 1
+-- a turn: the objects pair the opened arcs, the pivot's head is not there any more, and its number is one from 1 to p - 1; its column has
+-- maps to these objects, with dots of discs where the head is there
 pub record IsTurn (p : ℕ) (turn : Turn) : Type 0 where
   pub pairs : All (λ object. turn.opened.now ≡ paired_arcs object.pairing.partners) turn.objects.now
   pub tail : turn.pivot.tail < length turn.objects.now
@@ -143,7 +144,7 @@ pub record IsMultipleAt (turn : Turn) (place : ℕ) (first : List Term) (number 
   pub partners : partners_at turn.objects.now place ≡ partners_at turn.objects.now turn.pivot.tail
   pub told : number_in first ≡ Some number
 
--- the first map of a way within a turn: from an object, and reduced
+-- the first map of a way within a turn: from an object, and reduced; the number that is given, if any, is what it is times the identity
 pub record IsStart (p : ℕ) (turn : Turn) (start : Start) : Type 0 where
   pub place : start.place < length turn.objects.now
   pub first : AreReduced p start.first.now

@@ -122,7 +122,8 @@ fn clear<F: PrimeField>(
 fn multiple_at(turn: &Turn<'_>, place: usize, first: &[Term]) -> Option<u8>
     requires place { place < length turn.now.objects.now }
     requires tail { turn.now.pivot.tail < length turn.now.objects.now }
-    ensures { IfSome result (IsMultipleAt turn.now place first.now) }
+    ensures some { IfSome result (IsMultipleAt turn.now place first.now) }
+    ensures none { result ≡ None → (number : ℕ) → IsMultipleAt turn.now place first.now number → ⊥ }
 {
     match number_of(first) {
         Some(number) if have_one_pairing(&turn.objects[place], &turn.objects[turn.pivot.tail]) => {

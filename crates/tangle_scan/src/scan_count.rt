@@ -3,14 +3,14 @@
 ghost use Rattle.std.specs.Prelude.{◌≡◌, length, IfOk};
 ghost use Rattle.kh_types.specs.Code.{Code};
 ghost use Rattle.scan_laws.specs.Counts.{counted_table};
-ghost use Rattle.tangle_scan.specs.CountedRows.{IsCountedFor};
+ghost use Rattle.tangle_scan.specs.CountedRows.{AreCountedRows, IsCountedFor};
 ghost use Rattle.tangle_scan.specs.Scanned.{scan_of};
 
 use crate::counted::Counted;
 use crate::counting::all_rows;
 use crate::object::Object;
 use crate::scan::Scan;
-use crate::table::ScanTable;
+use crate::table::{ScanRow, ScanTable};
 use crate::tallying::tallies_of;
 use circle_smoothing::Triangle;
 use kh_types::{Diagram, NoMemory};
@@ -27,9 +27,20 @@ pub(crate) fn counted_table<F: PrimeField>(
     ensures { IfOk result (λ made. made ≡ counted_table F.P diagram.now (scan_of scan.now)) }
 {
     element_laws::<F>();
-    let counted = counted_objects(alloc, diagram, scan.objects())?;
-    let rows = all_rows(alloc, &counted)?;
+    let rows = counted_rows(alloc, diagram, scan.objects())?;
     Ok(ScanTable::of_rows(F::P, rows))
+}
+
+/// The rows that objects count, for the table of a diagram.
+fn counted_rows(
+    alloc: Global,
+    diagram: &Diagram,
+    objects: &[Object],
+) -> Result<Vec<ScanRow>, NoMemory>
+    ensures { IfOk result (λ rows. AreCountedRows diagram.now objects.now rows.items) }
+{
+    let counted = counted_objects(alloc, diagram, objects)?;
+    all_rows(alloc, &counted)
 }
 
 /// Counts objects for the table of a diagram.

@@ -36,7 +36,7 @@ fn take_off<F: PrimeField>(
     }
 }
 
-/// Takes a way off the entry at a place, which goes if it becomes 0.
+/// Takes a way off the entry at a place. An entry that becomes 0 is taken out.
 pub(crate) fn cancel_in<F: PrimeField>(
     column: &mut Column,
     at: usize,

@@ -1,7 +1,7 @@
-//! The bridges of new maps, each made once: those from one pairing to another with either smoothing,
-//! and those of saddles.
+//! The bridges of new maps: those from one pairing to another with either smoothing, and those of
+//! saddles. One that has been made is found again by its pairings.
 
-ghost use Rattle.std.specs.Prelude.{◌≡◌, ℕ, ◌<◌, length, slice_index_or, true, IfOk, IfSome, OnOk};
+ghost use Rattle.std.specs.Prelude.{◌≡◌, ◌↔◌, ℕ, ◌<◌, length, slice_index_or, true, IfOk, IfSome, OnOk};
 ghost use Rattle.tangle_scan.specs.AddedBridges.{AreAllBridges, AreBridgesFrom, HasBridgeAt, HasBridgesAt, IsSaddleOf};
 ghost use Rattle.tangle_scan.specs.Additions.{AreLinks, IsChild, IsParent};
 
@@ -35,7 +35,7 @@ pub type AllBridges = Vec<BridgesOf>;
 
 /// Whether two pairings have the same partners.
 fn are_alike(one: &Pairing, other: &Pairing) -> bool
-    ensures { result ≡ true → one.now.partners ≡ other.now.partners }
+    ensures { (result ≡ true) ↔ (one.now.partners ≡ other.now.partners) }
 {
     one.partners == other.partners
 }

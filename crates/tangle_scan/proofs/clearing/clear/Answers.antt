@@ -18,7 +18,7 @@ take_ways-requires-clause-start g c =
       first = subst (AreReduced p) (sym c.as_slice-first.ensures)
           (read-reduced p (length c.args.turn.now.objects.now) c.args.column.now.items c.in-Some.at c.remove-entry.result
           c.in-Some.ensures.some.0 c.requires.column c.remove-entry.ensures.value);
-      multiple = c.multiple_at.ensures;
+      multiple = c.multiple_at.ensures.some;
     }
 
 pub take_ways-requires-clause-column : goal.take_ways-requires-clause-column

@@ -10,9 +10,9 @@ pub returns : goal.returns
 returns g c =
     let scan = c.args.scan.now in
     let code = c.args.diagram.now in
-    let counted = c.in_ok-counted.counted in
+    let rows = c.in_ok-rows.ensures in
     c.of_rows.ensures
-    ∙ table-counted code scan.front.done scan.front.opened.items scan.complex counted
-    (subst (λ (objects : List Object). IsCountedFor code objects counted) c.objects.ensures c.in_ok-counted.ensures)
-    c.P.result c.in_ok-rows.rows.items c.in_ok-rows.ensures
+    ∙ table-counted code scan.front.done scan.front.opened.items scan.complex rows.counted
+    (subst (λ (objects : List Object). IsCountedFor code objects rows.counted) c.objects.ensures rows.of_objects)
+    c.P.result c.in_ok-rows.rows.items rows.all
     ∙ ap (λ (p : ℕ). counted_table p code (scan_of scan)) c.P.ensures
