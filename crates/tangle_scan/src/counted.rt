@@ -5,13 +5,11 @@ ghost use Rattle.kh_types.specs.declared.limits.TheConstants.{CIRCLES, CROSSINGS
 ghost use Rattle.tangle_scan.specs.Tallies.{once, tallied};
 
 use crate::tally::Tally;
-use circle_smoothing::Triangle;
 
 /// The objects of a complex, counted by degree and shift, and what a table reads of its diagram: its
 /// numbers of loops, of crossings, and of positive and negative ones.
 #[derive(Drop)]
 pub struct Counted {
-    pub triangle: Triangle,
     pub tallies: Vec<Tally>,
     pub loops: u8,
     pub crossings: u8,

@@ -9,31 +9,41 @@ ghost use Rattle.tangle_scan.specs.CountedRows.{all_rows_by, dims_of, row_by, ro
 use crate::circle_numbers::{Asked, value_of};
 use crate::counted::Counted;
 use crate::table::ScanRow;
+use circle_smoothing::Triangle;
 use jones_sum::{COEFFICIENTS, exponent_at};
 use kh_types::NoMemory;
 use std::alloc::Global;
 
 /// The rows of all quantum degrees.
 #[tactic(auto, using(crate::proofs::RowLemmas::all_steps))]
-pub(crate) fn all_rows(alloc: Global, counted: &Counted) -> Result<Vec<ScanRow>, NoMemory>
+pub(crate) fn all_rows(
+    alloc: Global,
+    counted: &Counted,
+    triangle: &Triangle,
+) -> Result<Vec<ScanRow>, NoMemory>
     ensures { IfOk result (λ rows.
         rows.items ≡ all_rows_by (dims_of counted.now) counted.now.crossings) }
 {
     let mut rows = Vec::new(alloc);
     'places: for place in 0..COEFFICIENTS {
-        push_rows(&mut rows, counted, exponent_at(place))?;
+        push_rows(&mut rows, counted, triangle, exponent_at(place))?;
     }
     Ok(rows)
 }
 
 /// Adds the rows of a quantum degree, ascending by homological degree.
 #[tactic(auto, using(crate::proofs::RowLemmas::steps))]
-fn push_rows(rows: &mut Vec<ScanRow>, counted: &Counted, j: i16) -> Result<(), NoMemory>
+fn push_rows(
+    rows: &mut Vec<ScanRow>,
+    counted: &Counted,
+    triangle: &Triangle,
+    j: i16,
+) -> Result<(), NoMemory>
     ensures { OnOk result (rows.new.items
         ≡ rows.old.items ++ rows_by (dims_of counted.now) counted.now.crossings j) }
 {
     'degrees: for k in 0..2 * usize::from(counted.crossings) + 1 {
-        push_row(rows, row_of(counted, k, j))?;
+        push_row(rows, row_of(counted, triangle, k, j))?;
     }
     Ok(())
 }
@@ -49,7 +59,7 @@ fn push_row(rows: &mut Vec<ScanRow>, row: ScanRow) -> Result<(), NoMemory>
 }
 
 /// The row of a homological degree, counted from the least that a diagram of so many crossings has.
-fn row_of(counted: &Counted, k: usize, j: i16) -> ScanRow
+fn row_of(counted: &Counted, triangle: &Triangle, k: usize, j: i16) -> ScanRow
     requires { k < 2 * counted.now.crossings + 1 }
     ensures { result ≡ row_by (dims_of counted.now) j (pos k -ℤ pos counted.now.crossings) }
 {
@@ -57,12 +67,12 @@ fn row_of(counted: &Counted, k: usize, j: i16) -> ScanRow
     ScanRow {
         j,
         i,
-        dim: dimension(counted, i, j),
+        dim: dimension(counted, triangle, i, j),
     }
 }
 
 /// What the objects count at two degrees.
-fn dimension(counted: &Counted, i: i16, j: i16) -> u128
+fn dimension(counted: &Counted, triangle: &Triangle, i: i16, j: i16) -> u128
     ensures { result ≡ dims_of counted.now i j }
 {
     let asked = Asked {
@@ -74,7 +84,7 @@ fn dimension(counted: &Counted, i: i16, j: i16) -> u128
     };
     let mut total = 0u128;
     'tallies: for tally in &counted.tallies {
-        total += times(tally.count, value_of(&counted.triangle, asked, tally));
+        total += times(tally.count, value_of(triangle, asked, tally));
     }
     total
 }

@@ -40,7 +40,7 @@ fn counted_rows(
     ensures { IfOk result (λ rows. AreCountedRows diagram.now objects.now rows.items) }
 {
     let counted = counted_objects(alloc, diagram, objects)?;
-    all_rows(alloc, &counted)
+    all_rows(alloc, &counted, &Triangle::new())
 }
 
 /// Counts objects for the table of a diagram.
@@ -53,7 +53,6 @@ fn counted_objects(
 {
     let tallies = tallies_of(alloc, objects)?;
     Ok(Counted {
-        triangle: Triangle::new(),
         tallies,
         loops: diagram.loops(),
         crossings: diagram.count(),
