@@ -1,3 +1,4 @@
 mod WordLemmas
 mod ScanAnswers
 mod ScanRuns
+mod SmallTables

@@ -3,6 +3,7 @@
 //! its status.
 #![tactic(auto)]
 
+mod jones;
 mod laws;
 mod table;
 #[cfg(test)]

@@ -4,8 +4,8 @@ ghost use Rattle.std.specs.Prelude.{◌≡◌, ◌++◌, IfOk};
 ghost use Rattle.kh_types.specs.Table.{table, table_text};
 ghost use Rattle.scan_main.specs.Scans.{IsTableReply};
 
-use circle_smoothing::CountedDiagram;
-use kh_replies::{Reply, Status, jones_line, reply_made};
+use crate::jones::jones_line_with;
+use kh_replies::{Reply, Status, reply_made};
 use kh_types::{Diagram, NoMemory};
 use prime_field::{FieldSize, over_field};
 use std::alloc::Global;
@@ -24,7 +24,7 @@ pub fn reply_to_diagram(
 {
     let table = table_over(alloc, field, diagram)?;
     let mut text = text_of(alloc, &table)?;
-    text.extend_from_slice(&jones_line(alloc, &CountedDiagram::of_diagram(diagram))?)?;
+    text.extend_from_slice(&jones_line_with(alloc, field, diagram, &table)?)?;
     Ok(reply_made(Status::Done, text))
 }
 
