@@ -10,6 +10,7 @@ writes, a mirror image turns the table round, the table of a union over two elem
 leave it. `tests/program` runs these cases behind its rows. The last line is 'N passed, M failed'.
 """
 import functools
+import math
 import os
 import random
 import re
@@ -103,12 +104,24 @@ def euler_characteristics(scan, program):
     """Large diagrams: the Euler characteristic is the polynomial, over four fields."""
     child, whole = Child(scan), Child(program)
     for name, text in known_diagrams.large():
-        if name.startswith("twenty curls"):  # (2^20 objects: `bench/scan.py` has it)
+        if name.startswith("twenty curls"):  # (2^20 objects, a gigabyte: `curls_apart` has fewer)
             continue
         line = whole.run(["jones"], text.encode()).wrote.decode()
         for field in FIELDS:
             table, jones = table_of(child, text, field)
             yield f"kh-scan, the Euler characteristic of {name} over {field}", wrong((euler_line(table), jones), (line, [line.strip()]))
+
+
+def curls_apart(scan, program):
+    """Unlinks of 24 and of 25 components, whose dimensions are binomial coefficients. The greatest of 24 is within what a table of a cube
+    keeps, and that of 25 is above it, where the Jones line comes from all states."""
+    child, whole = Child(scan), Child(program)
+    for count in (16, 17):
+        curls = tuple((arc, arc, arc + 1, arc + 1) for arc in range(1, 2 * count, 2))
+        text = codes.printed(codes.Code(curls, 8))
+        line = whole.run(["jones"], text.encode()).wrote.decode().strip()
+        unlink = {(2 * k - count - 8, 0): math.comb(count + 8, k) for k in range(count + 9)}
+        yield f"kh-scan, {count} curls apart and eight loops", wrong(table_of(child, text, "3"), (unlink, [line]))
 
 
 def mirrors(scan, program):
@@ -145,7 +158,7 @@ def moved(scan, program, seed):
         yield f"kh-scan, behind moves over {field}", wrong(table_of(child, text, field)[0], tables[field])
 
 
-GROUPS = (rows, other_words, stored, euler_characteristics, mirrors, unions)
+GROUPS = (rows, other_words, stored, euler_characteristics, curls_apart, mirrors, unions)
 
 
 def named(scan, cases):

@@ -1,7 +1,7 @@
 //! The Jones line of a diagram whose table is known: that of the table's graded Euler
 //! characteristic, which asks for no state.
 
-ghost use Rattle.std.specs.Prelude.{◌≡◌, ◌≤◌, true, IfOk};
+ghost use Rattle.std.specs.Prelude.{◌≡◌, ◌↔◌, ◌≤◌, true, IfOk};
 ghost use Rattle.std.specs.List.{All};
 ghost use Rattle.kh_types.specs.Table.{table};
 ghost use Rattle.circle_smoothing.specs.declared.limits.TheConstants.{GENERATORS};
@@ -28,8 +28,9 @@ pub fn jones_line_with(
     requires { scanned.now ≡ table field diagram.now }
     ensures { IfOk result (λ text. text.items ≡ jones_line diagram.now) }
 {
-    // (the field is one of the four, and the type of a diagram keeps that its code is accepted)
-    let (_, _) = (field.elements(), diagram.crossings());
+    // (what the types of a field's size and of a diagram keep)
+    let _ = field.elements();
+    let _ = diagram.crossings();
     if are_small(scanned.rows()) {
         let table = narrowed(alloc, scanned)?;
         Ok(print_jones(alloc, &euler(&table))?)
@@ -40,7 +41,7 @@ pub fn jones_line_with(
 
 /// Whether all dimensions are those of a cube that is small enough.
 fn are_small(rows: &[ScanRow]) -> bool
-    ensures { result ≡ true → All (λ row. row.dim ≤ GENERATORS) rows.now }
+    ensures { (result ≡ true) ↔ All (λ row. row.dim ≤ GENERATORS) rows.now }
 {
     rows.iter().all(|row| row.dim <= u128::from(GENERATORS))
 }

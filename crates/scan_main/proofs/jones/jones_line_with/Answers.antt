@@ -18,7 +18,7 @@ narrowed-requires-clause-table c =
     (subst (λ crossings. length crossings ≤ CROSSINGS) c.crossings.ensures.crossings c.crossings.ensures.few)
     (subst IsSmallPrime c.elements.ensures (IsSmallPrime-field_size c.elements.result))
     (subst (λ (rows : List Row). All (λ row. row.dim ≤ GENERATORS) rows) (c.rows.ensures ∙ ap (λ (t : Table). t.rows) c.requires)
-    (c.are_small.ensures c.if-are_small.true)))
+    (c.are_small.ensures.0 c.if-are_small.true)))
 
 pub returns-in_ok-print_jones : goal.returns-in_ok-print_jones
 returns-in_ok-print_jones c =
