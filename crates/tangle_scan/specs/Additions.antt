@@ -109,6 +109,7 @@ copy old split smoothing label = record {
   pairing = split.pairing;
   degree = old.degree + smoothing;
   shift = old.shift +ℤ degree_of_labels (length split.closed.items) label;
+  smoothing = smoothing;
   is_alive = true;
 }
 

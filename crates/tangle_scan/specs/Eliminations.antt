@@ -76,7 +76,8 @@ pub record IsRowedFrom (p : ℕ) (front : Front) (start : TangleComplex) (rowed 
 
 -- an object that is not there any more
 abbrev pub killed : Object → Object
-killed object = record { pairing = object.pairing; degree = object.degree; shift = object.shift; is_alive = false }
+killed object =
+    record { pairing = object.pairing; degree = object.degree; shift = object.shift; smoothing = object.smoothing; is_alive = false }
 
 -- objects are others of which one is not there any more
 abbrev pub IsKilled : ℕ → List Object → List Object → Type 0

@@ -1,6 +1,6 @@
-//! The elimination: maps that are a number times the identity are cancelled until none is left. One
-//! pass goes over the degrees, and in each over its objects. What it leaves, since a cancellation
-//! makes new numbers in columns that were passed, is searched for from the first object on.
+//! The elimination: maps that are a number times the identity are cancelled until none is left. A few
+//! passes go over the objects. What they leave, since a cancellation makes new numbers in columns that
+//! were passed, is searched for from the first object on.
 
 ghost use Rattle.std.specs.Prelude.{◌≡◌, ◌≢◌, ℕ, ◌<◌, [], length, true, IfOk};
 ghost use Rattle.scan_laws.specs.Eliminating.{IsEliminating};
@@ -21,8 +21,37 @@ use prime_field::PrimeField;
 use std::alloc::Global;
 use std::mem;
 
+/// A pass over the objects with a smoothing of the crossing that was added last, which cancels a pivot
+/// out of each, if it has one through which at most so many ways lead.
+#[derive(Clone, Copy)]
+struct Pass {
+    smoothing: u8,
+    most_ways: usize,
+}
+
+/// First what changes no other map, then the rest. Objects with the 0-smoothing come first, since most
+/// pivots are saddles out of them; in another order there are several times as many ways.
+const PASSES: [Pass; 4] = [
+    Pass {
+        smoothing: 0,
+        most_ways: 0,
+    },
+    Pass {
+        smoothing: 1,
+        most_ways: 0,
+    },
+    Pass {
+        smoothing: 0,
+        most_ways: usize::MAX,
+    },
+    Pass {
+        smoothing: 1,
+        most_ways: usize::MAX,
+    },
+];
+
 /// Cancels maps that are a number times the identity until none is left. Which comes first no clause
-/// says: it goes degree by degree, and takes in each column the entry whose row is the shortest.
+/// says: it goes pass by pass, and takes in each column the entry whose row is the shortest.
 /// Source: Bar-Natan 2007.
 pub fn eliminate_all<F: PrimeField>(
     alloc: Global,
@@ -39,30 +68,30 @@ pub fn eliminate_all<F: PrimeField>(
     ensures none { IfOk result HasNoPivot }
 {
     let rows = rows_of(alloc, complex.columns.as_slice())?;
-    let rowed = pass_all::<F>(alloc, front, Rowed { complex, rows })?;
+    let rowed = pass_each::<F>(alloc, front, Rowed { complex, rows })?;
     let rowed = finish::<F>(alloc, front, rowed)?;
     Ok(rowed.complex)
 }
 
-/// Cancels a pivot out of each object that has one, degree by degree.
-fn pass_all<F: PrimeField>(alloc: Global, front: &Front, rowed: Rowed) -> Result<Rowed, NoMemory>
+/// Makes all passes, one after another.
+fn pass_each<F: PrimeField>(alloc: Global, front: &Front, rowed: Rowed) -> Result<Rowed, NoMemory>
     requires front { IsFront front.now }
     requires rowed { IsRowed F.P front.now rowed }
     ensures { IfOk result (IsRowedFrom F.P front.now rowed.complex) }
 {
     let mut rowed = rowed;
-    'degrees: for degree in 0..u16::from(front.done) + 1 {
-        rowed = pass_degree::<F>(alloc, front, rowed, degree)?;
+    'passes: for pass in PASSES {
+        rowed = pass_all::<F>(alloc, front, rowed, pass)?;
     }
     Ok(rowed)
 }
 
-/// Cancels a pivot out of each object of a degree that has one.
-fn pass_degree<F: PrimeField>(
+/// Makes a pass over all objects.
+fn pass_all<F: PrimeField>(
     alloc: Global,
     front: &Front,
     rowed: Rowed,
-    degree: u16,
+    pass: Pass,
 ) -> Result<Rowed, NoMemory>
     requires front { IsFront front.now }
     requires rowed { IsRowed F.P front.now rowed }
@@ -70,40 +99,49 @@ fn pass_degree<F: PrimeField>(
 {
     let mut rowed = rowed;
     'places: for place in 0..rowed.complex.objects.len() {
-        rowed = pass_object::<F>(alloc, front, rowed, degree, place)?;
+        rowed = pass_object::<F>(alloc, front, rowed, pass, place)?;
     }
     Ok(rowed)
 }
 
-/// Cancels a pivot out of the object at a place, if it has this degree and a pivot.
+/// Cancels a pivot out of the object at a place, if the pass does so.
 fn pass_object<F: PrimeField>(
     alloc: Global,
     front: &Front,
     rowed: Rowed,
-    degree: u16,
+    pass: Pass,
     place: usize,
 ) -> Result<Rowed, NoMemory>
     requires front { IsFront front.now }
     requires rowed { IsRowed F.P front.now rowed }
     ensures { IfOk result (IsRowedFrom F.P front.now rowed.complex) }
 {
-    if !has_degree(rowed.complex.objects.as_slice(), place, degree) {
+    if !has_smoothing(rowed.complex.objects.as_slice(), place, pass.smoothing) {
         return Ok(rowed);
     }
     match pivot_of(&rowed, place) {
-        Some(pivot) => eliminate::<F>(alloc, front, rowed, pivot),
-        None => Ok(rowed),
+        Some(pivot) if way_count(&rowed, &pivot) <= pass.most_ways => {
+            eliminate::<F>(alloc, front, rowed, pivot)
+        }
+        _ => Ok(rowed),
     }
 }
 
-/// Whether there is an object at a place, of a degree.
-fn has_degree(objects: &[Object], place: usize, degree: u16) -> bool
+/// Whether there is an object at a place, with a smoothing of the crossing that was added last.
+fn has_smoothing(objects: &[Object], place: usize, smoothing: u8) -> bool
     ensures { result ≡ true → place < length objects.now }
 {
     match objects.get(place) {
-        Some(object) => u16::from(object.degree) == degree,
+        Some(object) => object.smoothing == smoothing,
         None => false,
     }
+}
+
+/// How many ways lead through a pivot, at most.
+fn way_count(rowed: &Rowed, pivot: &Pivot) -> usize {
+    let into = rowed.rows.get(pivot.head).map_or(0, |row| row.len());
+    let out = rowed.complex.columns.get(pivot.tail).map_or(0, |column| column.len());
+    into.saturating_sub(1).saturating_mul(out.saturating_sub(1))
 }
 
 /// Cancels pivots until none is left.

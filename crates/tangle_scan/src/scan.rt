@@ -136,6 +136,7 @@ fn first_complex(alloc: Global) -> Result<TangleComplex, NoMemory>
         pairing: Pairing::none(),
         degree: 0,
         shift: 0,
+        smoothing: 0,
         is_alive: true,
     })?;
     let mut columns: Vec<Column> = Vec::new(alloc);

@@ -126,7 +126,8 @@ fn push_columns_of<'a, F: PrimeField>(
     Ok(())
 }
 
-/// The column of a new object, with what comes from maps out of the old one, and with its saddles.
+/// The column of a new object, with what comes from maps out of the old one, and with its saddles. It
+/// takes no more memory than it has entries.
 fn column_from<'a, F: PrimeField>(
     links: &'a Links<'a>,
     bridges: &mut Bridges,
@@ -150,6 +151,7 @@ fn column_from<'a, F: PrimeField>(
     let entries = &links.adding.complex.columns[child.parent];
     push_all::<F>(&mut column, links, bridges, child, entries)?;
     push_saddles::<F>(&mut column, links, saddle, child, parent)?;
+    column.shrink_to_fit();
     Ok(column)
 }
 

@@ -151,6 +151,7 @@ fn copy_with(old: &Object, split: &Split, smoothing: u8, label: u64) -> Object
         pairing: split.pairing,
         degree: old.degree + smoothing,
         shift: old.shift + label_degree(split.closed.len(), label),
+        smoothing,
         is_alive: true,
     }
 }
