@@ -16,7 +16,8 @@ use Rattle.kinks_and_fingers.proofs.FingerWith.{placed_at, lowered_to, IsWithFin
 use Rattle.kinks_and_fingers.proofs.GluedCodes.{state_sum-finger}
 use Rattle.kinks_and_fingers.specs.FingerAdd.{moved_slots, with_finger, differ, opened, fingered}
 use Rattle.kinks_and_fingers.specs.KinkAdds.{with_kink}
-use Rattle.kinks_and_fingers.proofs.FingerAccepted.{accepted-fingered, AreFingerable-accepted}
+use Rattle.kinks_and_fingers.proofs.FingeredCodes.{AreFingerable-accepted}
+use Rattle.kinks_and_fingers.proofs.FingerPlanar.{accepted-fingered}
 use Rattle.kinks_and_fingers.proofs.KinkFaces.{accepted-kinked}
 use Rattle.diagram_moves.specs.AddSteps.{IsTakenArc, AreTakenArcs, kinked_there}
 use Rattle.diagram_moves.proofs.MadeSoFar.{kinked_to, fingered_to}

@@ -14,8 +14,8 @@ use Rattle.kinks_and_fingers.specs.FingerAdd.{with_finger, differ}
 use Rattle.kinks_and_fingers.specs.KinkAdds.{with_kink}
 use Rattle.code_passes.specs.Parts.{slots_in}
 use Rattle.orient_arcs.specs.Renumbered.{renumber}
-use Rattle.kinks_and_fingers.proofs.FingerAccepted.{AreFingerable-accepted, component_count-fingered}
-use Rattle.kinks_and_fingers.proofs.KinkSizes.{IsKinkable-accepted, component_count-kinked}
+use Rattle.kinks_and_fingers.proofs.FingeredCodes.{AreFingerable-accepted, component_count-fingered}
+use Rattle.kinks_and_fingers.proofs.KinkedCodes.{IsKinkable-accepted, component_count-kinked}
 use Rattle.kinks_and_fingers.proofs.FingerPlanar.{planar-two_pieces}
 use Rattle.kinks_and_fingers.proofs.KinkWith.{state_sum-kinked}
 use Rattle.slides.specs.Triangles.{has_triangle, slide_slot}

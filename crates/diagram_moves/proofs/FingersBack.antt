@@ -18,9 +18,8 @@ use Rattle.kinks_and_fingers.specs.Drops.{after, is_bigon, is_bigon_at, is_of_tw
 use Rattle.kinks_and_fingers.specs.Dropping.{HasBigonAt}
 use Rattle.kinks_and_fingers.specs.FingerAdd.{crossing_with, dart_with, differ, fingered, first_crossing, head_number, opened, second_crossing, with_finger}
 use Rattle.kinks_and_fingers.specs.Pulls.{early, late}
-use Rattle.kinks_and_fingers.proofs.FingerAccepted.{AreFingerable-accepted, component_count-fingered}
+use Rattle.kinks_and_fingers.proofs.FingeredCodes.{AreFingerable-accepted, component_count-fingered, sign-old}
 use Rattle.kinks_and_fingers.proofs.FingerDrops.{places-two}
-use Rattle.kinks_and_fingers.proofs.FingerSigns.{sign-old}
 use Rattle.kinks_and_fingers.proofs.FingerSlots.{arc_of-old, length-fingered, slots_of-first, slots_of-second}
 use Rattle.kinks_and_fingers.proofs.KeptCodes.{arc_by_place-below, straight-joined}
 use Rattle.kinks_and_fingers.proofs.OldDarts.{partner-named}

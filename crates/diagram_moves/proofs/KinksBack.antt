@@ -20,8 +20,7 @@ use Rattle.kinks_and_fingers.specs.Pulls.{early}
 use Rattle.kinks_and_fingers.proofs.KeptCodes.{arc_by_place-below, straight-joined}
 use Rattle.kinks_and_fingers.proofs.KinkClosing.{kept_are}
 use Rattle.kinks_and_fingers.proofs.KinkFaces.{accepted-kinked}
-use Rattle.kinks_and_fingers.proofs.KinkSigns.{sign-old}
-use Rattle.kinks_and_fingers.proofs.KinkSizes.{IsKinkable-accepted, component_count-kinked}
+use Rattle.kinks_and_fingers.proofs.KinkedCodes.{IsKinkable-accepted, component_count-kinked, sign-old}
 use Rattle.kinks_and_fingers.proofs.KinkSlots.{arc_in-kinked, length-kinked, slots_in-old, slots_of-new}
 use Rattle.kinks_and_fingers.proofs.Sound.{IsSound-kink}
 use Rattle.diagram_moves.specs.declared.change.Move.TheVariants.{KinkAdd, KinkDrop}

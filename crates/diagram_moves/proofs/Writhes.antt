@@ -15,15 +15,13 @@ use Rattle.kinks_and_fingers.specs.FingerAdd.{with_finger, differ}
 use Rattle.kinks_and_fingers.specs.KinkAdds.{with_kink}
 use Rattle.kinks_and_fingers.specs.KinkCodes.{one_where}
 use Rattle.kinks_and_fingers.specs.Pulls.{early, late}
-use Rattle.kinks_and_fingers.proofs.FingerAccepted.{AreFingerable-accepted}
+use Rattle.kinks_and_fingers.proofs.FingeredCodes.{AreFingerable-accepted, minus_count-fingered, plus_count-fingered}
 use Rattle.kinks_and_fingers.proofs.FingerDrops.{places-two}
 use Rattle.kinks_and_fingers.proofs.FingerDropSums.{HasBigonAt-slots, bigon-signs, plus-kept_two}
-use Rattle.kinks_and_fingers.proofs.FingerSigns.{minus_count-fingered, plus_count-fingered}
 use Rattle.kinks_and_fingers.proofs.KinkClosing.{kept_are}
 use Rattle.kinks_and_fingers.proofs.KinkDropSums.{count-later, plus-kept}
 use Rattle.kh_types.specs.Bits.{one_if}
-use Rattle.kinks_and_fingers.proofs.KinkSigns.{minus_count-kinked, plus_count-kinked}
-use Rattle.kinks_and_fingers.proofs.KinkSizes.{IsKinkable-accepted}
+use Rattle.kinks_and_fingers.proofs.KinkedCodes.{IsKinkable-accepted, minus_count-kinked, plus_count-kinked}
 use Rattle.slides.specs.Triangles.{dart_at_slot, step}
 use Rattle.slides.proofs.FoundTriangles.{IsTriangle-slot, has_heights-slot}
 use Rattle.diagram_moves.specs.declared.change.Move.{Move}

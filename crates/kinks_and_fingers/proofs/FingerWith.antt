@@ -16,9 +16,8 @@ use Rattle.gluing.specs.SlidCodes.{Shows}
 use Rattle.kinks_and_fingers.specs.Fingers.{finger, AreAmong}
 use Rattle.kinks_and_fingers.specs.FingerCodes.{IsWithFinger}
 use Rattle.kinks_and_fingers.proofs.Opened.{low, IsOneOf, low-opened, low-head_number, low-middle, head_number-one, head_number-other, head_number-within, opened-le-head_number, opened-from}
-use Rattle.kinks_and_fingers.proofs.FingerSlots.{length-moved, arc_in-moved}
-use Rattle.kinks_and_fingers.proofs.FingerDarts.{slots-fingered, arc_count-fingered}
-use Rattle.kinks_and_fingers.proofs.FingerSigns.{plus_count-fingered, minus_count-fingered}
+use Rattle.kinks_and_fingers.proofs.FingerSlots.{length-fingered, length-moved, arc_in-moved}
+use Rattle.kinks_and_fingers.proofs.FingeredCodes.{IsDirected-fingered, plus_count-fingered, minus_count-fingered}
 
 -- what stands for the numbers inside
 abbrev pub placed_at : ℕ → ℕ → ℕ → ℕ → ℕ
@@ -279,7 +278,7 @@ IsWithFinger-fingered code a b positive ordered can =
     let spare = name_count code + 4 in
     let arcs = placed_at over under spare in
     let moved = moved_crossings crossings a b in
-    let count = arc_count-fingered crossings a b positive ordered in
+    let count = length-fingered crossings a b positive ordered in
     let over_head = head_number-within a b a (arc_count crossings) can.apart can.over.within can.under.within can.over.within in
     let under_head = head_number-within a b b (arc_count crossings) can.apart can.over.within can.under.within can.under.within in
     let over_is = head_number-one a b a (inl refl) in
@@ -353,7 +352,7 @@ IsWithFinger-fingered code a b positive ordered can =
       };
       holds = λ place slot below slot_below. omega (arith, (old_arc place slot below slot_below).within);
       new_holds = λ place slot below slot_below.
-          let is = slots-fingered crossings a b positive ordered can (dart_with (place + 1) slot)
+          let is = (IsDirected-fingered crossings a b positive ordered can).slots (dart_with (place + 1) slot)
           (record { crossing = record { positive = omega arith; within = omega (arith, below) }; slot = slot_below }) in
           omega (arith, is.within, old-arc new.crossings place slot);
       moved_holds = λ place slot below slot_below. omega (arith, moved_within place slot below slot_below);

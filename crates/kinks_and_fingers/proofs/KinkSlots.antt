@@ -4,16 +4,20 @@ use Rattle.std.specs.Prelude.{slice_index_or, nat_eq, ◌&&◌, if◌then◌else
 use Rattle.std.specs.List.{range_with_len}
 use Rattle.std.proofs.lemmas.List.{get_or_append_left, get_or-append-add, get_or-map, length-append, length-map}
 use Rattle.std.proofs.lemmas.List.FromFn.{length-range_with_len, get_or-range_with_len}
+use Rattle.std.proofs.lemmas.Bool.Decides.{nat_tests}
 use Rattle.kh_types.specs.declared.dart.Dart.{Dart}
 use Rattle.kh_types.specs.Code.{arc_in, slots_of}
 use Rattle.kh_types.specs.Darts.{arc_of, IsDart}
 use Rattle.kh_types.specs.Directions.{is_head, is_positive, positive_at}
-use Rattle.kinks_and_fingers.proofs.FingerSlots.{HasPasses}
+use Rattle.kinks_and_fingers.proofs.PassEnds.{HasPasses}
 use Rattle.gluing.specs.Arcs.{enters}
 use Rattle.code_passes.specs.Parts.{slots_in}
 use Rattle.kinks_and_fingers.specs.KinkAdds.{raised, kinked_name, kinked_slots, kink_crossing, raised_crossings}
 use Rattle.kinks_and_fingers.proofs.KinkEnds.{kinked_crossings}
-use Rattle.kinks_and_fingers.proofs.Numbers.{last}
+
+-- the number at the head of an old arc: of the arc a, which has three parts now, it is the last part
+abbrev pub last : ℕ → ℕ → ℕ
+last a x = if nat_eq x a then a + 2 else raised a x
 
 pub length-moved : (crossings : List (List ℕ)) (a : ℕ) → length (raised_crossings a crossings) ≡ length crossings
 length-moved crossings a =
@@ -91,25 +95,30 @@ arc_of-tail crossings a over positive dart is tail =
     with_false true x y = refl
     with_false false x y = refl
 
--- where the passes of the new crossing begin and end: the first pass goes from a to a+1, the second from there to a+2
+-- the arc there, where it is not a
+pub arc_of-other : (crossings : List (List ℕ)) (a : ℕ) (over positive : Bool) (dart : Dart) → IsDart crossings dart
+    → arc_of crossings dart ≢ a
+    → arc_of (kinked_crossings crossings a over positive) dart ≡ raised a (arc_of crossings dart)
+arc_of-other crossings a over positive dart is not_a =
+    arc_of-old crossings a over positive dart is ∙ plain a (is_head crossings dart) (arc_of crossings dart) not_a
+  where
+    plain : (a : ℕ) (head : Bool) (x : ℕ) → x ≢ a → kinked_name a head x ≡ raised a x
+    plain a true x other = grind (arith, nat_tests)
+    plain a false x other = grind (arith, nat_tests)
+
+-- the numbers on which the passes of the new crossing enter
 abbrev pub under_start : Bool → ℕ → ℕ
 under_start over a = if over then a + 1 else a
-
-abbrev pub under_end : Bool → ℕ → ℕ
-under_end over a = if over then a + 2 else a + 1
 
 abbrev pub over_start : Bool → ℕ → ℕ
 over_start over a = if over then a else a + 1
 
-abbrev pub over_end : Bool → ℕ → ℕ
-over_end over a = if over then a + 1 else a + 2
-
 pub HasPasses-kink : (over positive : Bool) (a : ℕ)
-    → HasPasses (kink_crossing over positive a) positive (under_start over a) (under_end over a) (over_start over a) (over_end over a)
-HasPasses-kink true true a = record { under_from = refl; under_to = refl; over_from = refl; over_to = refl }
-HasPasses-kink true false a = record { under_from = refl; under_to = refl; over_from = refl; over_to = refl }
-HasPasses-kink false true a = record { under_from = refl; under_to = refl; over_from = refl; over_to = refl }
-HasPasses-kink false false a = record { under_from = refl; under_to = refl; over_from = refl; over_to = refl }
+    → HasPasses (kink_crossing over positive a) positive (under_start over a) (under_start over a + 1) (over_start over a) (over_start over a + 1)
+HasPasses-kink true true a = record { under_from = refl; under_to = omega arith; over_from = refl; over_to = refl }
+HasPasses-kink true false a = record { under_from = refl; under_to = omega arith; over_from = refl; over_to = refl }
+HasPasses-kink false true a = record { under_from = refl; under_to = refl; over_from = refl; over_to = omega arith }
+HasPasses-kink false false a = record { under_from = refl; under_to = refl; over_from = refl; over_to = omega arith }
 
 -- the slots of the new crossing where a, a+2, and twice a+1 stand
 abbrev pub start_slot : Bool → Bool → ℕ

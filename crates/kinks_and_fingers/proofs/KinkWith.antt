@@ -15,8 +15,7 @@ use Rattle.kinks_and_fingers.specs.KinkAdds.{raised, kinked_name, raised_crossin
 use Rattle.kinks_and_fingers.specs.KinkCodes.{IsWithKink}
 use Rattle.kinks_and_fingers.proofs.MovableArcs.{IsKinkable}
 use Rattle.kinks_and_fingers.proofs.KinkSlots.{length-moved, slots_in-moved, arc_in-kinked}
-use Rattle.kinks_and_fingers.proofs.KinkSizes.{IsKinkable-accepted}
-use Rattle.kinks_and_fingers.proofs.KinkSigns.{plus_count-kinked, minus_count-kinked}
+use Rattle.kinks_and_fingers.proofs.KinkedCodes.{IsKinkable-accepted, plus_count-kinked, minus_count-kinked}
 use Rattle.kinks_and_fingers.proofs.KinkTerms.{sum_with-kink}
 
 kinked-cases : (a : ℕ) (head : Bool) (x : ℕ) → (kinked_name a head x ≡ raised a x) ⊎ ((x ≡ a) × (kinked_name a head x ≡ a + 2))

@@ -67,9 +67,6 @@ dart_in-below n c slot below = omega (arith, below)
 dart_in-turned : (c slot : ℕ) → turned (dart_in c (slot + 1)) ≡ dart_in c slot
 dart_in-turned c slot = omega arith
 
-dart_in-round : (c slot : ℕ) → dart_in c (slot + 4) ≡ dart_in c slot
-dart_in-round c slot = omega arith
-
 pub dart_cases : (c p x : ℕ) → x / 4 ≡ c
     → (x ≡ dart_in c (p + 1)) ⊎ ((x ≡ dart_in c (p + 2)) ⊎ ((x ≡ dart_in c (p + 3)) ⊎ (x ≡ dart_in c p)))
 dart_cases c p x is = elim (slot_cases p (x % 4)) [

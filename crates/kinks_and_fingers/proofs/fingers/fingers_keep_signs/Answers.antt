@@ -2,8 +2,8 @@ use Rattle.std.specs.Prelude.{◌+◌}
 use Rattle.kinks_and_fingers.specs.FingerAdd.{differ, opened, fingered}
 use Rattle.gluing.specs.Codes.{name_count}
 use Rattle.kinks_and_fingers.proofs.GluedCodes.{state_sum-finger}
-use Rattle.kinks_and_fingers.proofs.FingerAccepted.{AreFingerable-accepted}
-use Rattle.kinks_and_fingers.proofs.FingerSigns.{sign-old, sign-first, sign-second}
+use Rattle.kinks_and_fingers.proofs.FingeredCodes.{AreFingerable-accepted}
+use Rattle.kinks_and_fingers.proofs.FingeredCodes.{sign-old, sign-first, sign-second}
 use Rattle.kinks_and_fingers.proofs.FingerWith.{placed_at, lowered_to, IsWithFinger-fingered}
 use Rattle.kinks_and_fingers.proofs.fingers.fingers_keep_signs.Goals as goal
 
