@@ -25,12 +25,6 @@ low-head_number a b x apart = grind (arith, nat_tests)
 pub head_number-one : (a b x : ℕ) → IsOneOf a b x → head_number a b x ≡ opened a b x + 2
 head_number-one a b x is = grind (arith, nat_tests)
 
-pub head_number-other : (a b x : ℕ) → x ≢ a → x ≢ b → head_number a b x ≡ opened a b x
-head_number-other a b x not_a not_b = grind (arith, nat_tests)
-
-pub low-middle : (a b x : ℕ) → a ≢ b → IsOneOf a b x → low a b (opened a b x + 1) ≡ x
-low-middle a b x apart is = grind (arith, nat_tests)
-
 pub opened-from : (a b x : ℕ) → x ≤ opened a b x
 opened-from a b x = grind (arith, nat_tests)
 
