@@ -66,58 +66,12 @@ place-new : (n slot : ℕ) → dart_place (dart_with (n + 1) slot) ≡ 4 * n + s
 place-new n slot = omega arith
 
 -- the four darts of the new crossing
-AreNew-four : (n p q r s : ℕ) → p < 4 → q < 4 → r < 4 → s < 4 → p ≢ q → p ≢ r → p ≢ s → q ≢ r → q ≢ s → r ≢ s → turned s ≡ r
-    → ((z : ℕ) → 4 * n ≤ z → z < 4 * (n + 1)
-    → ((z ≡ 4 * n + p) ⊎ (z ≡ 4 * n + q)) ⊎ ((z ≡ 4 * n + r) ⊎ (z ≡ 4 * n + s)))
-    → AreNew n (4 * n + p) (4 * n + q) (4 * n + r) (4 * n + s)
-AreNew-four n p q r s p4 q4 r4 s4 pq pr ps qr qs rs beside all = record {
-  u_from = omega arith;
-  w_from = omega arith;
-  v_from = omega arith;
-  s_from = omega arith;
-  u_below = omega (arith, p4);
-  w_below = omega (arith, q4);
-  v_below = omega (arith, r4);
-  s_below = omega (arith, s4);
-  u_w = λ same. pq (omega (arith, same));
-  u_v = λ same. pr (omega (arith, same));
-  u_s = λ same. ps (omega (arith, same));
-  w_v = λ same. qr (omega (arith, same));
-  w_s = λ same. qs (omega (arith, same));
-  v_s = λ same. rs (omega (arith, same));
-  beside = turned_there n s ∙ ap (λ k. 4 * n + k) beside;
-  all = all;
-}
-  where
-    turned_there : (n s : ℕ) → turned (4 * n + s) ≡ 4 * n + turned s
-    turned_there n s = omega arith
-
 AreNew-kink : (n : ℕ) (over positive : Bool)
     → AreNew n (4 * n + start_slot over positive) (4 * n + end_slot over positive) (4 * n + inner_slot over positive) (4 * n + outer_slot over positive)
-AreNew-kink n true true =
-    AreNew-four n 3 2 0 1 (omega arith) (omega arith) (omega arith) (omega arith) (λ s. omega (arith, s)) (λ s. omega (arith, s))
-    (λ s. omega (arith, s)) (λ s. omega (arith, s)) (λ s. omega (arith, s)) (λ s. omega (arith, s)) refl (λ z from below. one_of n z from below)
-  where
-    one_of : (n z : ℕ) → 4 * n ≤ z → z < 4 * (n + 1) → ((z ≡ 4 * n + 3) ⊎ (z ≡ 4 * n + 2)) ⊎ ((z ≡ 4 * n + 0) ⊎ (z ≡ 4 * n + 1))
-    one_of n z from below = grind arith
-AreNew-kink n true false =
-    AreNew-four n 1 2 3 0 (omega arith) (omega arith) (omega arith) (omega arith) (λ s. omega (arith, s)) (λ s. omega (arith, s))
-    (λ s. omega (arith, s)) (λ s. omega (arith, s)) (λ s. omega (arith, s)) (λ s. omega (arith, s)) refl (λ z from below. one_of n z from below)
-  where
-    one_of : (n z : ℕ) → 4 * n ≤ z → z < 4 * (n + 1) → ((z ≡ 4 * n + 1) ⊎ (z ≡ 4 * n + 2)) ⊎ ((z ≡ 4 * n + 3) ⊎ (z ≡ 4 * n + 0))
-    one_of n z from below = grind arith
-AreNew-kink n false true =
-    AreNew-four n 0 1 2 3 (omega arith) (omega arith) (omega arith) (omega arith) (λ s. omega (arith, s)) (λ s. omega (arith, s))
-    (λ s. omega (arith, s)) (λ s. omega (arith, s)) (λ s. omega (arith, s)) (λ s. omega (arith, s)) refl (λ z from below. one_of n z from below)
-  where
-    one_of : (n z : ℕ) → 4 * n ≤ z → z < 4 * (n + 1) → ((z ≡ 4 * n + 0) ⊎ (z ≡ 4 * n + 1)) ⊎ ((z ≡ 4 * n + 2) ⊎ (z ≡ 4 * n + 3))
-    one_of n z from below = grind arith
-AreNew-kink n false false =
-    AreNew-four n 0 3 1 2 (omega arith) (omega arith) (omega arith) (omega arith) (λ s. omega (arith, s)) (λ s. omega (arith, s))
-    (λ s. omega (arith, s)) (λ s. omega (arith, s)) (λ s. omega (arith, s)) (λ s. omega (arith, s)) refl (λ z from below. one_of n z from below)
-  where
-    one_of : (n z : ℕ) → 4 * n ≤ z → z < 4 * (n + 1) → ((z ≡ 4 * n + 0) ⊎ (z ≡ 4 * n + 3)) ⊎ ((z ≡ 4 * n + 1) ⊎ (z ≡ 4 * n + 2))
-    one_of n z from below = grind arith
+AreNew-kink n true true = grind arith
+AreNew-kink n true false = grind arith
+AreNew-kink n false true = grind arith
+AreNew-kink n false false = grind arith
 
 -- two partner functions that meet what is said of a kink's are one
 AreKinked-one : (n : ℕ) (partner : ℕ → ℕ) (x u w v s : ℕ) (new other : ℕ → ℕ) → AreNew n u w v s → AreKinked n partner x u w v s new

@@ -168,7 +168,7 @@ pub record AreFour (over positive : Bool) : Type 0 where
   pub apart : inner_slot over positive ≢ outer_slot over positive
 
 pub AreFour-kink : (over positive : Bool) → AreFour over positive
-AreFour-kink true true = record { start = omega arith; end = omega arith; inner = omega arith; outer = omega arith; apart = λ same. omega (arith, same) }
-AreFour-kink true false = record { start = omega arith; end = omega arith; inner = omega arith; outer = omega arith; apart = λ same. omega (arith, same) }
-AreFour-kink false true = record { start = omega arith; end = omega arith; inner = omega arith; outer = omega arith; apart = λ same. omega (arith, same) }
-AreFour-kink false false = record { start = omega arith; end = omega arith; inner = omega arith; outer = omega arith; apart = λ same. omega (arith, same) }
+AreFour-kink true true = grind arith
+AreFour-kink true false = grind arith
+AreFour-kink false true = grind arith
+AreFour-kink false false = grind arith

@@ -38,7 +38,6 @@ pub mod CrossedSides
 pub mod FingerDrops
 pub mod Sound
 pub mod KinkAdded
-pub mod NewDarts
 pub mod Contracted
 pub mod KinkCircles
 pub mod StrandCircles
