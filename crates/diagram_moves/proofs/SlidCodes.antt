@@ -29,7 +29,7 @@ use Rattle.kinks_and_fingers.specs.DropComponents.{parts_component_count}
 use Rattle.kinks_and_fingers.proofs.OldDarts.{arc_of_dart-arc_of, arc_of_dart-partner, arc_of_dart-below}
 use Rattle.kinks_and_fingers.proofs.KinkClosing.{before}
 use Rattle.kinks_and_fingers.proofs.KinkDropSums.{count-later, sums-alike}
-use Rattle.kinks_and_fingers.proofs.ComponentDrops.{IsOfNames-passes, IsOfNames-smoothings, standing-classes}
+use Rattle.kinks_and_fingers.proofs.StandingNames.{IsOfNames-passes, IsOfNames-smoothings, standing-classes}
 use Rattle.slides.specs.Slid.{slid, slid_code}
 use Rattle.slides.specs.SlideCodes.{is_head_with, HasHeadsAndTails}
 use Rattle.slides.specs.Triangles.{IsTriangle, has_heights}

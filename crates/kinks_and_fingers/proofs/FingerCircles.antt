@@ -1,13 +1,13 @@
 -- The circles of the four states at two crossings that meet in a bigon.
-use Rattle.std.proofs.Common.{◌≡◌, ◌≢◌, ℕ, zero, suc, ◌⊎◌, inl, inr, ◌+◌, ◌*◌, ◌%◌, ◌<◌, ◌≤◌, ◌∙◌, List, [], ◌∷◌, ◌++◌, sym, ap, subst, arith, refl, Bool, true, false, cond, not, ◌||◌, length, eq-eqb}
+use Rattle.std.proofs.Common.{◌≡◌, ◌≢◌, ℕ, zero, suc, ◌⊎◌, inl, inr, ◌+◌, ◌*◌, ◌%◌, ◌<◌, ◌≤◌, ◌∙◌, List, [], ◌∷◌, ◌++◌, sym, ap, arith, refl, Bool, false, cond, not, length, eq-eqb}
 use Rattle.std.specs.Prelude.{nat_eq}
 use Rattle.std.specs.List.{filter, flat_map, range_with_len}
-use Rattle.std.proofs.lemmas.Bool.{both_ways, cases_eq, cases_Bool}
+use Rattle.std.proofs.lemmas.Bool.{both_ways, cases_Bool}
 use Rattle.kh_types.specs.Bits.{bit}
 use Rattle.kh_types.specs.Classes.{classes_of, class_count, Respects, AreBelow}
-use Rattle.kh_types.specs.Code.{arc_in, arc_count}
+use Rattle.kh_types.specs.Code.{arc_count}
 use Rattle.kh_types.specs.Circles.{smoothing_of, smoothings_of}
-use Rattle.kh_types.specs.Darts.{HasArcsTwice, partner_at}
+use Rattle.kh_types.specs.Darts.{HasArcsTwice}
 use Rattle.kh_types.proofs.Lists.{AllByRecursion-append}
 use Rattle.code_passes.specs.Parts.{slots_in}
 use Rattle.gluing.specs.Arcs.{arc_by_place}
@@ -17,10 +17,10 @@ use Rattle.kinks_and_fingers.specs.Dropping.{HasBigonAt}
 use Rattle.kinks_and_fingers.specs.Pulls.{dart_in}
 use Rattle.kinks_and_fingers.specs.DropCircles.{joined_at, outer_pairs, through_at, closing_at}
 use Rattle.kinks_and_fingers.proofs.Smoothed.{dart_in-below}
-use Rattle.kinks_and_fingers.proofs.OldDarts.{partner-named, arc_of_dart-in, arc_of_dart-partner}
+use Rattle.kinks_and_fingers.proofs.OldDarts.{arc_of_dart-in, arc_of_dart-partner}
 use Rattle.kinks_and_fingers.proofs.KeptCodes.{arc_by_place-below}
 use Rattle.kinks_and_fingers.proofs.KinkCircles.{outer-all, joined-below, all_first, all_second}
-use Rattle.kinks_and_fingers.proofs.BigonJoins.{closing-joined, joined-closing, through-joined, joined-through, straight-pass, pass-straight, packed, unpacked, mark, mark-off, count-leaf, count-leaves, smoothed-as, straight-as}
+use Rattle.kinks_and_fingers.proofs.BigonJoins.{named-own, marked, or-false, closing-joined, joined-closing, through-joined, joined-through, straight-pass, pass-straight, packed, unpacked, mark, mark-off, count-leaf, count-leaves, smoothed-as, straight-as}
 
 -- the names round a bigon: a and b on its sides, x, y, u and v on the arcs that lead away
 pub record AreBigonNames (crossings : List (List ℕ)) (c d p q a b x y u v : ℕ) : Type 0 where
@@ -47,24 +47,6 @@ pub record AreBigonNames (crossings : List (List ℕ)) (c d p q a b x y u v : �
   pub a_b : a ≢ b
   pub others_a : (place slot : ℕ) → place < length crossings → slot < 4 → place ≢ c → place ≢ d → arc_by_place crossings place slot ≢ a
   pub others_b : (place slot : ℕ) → place < length crossings → slot < 4 → place ≢ c → place ≢ d → arc_by_place crossings place slot ≢ b
-
--- a name stands at two darts alone
-named-own : (crossings : List (List ℕ)) (s place slot : ℕ) → HasArcsTwice crossings → s < 4 * length crossings → place < length crossings
-    → slot < 4 → arc_by_place crossings place slot ≡ arc_of_dart crossings s
-    → (4 * place + slot ≡ s) ⊎ (4 * place + slot ≡ partner_at crossings s)
-named-own crossings s place slot twice s_below below slot_below same =
-    let z = dart_in place slot in
-    let e : slot % 4 ≡ slot = omega (arith, slot_below) in
-    let is : dart_in place slot ≡ 4 * place + slot = ap (λ r. 4 * place + r) e in
-    elim (cases_eq (dart_in place slot) s) [
-      | inl own ↦ inl (sym is ∙ own)
-      | inr other ↦
-          inr
-          (sym is
-          ∙ sym
-          (partner-named crossings twice s (dart_in place slot) s_below (dart_in-below (length crossings) place slot below) other
-          (arc_of_dart-in crossings place slot ∙ ap (arc_by_place crossings place) e ∙ same)))
-    ]
 
 pub AreBigonNames-bigon : (crossings : List (List ℕ)) (c d p q : ℕ) → HasArcsTwice crossings → HasBigonAt crossings c d p q → p < 4 → q < 4
     → AreBigonNames crossings c d p q (arc_by_place crossings c p) (arc_by_place crossings d q) (arc_by_place crossings c ((p + 2) % 4))
@@ -160,35 +142,18 @@ AreBigonNames-bigon crossings c d p q twice bigon p_slot q_slot =
     slot_own_one : (c p : ℕ) → p < 4 → 4 * c + p ≡ dart_in c (p + 1) → ⊥
     slot_own_one c p below same = omega (arith, below, same)
 
--- what holds of the four darts' names at each crossing that stays holds of its smoothing
-pub marked : (f : ℕ → ℕ) (b : ℕ) (slots : List ℕ) → ((slot : ℕ) → slot < 4 → f (arc_in slots slot) ≡ 0) → Respects f (smoothing_of b slots)
-marked f b slots at = elim (cases_Bool (nat_eq b 0)) [
-  | inl is ↦
-      subst (λ (t : Bool). Respects f (cond t ((arc_in slots 0, arc_in slots 1) ∷ (arc_in slots 2, arc_in slots 3) ∷ [])
-      ((arc_in slots 0, arc_in slots 3) ∷ (arc_in slots 1, arc_in slots 2) ∷ []))) (sym is)
-      (at 0 (omega arith) ∙ sym (at 1 (omega arith)), (at 2 (omega arith) ∙ sym (at 3 (omega arith)), tt))
-  | inr is ↦
-      subst (λ (t : Bool). Respects f (cond t ((arc_in slots 0, arc_in slots 1) ∷ (arc_in slots 2, arc_in slots 3) ∷ [])
-      ((arc_in slots 0, arc_in slots 3) ∷ (arc_in slots 1, arc_in slots 2) ∷ []))) (sym is)
-      (at 0 (omega arith) ∙ sym (at 3 (omega arith)), (at 1 (omega arith) ∙ sym (at 2 (omega arith)), tt))
-]
-
 outer-free : (crossings : List (List ℕ)) (c d state a : ℕ)
     → ((place slot : ℕ) → place < length crossings → slot < 4 → place ≢ c → place ≢ d → arc_by_place crossings place slot ≢ a)
     → Respects (λ z. mark a z) (outer_pairs crossings (is_of_two c d) state)
 outer-free crossings c d state a others =
     outer-all (λ pair. mark a pair.0 ≡ mark a pair.1) crossings (is_of_two c d) state
     (λ place below stays.
-    let away = apart_of (nat_eq c place) (nat_eq d place) stays in
+    let away = or-false (nat_eq c place) (nat_eq d place) stays in
     marked (λ z. mark a z) (bit state place) (slots_in crossings place)
     (λ slot slot_below.
     mark-off a (arc_by_place crossings place slot)
     (others place slot below slot_below (λ same. both_ways (nat_eq c place) away.0 (eq-eqb c place (sym same)))
     (λ same. both_ways (nat_eq d place) away.1 (eq-eqb d place (sym same))))))
-  where
-    apart_of : (a b : Bool) → (a || b) ≡ false → (a ≡ false) × (b ≡ false)
-    apart_of true b is = absurd (both_ways true is refl)
-    apart_of false b is = (refl, is)
 
 -- the smoothings of the crossings that stay depend on their bits alone
 
@@ -216,13 +181,9 @@ outer-same : (crossings : List (List ℕ)) (c d state other : ℕ) → ((place :
 outer-same crossings c d state other same =
     pairs-same crossings (is_of_two c d) state other 0 (length crossings)
     (λ place below stays.
-    let away = apart_of (nat_eq c place) (nat_eq d place) stays in
+    let away = or-false (nat_eq c place) (nat_eq d place) stays in
     same place (omega (arith, below)) (λ is. both_ways (nat_eq c place) away.0 (eq-eqb c place (sym is)))
     (λ is. both_ways (nat_eq d place) away.1 (eq-eqb d place (sym is))))
-  where
-    apart_of : (a b : Bool) → (a || b) ≡ false → (a ≡ false) × (b ≡ false)
-    apart_of true b is = absurd (both_ways true is refl)
-    apart_of false b is = (refl, is)
 
 -- the circles of the four states, and of what is joined straight
 pub record FourStates (crossings : List (List ℕ)) (n c d p q : ℕ) : Type 0 where

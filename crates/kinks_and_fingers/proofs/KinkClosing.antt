@@ -1,15 +1,15 @@
 -- The smoothing that closes a kink makes one circle more.
-use Rattle.std.proofs.Common.{◌≡◌, ◌≢◌, ℕ, zero, suc, ◌⊎◌, inl, inr, ◌+◌, ◌*◌, ◌/◌, ◌%◌, ◌<◌, ◌≤◌, ◌∙◌, List, [], ◌∷◌, ◌++◌, sym, ap, subst, arith, refl, Bool, false, cond, not, length, map, eq-eqb, eqb-true, IsTrue}
+use Rattle.std.proofs.Common.{◌≡◌, ◌≢◌, ℕ, ◌⊎◌, inl, inr, ◌+◌, ◌*◌, ◌/◌, ◌%◌, ◌<◌, ◌≤◌, ◌∙◌, List, [], ◌∷◌, ◌++◌, sym, ap, subst, arith, refl, false, cond, not, length, map, eq-eqb, eqb-true, IsTrue}
 use Rattle.std.specs.Prelude.{slice_index, nat_eq}
 use Rattle.std.specs.List.{filter, range_with_len}
-use Rattle.std.proofs.lemmas.Bool.{both_ways, cases_eq, cases_Bool, ne_eqb}
+use Rattle.std.proofs.lemmas.Bool.{both_ways, cases_eq, ne_eqb}
 use Rattle.std.proofs.lemmas.Bool.Decides.{nat_tests}
 use Rattle.kh_types.specs.Acceptance.{accepted}
 use Rattle.kh_types.specs.Bits.{bit}
 use Rattle.kh_types.specs.Classes.{classes_of, class_count, Respects, AreBelow}
-use Rattle.kh_types.specs.Code.{Code, arc_in, arc_count}
+use Rattle.kh_types.specs.Code.{Code, arc_count}
 use Rattle.kh_types.specs.Components.{passes_of}
-use Rattle.kh_types.specs.Circles.{smoothing_of, smoothings_of, circle_count}
+use Rattle.kh_types.specs.Circles.{smoothings_of, circle_count}
 use Rattle.kh_types.specs.Darts.{HasArcsTwice}
 use Rattle.kh_types.proofs.AcceptedLemmas.{HasArcsTwice-accepted}
 use Rattle.kh_types.proofs.ClassLemmas.{classes-finest}
@@ -23,72 +23,24 @@ use Rattle.kinks_and_fingers.specs.Dropping.{HasKinkAt}
 use Rattle.kinks_and_fingers.specs.Pulls.{dart_in, early}
 use Rattle.kinks_and_fingers.specs.DropCircles.{joined_at, outer_pairs, through_at, closing_at, parts_circle_count}
 use Rattle.kinks_and_fingers.proofs.Smoothed.{dart_in-below, dart_in-place, dart_in-apart}
-use Rattle.kinks_and_fingers.proofs.OldDarts.{partner-named, arc_of_dart-in}
+use Rattle.kinks_and_fingers.proofs.OldDarts.{arc_of_dart-in}
 use Rattle.kinks_and_fingers.proofs.KinkDrops.{kink-partner}
 use Rattle.kinks_and_fingers.proofs.KeptCodes.{arc_by_place-below, all-gone, gone-all, places-but}
-use Rattle.kinks_and_fingers.proofs.KinkCircles.{smoothings-all, smoothings-each, outer-all, outer-each, joined-below, passes-low, smoothing-zero, smoothing-one, to-zero, to-one, all_first, all_second, classes_of-through}
+use Rattle.kinks_and_fingers.proofs.KinkCircles.{smoothings-all, smoothings-each, outer-all, outer-each, joined-below, passes-low, all_first, all_second, classes_of-through}
+use Rattle.kinks_and_fingers.proofs.BigonJoins.{closing-joined, joined-closing, mark, mark-off, marked, named-own, pass-straight, straight-pass}
 use Rattle.kinks_and_fingers.proofs.StrandCircles.{circles-dropped}
-
-closing-joins : (f : ℕ → ℕ) (slots : List ℕ) (p b : ℕ) → p < 4 → b ≡ closing_at p → Respects f (smoothing_of b slots)
-    → f (arc_in slots ((p + 2) % 4)) ≡ f (arc_in slots ((p + 3) % 4))
-closing-joins f slots zero b below is respects = (smoothing-zero f slots b is respects).1
-closing-joins f slots (suc zero) b below is respects = sym (smoothing-one f slots b is respects).0
-closing-joins f slots (suc (suc zero)) b below is respects = (smoothing-zero f slots b is respects).0
-closing-joins f slots (suc (suc (suc zero))) b below is respects = (smoothing-one f slots b is respects).1
-closing-joins f slots (suc (suc (suc (suc p)))) b below is respects = absurd (omega (arith, below))
-
-joins-closing : (f : ℕ → ℕ) (slots : List ℕ) (p b : ℕ) → p < 4 → b ≡ closing_at p
-    → arc_in slots p ≡ arc_in slots ((p + 1) % 4) → f (arc_in slots ((p + 2) % 4)) ≡ f (arc_in slots ((p + 3) % 4))
-    → Respects f (smoothing_of b slots)
-joins-closing f slots zero b below is kink joins = to-zero f slots b is (ap f kink) joins
-joins-closing f slots (suc zero) b below is kink joins = to-one f slots b is (sym joins) (ap f kink)
-joins-closing f slots (suc (suc zero)) b below is kink joins = to-zero f slots b is joins (ap f kink)
-joins-closing f slots (suc (suc (suc zero))) b below is kink joins = to-one f slots b is (sym (ap f kink)) joins
-joins-closing f slots (suc (suc (suc (suc p)))) b below is kink joins = absurd (omega (arith, below))
-
-straight-joins : (f : ℕ → ℕ) (slots : List ℕ) (p : ℕ) → p < 4 → arc_in slots p ≡ arc_in slots ((p + 1) % 4) → Respects f (passes_of slots)
-    → (f (arc_in slots p) ≡ f (arc_in slots ((p + 2) % 4))) × (f (arc_in slots p) ≡ f (arc_in slots ((p + 3) % 4)))
-straight-joins f slots zero below kink respects = (respects.0, ap f kink ∙ respects.1.0)
-straight-joins f slots (suc zero) below kink respects = (respects.1.0, ap f kink ∙ sym respects.0)
-straight-joins f slots (suc (suc zero)) below kink respects = (sym respects.0, ap f kink ∙ sym respects.1.0)
-straight-joins f slots (suc (suc (suc zero))) below kink respects = (sym respects.1.0, ap f kink ∙ respects.0)
-straight-joins f slots (suc (suc (suc (suc p)))) below kink respects = absurd (omega (arith, below))
-
-joins-straight : (f : ℕ → ℕ) (slots : List ℕ) (p : ℕ) → p < 4 → arc_in slots p ≡ arc_in slots ((p + 1) % 4)
-    → f (arc_in slots p) ≡ f (arc_in slots ((p + 2) % 4)) → f (arc_in slots p) ≡ f (arc_in slots ((p + 3) % 4)) → Respects f (passes_of slots)
-joins-straight f slots zero below kink two three = (two, (sym (ap f kink) ∙ three, tt))
-joins-straight f slots (suc zero) below kink two three = (sym three ∙ ap f kink, (two, tt))
-joins-straight f slots (suc (suc zero)) below kink two three = (sym two, (sym three ∙ ap f kink, tt))
-joins-straight f slots (suc (suc (suc zero))) below kink two three = (sym (ap f kink) ∙ three, (sym two, tt))
-joins-straight f slots (suc (suc (suc (suc p)))) below kink two three = absurd (omega (arith, below))
 
 -- the arc of a kink stands at its two slots alone
 kink-own : (crossings : List (List ℕ)) (c p place slot : ℕ) → HasArcsTwice crossings → HasKinkAt crossings c p → place < length crossings
     → slot < 4 → arc_by_place crossings place slot ≡ arc_by_place crossings c p
     → (4 * place + slot ≡ dart_in c p) ⊎ (4 * place + slot ≡ dart_in c (p + 1))
 kink-own crossings c p place slot twice kink below slot_below same =
-    let z = dart_in place slot in
-    let e : slot % 4 ≡ slot = omega (arith, slot_below) in
-    let f : p % 4 ≡ p = omega (arith, kink.slot) in
-    let is : dart_in place slot ≡ 4 * place + slot = ap (λ r. 4 * place + r) e in
-    elim (cases_eq (dart_in place slot) (dart_in c p)) [
-      | inl own ↦ inl (sym is ∙ own)
-      | inr other ↦
-          inr
-          (sym is
-          ∙ sym
-          (partner-named crossings twice (dart_in c p) (dart_in place slot) (dart_in-below (length crossings) c p kink.below)
-          (dart_in-below (length crossings) place slot below) other
-          (arc_of_dart-in crossings place slot ∙ ap (arc_by_place crossings place) e ∙ same ∙ sym (ap (arc_by_place crossings c) f)
-          ∙ sym (arc_of_dart-in crossings c p)))
-          ∙ kink-partner crossings c p twice kink)
+    let e : p % 4 ≡ p = omega (arith, kink.slot) in
+    elim (named-own crossings (dart_in c p) place slot twice (dart_in-below (length crossings) c p kink.below) below slot_below
+    (same ∙ sym (arc_of_dart-in crossings c p ∙ ap (arc_by_place crossings c) e))) [
+      | inl own ↦ inl own
+      | inr other ↦ inr (other ∙ kink-partner crossings c p twice kink)
     ]
-
-abbrev mark : ℕ → ℕ → ℕ
-mark v z = cond (nat_eq z v) 1 0
-
-mark-off : (v z : ℕ) → z ≢ v → mark v z ≡ 0
-mark-off v z apart = ap (λ t. cond t 1 0) (ne_eqb z v apart)
 
 mark-own : (v : ℕ) → mark v v ≡ 1
 mark-own v = ap (λ t. cond t 1 0) (eq-eqb v v refl)
@@ -127,8 +79,8 @@ class_count-closing crossings n state c p twice kink large is =
     AllByRecursion-append (λ pair. f pair.0 ≡ f pair.1) outer ((x, y) ∷ [])
     (outer-all (λ pair. f pair.0 ≡ f pair.1) crossings (nat_eq c) state
     (λ place below stays. smoothings-each (λ pair. f pair.0 ≡ f pair.1) crossings state place respects below)) (
-      closing-joins f slots p (bit state c) kink.slot is
-          (smoothings-each (λ pair. f pair.0 ≡ f pair.1) crossings state c respects kink.below),
+      (closing-joined f slots p (bit state c) kink.slot is
+          (smoothings-each (λ pair. f pair.0 ≡ f pair.1) crossings state c respects kink.below)).1,
       tt,
     ))
     (λ f respects.
@@ -137,7 +89,7 @@ class_count-closing crossings n state c p twice kink large is =
     elim (cases_eq c place) [
       | inl same ↦
           subst (λ (k : ℕ). Respects f (joined_at crossings state k)) same
-          (joins-closing f slots p (bit state c) kink.slot is kink.same
+          (joined-closing f slots p (bit state c) kink.slot is (ap f kink.same)
           (all_second (λ pair. f pair.0 ≡ f pair.1) outer ((x, y) ∷ []) respects).0)
       | inr apart ↦
           outer-each (λ pair. f pair.0 ≡ f pair.1) crossings (nat_eq c) state place
@@ -148,12 +100,12 @@ class_count-closing crossings n state c p twice kink large is =
     classes_of-same n (straight ++ outer) ((outer ++ (x, y) ∷ []) ++ (v, x) ∷ [])
     (AllByRecursion-append (λ pair. (pair.0 < n) × (pair.1 < n)) straight outer straight_low outer_low) last_low
     (λ f respects.
-    let here = straight-joins f slots p kink.slot kink.same
+    let here = straight-pass f slots p kink.slot
     (gone-all (λ pair. f pair.0 ≡ f pair.1) (λ place. passes_of (slots_in crossings place)) (nat_eq c) 0 (length crossings) c
     (all_first (λ pair. f pair.0 ≡ f pair.1) straight outer respects) (omega arith) (omega (arith, kink.below)) (eq-eqb c c refl)) in
     AllByRecursion-append (λ pair. f pair.0 ≡ f pair.1) (outer ++ (x, y) ∷ []) ((v, x) ∷ [])
     (AllByRecursion-append (λ pair. f pair.0 ≡ f pair.1) outer ((x, y) ∷ []) (all_second (λ pair. f pair.0 ≡ f pair.1) straight outer respects)
-    (sym here.0 ∙ here.1, tt)) (here.0, tt))
+    (sym here.0 ∙ ap f kink.same ∙ here.1, tt)) (here.0, tt))
     (λ f respects.
     let front = all_first (λ pair. f pair.0 ≡ f pair.1) (outer ++ (x, y) ∷ []) ((v, x) ∷ []) respects in
     let last = (all_second (λ pair. f pair.0 ≡ f pair.1) (outer ++ (x, y) ∷ []) ((v, x) ∷ []) respects).0 in
@@ -162,7 +114,7 @@ class_count-closing crossings n state c p twice kink large is =
     (all-gone (λ pair. f pair.0 ≡ f pair.1) (λ place. passes_of (slots_in crossings place)) (nat_eq c) 0 (length crossings)
     (λ place from below gone_there.
     subst (λ (k : ℕ). Respects f (passes_of (slots_in crossings k))) (eqb-true c place gone_there)
-    (joins-straight f slots p kink.slot kink.same last (last ∙ middle))))
+    (pass-straight f slots p kink.slot last (sym (ap f kink.same) ∙ last ∙ middle))))
     (all_first (λ pair. f pair.0 ≡ f pair.1) outer ((x, y) ∷ []) front)) in
     let off : (place slot : ℕ) → place < length crossings → slot < 4 → 4 * place + slot ≢ dart_in c p → 4 * place + slot ≢ dart_in c (p + 1)
     → mark v (arc_by_place crossings place slot) ≡ 0 =
@@ -198,18 +150,6 @@ class_count-closing crossings n state c p twice kink large is =
 
     not_gone : (c place : ℕ) → nat_eq c place ≡ false → place ≡ c → ⊥
     not_gone c place stays same = both_ways (nat_eq c place) stays (eq-eqb c place (sym same))
-
-    marked : (f : ℕ → ℕ) (b : ℕ) (slots : List ℕ) → ((slot : ℕ) → slot < 4 → f (arc_in slots slot) ≡ 0) → Respects f (smoothing_of b slots)
-    marked f b slots at = elim (cases_Bool (nat_eq b 0)) [
-      | inl is ↦
-          subst (λ (t : Bool). Respects f (cond t ((arc_in slots 0, arc_in slots 1) ∷ (arc_in slots 2, arc_in slots 3) ∷ [])
-          ((arc_in slots 0, arc_in slots 3) ∷ (arc_in slots 1, arc_in slots 2) ∷ []))) (sym is)
-          (at 0 (omega arith) ∙ sym (at 1 (omega arith)), (at 2 (omega arith) ∙ sym (at 3 (omega arith)), tt))
-      | inr is ↦
-          subst (λ (t : Bool). Respects f (cond t ((arc_in slots 0, arc_in slots 1) ∷ (arc_in slots 2, arc_in slots 3) ∷ [])
-          ((arc_in slots 0, arc_in slots 3) ∷ (arc_in slots 1, arc_in slots 2) ∷ []))) (sym is)
-          (at 0 (omega arith) ∙ sym (at 3 (omega arith)), (at 1 (omega arith) ∙ sym (at 2 (omega arith)), tt))
-    ]
 
 -- a state that goes through the kink has as many circles as the same state without it, and a state that closes it has one more
 

@@ -40,6 +40,7 @@ pub mod Sound
 pub mod KinkAdded
 pub mod Contracted
 pub mod KinkCircles
+pub mod StandingNames
 pub mod StrandCircles
 pub mod KinkClosing
 pub mod Insertions
