@@ -18,7 +18,7 @@ use Rattle.kinks_and_fingers.specs.Dropping.{HasKinkAt}
 use Rattle.kinks_and_fingers.specs.KinkAdds.{kink_crossing, kinked_name, raised, with_kink}
 use Rattle.kinks_and_fingers.specs.Pulls.{early}
 use Rattle.kinks_and_fingers.proofs.KeptCodes.{arc_by_place-below, straight-joined}
-use Rattle.kinks_and_fingers.proofs.KinkClosing.{kept_are}
+use Rattle.kinks_and_fingers.proofs.KinkCircles.{kept_are}
 use Rattle.kinks_and_fingers.proofs.KinkFaces.{accepted-kinked}
 use Rattle.kinks_and_fingers.proofs.KinkedCodes.{IsKinkable-accepted, component_count-kinked, sign-old}
 use Rattle.kinks_and_fingers.proofs.KinkSlots.{arc_in-kinked, length-kinked, slots_in-old, slots_of-new}

@@ -27,7 +27,7 @@ use Rattle.face_walk.proofs.FewFaces.{IsPlanar-twice}
 use Rattle.kinks_and_fingers.specs.DropCircles.{parts_circle_count, parts_plus, parts_minus, parts_term, parts_sum}
 use Rattle.kinks_and_fingers.specs.DropComponents.{parts_component_count}
 use Rattle.kinks_and_fingers.proofs.OldDarts.{arc_of_dart-arc_of, arc_of_dart-partner, arc_of_dart-below}
-use Rattle.kinks_and_fingers.proofs.KinkClosing.{before}
+use Rattle.kinks_and_fingers.proofs.KinkCircles.{before}
 use Rattle.kinks_and_fingers.proofs.KinkDropSums.{count-later, sums-alike}
 use Rattle.kinks_and_fingers.proofs.StandingNames.{IsOfNames-passes, IsOfNames-smoothings, standing-classes}
 use Rattle.slides.specs.Slid.{slid, slid_code}

@@ -18,7 +18,7 @@ use Rattle.kinks_and_fingers.specs.Pulls.{early, late}
 use Rattle.kinks_and_fingers.proofs.FingeredCodes.{AreFingerable-accepted, minus_count-fingered, plus_count-fingered}
 use Rattle.kinks_and_fingers.proofs.FingerDrops.{places-two}
 use Rattle.kinks_and_fingers.proofs.FingerDropSums.{HasBigonAt-slots, bigon-signs, plus-kept_two}
-use Rattle.kinks_and_fingers.proofs.KinkClosing.{kept_are}
+use Rattle.kinks_and_fingers.proofs.KinkCircles.{kept_are}
 use Rattle.kinks_and_fingers.proofs.KinkDropSums.{count-later, plus-kept}
 use Rattle.kh_types.specs.Bits.{one_if}
 use Rattle.kinks_and_fingers.proofs.KinkedCodes.{IsKinkable-accepted, minus_count-kinked, plus_count-kinked}

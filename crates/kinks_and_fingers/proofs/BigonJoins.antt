@@ -20,7 +20,7 @@ use Rattle.kinks_and_fingers.proofs.OldDarts.{partner-named, arc_of_dart-in}
 use Rattle.kinks_and_fingers.specs.Drops.{straight_pairs, is_of_two}
 use Rattle.kinks_and_fingers.specs.DropCircles.{joined_at, outer_pairs, through_at, closing_at}
 use Rattle.kinks_and_fingers.proofs.KeptCodes.{all-gone, gone-all}
-use Rattle.kinks_and_fingers.proofs.KinkCircles.{smoothings-all, smoothings-each, outer-all, outer-each, joined-below, passes-low, smoothing-zero, smoothing-one, to-zero, to-one, all_first, all_second}
+use Rattle.kinks_and_fingers.proofs.SmoothingPairs.{smoothings-all, smoothings-each, outer-all, outer-each, joined-below, passes-low, smoothing-zero, smoothing-one, to-zero, to-one, all_first, all_second}
 
 -- a test of two that fails
 pub or-false : (a b : Bool) → (a || b) ≡ false → (a ≡ false) × (b ≡ false)

@@ -16,7 +16,7 @@ use Rattle.code_passes.specs.Parts.{slots_in}
 use Rattle.kinks_and_fingers.specs.Drops.{straight_pairs, straight_names, renamed_slots, kept_places, kept_crossings, dropped}
 use Rattle.kinks_and_fingers.specs.DropComponents.{standing_class_count, parts_component_count}
 use Rattle.kinks_and_fingers.proofs.KeptCodes.{straight-below, all-gone, gone-all}
-use Rattle.kinks_and_fingers.proofs.KinkCircles.{passes-low, all_first, all_second}
+use Rattle.kinks_and_fingers.proofs.SmoothingPairs.{passes-low, all_first, all_second}
 use Rattle.kinks_and_fingers.proofs.StandingNames.{IsOfNames, IsOfNames-passes, classes-dropped, passes-all}
 
 -- all passes, by places

@@ -19,7 +19,7 @@ use Rattle.kinks_and_fingers.specs.DropCircles.{joined_at, outer_pairs, through_
 use Rattle.kinks_and_fingers.proofs.Smoothed.{dart_in-below}
 use Rattle.kinks_and_fingers.proofs.OldDarts.{arc_of_dart-in, arc_of_dart-partner}
 use Rattle.kinks_and_fingers.proofs.KeptCodes.{arc_by_place-below}
-use Rattle.kinks_and_fingers.proofs.KinkCircles.{outer-all, joined-below, all_first, all_second}
+use Rattle.kinks_and_fingers.proofs.SmoothingPairs.{outer-all, joined-below, all_first, all_second}
 use Rattle.kinks_and_fingers.proofs.BigonJoins.{named-own, marked, or-false, closing-joined, joined-closing, through-joined, joined-through, straight-pass, pass-straight, packed, unpacked, mark, mark-off, count-leaf, count-leaves, smoothed-as, straight-as}
 
 -- the names round a bigon: a and b on its sides, x, y, u and v on the arcs that lead away

@@ -31,7 +31,7 @@ use Rattle.kinks_and_fingers.proofs.OldDarts.{heads-partner, dart_in-slot}
 use Rattle.kinks_and_fingers.proofs.KeptCodes.{length-kept}
 use Rattle.kinks_and_fingers.proofs.StandingNames.{count-parts}
 use Rattle.kinks_and_fingers.proofs.StrandCircles.{circles-dropped}
-use Rattle.kinks_and_fingers.proofs.KinkClosing.{before}
+use Rattle.kinks_and_fingers.proofs.KinkCircles.{before}
 use Rattle.kinks_and_fingers.proofs.KinkDropSums.{count-later, count-filter, count-one, term-is, sums-alike}
 use Rattle.kinks_and_fingers.proofs.Insertions.{int_sum-with_bit, HasBit-with_bit}
 use Rattle.kinks_and_fingers.proofs.FingerDrops.{places-two, late-below}

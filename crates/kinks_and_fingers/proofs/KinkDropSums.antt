@@ -29,7 +29,7 @@ use Rattle.kinks_and_fingers.proofs.OldDarts.{heads-partner, dart_in-slot}
 use Rattle.kinks_and_fingers.proofs.KinkDrops.{kink-partner}
 use Rattle.kinks_and_fingers.proofs.KeptCodes.{length-kept}
 use Rattle.kinks_and_fingers.proofs.StandingNames.{count-parts, count_by-cons}
-use Rattle.kinks_and_fingers.proofs.KinkClosing.{kept_are, circles-through, circles-closing}
+use Rattle.kinks_and_fingers.proofs.KinkCircles.{kept_are, circles-through, circles-closing}
 use Rattle.gluing.proofs.KinkSums.{term_of-positive_kink, term_of-negative_kink}
 use Rattle.kinks_and_fingers.proofs.Insertions.{int_sum-with_bit, HasBit-with_bit}
 use Rattle.gluing.proofs.SlidSums.{signed_by-difference}

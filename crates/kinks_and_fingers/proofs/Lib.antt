@@ -39,10 +39,10 @@ pub mod FingerDrops
 pub mod Sound
 pub mod KinkAdded
 pub mod Contracted
-pub mod KinkCircles
+pub mod SmoothingPairs
 pub mod StandingNames
 pub mod StrandCircles
-pub mod KinkClosing
+pub mod KinkCircles
 pub mod Insertions
 pub mod KinkDropSums
 pub mod FingerTerms

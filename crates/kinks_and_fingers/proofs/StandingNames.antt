@@ -23,7 +23,7 @@ use Rattle.kinks_and_fingers.specs.Drops.{straight_pairs, straight_names, kept_p
 use Rattle.kinks_and_fingers.specs.DropComponents.{standing_class_count}
 use Rattle.kinks_and_fingers.proofs.Contracted.{class_count-contracted}
 use Rattle.kinks_and_fingers.proofs.KeptCodes.{straight-below, arc_by_place-below, all-gone, kept-slots, length-kept, renamed_slots-at}
-use Rattle.kinks_and_fingers.proofs.KinkCircles.{smoothings-all}
+use Rattle.kinks_and_fingers.proofs.SmoothingPairs.{smoothings-all}
 use Rattle.kinks_and_fingers.proofs.BigonJoins.{marked, or-false}
 
 -- counts

@@ -14,7 +14,7 @@ use Rattle.code_passes.specs.Parts.{slots_in}
 use Rattle.kinks_and_fingers.specs.Drops.{straight_pairs, straight_names, renamed_slots, kept_places, kept_crossings, dropped}
 use Rattle.kinks_and_fingers.specs.DropComponents.{standing_class_count}
 use Rattle.kinks_and_fingers.specs.DropCircles.{joined_at, outer_pairs, parts_circle_count}
-use Rattle.kinks_and_fingers.proofs.KinkCircles.{outer-all, joined-below}
+use Rattle.kinks_and_fingers.proofs.SmoothingPairs.{outer-all, joined-below}
 use Rattle.kinks_and_fingers.proofs.StandingNames.{IsOfNames, IsOfNames-smoothings, classes-dropped}
 
 -- the smoothings of the crossings that stay, under their names
