@@ -2,7 +2,7 @@
 use Rattle.std.proofs.Common.{◌≡◌, ◌≢◌, ℕ, ◌⊎◌, inl, inr, ◌+◌, ◌<◌, ◌≤◌, ◌∙◌, List, length, map, refl, sym, ap, subst, arith, Bool, true, eq-eqb, eqb-true}
 use Rattle.std.specs.Prelude.{nat_eq, slice_index, if◌then◌else◌}
 use Rattle.std.specs.List.{count_by, range_with_len}
-use Rattle.std.proofs.lemmas.Bool.{cases_lt}
+use Rattle.std.proofs.lemmas.Bool.{cases_eq, cases_lt}
 use Rattle.std.proofs.lemmas.Bool.Decides.{nat_tests}
 use Rattle.std.proofs.lemmas.List.{ext_get_or, get_or-map, length-map}
 use Rattle.std.proofs.lemmas.List.FromFn.{length-range_with_len, get_or-range_with_len}
@@ -22,8 +22,8 @@ use Rattle.kinks_and_fingers.specs.FingerAdd.{dart_with}
 use Rattle.kinks_and_fingers.proofs.Numbered.{IsNumbering, arcs_in-places, next-numbered, components-numbered}
 use Rattle.kinks_and_fingers.proofs.Passed.{IsStep, IsNumbering-runs, IsDirected-runs}
 use Rattle.kinks_and_fingers.proofs.RisenNumbers.{rise-le_end, end-le, rise-injective, low-within}
-use Rattle.kinks_and_fingers.proofs.AddedCodes.{IsInner, IsNew, IsAdded, IsArc-of, crossing-cases, new_slot-all}
-use Rattle.kinks_and_fingers.proofs.AddedRuns.{first_number, first-rise, first-end, HasRuns-added}
+use Rattle.kinks_and_fingers.proofs.AddedCodes.{IsInner, IsInner-below, IsNew, IsAdded, IsArc-low, IsArc-of, crossing-cases, new_slot-all}
+use Rattle.kinks_and_fingers.proofs.AddedRuns.{IsStep-inner, IsStep-old, first_number, first-rise, first-end, HasRuns-added}
 
 -- a count over a list, by its places
 count_by-places : (p : ℕ → Bool) (cs : List ℕ) (n : ℕ) → length cs ≡ n
@@ -199,3 +199,15 @@ module _ {old new : List (List ℕ)} {rise end low : ℕ → ℕ} {sign : ℕ �
         class_count-components old (passes-below old added.directed),
         class_count-components new (passes-below new IsDirected-added),
       )
+
+  -- and no component has one arc alone
+  pub HasNoSingleArcs-added : HasNoSingleArcs new
+  HasNoSingleArcs-added y is own = elim (cases_eq y (end (low y))) [
+    | inr other ↦
+        let follows = next-added y (y + 1) (IsStep-inner added y (IsInner-below added y is other)) in omega (arith, follows, own)
+    | inl last ↦
+        let x = low y in
+        let x_is = IsArc-low added y is in
+        let follows = next-added (end x) (rise (next old x)) (IsStep-old added x x_is) in
+        added.no_single x x_is (sym (added.numbers.low_rise (next old x)) ∙ ap low (sym follows ∙ ap (next new) (sym last) ∙ own))
+  ]

@@ -7,14 +7,15 @@ use Rattle.std.proofs.lemmas.List.{length-map}
 use Rattle.std.proofs.lemmas.List.FromFn.{length-map-range_with_len}
 use Rattle.std.proofs.lemmas.List.Sums.{count_by-le-length}
 use Rattle.kh_types.specs.Acceptance.{accepted}
+use Rattle.kh_types.specs.Accepted.{IsDirected}
 use Rattle.kh_types.specs.Bits.{bit, ones, one_if}
 use Rattle.kh_types.specs.Circles.{circle_count}
 use Rattle.kh_types.specs.Code.{Code, arc_count}
-use Rattle.kh_types.specs.Darts.{partner_at}
-use Rattle.kh_types.specs.Directions.{is_positive, plus_count, minus_count, positive_at}
+use Rattle.kh_types.specs.Darts.{HasArcsTwice, partner_at}
+use Rattle.kh_types.specs.Directions.{HasNoSingleArcs, is_positive, plus_count, minus_count, positive_at}
 use Rattle.kh_types.specs.StateSum.{int_sum, state_sum, state_term}
 use Rattle.kh_types.specs.StateSum as kh
-use Rattle.kh_types.proofs.AcceptedLemmas.{HasArcsTwice-accepted}
+use Rattle.kh_types.proofs.AcceptedLemmas.{HasArcsTwice-directed}
 use Rattle.kh_types.proofs.Heads.{HasNoSingleArcs-accepted}
 use Rattle.kh_types.proofs.Lists.{count_by-map}
 use Rattle.kh_types.proofs.RangeCounts.{count_by-alike}
@@ -114,11 +115,10 @@ signs-alike false false p q odd same = absurd (differ p q odd same)
           both_ways (nat_eq (p % 2) 0) (ap (λ r. nat_eq r 0) p_odd) (same ∙ ap (λ r. nat_eq r 0) q_even)
     ]
 
-pub bigon-signs : (code : Code) (c d p q : ℕ) → IsTrue (accepted code) → HasBigonAt code.crossings c d p q → p < 4 → q < 4
+pub bigon-signs : (code : Code) (c d p q : ℕ) → IsDirected code.crossings → HasNoSingleArcs code.crossings → HasBigonAt code.crossings c d p q → p < 4 → q < 4
     → positive_at code.crossings d ≡ not (positive_at code.crossings c)
-bigon-signs code c d p q is bigon p_slot q_slot =
+bigon-signs code c d p q directed alone bigon p_slot q_slot =
     let crossings = code.crossings in
-    let directed = HasNoSingleArcs-accepted code is in
     let head_in : (z r : ℕ) → is_code_head code.crossings (dart_in z r) ≡ enters (positive_at code.crossings z) (r % 4) =
     λ z r. ap (λ a. enters (positive_at code.crossings a) (dart_in z r % 4)) (dart_in-place z r)
     ∙ ap (enters (positive_at code.crossings z)) (dart_in-slot z r) in
@@ -126,11 +126,11 @@ bigon-signs code c d p q is bigon p_slot q_slot =
     let e = positive_at code.crossings d in
     let first : enters (positive_at code.crossings d) ((q + 1) % 4) ≡ not (enters (positive_at code.crossings c) (p % 4)) =
     sym (head_in d (q + 1)) ∙ ap (is_code_head code.crossings) (sym bigon.first_side)
-    ∙ heads-partner code.crossings directed.0 directed.1 (dart_in c p) (dart_in-below (length code.crossings) c p bigon.first_below)
+    ∙ heads-partner code.crossings directed alone (dart_in c p) (dart_in-below (length code.crossings) c p bigon.first_below)
     ∙ ap not (head_in c p) in
     let second : enters (positive_at code.crossings c) ((p + 1) % 4) ≡ not (enters (positive_at code.crossings d) (q % 4)) =
     sym (head_in c (p + 1)) ∙ ap (is_code_head code.crossings) (sym bigon.second_side)
-    ∙ heads-partner code.crossings directed.0 directed.1 (dart_in d q) (dart_in-below (length code.crossings) d q bigon.second_below)
+    ∙ heads-partner code.crossings directed alone (dart_in d q) (dart_in-below (length code.crossings) d q bigon.second_below)
     ∙ ap not (head_in d q) in
     signs-alike b e p q bigon.odd
     (keep_alike (enters b (p % 4)) (enters e (q % 4)) (keeps b p) (keeps e q)
@@ -240,10 +240,9 @@ pub record FourCircles (code : Code) (k c d p q : ℕ) : Type 0 where
   pub straight : (b e state : ℕ) → b < 2 → e < 2 → state < 2 ^ k → b ≡ through_at p → e ≡ through_at q
       → circle_count code (with_two k c d b e state) ≡ parts_circle_count (arc_count code.crossings + 1) (without_finger code c d) state
 
-FourCircles-bigon : (code : Code) (k c d p q : ℕ) → IsTrue (accepted code) → HasBigonAt code.crossings c d p q → p < 4 → q < 4
+FourCircles-bigon : (code : Code) (k c d p q : ℕ) → HasArcsTwice code.crossings → HasBigonAt code.crossings c d p q → p < 4 → q < 4
     → length code.crossings ≡ k + 1 + 1 → FourCircles code k c d p q
-FourCircles-bigon code k c d p q is bigon p_slot q_slot size =
-    let twice = HasArcsTwice-accepted code is in
+FourCircles-bigon code k c d p q twice bigon p_slot q_slot size =
     let four : FourStates code.crossings (arc_count code.crossings + 1) c d p q =
     FourStates-bigon code.crossings (arc_count code.crossings + 1) c d p q _ _ _ _ _ _ twice (omega arith)
     (AreBigonNames-bigon code.crossings c d p q twice bigon p_slot q_slot) in
@@ -312,9 +311,9 @@ one_of_two : (b : Bool) → one_if b + one_if (not b) ≡ 1
 one_of_two true = omega arith
 one_of_two false = omega arith
 
-state_sum-slots : (code : Code) (c d p q : ℕ) → IsTrue (accepted code) → HasBigonAt code.crossings c d p q → p < 4 → q < 4 → (exponent : ℤ)
+state_sum-slots : (code : Code) (c d p q : ℕ) → IsDirected code.crossings → HasNoSingleArcs code.crossings → HasBigonAt code.crossings c d p q → p < 4 → q < 4 → (exponent : ℤ)
     → parts_sum (arc_count code.crossings + 1) (without_finger code c d) exponent ≡ state_sum code exponent
-state_sum-slots code c d p q is bigon p_slot q_slot exponent =
+state_sum-slots code c d p q directed alone bigon p_slot q_slot exponent =
     let k = length code.crossings - 2 in
     let size : length code.crossings ≡ length code.crossings - 2 + 1 + 1 = two_below (length code.crossings) c d bigon.first_below bigon.second_below bigon.apart in
     let size_suc : length code.crossings ≡ suc (length code.crossings - 2 + 1) = omega (arith, size) in
@@ -335,12 +334,12 @@ state_sum-slots code c d p q is bigon p_slot q_slot exponent =
     let few : parts_plus (without_finger code c d) ≤ length code.crossings - 2 =
     omega (arith, count_by-le-length (λ (b : Bool). b) (kept_signs code.crossings (is_of_two c d)), signs_size) in
     let counted = plus-kept_two code c d bigon.first_below bigon.second_below bigon.apart in
-    let sign = bigon-signs code c d p q is bigon p_slot q_slot in
+    let sign = bigon-signs code c d p q directed alone bigon p_slot q_slot in
     let both : one_if (positive_at code.crossings c) + one_if (positive_at code.crossings d) ≡ 1 =
     ap (λ b. one_if (positive_at code.crossings c) + one_if b) sign ∙ one_of_two (positive_at code.crossings c) in
     let plus_is : plus_count code.crossings ≡ parts_plus (without_finger code c d) + 1 = omega (arith, counted, both) in
     let minus_is : minus_count code.crossings ≡ parts_minus (without_finger code c d) + 1 = omega (arith, plus_is, left_size, few, size) in
-    let four = FourCircles-bigon code (length code.crossings - 2) c d p q is bigon p_slot q_slot size in
+    let four = FourCircles-bigon code (length code.crossings - 2) c d p q (HasArcsTwice-directed code.crossings directed) bigon p_slot q_slot size in
     let g : ℕ → ℤ = λ s. state_term code exponent (with_bit (length code.crossings - 2 + 1) c 0 s)
     +ℤ state_term code exponent (with_bit (length code.crossings - 2 + 1) c 1 s) in
     let split : state_sum code exponent
@@ -420,7 +419,13 @@ state_sum-slots code c d p q is bigon p_slot q_slot exponent =
     two_below : (n c d : ℕ) → c < n → d < n → c ≢ d → n ≡ n - 2 + 1 + 1
     two_below n c d c_below d_below apart = omega (arith, c_below, d_below, apart)
 
+pub state_sum-bigon : (code : Code) (c d p q : ℕ) → IsDirected code.crossings → HasNoSingleArcs code.crossings
+    → HasBigonAt code.crossings c d p q → (exponent : ℤ)
+    → parts_sum (arc_count code.crossings + 1) (without_finger code c d) exponent ≡ state_sum code exponent
+state_sum-bigon code c d p q directed alone bigon exponent =
+    state_sum-slots code c d (p % 4) (q % 4) directed alone (HasBigonAt-slots code.crossings c d p q bigon) (omega arith) (omega arith) exponent
+
 pub state_sum-without_finger : (code : Code) (c d p q : ℕ) → IsTrue (accepted code) → HasBigonAt code.crossings c d p q → (exponent : ℤ)
     → parts_sum (arc_count code.crossings + 1) (without_finger code c d) exponent ≡ state_sum code exponent
 state_sum-without_finger code c d p q is bigon exponent =
-    state_sum-slots code c d (p % 4) (q % 4) is (HasBigonAt-slots code.crossings c d p q bigon) (omega arith) (omega arith) exponent
+    let directed = HasNoSingleArcs-accepted code is in state_sum-bigon code c d p q directed.0 directed.1 bigon exponent

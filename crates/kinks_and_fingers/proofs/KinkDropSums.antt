@@ -96,7 +96,7 @@ count-filter p q (x ∷ xs) =
     and-false true b is = is
     and-false false b is = refl
 
-count-none : (a n : ℕ) → count_by (λ x. false) (range_with_len a n) ≡ 0
+pub count-none : (a n : ℕ) → count_by (λ x. false) (range_with_len a n) ≡ 0
 count-none a zero = refl
 count-none a (suc n) =
     let rest = count-none (a + 1) n in count_by-cons (λ x. false) a (range_with_len (a + 1) n) ∙ omega (arith, rest)

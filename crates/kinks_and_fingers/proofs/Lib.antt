@@ -1,6 +1,5 @@
 pub mod PulledDarts
 pub mod InsertedBits
-pub mod StraightTerms
 pub mod KinkEnds
 pub mod MovableArcs
 pub mod DroppedDarts
@@ -20,9 +19,6 @@ pub mod FingerWith
 pub mod FingerFaces
 pub mod FingerPieces
 pub mod FingerPlanar
-pub mod GluedSums
-pub mod GluedCircles
-pub mod GluedCodes
 pub mod Steps
 pub mod Relabelled
 pub mod MoreCrossings
@@ -45,6 +41,8 @@ pub mod StrandCircles
 pub mod KinkCircles
 pub mod Insertions
 pub mod KinkDropSums
+pub mod AddedDrops
+pub mod AddedSums
 pub mod FingerTerms
 pub mod BigonJoins
 pub mod FingerCircles
@@ -53,7 +51,4 @@ pub mod ComponentDrops
 pub mod KinkSlots
 pub mod KinkedCodes
 pub mod KinkFaces
-pub mod KinkedCircles
-pub mod KinkTerms
-pub mod KinkWith
 pub mod DropRules
