@@ -17,7 +17,7 @@ use Rattle.orient_arcs.specs.Renumbered.{renumber}
 use Rattle.kinks_and_fingers.proofs.FingeredCodes.{AreFingerable-accepted, component_count-fingered}
 use Rattle.kinks_and_fingers.proofs.KinkedCodes.{IsKinkable-accepted, component_count-kinked}
 use Rattle.kinks_and_fingers.proofs.FingerPlanar.{planar-two_pieces}
-use Rattle.kinks_and_fingers.proofs.KinkWith.{state_sum-kinked}
+use Rattle.kinks_and_fingers.proofs.AddedSums.{state_sum-kinked}
 use Rattle.slides.specs.Triangles.{has_triangle, slide_slot}
 use Rattle.diagram_moves.specs.declared.change.Move.{Move}
 use Rattle.diagram_moves.specs.declared.change.Move.TheVariants.{KinkAdd, KinkDrop, FingerAdd, FingerDrop, Slide}

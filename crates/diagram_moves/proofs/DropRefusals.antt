@@ -94,15 +94,15 @@ kink-passes slots true apart (suc (suc (suc zero))) below same = absurd (omega (
 kink-passes slots false apart (suc (suc (suc zero))) below same = inr same
 kink-passes slots b apart (suc (suc (suc (suc p)))) below same = absurd (omega (arith, below))
 
-kinked : (slots : List ℕ) (p : ℕ) → p < 4 → arc_in slots p ≡ arc_in slots (after p) → is_kink slots ≡ true
-kinked slots p below same = list_any-at (is_kink_at slots) 0 4 p (omega arith) (omega (arith, below)) (eq-eqb (arc_in slots p) (arc_in slots (after p)) same)
+pub is_kink-at : (slots : List ℕ) (p : ℕ) → p < 4 → arc_in slots p ≡ arc_in slots (after p) → is_kink slots ≡ true
+is_kink-at slots p below same = list_any-at (is_kink_at slots) 0 4 p (omega arith) (omega (arith, below)) (eq-eqb (arc_in slots p) (arc_in slots (after p)) same)
 
 passes-kink : (slots : List ℕ) (b : Bool)
     → (arc_in slots 2 ≡ arc_in slots (if b then 3 else 1)) ⊎ (arc_in slots (if b then 1 else 3) ≡ arc_in slots 0) → is_kink slots ≡ true
-passes-kink slots true (inl same) = kinked slots 2 (omega arith) same
-passes-kink slots true (inr same) = kinked slots 0 (omega arith) (sym same)
-passes-kink slots false (inl same) = kinked slots 1 (omega arith) (sym same)
-passes-kink slots false (inr same) = kinked slots 3 (omega arith) same
+passes-kink slots true (inl same) = is_kink-at slots 2 (omega arith) same
+passes-kink slots true (inr same) = is_kink-at slots 0 (omega arith) (sym same)
+passes-kink slots false (inl same) = is_kink-at slots 1 (omega arith) (sym same)
+passes-kink slots false (inr same) = is_kink-at slots 3 (omega arith) same
 
 pub kink-made : (code : Code) (crossing : ℕ) → IsTrue (accepted code) → IsCrossing code.crossings crossing
     → (is_kink (slots_of code.crossings crossing) ≡ true) ↔ HasKink code.crossings crossing
@@ -138,8 +138,8 @@ no_kink-refused code crossing holds is =
 
 -- bigons
 
-bigon-found : (crossings : List (List ℕ)) (c d p q : ℕ) → HasBigonAt crossings c d p q → is_bigon crossings c d ≡ true
-bigon-found crossings c d p q bigon =
+pub is_bigon-has : (crossings : List (List ℕ)) (c d p q : ℕ) → HasBigonAt crossings c d p q → is_bigon crossings c d ≡ true
+is_bigon-has crossings c d p q bigon =
     let p_next : (p % 4 + 1) % 4 ≡ (p + 1) % 4 = omega arith in
     let q_next : (q % 4 + 1) % 4 ≡ (q + 1) % 4 = omega arith in
     let odd : (p % 4 + q % 4) % 2 ≡ 1 = omega (arith, bigon.odd) in
@@ -177,7 +177,7 @@ no_bigon-refused code first second is other_is =
     (no_crossing-none code second other_is) in (
       (λ refused p q has.
           both_ways (is_bigon code.crossings (place_of first) (place_of second)) (by.0 (sym same ∙ refused))
-          (bigon-found code.crossings (place_of first) (place_of second) p q has)),
+          (is_bigon-has code.crossings (place_of first) (place_of second) p q has)),
       (λ none. elim (cases_Bool (is_bigon code.crossings (place_of first) (place_of second))) [
         | inl bigon ↦
             let found = HasBigonAt-found code.crossings (place_of first) (place_of second) (omega (arith, is.positive, is.within))
@@ -209,7 +209,7 @@ bigon-dropped code first second p q is other_is has = (
       ∙ ap (λ o. answered (option_or o (no_bigon code first second)) (renumber (without_finger code (place_of first) (place_of second))))
       (no_crossing-none code second other_is)
       ∙ ap (λ b. answered (refused_where (not b) (NoBigon first second)) (renumber (without_finger code (place_of first) (place_of second))))
-      (bigon-found code.crossings (place_of first) (place_of second) p q has),
+      (is_bigon-has code.crossings (place_of first) (place_of second) p q has),
 )
 
 -- crossings that there are not

@@ -9,6 +9,7 @@ use Rattle.kh_types.specs.Directions.{is_positive, plus_count, minus_count, sign
 use Rattle.kh_types.proofs.DirectionLemmas.{plus_count-le}
 use Rattle.kh_types.proofs.Lists.{count_by-map}
 use Rattle.kh_types.proofs.RangeCounts.{count_by-alike}
+use Rattle.kh_types.proofs.Heads.{HasNoSingleArcs-accepted}
 use Rattle.kinks_and_fingers.specs.DropCircles.{parts_plus}
 use Rattle.kinks_and_fingers.specs.Drops.{dropped, kept_places, is_of_two, without_finger, without_kink}
 use Rattle.kinks_and_fingers.specs.FingerAdd.{with_finger, differ}
@@ -133,7 +134,8 @@ writhe-finger_dropped code first second holds none =
     (ap (λ n. filter (λ x. not (nat_eq c x || nat_eq d x)) (range_with_len 0 n)) size
     ∙ places-two c d (length code.crossings - 2) c_within d_within bigon.apart) in
     let all = plus-kept_two code c d bigon.first_below bigon.second_below bigon.apart in
-    let sign = bigon-signs code c d p q holds bigon (omega arith) (omega arith) in
+    let directed = HasNoSingleArcs-accepted code holds in
+    let sign = bigon-signs code c d p q directed.0 directed.1 bigon (omega arith) (omega arith) in
     let both : one_if (positive_at code.crossings (place_of first)) + one_if (positive_at code.crossings (place_of second)) ≡ 1 =
     ap (λ b. one_if (positive_at code.crossings (place_of first)) + one_if b) sign
     ∙ one_of_both (positive_at code.crossings (place_of first)) in

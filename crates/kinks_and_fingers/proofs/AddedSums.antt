@@ -21,9 +21,8 @@ use Rattle.kinks_and_fingers.proofs.FingerPlanar.{partners-fingered}
 use Rattle.kinks_and_fingers.proofs.FingerSlots.{length-fingered}
 use Rattle.kinks_and_fingers.proofs.FingeredCodes.{IsAdded-finger, finger_sign}
 use Rattle.kinks_and_fingers.proofs.KinkDropSums.{state_sum-without_kink}
-use Rattle.kinks_and_fingers.proofs.KinkEnds.{kinked_crossings}
 use Rattle.kinks_and_fingers.proofs.KinkFaces.{accepted-kinked}
-use Rattle.kinks_and_fingers.proofs.KinkSlots.{last, length-kinked, slots_of-new}
+use Rattle.kinks_and_fingers.proofs.KinkSlots.{kinked_crossings, last, length-kinked, slots_of-new}
 use Rattle.kinks_and_fingers.proofs.KinkedCodes.{IsAdded-kink, IsKinkable-accepted}
 use Rattle.kinks_and_fingers.proofs.MovableArcs.{AreFingerable}
 use Rattle.kinks_and_fingers.proofs.Opened.{low, lowered}

@@ -24,9 +24,8 @@ use Rattle.kinks_and_fingers.specs.Pulls.{kinked, AreNew}
 use Rattle.kinks_and_fingers.proofs.PulledDarts.{AreKinked}
 use Rattle.kinks_and_fingers.proofs.OldDarts.{IsClosedPlanar-accepted}
 use Rattle.kinks_and_fingers.proofs.KinkAdded.{AreKinked-kinked, IsClosedPlanar-kinked}
-use Rattle.kinks_and_fingers.proofs.KinkEnds.{kinked_crossings}
 use Rattle.kinks_and_fingers.proofs.MovableArcs.{IsKinkable}
-use Rattle.kinks_and_fingers.proofs.KinkSlots.{last, length-kinked, arc_of-other, start_slot, end_slot, inner_slot, outer_slot, HasKinkSlots-new, AreFour-kink}
+use Rattle.kinks_and_fingers.proofs.KinkSlots.{kinked_crossings, last, length-kinked, arc_of-other, start_slot, end_slot, inner_slot, outer_slot, HasKinkSlots-new, AreFour-kink}
 use Rattle.kinks_and_fingers.proofs.AddedCodes.{IsDart-old, IsDart-new, tail_dart, head_dart, old_or_new}
 use Rattle.kinks_and_fingers.proofs.KinkedCodes.{IsAdded-kink, IsDirected-kinked, IsKinkable-accepted, IsNew-kink, component_count-kinked}
 

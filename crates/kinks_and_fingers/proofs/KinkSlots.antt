@@ -1,5 +1,5 @@
 -- The slots of a code with a kink.
-use Rattle.std.proofs.Common.{◌≡◌, ℕ, zero, suc, ◌+◌, ◌-◌, ◌<◌, ◌≢◌, ◌∙◌, List, [], ◌∷◌, length, refl, sym, ap, subst, arith, Bool, true, false}
+use Rattle.std.proofs.Common.{◌≡◌, ℕ, zero, suc, ◌+◌, ◌-◌, ◌<◌, ◌≢◌, ◌∙◌, List, [], ◌∷◌, ◌++◌, length, refl, sym, ap, subst, arith, Bool, true, false}
 use Rattle.std.specs.Prelude.{slice_index_or, nat_eq, ◌&&◌, if◌then◌else◌}
 use Rattle.std.specs.List.{range_with_len}
 use Rattle.std.proofs.lemmas.List.{get_or_append_left, get_or-append-add, get_or-map, length-append, length-map}
@@ -13,7 +13,10 @@ use Rattle.kinks_and_fingers.proofs.PassEnds.{HasPasses}
 use Rattle.gluing.specs.Arcs.{enters}
 use Rattle.code_passes.specs.Parts.{slots_in}
 use Rattle.kinks_and_fingers.specs.KinkAdds.{raised, kinked_name, kinked_slots, kink_crossing, raised_crossings}
-use Rattle.kinks_and_fingers.proofs.KinkEnds.{kinked_crossings}
+
+-- the crossings with a kink on the arc a, whose first pass is over or under, and which is positive or negative
+abbrev pub kinked_crossings : List (List ℕ) → ℕ → Bool → Bool → List (List ℕ)
+kinked_crossings crossings a is_over is_positive = raised_crossings a crossings ++ kink_crossing is_over is_positive a ∷ []
 
 -- the number at the head of an old arc: of the arc a, which has three parts now, it is the last part
 abbrev pub last : ℕ → ℕ → ℕ

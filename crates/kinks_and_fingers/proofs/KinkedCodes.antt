@@ -11,10 +11,9 @@ use Rattle.kh_types.proofs.DirectionLemmas.{plus_count-le}
 use Rattle.kh_types.proofs.Heads.{HasNoSingleArcs-accepted}
 use Rattle.kinks_and_fingers.specs.KinkAdds.{raised}
 use Rattle.kinks_and_fingers.specs.KinkCodes.{one_where}
-use Rattle.kinks_and_fingers.proofs.KinkEnds.{kinked_crossings}
 use Rattle.kinks_and_fingers.proofs.MovableArcs.{IsKinkable}
 use Rattle.kinks_and_fingers.proofs.PassEnds.{HasPasses}
-use Rattle.kinks_and_fingers.proofs.KinkSlots.{last, length-kinked, slots_of-new, arc_of-head, arc_of-tail, under_start, over_start, HasPasses-kink}
+use Rattle.kinks_and_fingers.proofs.KinkSlots.{kinked_crossings, last, length-kinked, slots_of-new, arc_of-head, arc_of-tail, under_start, over_start, HasPasses-kink}
 use Rattle.kinks_and_fingers.proofs.Opened.{lowered}
 use Rattle.kinks_and_fingers.proofs.RisenNumbers.{AreRisen}
 use Rattle.kinks_and_fingers.proofs.AddedCodes.{IsInner, IsNew, IsAdded}

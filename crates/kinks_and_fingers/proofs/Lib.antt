@@ -1,6 +1,5 @@
 pub mod PulledDarts
 pub mod InsertedBits
-pub mod KinkEnds
 pub mod MovableArcs
 pub mod DroppedDarts
 pub mod Opened
