@@ -288,12 +288,14 @@ pairing-fingered crossings a b positive ordered can =
     subst (λ (k : ℕ). IsPairing (4 * k) (partner_at new)) (length-fingered crossings a b positive ordered)
     (IsPairing-partner_at new (HasArcsTwice-directed new (IsDirected-fingered crossings a b positive ordered can)))
 
--- between two pieces there are as many faces as before, and there is one piece fewer
-pub planar-between : (crossings : List (List ℕ)) (a b : ℕ) (positive ordered : Bool) → AreFingerable crossings a b
+-- through one face there are two faces more than before, and no more pieces; between two pieces as many faces, and a piece fewer
+pub planar-fingered : (crossings : List (List ℕ)) (a b : ℕ) (positive ordered : Bool) → AreFingerable crossings a b
     → face_count crossings ≡ planar_face_count crossings
-    → slice_index (pieces_of crossings) (dart_place (tail_of crossings a) / 4) ≢ slice_index (pieces_of crossings) (dart_place (tail_of crossings b) / 4)
+    → (slice_index (faces_of crossings) (over_side positive ordered (dart_place (tail_of crossings a)) (dart_place (head_of crossings a)))
+    ≡ slice_index (faces_of crossings) (under_side positive (dart_place (tail_of crossings b)) (dart_place (head_of crossings b))))
+    ⊎ (slice_index (pieces_of crossings) (dart_place (tail_of crossings a) / 4) ≢ slice_index (pieces_of crossings) (dart_place (tail_of crossings b) / 4))
     → face_count (fingered_crossings crossings a b positive ordered) ≡ planar_face_count (fingered_crossings crossings a b positive ordered)
-planar-between crossings a b positive ordered can planar in_two =
+planar-fingered crossings a b positive ordered can planar places =
     let new = fingered_crossings crossings a b positive ordered in
     let n = length crossings in
     let p = partner_at crossings in
@@ -303,71 +305,31 @@ planar-between crossings a b positive ordered can planar in_two =
     let new_pairing = pairing-fingered crossings a b positive ordered can in
     let has = partners-fingered crossings a b positive ordered can in
     let on = on-planar crossings a b positive ordered can in
+    let ta = dart_place (tail_of crossings a) in
+    let ha = dart_place (head_of crossings a) in
+    let tb = dart_place (tail_of crossings b) in
+    let hb = dart_place (head_of crossings b) in
     let x = over_side positive ordered (dart_place (tail_of crossings a)) (dart_place (head_of crossings a)) in
     let y = under_side positive (dart_place (tail_of crossings b)) (dart_place (head_of crossings b)) in
-    let ta = dart_place (tail_of crossings a) in
-    let tb = dart_place (tail_of crossings b) in
-    let faces_apart : slice_index (faces_of crossings) x ≢ slice_index (faces_of crossings) y =
-    λ same. in_two (sym on.x_piece ∙ open_faces-in_pieces n p x y pairing on.x_below on.y_below same ∙ on.y_piece) in
-    let cycles = class_count-exchange_apart (4 * n) (face_step p) (face_back p) (exchanged (face_step p) x y) x y
-    (IsPermutation-face_step n p pairing) (IsExchange-exchanged (4 * n) (face_step p) x y on.x_below on.y_below on.apart) faces_apart in
-    let many = faces-exchanged n p q positive ordered ta (dart_place (head_of crossings a)) tb (dart_place (head_of crossings b)) pairing
-    new_pairing has on.x_below on.y_below on.apart in
-    let same = same-pieces n p q positive ordered ta (dart_place (head_of crossings a)) tb (dart_place (head_of crossings b)) pairing new_pairing has in
-    let fewer = pieces-fewer_apart n p q ta tb pairing new_pairing has.ta_below has.tb_below same in_two in
+    let steps = IsPermutation-face_step n p pairing in
+    let exchange = IsExchange-exchanged (4 * n) (face_step p) x y on.x_below on.y_below on.apart in
+    let many = faces-exchanged n p q positive ordered ta ha tb hb pairing new_pairing has on.x_below on.y_below on.apart in
+    let same = same-pieces n p q positive ordered ta ha tb hb pairing new_pairing has in
     let new_faces : face_count new ≡ open_face_count (n + 2) q = ap (λ k. open_face_count k q) size in
     let new_pieces : piece_count new ≡ open_piece_count (n + 2) q = ap (λ k. open_piece_count k q) size in
-    omega (
-      arith,
-      planar,
-      cycles,
-      many,
-      fewer,
-      new_faces,
-      new_pieces,
-      size,
-      face_count-le new (HasArcsTwice-directed new (IsDirected-fingered crossings a b positive ordered can)),
-    )
-
--- through one face there are two faces more than before, and no more pieces
-pub planar-through : (crossings : List (List ℕ)) (a b : ℕ) (positive ordered : Bool) → AreFingerable crossings a b
-    → face_count crossings ≡ planar_face_count crossings
-    → slice_index (faces_of crossings) (over_side positive ordered (dart_place (tail_of crossings a)) (dart_place (head_of crossings a)))
-    ≡ slice_index (faces_of crossings) (under_side positive (dart_place (tail_of crossings b)) (dart_place (head_of crossings b)))
-    → face_count (fingered_crossings crossings a b positive ordered) ≡ planar_face_count (fingered_crossings crossings a b positive ordered)
-planar-through crossings a b positive ordered can planar together =
-    let new = fingered_crossings crossings a b positive ordered in
-    let n = length crossings in
-    let p = partner_at crossings in
-    let q = partner_at new in
-    let size = length-fingered crossings a b positive ordered in
-    let pairing = IsPairing-partner_at crossings (HasArcsTwice-directed crossings can.directed) in
-    let new_pairing = pairing-fingered crossings a b positive ordered can in
-    let has = partners-fingered crossings a b positive ordered can in
-    let on = on-planar crossings a b positive ordered can in
-    let x = over_side positive ordered (dart_place (tail_of crossings a)) (dart_place (head_of crossings a)) in
-    let y = under_side positive (dart_place (tail_of crossings b)) (dart_place (head_of crossings b)) in
-    let ta = dart_place (tail_of crossings a) in
-    let tb = dart_place (tail_of crossings b) in
-    let cycles = class_count-exchange_together (4 * n) (face_step p) (face_back p) (exchanged (face_step p) x y) x y
-    (IsPermutation-face_step n p pairing) (IsExchange-exchanged (4 * n) (face_step p) x y on.x_below on.y_below on.apart) together in
-    let many = faces-exchanged n p q positive ordered ta (dart_place (head_of crossings a)) tb (dart_place (head_of crossings b)) pairing
-    new_pairing has on.x_below on.y_below on.apart in
-    let same = same-pieces n p q positive ordered ta (dart_place (head_of crossings a)) tb (dart_place (head_of crossings b)) pairing new_pairing has in
-    let few = pieces-few n p q ta tb pairing new_pairing has.ta_below same in
-    let new_faces : face_count new ≡ open_face_count (n + 2) q = ap (λ k. open_face_count k q) size in
-    let new_pieces : piece_count new ≡ open_piece_count (n + 2) q = ap (λ k. open_piece_count k q) size in
-    omega (
-      arith,
-      planar,
-      cycles,
-      many,
-      few,
-      new_faces,
-      new_pieces,
-      size,
-      face_count-le new (HasArcsTwice-directed new (IsDirected-fingered crossings a b positive ordered can)),
-    )
+    let most = face_count-le new (HasArcsTwice-directed new (IsDirected-fingered crossings a b positive ordered can)) in
+    elim places [
+      | inl together ↦
+          let cycles = class_count-exchange_together (4 * n) (face_step p) (face_back p) (exchanged (face_step p) x y) x y steps exchange together in
+          let few = pieces-few n p q ta tb pairing new_pairing has.ta_below same in
+          omega (arith, planar, cycles, many, few, new_faces, new_pieces, size, most)
+      | inr in_two ↦
+          let faces_apart : slice_index (faces_of crossings) x ≢ slice_index (faces_of crossings) y =
+          λ one. in_two (sym on.x_piece ∙ open_faces-in_pieces n p x y pairing on.x_below on.y_below one ∙ on.y_piece) in
+          let cycles = class_count-exchange_apart (4 * n) (face_step p) (face_back p) (exchanged (face_step p) x y) x y steps exchange faces_apart in
+          let fewer = pieces-fewer_apart n p q ta tb pairing new_pairing has.ta_below has.tb_below same in_two in
+          omega (arith, planar, cycles, many, fewer, new_faces, new_pieces, size, most)
+    ]
 
 -- by names of sides
 over_side-named : (crossings : List (List ℕ)) (a : ℕ) (a_left b_left : Bool)
@@ -387,10 +349,10 @@ pub planar-one_face : (code : Code) (a b : ℕ) (a_left b_left : Bool) → IsTru
     → a ≢ b → AreOfOneFace code.crossings a a_left b b_left
     → face_count (with_finger code a a_left b b_left).crossings ≡ planar_face_count (with_finger code a a_left b b_left).crossings
 planar-one_face code a b a_left b_left holds over under apart one =
-    planar-through code.crossings a b b_left (differ a_left b_left) (AreFingerable-accepted code a b holds over under apart)
+    planar-fingered code.crossings a b b_left (differ a_left b_left) (AreFingerable-accepted code a b holds over under apart)
     ((IsAccepted-is code).0 holds).faces
-    (ap (λ z. slice_index (faces_of code.crossings) z) (over_side-named code.crossings a a_left b_left) ∙ one
-    ∙ ap (λ z. slice_index (faces_of code.crossings) z) (sym (under_side-named code.crossings b b_left)))
+    (inl (ap (λ z. slice_index (faces_of code.crossings) z) (over_side-named code.crossings a a_left b_left) ∙ one
+    ∙ ap (λ z. slice_index (faces_of code.crossings) z) (sym (under_side-named code.crossings b b_left))))
 
 pub planar-two_pieces : (code : Code) (a b : ℕ) (a_left b_left : Bool) → IsTrue (accepted code) → IsArc code.crossings a
     → IsArc code.crossings b → AreOfTwoPieces code.crossings a b
@@ -402,9 +364,9 @@ planar-two_pieces code a b a_left b_left holds over under two =
     λ x is.
     let slot = (HasEnds-directed code.crossings can.directed can.no_single x is).tail.within.slot in
     omega (arith, slot) in
-    planar-between code.crossings a b b_left (differ a_left b_left) can ((IsAccepted-is code).0 holds).faces
-    (λ same. two
-    (ap (λ z. slice_index (pieces_of code.crossings) z) (sym (place a over)) ∙ same ∙ ap (λ z. slice_index (pieces_of code.crossings) z) (place b under)))
+    planar-fingered code.crossings a b b_left (differ a_left b_left) can ((IsAccepted-is code).0 holds).faces
+    (inr (λ same. two
+    (ap (λ z. slice_index (pieces_of code.crossings) z) (sym (place a over)) ∙ same ∙ ap (λ z. slice_index (pieces_of code.crossings) z) (place b under))))
 
 -- the code is accepted exactly where it has the faces of a drawing on the sphere
 pub accepted-fingered : (code : Code) (a b : ℕ) (positive ordered : Bool) → IsTrue (accepted code) → IsArc code.crossings a
