@@ -11,6 +11,7 @@ use Rattle.kh_types.proofs.ClassLemmas.{classes-together}
 use Rattle.kh_types.proofs.RangeCounts.{but, count_by-but}
 use Rattle.face_walk.specs.AddedArcs.{open_face_count}
 use Rattle.kh_types.proofs.RangeImages.{map_range-at}
+use Rattle.kinks_and_fingers.proofs.CrossedSides.{exchanged, exchanged-first, exchanged-second, exchanged-else}
 use Rattle.kh_types.specs.Permutations.{IsExchange, step_pair, cycles_of}
 use Rattle.kh_types.proofs.Cycles.{step_pairs-below, IsNamed-cycles_of}
 use Rattle.face_walk.proofs.OpenFaces.{AreCycles-open_faces}
@@ -323,27 +324,6 @@ faces-many n p q cs positive ordered ta ha tb hb pairing new_pairing has named e
     )
 
 -- the two images exchanged
-abbrev pub exchanged : (ℕ → ℕ) → ℕ → ℕ → ℕ → ℕ
-exchanged f x y z = if nat_eq z x then f y else (if nat_eq z y then f x else f z)
-
-pub exchanged-first : (f : ℕ → ℕ) (x y : ℕ) → exchanged f x y x ≡ f y
-exchanged-first f x y = plain x (f y) (if nat_eq x y then f x else f x)
-  where
-    plain : (x u v : ℕ) → (if nat_eq x x then u else v) ≡ u
-    plain x u v = grind (arith, nat_tests)
-
-pub exchanged-second : (f : ℕ → ℕ) (x y : ℕ) → x ≢ y → exchanged f x y y ≡ f x
-exchanged-second f x y apart = plain x y (f y) (f x) (f y) apart
-  where
-    plain : (x y u v w : ℕ) → x ≢ y → (if nat_eq y x then u else (if nat_eq y y then v else w)) ≡ v
-    plain x y u v w apart = grind (arith, nat_tests)
-
-pub exchanged-other : (f : ℕ → ℕ) (x y z : ℕ) → z ≢ x → z ≢ y → exchanged f x y z ≡ f z
-exchanged-other f x y z not_x not_y = plain x y z (f y) (f x) (f z) not_x not_y
-  where
-    plain : (x y z u v w : ℕ) → z ≢ x → z ≢ y → (if nat_eq z x then u else (if nat_eq z y then v else w)) ≡ w
-    plain x y z u v w not_x not_y = grind (arith, nat_tests)
-
 pub IsExchange-exchanged : (n : ℕ) (f : ℕ → ℕ) (x y : ℕ) → x < n → y < n → x ≢ y → IsExchange n f (exchanged f x y) x y
 IsExchange-exchanged n f x y x_below y_below apart = record {
   x_below = x_below;
@@ -351,7 +331,7 @@ IsExchange-exchanged n f x y x_below y_below apart = record {
   apart = apart;
   at_x = exchanged-first f x y;
   at_y = exchanged-second f x y apart;
-  others = λ z z_below not_x not_y. exchanged-other f x y z not_x not_y;
+  others = λ z z_below not_x not_y. exchanged-else f x y z not_x not_y;
 }
 
 exchanged-below : (n : ℕ) (f : ℕ → ℕ) (x y z : ℕ) → ((z : ℕ) → z < n → f z < n) → x < n → y < n → x ≢ y → z < n → exchanged f x y z < n
@@ -359,7 +339,7 @@ exchanged-below n f x y z below x_below y_below apart z_below = elim (cases_eq z
   | inl is_x ↦ subst (λ (w : ℕ). w < n) (sym (ap (λ k. exchanged f x y k) is_x ∙ exchanged-first f x y)) (below y y_below)
   | inr not_x ↦ elim (cases_eq z y) [
     | inl is_y ↦ subst (λ (w : ℕ). w < n) (sym (ap (λ k. exchanged f x y k) is_y ∙ exchanged-second f x y apart)) (below x x_below)
-    | inr not_y ↦ subst (λ (w : ℕ). w < n) (sym (exchanged-other f x y z not_x not_y)) (below z z_below)
+    | inr not_y ↦ subst (λ (w : ℕ). w < n) (sym (exchanged-else f x y z not_x not_y)) (below z z_below)
   ]
 ]
 
@@ -385,5 +365,5 @@ faces-exchanged n p q positive ordered ta ha tb hb pairing new_pairing has x_bel
       at_first = kept x x_below ∙ ap (λ z. slice_index cs z) (exchanged-first (face_step p) x y);
       at_second = kept y y_below ∙ ap (λ z. slice_index cs z) (exchanged-second (face_step p) x y apart);
       others = λ z z_below not_x not_y.
-          kept z z_below ∙ ap (λ w. slice_index cs w) (exchanged-other (face_step p) x y z not_x not_y);
+          kept z z_below ∙ ap (λ w. slice_index cs w) (exchanged-else (face_step p) x y z not_x not_y);
     })

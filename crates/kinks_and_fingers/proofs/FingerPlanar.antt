@@ -23,7 +23,8 @@ use Rattle.kinks_and_fingers.proofs.PassEnds.{over_from, over_to, over_from-belo
 use Rattle.kinks_and_fingers.proofs.FingerSlots.{length-fingered, HasPasses-first, HasPasses-second}
 use Rattle.kinks_and_fingers.proofs.AddedCodes.{IsDart-old, IsDart-new, tail_dart, head_dart, old_or_new, arc_of-uncut}
 use Rattle.kinks_and_fingers.proofs.FingeredCodes.{AreFingerable-accepted, IsAdded-finger, IsDirected-fingered, IsNew-finger, component_count-fingered, head_number-own, head_number-uncut}
-use Rattle.kinks_and_fingers.proofs.FingerFaces.{HasNewPartners, over_side, under_side, exchanged, IsExchange-exchanged, faces-exchanged}
+use Rattle.kinks_and_fingers.proofs.CrossedSides.{exchanged}
+use Rattle.kinks_and_fingers.proofs.FingerFaces.{HasNewPartners, over_side, under_side, IsExchange-exchanged, faces-exchanged}
 use Rattle.kinks_and_fingers.proofs.FingerPieces.{same-pieces, pieces-few, pieces-fewer_apart}
 use Rattle.kinks_and_fingers.proofs.KinkFaces.{partner-of, both-ways}
 
