@@ -15,11 +15,6 @@ use Rattle.kinks_and_fingers.specs.Pulls.{pulled}
 use Rattle.kinks_and_fingers.proofs.PulledDarts.{cut}
 use Rattle.kinks_and_fingers.proofs.MoreCrossings.{IsPlanar-added}
 
--- what a place is, whose partner is q: one of the two darts, one of the other ends, or none of these
-pub pull_cases : (s t p q : ℕ)
-    → (p ≡ s) ⊎ ((p ≡ t) ⊎ (((q ≡ s) × (p ≢ s) × (p ≢ t)) ⊎ (((q ≡ t) × (p ≢ s) × (p ≢ t)) ⊎ ((p ≢ s) × (p ≢ t) × (q ≢ s) × (q ≢ t)))))
-pull_cases s t p q = grind arith
-
 pub pulled-first : (partner : ℕ → ℕ) (s t : ℕ) → pulled partner s t s ≡ s
 pulled-first partner s t = grind (arith, nat_tests)
 
@@ -31,12 +26,6 @@ pulled-to_first partner s t p not_s not_t is = grind (arith, nat_tests)
 
 pub pulled-to_second : (partner : ℕ → ℕ) (s t p : ℕ) → s ≢ t → p ≢ s → p ≢ t → partner p ≡ t → pulled partner s t p ≡ partner s
 pulled-to_second partner s t p apart not_s not_t is = grind (arith, nat_tests)
-
-pub pulled-else : (partner : ℕ → ℕ) (s t p : ℕ) → p ≢ s → p ≢ t → partner p ≢ s → partner p ≢ t → pulled partner s t p ≡ partner p
-pulled-else partner s t p not_s not_t to_s to_t = grind (arith, nat_tests)
-
-cut-else : (partner : ℕ → ℕ) (s t p : ℕ) → p ≢ s → p ≢ t → partner p ≢ s → partner p ≢ t → cut partner s t p ≡ partner p
-cut-else partner s t p not_s not_t to_s to_t = grind (arith, nat_tests)
 
 cut-there : (partner : ℕ → ℕ) (s t p : ℕ) → ((p ≡ s) ⊎ (p ≡ t)) ⊎ ((partner p ≡ s) ⊎ (partner p ≡ t)) → cut partner s t p ≡ p
 cut-there partner s t p there = grind (arith, nat_tests)
