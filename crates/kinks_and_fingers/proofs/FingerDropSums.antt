@@ -1,11 +1,11 @@
 -- Dropping two crossings that meet in a bigon keeps the state sum.
-use Rattle.std.proofs.Common.{◌≡◌, ◌≢◌, ℕ, zero, suc, ◌⊎◌, inl, inr, ◌+◌, ◌-◌, ◌%◌, ◌^◌, ◌<◌, ◌≤◌, ◌∙◌, ℤ, ◌+ℤ◌, List, sym, refl, map, ap, ap₂, arith, Bool, true, false, cond, not, ◌&&◌, ◌||◌, count_by, length, IsTrue, eqb-true}
+use Rattle.std.proofs.Common.{◌≡◌, ◌≢◌, ℕ, suc, ◌⊎◌, inl, inr, ◌+◌, ◌-◌, ◌%◌, ◌^◌, ◌<◌, ◌≤◌, ◌∙◌, ℤ, ◌+ℤ◌, List, sym, refl, map, ap, ap₂, arith, Bool, true, false, cond, not, ◌&&◌, ◌||◌, count_by, length, IsTrue, eqb-true}
 use Rattle.std.specs.Prelude.{nat_eq}
 use Rattle.std.specs.List.{filter, range_with_len}
-use Rattle.std.proofs.lemmas.Bool.{both_ways}
 use Rattle.std.proofs.lemmas.List.{length-map}
 use Rattle.std.proofs.lemmas.List.FromFn.{length-map-range_with_len}
 use Rattle.std.proofs.lemmas.List.Sums.{count_by-le-length}
+use Rattle.std.proofs.lemmas.Bool.Decides.{nat_tests}
 use Rattle.kh_types.specs.Acceptance.{accepted}
 use Rattle.kh_types.specs.Accepted.{IsDirected}
 use Rattle.kh_types.specs.Bits.{bit, ones, one_if}
@@ -62,58 +62,15 @@ HasBigonAt-slots crossings c d p q bigon = record {
 
 -- one of the two crossings is positive, and the other is not
 
-abbrev keeps : Bool → ℕ → Bool
-keeps b p = nat_eq (p % 2) (cond b 1 0)
-
-enters-next : (b : Bool) (p : ℕ) → p < 4 → enters b ((p + 1) % 4) ≡ cond (keeps b p) (enters b (p % 4)) (not (enters b (p % 4)))
-enters-next true zero below = refl
-enters-next true (suc zero) below = refl
-enters-next true (suc (suc zero)) below = refl
-enters-next true (suc (suc (suc zero))) below = refl
-enters-next false zero below = refl
-enters-next false (suc zero) below = refl
-enters-next false (suc (suc zero)) below = refl
-enters-next false (suc (suc (suc zero))) below = refl
-enters-next b (suc (suc (suc (suc p)))) below = absurd (omega (arith, below))
-
-no_fixed : (b : Bool) → b ≡ not b → ⊥
-no_fixed true is = both_ways true is refl
-no_fixed false is = both_ways false refl is
-
-keep_alike : (e f kb ke : Bool) → e ≡ not (cond ke f (not f)) → cond kb e (not e) ≡ not f → kb ≡ ke
-keep_alike e f true true first second = refl
-keep_alike e f false false first second = refl
-keep_alike e f true false first second = absurd (no_fixed (not f) (sym second ∙ first))
-keep_alike e f false true first second = absurd (no_fixed e (first ∙ sym second))
-
 parity : (x : ℕ) → (x % 2 ≡ 0) ⊎ (x % 2 ≡ 1)
 parity x = grind arith
 
-signs-alike : (b e : Bool) (p q : ℕ) → (p + q) % 2 ≡ 1 → keeps b p ≡ keeps e q → e ≡ not b
-signs-alike true false p q odd same = refl
-signs-alike false true p q odd same = refl
-signs-alike true true p q odd same = absurd (differ p q odd same)
-  where
-    differ : (p q : ℕ) → (p + q) % 2 ≡ 1 → nat_eq (p % 2) 1 ≡ nat_eq (q % 2) 1 → ⊥
-    differ p q odd same = elim (parity p) [
-      | inl even ↦
-          let q_odd : q % 2 ≡ 1 = omega (arith, odd, even) in
-          both_ways (nat_eq (p % 2) 1) (ap (λ r. nat_eq r 1) even) (same ∙ ap (λ r. nat_eq r 1) q_odd)
-      | inr p_odd ↦
-          let q_even : q % 2 ≡ 0 = omega (arith, odd, p_odd) in
-          both_ways (nat_eq (p % 2) 1) (same ∙ ap (λ r. nat_eq r 1) q_even) (ap (λ r. nat_eq r 1) p_odd)
-    ]
-signs-alike false false p q odd same = absurd (differ p q odd same)
-  where
-    differ : (p q : ℕ) → (p + q) % 2 ≡ 1 → nat_eq (p % 2) 0 ≡ nat_eq (q % 2) 0 → ⊥
-    differ p q odd same = elim (parity p) [
-      | inl even ↦
-          let q_odd : q % 2 ≡ 1 = omega (arith, odd, even) in
-          both_ways (nat_eq (p % 2) 0) (same ∙ ap (λ r. nat_eq r 0) q_odd) (ap (λ r. nat_eq r 0) even)
-      | inr p_odd ↦
-          let q_even : q % 2 ≡ 0 = omega (arith, odd, p_odd) in
-          both_ways (nat_eq (p % 2) 0) (ap (λ r. nat_eq r 0) p_odd) (same ∙ ap (λ r. nat_eq r 0) q_even)
-    ]
+signs-alike : (b e : Bool) (p q : ℕ) → p < 4 → q < 4 → (p + q) % 2 ≡ 1 → enters e ((q + 1) % 4) ≡ not (enters b (p % 4))
+    → enters b ((p + 1) % 4) ≡ not (enters e (q % 4)) → e ≡ not b
+signs-alike true false p q p_below q_below odd first second = refl
+signs-alike false true p q p_below q_below odd first second = refl
+signs-alike true true p q p_below q_below odd first second = grind (arith, nat_tests)
+signs-alike false false p q p_below q_below odd first second = grind (arith, nat_tests)
 
 pub bigon-signs : (code : Code) (c d p q : ℕ) → IsDirected code.crossings → HasNoSingleArcs code.crossings → HasBigonAt code.crossings c d p q → p < 4 → q < 4
     → positive_at code.crossings d ≡ not (positive_at code.crossings c)
@@ -132,14 +89,7 @@ bigon-signs code c d p q directed alone bigon p_slot q_slot =
     sym (head_in c (p + 1)) ∙ ap (is_code_head code.crossings) (sym bigon.second_side)
     ∙ heads-partner code.crossings directed alone (dart_in d q) (dart_in-below (length code.crossings) d q bigon.second_below)
     ∙ ap not (head_in d q) in
-    signs-alike b e p q bigon.odd
-    (keep_alike (enters b (p % 4)) (enters e (q % 4)) (keeps b p) (keeps e q)
-    (twice_back (enters b (p % 4)) ∙ ap not (sym first) ∙ ap not (enters-next e q q_slot))
-    (sym (enters-next b p p_slot) ∙ second))
-  where
-    twice_back : (b : Bool) → b ≡ not (not b)
-    twice_back true = refl
-    twice_back false = refl
+    signs-alike b e p q p_slot q_slot bigon.odd first second
 
 -- the numbers of positive and of negative crossings
 

@@ -6,6 +6,7 @@ use Rattle.std.proofs.lemmas.Bool.{cases_Bool, ne_eqb}
 use Rattle.std.proofs.lemmas.List.{length-map}
 use Rattle.std.proofs.lemmas.List.FromFn.{length-map-range_with_len}
 use Rattle.std.proofs.lemmas.List.Sums.{count_by-le-length}
+use Rattle.std.proofs.lemmas.Bool.Decides.{nat_tests}
 use Rattle.kh_types.specs.Acceptance.{accepted}
 use Rattle.kh_types.specs.Bits.{one_if, ones}
 use Rattle.kh_types.specs.Code.{Code, arc_count}
@@ -37,15 +38,8 @@ use Rattle.gluing.proofs.SlidSums.{signed_by-difference}
 -- the sign of a kink
 
 sign-by_slot : (b : Bool) (p : ℕ) → p < 4 → enters b ((p + 1) % 4) ≡ not (enters b (p % 4)) → b ≡ nat_eq (p % 2) 0
-sign-by_slot true zero below same = refl
-sign-by_slot true (suc zero) below same = sym same
-sign-by_slot true (suc (suc zero)) below same = refl
-sign-by_slot true (suc (suc (suc zero))) below same = same
-sign-by_slot false zero below same = sym same
-sign-by_slot false (suc zero) below same = refl
-sign-by_slot false (suc (suc zero)) below same = same
-sign-by_slot false (suc (suc (suc zero))) below same = refl
-sign-by_slot b (suc (suc (suc (suc p)))) below same = absurd (omega (arith, below))
+sign-by_slot true p below same = grind (arith, nat_tests)
+sign-by_slot false p below same = grind (arith, nat_tests)
 
 pub kink-sign : (code : Code) (c p : ℕ) → IsTrue (accepted code) → HasKinkAt code.crossings c p
     → positive_at code.crossings c ≡ nat_eq (p % 2) 0

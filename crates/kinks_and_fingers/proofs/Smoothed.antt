@@ -43,16 +43,7 @@ dart_in-turned c slot = omega arith
 
 pub dart_cases : (c p x : ℕ) → x / 4 ≡ c
     → (x ≡ dart_in c (p + 1)) ⊎ ((x ≡ dart_in c (p + 2)) ⊎ ((x ≡ dart_in c (p + 3)) ⊎ (x ≡ dart_in c p)))
-dart_cases c p x is = elim (slot_cases p (x % 4)) [
-  | inl a ↦ inl (omega (arith, a, is))
-  | inr b ↦ elim b [
-    | inl a ↦ inr (inl (omega (arith, a, is)))
-    | inr d ↦ elim d [ inl a ↦ inr (inr (inl (omega (arith, a, is)))) | inr a ↦ inr (inr (inr (omega (arith, a, is)))) ]
-  ]
-]
-  where
-    slot_cases : (p r : ℕ) → (r % 4 ≡ (p + 1) % 4) ⊎ ((r % 4 ≡ (p + 2) % 4) ⊎ ((r % 4 ≡ (p + 3) % 4) ⊎ (r % 4 ≡ p % 4)))
-    slot_cases p r = grind arith
+dart_cases c p x is = grind arith
 
 dart_in-turned_last : (c slot : ℕ) → turned (dart_in c slot) ≡ dart_in c (slot + 3)
 dart_in-turned_last c slot = omega arith

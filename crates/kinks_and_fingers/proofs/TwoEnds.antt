@@ -73,6 +73,11 @@ name-at crossings a s below =
 
 -- the passes of a crossing have the ends that its darts are
 
+sums : {x y z w p q r s : Bool} → x ≡ p → y ≡ q → z ≡ r → w ≡ s
+    → cond x 1 0 + cond y 1 0 + cond z 1 0 + cond w 1 0 ≡ cond p 1 0 + cond q 1 0 + cond r 1 0 + cond s 1 0
+sums {x} {y} {z} {w} {p} {q} {r} {s} one two three four =
+    omega (arith, ap {B = ℕ} (λ t. cond t 1 0) one, ap {B = ℕ} (λ t. cond t 1 0) two, ap {B = ℕ} (λ t. cond t 1 0) three, ap {B = ℕ} (λ t. cond t 1 0) four)
+
 heads-here : (strands : Parts) (name a : ℕ)
     → count_by (λ (pass : Pass). nat_eq pass.enters name) (passes_at strands a)
     ≡ cond (is_head_of strands name (4 * a)) 1 0 + cond (is_head_of strands name (4 * a + 1)) 1 0
@@ -93,11 +98,6 @@ heads-here strands name a =
         ≡ cond (enters b 0 && p 0) 1 0 + cond (enters b 1 && p 1) 1 0 + cond (enters b 2 && p 2) 1 0 + cond (enters b 3 && p 3) 1 0
     by true p = omega arith
     by false p = omega arith
-
-    sums : {x y z w p q r s : Bool} → x ≡ p → y ≡ q → z ≡ r → w ≡ s
-        → cond x 1 0 + cond y 1 0 + cond z 1 0 + cond w 1 0 ≡ cond p 1 0 + cond q 1 0 + cond r 1 0 + cond s 1 0
-    sums {x} {y} {z} {w} {p} {q} {r} {s} one two three four =
-        omega (arith, ap {B = ℕ} (λ t. cond t 1 0) one, ap {B = ℕ} (λ t. cond t 1 0) two, ap {B = ℕ} (λ t. cond t 1 0) three, ap {B = ℕ} (λ t. cond t 1 0) four)
 
 tails-here : (strands : Parts) (name a : ℕ)
     → count_by (λ (pass : Pass). nat_eq pass.leaves name) (passes_at strands a)
@@ -120,11 +120,6 @@ tails-here strands name a =
         + cond (not (enters b 3) && p 3) 1 0
     by true p = omega arith
     by false p = omega arith
-
-    sums : {x y z w p q r s : Bool} → x ≡ p → y ≡ q → z ≡ r → w ≡ s
-        → cond x 1 0 + cond y 1 0 + cond z 1 0 + cond w 1 0 ≡ cond p 1 0 + cond q 1 0 + cond r 1 0 + cond s 1 0
-    sums {x} {y} {z} {w} {p} {q} {r} {s} one two three four =
-        omega (arith, ap {B = ℕ} (λ t. cond t 1 0) one, ap {B = ℕ} (λ t. cond t 1 0) two, ap {B = ℕ} (λ t. cond t 1 0) three, ap {B = ℕ} (λ t. cond t 1 0) four)
 
 heads-counted : (strands : Parts) (name a n : ℕ)
     → count_by (λ (pass : Pass). nat_eq pass.enters name) (flat_map (passes_at strands) (range_with_len a n))
@@ -265,12 +260,7 @@ ArePaired-ends strands ends =
     }
   where
     alike : (a b : ℕ) → a ≤ 1 → b ≤ 1 → (0 < a → 0 < b) → (0 < b → 0 < a) → a ≡ b
-    alike zero zero first second onward back = refl
-    alike (suc zero) (suc zero) first second onward back = refl
-    alike zero (suc b) first second onward back = absurd (omega (arith, back (omega arith)))
-    alike (suc a) zero first second onward back = absurd (omega (arith, onward (omega arith)))
-    alike (suc (suc a)) b first second onward back = absurd (omega (arith, first))
-    alike a (suc (suc b)) first second onward back = absurd (omega (arith, second))
+    alike a b first second onward back = grind arith
 
 -- and back
 
