@@ -1,5 +1,5 @@
 -- The faces of a code with a finger: those of the old code with two images exchanged, and one more, between the two new crossings.
-use Rattle.std.proofs.Common.{◌≡◌, ◌≢◌, ℕ, zero, suc, inl, inr, ◌+◌, ◌-◌, ◌*◌, ◌<◌, ◌≤◌, ◌∙◌, List, [], ◌∷◌, map, refl, sym, ap, subst, arith, Bool, true, false, not, ◌&&◌, eq-eqb, eqb-true}
+use Rattle.std.proofs.Common.{◌≡◌, ◌≢◌, ℕ, zero, suc, inl, inr, ◌+◌, ◌-◌, ◌*◌, ◌<◌, ◌≤◌, ◌∙◌, List, [], ◌∷◌, map, refl, sym, ap, arith, Bool, true, false, not, ◌&&◌, eq-eqb, eqb-true}
 use Rattle.std.specs.Prelude.{nat_eq, nat_lt, slice_index, if◌then◌else◌}
 use Rattle.std.specs.List.{range_with_len}
 use Rattle.std.proofs.lemmas.Bool.{cases_eq, cases_lt}
@@ -188,44 +188,28 @@ pub record EndsKept (n : ℕ) (q c : ℕ → ℕ) (new : List ℕ) (ta ha tb hb 
 
 ends-kept : (n : ℕ) (p q c : ℕ → ℕ) (positive ordered : Bool) (ta ha tb hb : ℕ) → HasNewPartners n p q positive ordered ta ha tb hb
     → EndsKept n q c (labels positive ordered (c ta) (c tb) (c ha) (c hb) (4 * n)) ta ha tb hb
-ends-kept n p q c true true ta ha tb hb has =
-    let new = labels true true (c ta) (c tb) (c ha) (c hb) (4 * n) in record {
-      at_ta = to_new n q c new ta 3 (c ta) has.q_ta refl;
-      at_ha = to_new n q c new ha 7 (c ha) has.q_ha refl;
-      at_tb = to_new n q c new tb 0 (c tb) has.q_tb refl;
-      at_hb = to_new n q c new hb 6 (c hb) has.q_hb refl;
+ends-kept n p q c positive ordered ta ha tb hb has =
+    let new = labels positive ordered (c ta) (c tb) (c ha) (c hb) (4 * n) in
+    let ends = labels-ends positive ordered (c ta) (c tb) (c ha) (c hb) (4 * n) in record {
+      at_ta = to_new n q c new ta (if positive then 3 else 1) (c ta) has.q_ta ends.0;
+      at_ha = to_new n q c new ha (if positive then 7 else 5) (c ha) has.q_ha ends.1;
+      at_tb = to_new n q c new tb (if ordered then 0 else 4) (c tb) has.q_tb ends.2;
+      at_hb = to_new n q c new hb (if ordered then 6 else 2) (c hb) has.q_hb ends.3;
     }
-ends-kept n p q c true false ta ha tb hb has =
-    let new = labels true false (c ta) (c tb) (c ha) (c hb) (4 * n) in record {
-      at_ta = to_new n q c new ta 3 (c ta) has.q_ta refl;
-      at_ha = to_new n q c new ha 7 (c ha) has.q_ha refl;
-      at_tb = to_new n q c new tb 4 (c tb) has.q_tb refl;
-      at_hb = to_new n q c new hb 2 (c hb) has.q_hb refl;
-    }
-ends-kept n p q c false true ta ha tb hb has =
-    let new = labels false true (c ta) (c tb) (c ha) (c hb) (4 * n) in record {
-      at_ta = to_new n q c new ta 1 (c ta) has.q_ta refl;
-      at_ha = to_new n q c new ha 5 (c ha) has.q_ha refl;
-      at_tb = to_new n q c new tb 0 (c tb) has.q_tb refl;
-      at_hb = to_new n q c new hb 6 (c hb) has.q_hb refl;
-    }
-ends-kept n p q c false false ta ha tb hb has =
-    let new = labels false false (c ta) (c tb) (c ha) (c hb) (4 * n) in record {
-      at_ta = to_new n q c new ta 1 (c ta) has.q_ta refl;
-      at_ha = to_new n q c new ha 5 (c ha) has.q_ha refl;
-      at_tb = to_new n q c new tb 4 (c tb) has.q_tb refl;
-      at_hb = to_new n q c new hb 2 (c hb) has.q_hb refl;
-    }
+  where
+    labels-ends : (positive ordered : Bool) (at bt ah bh g : ℕ) → (let new = labels positive ordered at bt ah bh g in
+        (at ≡ slice_index new (turned (if positive then 3 else 1))) × (ah ≡ slice_index new (turned (if positive then 7 else 5)))
+        × (bt ≡ slice_index new (turned (if ordered then 0 else 4))) × (bh ≡ slice_index new (turned (if ordered then 6 else 2))))
+    labels-ends true true at bt ah bh g = (refl, refl, refl, refl)
+    labels-ends true false at bt ah bh g = (refl, refl, refl, refl)
+    labels-ends false true at bt ah bh g = (refl, refl, refl, refl)
+    labels-ends false false at bt ah bh g = (refl, refl, refl, refl)
 
 side_not : (positive ordered : Bool) (x ta ha : ℕ) → x ≢ ta → x ≢ ha → x ≢ over_side positive ordered ta ha
-side_not true true x ta ha not_ta not_ha = not_ha
-side_not true false x ta ha not_ta not_ha = not_ta
-side_not false true x ta ha not_ta not_ha = not_ta
-side_not false false x ta ha not_ta not_ha = not_ha
+side_not positive ordered x ta ha not_ta not_ha = grind (arith, nat_tests)
 
 under_not : (positive : Bool) (x tb hb : ℕ) → x ≢ tb → x ≢ hb → x ≢ under_side positive tb hb
-under_not true x tb hb not_tb not_hb = not_tb
-under_not false x tb hb not_tb not_hb = not_hb
+under_not positive x tb hb not_tb not_hb = grind (arith, nat_tests)
 
 -- each face step keeps the label
 label-kept : (n : ℕ) (p q c : ℕ → ℕ) (positive ordered : Bool) (ta ha tb hb y : ℕ) → IsPairing (4 * n) p
@@ -275,10 +259,7 @@ between-label false true at bt ah bh g = refl
 between-label false false at bt ah bh g = refl
 
 between-below : (positive ordered : Bool) → between positive ordered < 8
-between-below true true = omega arith
-between-below true false = omega arith
-between-below false true = omega arith
-between-below false false = omega arith
+between-below positive ordered = grind (arith, nat_tests)
 
 pub but_passes : (b : Bool) (m k : ℕ) → b ≡ true → (k ≡ m → ⊥) → (b && not (nat_eq k m)) ≡ true
 but_passes b m k passes other = grind (arith, nat_tests)
@@ -335,13 +316,11 @@ IsExchange-exchanged n f x y x_below y_below apart = record {
 }
 
 exchanged-below : (n : ℕ) (f : ℕ → ℕ) (x y z : ℕ) → ((z : ℕ) → z < n → f z < n) → x < n → y < n → x ≢ y → z < n → exchanged f x y z < n
-exchanged-below n f x y z below x_below y_below apart z_below = elim (cases_eq z x) [
-  | inl is_x ↦ subst (λ (w : ℕ). w < n) (sym (ap (λ k. exchanged f x y k) is_x ∙ exchanged-first f x y)) (below y y_below)
-  | inr not_x ↦ elim (cases_eq z y) [
-    | inl is_y ↦ subst (λ (w : ℕ). w < n) (sym (ap (λ k. exchanged f x y k) is_y ∙ exchanged-second f x y apart)) (below x x_below)
-    | inr not_y ↦ subst (λ (w : ℕ). w < n) (sym (exchanged-else f x y z not_x not_y)) (below z z_below)
-  ]
-]
+exchanged-below n f x y z below x_below y_below apart z_below =
+    plain (f x) (f y) (f z) (below x x_below) (below y y_below) (below z z_below)
+  where
+    plain : (u v w : ℕ) → u < n → v < n → w < n → (if nat_eq z x then v else if nat_eq z y then u else w) < n
+    plain u v w u_below v_below w_below = grind (arith, nat_tests)
 
 -- so there are as many faces as the exchange leaves cycles, and one more, or more
 pub faces-exchanged : (n : ℕ) (p q : ℕ → ℕ) (positive ordered : Bool) (ta ha tb hb : ℕ) → IsPairing (4 * n) p
