@@ -93,54 +93,20 @@ AreBigonNames-bigon crossings c d p q twice bigon p_slot q_slot =
       y_is = refl;
       u_is = refl;
       v_is = refl;
-      x_a = λ same. neither c d c p (q + 1) ((p + 2) % 4) (omega arith) (own_a c ((p + 2) % 4) c_b (omega arith) same)
-          (λ off. slot_two c p p_slot off) (λ off. elsewhere c d ((p + 2) % 4) (q + 1) (omega arith) apart off);
-      y_a = λ same. neither c d c p (q + 1) ((p + 3) % 4) (omega arith) (own_a c ((p + 3) % 4) c_b (omega arith) same)
-          (λ off. slot_three c p p_slot off) (λ off. elsewhere c d ((p + 3) % 4) (q + 1) (omega arith) apart off);
-      u_a = λ same. neither c d d p (q + 1) ((q + 2) % 4) (omega arith) (own_a d ((q + 2) % 4) d_b (omega arith) same)
-          (λ off. elsewhere d c ((q + 2) % 4) p (omega arith) (λ is. apart (sym is)) off) (λ off. slot_one_two d q off);
-      v_a = λ same. neither c d d p (q + 1) ((q + 3) % 4) (omega arith) (own_a d ((q + 3) % 4) d_b (omega arith) same)
-          (λ off. elsewhere d c ((q + 3) % 4) p (omega arith) (λ is. apart (sym is)) off) (λ off. slot_one_three d q off);
-      x_b = λ same. neither d c c q (p + 1) ((p + 2) % 4) (omega arith) (own_b c ((p + 2) % 4) c_b (omega arith) same)
-          (λ off. elsewhere c d ((p + 2) % 4) q (omega arith) apart off) (λ off. slot_one_two c p off);
-      y_b = λ same. neither d c c q (p + 1) ((p + 3) % 4) (omega arith) (own_b c ((p + 3) % 4) c_b (omega arith) same)
-          (λ off. elsewhere c d ((p + 3) % 4) q (omega arith) apart off) (λ off. slot_one_three c p off);
-      u_b = λ same. neither d c d q (p + 1) ((q + 2) % 4) (omega arith) (own_b d ((q + 2) % 4) d_b (omega arith) same)
-          (λ off. slot_two d q q_slot off) (λ off. elsewhere d c ((q + 2) % 4) (p + 1) (omega arith) (λ is. apart (sym is)) off);
-      v_b = λ same. neither d c d q (p + 1) ((q + 3) % 4) (omega arith) (own_b d ((q + 3) % 4) d_b (omega arith) same)
-          (λ off. slot_three d q q_slot off) (λ off. elsewhere d c ((q + 3) % 4) (p + 1) (omega arith) (λ is. apart (sym is)) off);
-      a_b = λ same. neither d c c q (p + 1) p p_slot (own_b c p c_b p_slot same)
-          (λ off. elsewhere c d p q p_slot apart off) (λ off. slot_own_one c p p_slot off);
+      x_a = λ same. grind (arith, p_slot, q_slot, apart, own_a c ((p + 2) % 4) c_b (omega arith) same);
+      y_a = λ same. grind (arith, p_slot, q_slot, apart, own_a c ((p + 3) % 4) c_b (omega arith) same);
+      u_a = λ same. grind (arith, p_slot, q_slot, apart, own_a d ((q + 2) % 4) d_b (omega arith) same);
+      v_a = λ same. grind (arith, p_slot, q_slot, apart, own_a d ((q + 3) % 4) d_b (omega arith) same);
+      x_b = λ same. grind (arith, p_slot, q_slot, apart, own_b c ((p + 2) % 4) c_b (omega arith) same);
+      y_b = λ same. grind (arith, p_slot, q_slot, apart, own_b c ((p + 3) % 4) c_b (omega arith) same);
+      u_b = λ same. grind (arith, p_slot, q_slot, apart, own_b d ((q + 2) % 4) d_b (omega arith) same);
+      v_b = λ same. grind (arith, p_slot, q_slot, apart, own_b d ((q + 3) % 4) d_b (omega arith) same);
+      a_b = λ same. grind (arith, p_slot, q_slot, apart, own_b c p c_b p_slot same);
       others_a = λ place slot below slot_below not_c not_d same.
-          neither c d place p (q + 1) slot slot_below (own_a place slot below slot_below same)
-          (λ off. elsewhere place c slot p slot_below not_c off) (λ off. elsewhere place d slot (q + 1) slot_below not_d off);
+          grind (arith, slot_below, not_c, not_d, own_a place slot below slot_below same);
       others_b = λ place slot below slot_below not_c not_d same.
-          neither d c place q (p + 1) slot slot_below (own_b place slot below slot_below same)
-          (λ off. elsewhere place d slot q slot_below not_d off) (λ off. elsewhere place c slot (p + 1) slot_below not_c off);
+          grind (arith, slot_below, not_c, not_d, own_b place slot below slot_below same);
     }
-  where
-    neither : (s t place r w slot : ℕ) → slot < 4 → (4 * place + slot ≡ dart_in s r) ⊎ (4 * place + slot ≡ dart_in t w)
-        → (4 * place + slot ≡ dart_in s r → ⊥) → (4 * place + slot ≡ dart_in t w → ⊥) → ⊥
-    neither s t place r w slot below (inl own) first second = first own
-    neither s t place r w slot below (inr own) first second = second own
-
-    elsewhere : (place other slot r : ℕ) → slot < 4 → place ≢ other → 4 * place + slot ≡ dart_in other r → ⊥
-    elsewhere place other slot r below apart same = omega (arith, below, apart, same)
-
-    slot_two : (c p : ℕ) → p < 4 → 4 * c + (p + 2) % 4 ≡ dart_in c p → ⊥
-    slot_two c p below same = omega (arith, below, same)
-
-    slot_three : (c p : ℕ) → p < 4 → 4 * c + (p + 3) % 4 ≡ dart_in c p → ⊥
-    slot_three c p below same = omega (arith, below, same)
-
-    slot_one_two : (c p : ℕ) → 4 * c + (p + 2) % 4 ≡ dart_in c (p + 1) → ⊥
-    slot_one_two c p same = omega (arith, same)
-
-    slot_one_three : (c p : ℕ) → 4 * c + (p + 3) % 4 ≡ dart_in c (p + 1) → ⊥
-    slot_one_three c p same = omega (arith, same)
-
-    slot_own_one : (c p : ℕ) → p < 4 → 4 * c + p ≡ dart_in c (p + 1) → ⊥
-    slot_own_one c p below same = omega (arith, below, same)
 
 outer-free : (crossings : List (List ℕ)) (c d state a : ℕ)
     → ((place slot : ℕ) → place < length crossings → slot < 4 → place ≢ c → place ≢ d → arc_by_place crossings place slot ≢ a)
