@@ -1,4 +1,5 @@
 -- Where added crossings are dropped the old code is left, each arc under the first of its numbers: so both codes have one state sum.
+use Rattle.std.proofs.lemmas.Bool.Decides.{nat_tests}
 use Rattle.std.proofs.Common.{◌≡◌, ℕ, zero, suc, inl, inr, ◌+◌, ◌-◌, ◌^◌, ◌<◌, ◌≤◌, ◌∙◌, ℤ, List, [], ◌∷◌, ◌++◌, length, map, refl, sym, ap, ap₂, subst, arith, Bool, true, false, cond, not, ◌&&◌, count_by, eqb-true}
 use Rattle.std.specs.Prelude.{nat_eq, slice_index}
 use Rattle.std.specs.List.{filter, range_with_len}
@@ -62,13 +63,11 @@ straight_names-are crossings gone f twice each low same x below =
 -- the ends of an over pass, by slots
 over-joined : (f : ℕ → ℕ) (slots : List ℕ) (positive : Bool) → f (arc_in slots 1) ≡ f (arc_in slots 3)
     → f (arc_in slots (over_from positive)) ≡ f (arc_in slots (over_to positive))
-over-joined f slots true same = sym same
-over-joined f slots false same = same
+over-joined f slots positive same = grind (arith, nat_tests)
 
 joined-over : (f : ℕ → ℕ) (slots : List ℕ) (positive : Bool)
     → f (arc_in slots (over_from positive)) ≡ f (arc_in slots (over_to positive)) → f (arc_in slots 1) ≡ f (arc_in slots 3)
-joined-over f slots true same = sym same
-joined-over f slots false same = same
+joined-over f slots positive same = grind (arith, nat_tests)
 
 -- a smoothing under other names
 smoothing-named : (f g : ℕ → ℕ) (b : ℕ) (slots others : List ℕ) → ((slot : ℕ) → slot < 4 → arc_in others slot ≡ g (arc_in slots slot))
@@ -278,9 +277,7 @@ module _ {old new : List (List ℕ)} {rise end low : ℕ → ℕ} {sign : ℕ �
       ∙ count-none 1 (arc_count new)
     where
       none : (a b : Bool) → (a ≡ true → b ≡ true) → (a && not b) ≡ false
-      none false b tells = refl
-      none true true tells = refl
-      none true false tells = sym (tells refl)
+      none a b tells = grind (arith, nat_tests)
 
   low-kept : (state : ℕ) → AreBelow (arc_count new + 1) (smoothings_of kept state)
   low-kept state =

@@ -59,8 +59,7 @@ HasPass-old crossings new dart u v head from to =
 -- the over pass of a crossing
 HasPass-over : (crossings : List (List ℕ)) (k : ℕ) (positive : Bool) (s t : ℕ) → arc_in (slots_of crossings k) (over_from positive) ≡ s
     → arc_in (slots_of crossings k) (over_to positive) ≡ t → HasPass crossings s t (k - 1)
-HasPass-over crossings k true s t from to = inr (inr (from, to))
-HasPass-over crossings k false s t from to = inr (inl (from, to))
+HasPass-over crossings k positive s t from to = grind (arith, nat_tests)
 
 module _ {old new : List (List ℕ)} {rise end low : ℕ → ℕ} {sign : ℕ → Bool}
     (added : IsAdded old new rise end low sign) where

@@ -48,17 +48,11 @@ HasKinkAt-kinked crossings a over positive =
     }
   where
     slot : (over positive : Bool) → kink_slot over positive < 4
-    slot true true = omega arith
-    slot true false = omega arith
-    slot false true = omega arith
-    slot false false = omega arith
+    slot over positive = grind (arith, nat_tests)
 
     same : (over positive : Bool)
         → arc_in (kink_crossing over positive a) (kink_slot over positive) ≡ arc_in (kink_crossing over positive a) (after (kink_slot over positive))
-    same true true = refl
-    same true false = refl
-    same false true = refl
-    same false false = refl
+    same over positive = grind (arith, nat_tests)
 
 pub AreAddedGone-kink : (crossings : List (List ℕ)) (a : ℕ) (over positive : Bool)
     → AreAddedGone crossings (kinked_crossings crossings a over positive) (nat_eq (length crossings))
@@ -126,10 +120,7 @@ HasBigonAt-fingered crossings a b positive ordered can =
     by false false q ta ha tb hb has = (has.q_middle ∙ omega arith, ap q (omega arith) ∙ has.q_between)
 
     odd : (positive ordered : Bool) → (first_slot positive ordered + second_slot positive ordered) % 2 ≡ 1
-    odd true true = refl
-    odd true false = refl
-    odd false true = refl
-    odd false false = refl
+    odd positive ordered = grind (arith, nat_tests)
 
 pub AreAddedGone-finger : (crossings : List (List ℕ)) (a b : ℕ) (positive ordered : Bool)
     → AreAddedGone crossings (fingered_crossings crossings a b positive ordered) (is_of_two (length crossings) (length crossings + 1))

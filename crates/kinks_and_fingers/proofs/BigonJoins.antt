@@ -1,8 +1,9 @@
 -- What the smoothings of a crossing and its passes join, by its slots from one on; those of two crossings apart from all others.
+use Rattle.std.proofs.lemmas.Bool.Decides.{nat_tests}
 use Rattle.std.proofs.Common.{◌≡◌, ◌≢◌, ℕ, zero, suc, ◌⊎◌, inl, inr, ◌+◌, ◌*◌, ◌%◌, ◌<◌, ◌≤◌, ◌∙◌, List, [], ◌∷◌, ◌++◌, sym, ap, subst, arith, refl, Bool, true, false, cond, ◌||◌, length, eq-eqb, eqb-true}
 use Rattle.std.specs.Prelude.{nat_eq}
 use Rattle.std.specs.List.{AllByRecursion}
-use Rattle.std.proofs.lemmas.Bool.{both_ways, cases_Bool, cases_eq, ne_eqb}
+use Rattle.std.proofs.lemmas.Bool.{cases_Bool, cases_eq, ne_eqb}
 use Rattle.kh_types.specs.Classes.{classes_of, class_count, Respects, AreBelow}
 use Rattle.kh_types.specs.Code.{arc_in, arc_count}
 use Rattle.kh_types.specs.Components.{passes_of}
@@ -24,8 +25,7 @@ use Rattle.kinks_and_fingers.proofs.SmoothingPairs.{smoothings-all, smoothings-e
 
 -- a test of two that fails
 pub or-false : (a b : Bool) → (a || b) ≡ false → (a ≡ false) × (b ≡ false)
-or-false true b fails = absurd (both_ways true fails refl)
-or-false false b fails = (refl, fails)
+or-false a b fails = grind (arith, nat_tests)
 
 -- what holds of the four darts' names at each crossing that stays holds of its smoothing
 pub marked : (f : ℕ → ℕ) (b : ℕ) (slots : List ℕ) → ((slot : ℕ) → slot < 4 → f (arc_in slots slot) ≡ 0) → Respects f (smoothing_of b slots)
@@ -242,5 +242,4 @@ straight-as crossings n state c d whole twice large c_below d_below low onward b
     ])) parts.0)
   where
     gone_second : (a b : Bool) → b ≡ true → (a || b) ≡ true
-    gone_second true b is = refl
-    gone_second false b is = is
+    gone_second a b is = grind (arith, nat_tests)

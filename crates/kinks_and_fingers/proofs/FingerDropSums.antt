@@ -1,5 +1,5 @@
 -- Dropping two crossings that meet in a bigon keeps the state sum.
-use Rattle.std.proofs.Common.{◌≡◌, ◌≢◌, ℕ, suc, ◌⊎◌, inl, inr, ◌+◌, ◌-◌, ◌%◌, ◌^◌, ◌<◌, ◌≤◌, ◌∙◌, ℤ, ◌+ℤ◌, List, sym, refl, map, ap, ap₂, arith, Bool, true, false, cond, not, ◌&&◌, ◌||◌, count_by, length, IsTrue, eqb-true}
+use Rattle.std.proofs.Common.{◌≡◌, ◌≢◌, ℕ, suc, ◌⊎◌, inl, inr, ◌+◌, ◌-◌, ◌%◌, ◌^◌, ◌<◌, ◌≤◌, ◌∙◌, ℤ, ◌+ℤ◌, List, sym, refl, map, ap, ap₂, arith, Bool, true, cond, not, ◌&&◌, ◌||◌, count_by, length, IsTrue, eqb-true}
 use Rattle.std.specs.Prelude.{nat_eq}
 use Rattle.std.specs.List.{filter, range_with_len}
 use Rattle.std.proofs.lemmas.List.{length-map}
@@ -67,10 +67,7 @@ parity x = grind arith
 
 signs-alike : (b e : Bool) (p q : ℕ) → p < 4 → q < 4 → (p + q) % 2 ≡ 1 → enters e ((q + 1) % 4) ≡ not (enters b (p % 4))
     → enters b ((p + 1) % 4) ≡ not (enters e (q % 4)) → e ≡ not b
-signs-alike true false p q p_below q_below odd first second = refl
-signs-alike false true p q p_below q_below odd first second = refl
-signs-alike true true p q p_below q_below odd first second = grind (arith, nat_tests)
-signs-alike false false p q p_below q_below odd first second = grind (arith, nat_tests)
+signs-alike b e p q p_below q_below odd first second = grind (arith, nat_tests)
 
 pub bigon-signs : (code : Code) (c d p q : ℕ) → IsDirected code.crossings → HasNoSingleArcs code.crossings → HasBigonAt code.crossings c d p q → p < 4 → q < 4
     → positive_at code.crossings d ≡ not (positive_at code.crossings c)
@@ -124,17 +121,10 @@ plus-kept_two code c d c_below d_below apart =
     omega (arith, all, signs, parts, inner, first, second)
   where
     at_first : (a b e : Bool) → ((a && (b || e)) && b) ≡ (a && b)
-    at_first true true e = refl
-    at_first true false true = refl
-    at_first true false false = refl
-    at_first false b e = refl
+    at_first a b e = grind (arith, nat_tests)
 
     at_second : (a b e : Bool) → (b ≡ true → e ≡ true → ⊥) → ((a && (b || e)) && not b) ≡ (a && e)
-    at_second true true true never = absurd (never refl refl)
-    at_second true true false never = refl
-    at_second true false true never = refl
-    at_second true false false never = refl
-    at_second false b e never = refl
+    at_second a b e never = grind (arith, nat_tests)
 
 -- states with two bits more
 
@@ -258,8 +248,7 @@ four_terms plus minus new_plus new_minus exponent r0 c0 r1 c1 r2 c2 r3 c3 s0 d0 
         ∙ ap₂ (λ t u. term_at new_plus new_minus exponent t u) r_is c_is
 
 one_of_two : (b : Bool) → one_if b + one_if (not b) ≡ 1
-one_of_two true = omega arith
-one_of_two false = omega arith
+one_of_two b = grind (arith, nat_tests)
 
 state_sum-slots : (code : Code) (c d p q : ℕ) → IsDirected code.crossings → HasNoSingleArcs code.crossings → HasBigonAt code.crossings c d p q → p < 4 → q < 4 → (exponent : ℤ)
     → parts_sum (arc_count code.crossings + 1) (without_finger code c d) exponent ≡ state_sum code exponent

@@ -253,10 +253,7 @@ abbrev pub between : Bool → Bool → ℕ
 between positive ordered = if positive then (if ordered then 1 else 0) else (if ordered then 2 else 3)
 
 between-label : (positive ordered : Bool) (at bt ah bh g : ℕ) → slice_index (labels positive ordered at bt ah bh g) (between positive ordered) ≡ g
-between-label true true at bt ah bh g = refl
-between-label true false at bt ah bh g = refl
-between-label false true at bt ah bh g = refl
-between-label false false at bt ah bh g = refl
+between-label positive ordered at bt ah bh g = grind (arith, nat_tests)
 
 between-below : (positive ordered : Bool) → between positive ordered < 8
 between-below positive ordered = grind (arith, nat_tests)

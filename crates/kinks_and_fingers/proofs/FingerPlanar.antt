@@ -1,4 +1,5 @@
 -- Where the named sides are of one face, or the two arcs of two pieces, a code with a finger has the faces of a drawing on the sphere.
+use Rattle.std.proofs.lemmas.Bool.Decides.{nat_tests}
 use Rattle.std.proofs.Common.{◌≡◌, ◌≢◌, ℕ, ◌⊎◌, inl, inr, ◌+◌, ◌-◌, ◌*◌, ◌/◌, ◌<◌, ◌≤◌, ◌∙◌, List, length, refl, sym, ap, subst, arith, Bool, true, false, not}
 use Rattle.std.specs.Prelude.{◌↔◌, slice_index, if◌then◌else◌, IsTrue}
 use Rattle.std.proofs.lemmas.Bool.{cases_Bool}
@@ -45,12 +46,10 @@ place-second : (n slot : ℕ) → dart_place (dart_with (n + 2) slot) ≡ 4 * n 
 place-second n slot = omega arith
 
 four_more : (positive : Bool) → 4 + over_from (not positive) ≡ (if positive then 5 else 7)
-four_more true = refl
-four_more false = refl
+four_more positive = grind (arith, nat_tests)
 
 four_more_to : (positive : Bool) → 4 + over_to (not positive) ≡ (if positive then 7 else 5)
-four_more_to true = refl
-four_more_to false = refl
+four_more_to positive = grind (arith, nat_tests)
 
 -- the partners along the under arc
 record UnderPairs (n : ℕ) (q : ℕ → ℕ) (ordered : Bool) (tb hb : ℕ) : Type 0 where
@@ -222,14 +221,10 @@ partners-fingered crossings a b positive ordered can =
 
 -- a side of an arc is at one of its ends
 over_side-cases : (positive ordered : Bool) (ta ha : ℕ) → (over_side positive ordered ta ha ≡ ta) ⊎ (over_side positive ordered ta ha ≡ ha)
-over_side-cases true true ta ha = inr refl
-over_side-cases true false ta ha = inl refl
-over_side-cases false true ta ha = inl refl
-over_side-cases false false ta ha = inr refl
+over_side-cases positive ordered ta ha = grind (arith, nat_tests)
 
 under_side-cases : (positive : Bool) (tb hb : ℕ) → (under_side positive tb hb ≡ tb) ⊎ (under_side positive tb hb ≡ hb)
-under_side-cases true tb hb = inl refl
-under_side-cases false tb hb = inr refl
+under_side-cases positive tb hb = grind (arith, nat_tests)
 
 -- what is known of a finger on a planar code
 record OnPlanar (crossings : List (List ℕ)) (a b x y : ℕ) : Type 0 where
@@ -336,15 +331,11 @@ planar-fingered crossings a b positive ordered can planar places =
 over_side-named : (crossings : List (List ℕ)) (a : ℕ) (a_left b_left : Bool)
     → over_side b_left (differ a_left b_left) (dart_place (tail_of crossings a)) (dart_place (head_of crossings a))
     ≡ dart_place (side_dart crossings a a_left)
-over_side-named crossings a true true = refl
-over_side-named crossings a true false = refl
-over_side-named crossings a false true = refl
-over_side-named crossings a false false = refl
+over_side-named crossings a a_left b_left = grind (arith, nat_tests)
 
 under_side-named : (crossings : List (List ℕ)) (b : ℕ) (b_left : Bool)
     → under_side b_left (dart_place (tail_of crossings b)) (dart_place (head_of crossings b)) ≡ dart_place (side_dart crossings b b_left)
-under_side-named crossings b true = refl
-under_side-named crossings b false = refl
+under_side-named crossings b b_left = grind (arith, nat_tests)
 
 pub planar-one_face : (code : Code) (a b : ℕ) (a_left b_left : Bool) → IsTrue (accepted code) → IsArc code.crossings a → IsArc code.crossings b
     → a ≢ b → AreOfOneFace code.crossings a a_left b b_left

@@ -168,8 +168,7 @@ IsAdded-finger crossings a b positive ordered can =
     parts : (ordered : Bool) (a b y : ℕ) → a ≢ b → low a b (y + 1) ≡ low a b y
         → ((first_start ordered (opened a b b) ≡ y) ⊎ (second_start ordered (opened a b b) ≡ y))
         ⊎ ((opened a b a ≡ y) ⊎ (opened a b a + 1 ≡ y))
-    parts true a b y apart same = grind (arith, nat_tests)
-    parts false a b y apart same = grind (arith, nat_tests)
+    parts ordered a b y apart same = grind (arith, nat_tests)
 
 -- any two arcs of an accepted code
 pub AreFingerable-accepted : (code : Code) (a b : ℕ) → IsTrue (accepted code) → IsArc code.crossings a → IsArc code.crossings b → a ≢ b
@@ -229,8 +228,7 @@ plus_count-fingered crossings a b positive ordered can =
     one : (positive : Bool) (n : ℕ)
         → 0 + (if (if nat_eq (1 + n) (n + 1) then positive else not positive) then 1 else 0)
         + (if (if nat_eq (1 + n + 1) (n + 1) then positive else not positive) then 1 else 0) ≡ 1
-    one true n = grind (arith, nat_tests)
-    one false n = grind (arith, nat_tests)
+    one positive n = grind (arith, nat_tests)
 
 pub minus_count-fingered : (crossings : List (List ℕ)) (a b : ℕ) (positive ordered : Bool) → AreFingerable crossings a b
     → minus_count (fingered_crossings crossings a b positive ordered) ≡ minus_count crossings + 1

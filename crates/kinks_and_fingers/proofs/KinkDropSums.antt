@@ -38,8 +38,7 @@ use Rattle.gluing.proofs.SlidSums.{signed_by-difference}
 -- the sign of a kink
 
 sign-by_slot : (b : Bool) (p : ℕ) → p < 4 → enters b ((p + 1) % 4) ≡ not (enters b (p % 4)) → b ≡ nat_eq (p % 2) 0
-sign-by_slot true p below same = grind (arith, nat_tests)
-sign-by_slot false p below same = grind (arith, nat_tests)
+sign-by_slot b p below same = grind (arith, nat_tests)
 
 pub kink-sign : (code : Code) (c p : ℕ) → IsTrue (accepted code) → HasKinkAt code.crossings c p
     → positive_at code.crossings c ≡ nat_eq (p % 2) 0
@@ -83,12 +82,10 @@ count-filter p q (x ∷ xs) =
     ]
   where
     and-true : (a b : Bool) → b ≡ true → (a && b) ≡ a
-    and-true true b is = is
-    and-true false b is = refl
+    and-true a b is = grind (arith, nat_tests)
 
     and-false : (a b : Bool) → b ≡ false → (a && b) ≡ false
-    and-false true b is = is
-    and-false false b is = refl
+    and-false a b is = grind (arith, nat_tests)
 
 pub count-none : (a n : ℕ) → count_by (λ x. false) (range_with_len a n) ≡ 0
 count-none a zero = refl
@@ -111,13 +108,10 @@ count-one p c n below = elim (cases_Bool (p c)) [
 ]
   where
     and-off : (a : Bool) → (a && false) ≡ false
-    and-off true = refl
-    and-off false = refl
+    and-off a = grind (arith, nat_tests)
 
     off : (a b : Bool) → (b ≡ true → a ≡ false) → (a && b) ≡ false
-    off a true tells = ap (λ t. t && true) (tells refl)
-    off true false tells = refl
-    off false false tells = refl
+    off a b tells = grind (arith, nat_tests)
 
 pub plus-kept : (code : Code) (c : ℕ) → c < length code.crossings
     → plus_count code.crossings ≡ cond (positive_at code.crossings c) 1 0 + parts_plus (without_kink code c)

@@ -1,5 +1,5 @@
 -- A crossing with a kink is dropped.
-use Rattle.std.proofs.Common.{◌≡◌, ◌≢◌, ℕ, ◌⊎◌, inl, inr, ◌+◌, ◌*◌, ◌/◌, ◌%◌, ◌<◌, ◌≤◌, ◌∙◌, List, sym, ap, subst, arith, refl, Bool, true, false, not, ◌||◌, length, IsTrue, cond, eqb-true, eq-eqb}
+use Rattle.std.proofs.Common.{◌≡◌, ◌≢◌, ℕ, ◌⊎◌, inl, inr, ◌+◌, ◌*◌, ◌/◌, ◌%◌, ◌<◌, ◌≤◌, ◌∙◌, List, sym, ap, subst, arith, refl, Bool, true, not, ◌||◌, length, IsTrue, cond, eqb-true, eq-eqb}
 use Rattle.std.specs.Prelude.{nat_eq, slice_index, min}
 use Rattle.std.specs.List.{filter, range_with_len}
 use Rattle.std.proofs.lemmas.Bool.Decides.{nat_tests}
@@ -89,8 +89,7 @@ turned_at-flips m partner test v s pairing v_below mates flips x below =
     plain partner test v s x mates back_v back_x flips = grind (arith, nat_tests)
 
 pub twice_not : (b : Bool) → not (not b) ≡ b
-twice_not true = refl
-twice_not false = refl
+twice_not b = grind (arith, nat_tests)
 
 pub kink-partner : (crossings : List (List ℕ)) (c p : ℕ) → HasArcsTwice crossings → HasKinkAt crossings c p
     → partner_at crossings (dart_in c p) ≡ dart_in c (p + 1)

@@ -84,8 +84,7 @@ arc_of-head crossings a over positive dart is head =
     ∙ ap (λ h. kinked_name a h (arc_of crossings dart)) head ∙ with_true (nat_eq (arc_of crossings dart) a) (a + 2) (raised a (arc_of crossings dart))
   where
     with_true : (b : Bool) (x y : ℕ) → (if b && true then x else y) ≡ (if b then x else y)
-    with_true true x y = refl
-    with_true false x y = refl
+    with_true b x y = grind (arith, nat_tests)
 
 pub arc_of-tail : (crossings : List (List ℕ)) (a : ℕ) (over positive : Bool) (dart : Dart) → IsDart crossings dart
     → is_head crossings dart ≡ false
@@ -95,8 +94,7 @@ arc_of-tail crossings a over positive dart is tail =
     ∙ ap (λ h. kinked_name a h (arc_of crossings dart)) tail ∙ with_false (nat_eq (arc_of crossings dart) a) (a + 2) (raised a (arc_of crossings dart))
   where
     with_false : (b : Bool) (x y : ℕ) → (if b && false then x else y) ≡ y
-    with_false true x y = refl
-    with_false false x y = refl
+    with_false b x y = grind (arith, nat_tests)
 
 -- the arc there, where it is not a
 pub arc_of-other : (crossings : List (List ℕ)) (a : ℕ) (over positive : Bool) (dart : Dart) → IsDart crossings dart
@@ -106,8 +104,7 @@ arc_of-other crossings a over positive dart is not_a =
     arc_of-old crossings a over positive dart is ∙ plain a (is_head crossings dart) (arc_of crossings dart) not_a
   where
     plain : (a : ℕ) (head : Bool) (x : ℕ) → x ≢ a → kinked_name a head x ≡ raised a x
-    plain a true x other = grind (arith, nat_tests)
-    plain a false x other = grind (arith, nat_tests)
+    plain a head x other = grind (arith, nat_tests)
 
 -- the numbers on which the passes of the new crossing enter
 abbrev pub under_start : Bool → ℕ → ℕ

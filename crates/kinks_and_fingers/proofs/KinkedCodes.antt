@@ -1,5 +1,5 @@
 -- A code with a kink is its code with a crossing added: so it is directed, keeps components and signs, and has one sign more.
-use Rattle.std.proofs.Common.{◌≡◌, ℕ, ◌⊎◌, inl, inr, ◌+◌, ◌<◌, ◌≤◌, ◌∙◌, List, length, refl, sym, ap, subst, arith, Bool, true, false, not}
+use Rattle.std.proofs.Common.{◌≡◌, ℕ, ◌⊎◌, inl, inr, ◌+◌, ◌<◌, ◌≤◌, ◌∙◌, List, length, sym, ap, subst, arith, Bool, true, false, not}
 use Rattle.std.specs.Prelude.{if◌then◌else◌, IsTrue}
 use Rattle.std.proofs.lemmas.Bool.Decides.{nat_tests}
 use Rattle.kh_types.specs.Code.{Code, slots_of, arc_count, IsArc, IsCrossing}
@@ -103,8 +103,7 @@ IsAdded-kink crossings a over positive can =
     either P false x y at_x at_y = at_y
 
     part : (over : Bool) (a y : ℕ) → lowered a (y + 1) ≡ lowered a y → (under_start over a ≡ y) ⊎ (over_start over a ≡ y)
-    part true a y same = grind (arith, nat_tests)
-    part false a y same = grind (arith, nat_tests)
+    part over a y same = grind (arith, nat_tests)
 
 -- any arc of an accepted code
 pub IsKinkable-accepted : (code : Code) (a : ℕ) → IsTrue (accepted code) → IsArc code.crossings a → IsKinkable code.crossings a
@@ -152,8 +151,7 @@ plus_count-kinked crossings a over positive can =
     ∙ ap (λ k. plus_count crossings + k) (one positive)
   where
     one : (positive : Bool) → 0 + (if positive then 1 else 0) ≡ one_where positive
-    one true = refl
-    one false = refl
+    one positive = grind (arith, nat_tests)
 
 pub minus_count-kinked : (crossings : List (List ℕ)) (a : ℕ) (over positive : Bool) → IsKinkable crossings a
     → minus_count (kinked_crossings crossings a over positive) ≡ minus_count crossings + one_where (not positive)
@@ -167,5 +165,4 @@ minus_count-kinked crossings a over positive can =
     )
   where
     one_of_both : (positive : Bool) → one_where positive + one_where (not positive) ≡ 1
-    one_of_both true = refl
-    one_of_both false = refl
+    one_of_both positive = grind (arith, nat_tests)

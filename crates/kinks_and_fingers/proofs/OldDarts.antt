@@ -1,5 +1,5 @@
 -- The darts of an accepted code, by their places.
-use Rattle.std.proofs.Common.{◌≡◌, ◌≢◌, ℕ, ◌⊎◌, inl, inr, ◌+◌, ◌-◌, ◌*◌, ◌/◌, ◌%◌, ◌<◌, ◌∙◌, List, sym, ap, arith, Bool, true, false, not, length, IsTrue}
+use Rattle.std.proofs.Common.{◌≡◌, ◌≢◌, ℕ, ◌⊎◌, inl, inr, ◌+◌, ◌-◌, ◌*◌, ◌/◌, ◌%◌, ◌<◌, ◌∙◌, List, sym, ap, arith, Bool, not, length, IsTrue}
 use Rattle.std.specs.Prelude.{nat_eq}
 use Rattle.std.proofs.lemmas.Bool.Decides.{nat_tests}
 use Rattle.kh_types.specs.Bits.{bit}
@@ -115,8 +115,7 @@ across_cases q = grind arith
 
 enters-across : (b : Bool) (r s : ℕ) → (((r ≡ 0) × (s ≡ 2)) ⊎ ((r ≡ 1) × (s ≡ 3))) ⊎ (((r ≡ 2) × (s ≡ 0)) ⊎ ((r ≡ 3) × (s ≡ 1)))
     → enters b s ≡ not (enters b r)
-enters-across true r s at = grind (arith, nat_tests)
-enters-across false r s at = grind (arith, nat_tests)
+enters-across b r s at = grind (arith, nat_tests)
 
 pub heads-across : (crossings : List (List ℕ)) (c q : ℕ)
     → is_code_head crossings (dart_in c (q + 2)) ≡ not (is_code_head crossings (dart_in c q))

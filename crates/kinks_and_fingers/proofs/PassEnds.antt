@@ -1,4 +1,5 @@
 -- Where the passes of a crossing begin and end.
+use Rattle.std.proofs.lemmas.Bool.Decides.{nat_tests}
 use Rattle.std.proofs.Common.{◌≡◌, ℕ, zero, suc, ◌<◌, List, refl, sym, subst, arith, Bool, true, false}
 use Rattle.std.specs.Prelude.{if◌then◌else◌}
 use Rattle.kh_types.specs.Code.{arc_in}
@@ -11,12 +12,10 @@ abbrev pub over_to : Bool → ℕ
 over_to positive = if positive then 1 else 3
 
 pub over_from-below : (positive : Bool) → over_from positive < 4
-over_from-below true = omega arith
-over_from-below false = omega arith
+over_from-below positive = grind (arith, nat_tests)
 
 pub over_to-below : (positive : Bool) → over_to positive < 4
-over_to-below true = omega arith
-over_to-below false = omega arith
+over_to-below positive = grind (arith, nat_tests)
 
 -- the under pass of a crossing goes from u to v, and its over pass from s to t
 pub record HasPasses (slots : List ℕ) (positive : Bool) (u v s t : ℕ) : Type 0 where

@@ -1,5 +1,6 @@
 -- The pairs that smoothings join: at all crossings, at each, and at those that stay.
-use Rattle.std.proofs.Common.{◌≡◌, ℕ, zero, suc, ◌+◌, ◌<◌, ◌≤◌, List, [], ◌∷◌, ◌++◌, sym, ap, subst, arith, refl, Bool, true, false, cond, not, length}
+use Rattle.std.proofs.lemmas.Bool.Decides.{nat_tests}
+use Rattle.std.proofs.Common.{◌≡◌, ℕ, zero, suc, ◌+◌, ◌<◌, ◌≤◌, List, [], ◌∷◌, ◌++◌, sym, ap, subst, arith, Bool, true, false, cond, not, length}
 use Rattle.std.specs.Prelude.{slice_index_or, nat_eq}
 use Rattle.std.specs.List.{flat_map, AllByRecursion, enumerate_from}
 use Rattle.kh_types.specs.Bits.{bit}
@@ -78,8 +79,7 @@ outer-all P crossings gone state each =
     (λ place from below stays. each place (omega (arith, below)) (not_true (gone place) stays))
   where
     not_true : (b : Bool) → not b ≡ true → b ≡ false
-    not_true true stays = sym stays
-    not_true false stays = refl
+    not_true b stays = grind (arith, nat_tests)
 
 pub outer-each : (P : ℕ × ℕ → Type 0) (crossings : List (List ℕ)) (gone : ℕ → Bool) (state place : ℕ)
     → AllByRecursion P (outer_pairs crossings gone state) → place < length crossings → gone place ≡ false

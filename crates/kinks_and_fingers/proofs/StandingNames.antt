@@ -29,9 +29,7 @@ use Rattle.kinks_and_fingers.proofs.BigonJoins.{marked, or-false}
 -- counts
 
 parts-step : (b c : Bool) (p q r : ℕ) → p ≡ q + r → cond b 1 0 + p ≡ (cond (b && c) 1 0 + q) + (cond (b && not c) 1 0 + r)
-parts-step true true p q r is = omega (arith, is)
-parts-step true false p q r is = omega (arith, is)
-parts-step false c p q r is = omega (arith, is)
+parts-step b c p q r is = grind (arith, nat_tests)
 
 pub count_by-cons : (p : ℕ → Bool) (x : ℕ) (xs : List ℕ) → count_by p (x ∷ xs) ≡ cond (p x) 1 0 + count_by p xs
 count_by-cons p x xs = sum_by-cons (λ y. cond (p y) 1 0) x xs
@@ -95,8 +93,7 @@ stands-some P (slots ∷ rest) name each holds =
     ]
   where
     or-true : (a b : Bool) → (a || b) ≡ true → (a ≡ true) ⊎ (b ≡ true)
-    or-true true b holds = inl refl
-    or-true false b holds = inr holds
+    or-true a b holds = grind (arith, nat_tests)
 
     one_of : (a b c d name : ℕ) → (nat_eq a name || (nat_eq b name || (nat_eq c name || nat_eq d name))) ≡ true
         → ((a ≡ name) ⊎ (b ≡ name)) ⊎ ((c ≡ name) ⊎ (d ≡ name))
@@ -162,9 +159,7 @@ standing-classes n crossings pairs below of_names =
     omega (arith, parts, alone, all, whole, stand, class_count-least n pairs below)
   where
     and-if : (a b : Bool) → (b ≡ false → a ≡ true) → (a && not b) ≡ (true && not b)
-    and-if true b tells = refl
-    and-if false true tells = refl
-    and-if false false tells = absurd (both_ways false refl (tells refl))
+    and-if a b tells = grind (arith, nat_tests)
 
 -- the classes of pairs at the crossings that stay
 pub classes-dropped : (crossings : List (List ℕ)) (gone : ℕ → Bool) (kept : ℕ → ℕ) (k : ℕ) (outer : List (ℕ × ℕ)) → HasArcsTwice crossings
@@ -253,9 +248,7 @@ classes-dropped crossings gone kept k outer twice places kept_below outer_low of
     min-positive x y z is same positive = grind (arith, nat_tests)
 
     and-all : (a b : Bool) → (b ≡ true → a ≡ true) → (a && b) ≡ b
-    and-all true b tells = refl
-    and-all false true tells = absurd (both_ways false refl (tells refl))
-    and-all false false tells = refl
+    and-all a b tells = grind (arith, nat_tests)
 
 pub passes-all : (P : ℕ × ℕ → Type 0) (crossings : List (List ℕ))
     → ((place : ℕ) → place < length crossings → AllByRecursion P (passes_of (slots_in crossings place)))

@@ -1,5 +1,6 @@
 -- The circles of what is left where crossings are dropped are the classes of the straight pairs and the other crossings' smoothings.
-use Rattle.std.proofs.Common.{◌≡◌, ℕ, suc, ◌+◌, ◌<◌, ◌∙◌, List, [], ◌∷◌, ◌++◌, sym, ap, subst, arith, refl, Bool, true, false, cond, length, map}
+use Rattle.std.proofs.lemmas.Bool.Decides.{nat_tests}
+use Rattle.std.proofs.Common.{◌≡◌, ℕ, suc, ◌+◌, ◌<◌, ◌∙◌, List, [], ◌∷◌, ◌++◌, sym, ap, subst, arith, refl, Bool, cond, length, map}
 use Rattle.std.specs.Prelude.{slice_index, nat_eq}
 use Rattle.std.specs.List.{flat_map, range_with_len, enumerate_from}
 use Rattle.std.proofs.lemmas.List.{map-append}
@@ -27,8 +28,7 @@ smoothing-renamed names slots b = go (nat_eq b 0) names slots
         ((slice_index names (arc_in slots 0), slice_index names (arc_in slots 3)) ∷ (slice_index names (arc_in slots 1), slice_index names (arc_in slots 2)) ∷ [])
         ≡ renamed (slice_index names) (cond t ((arc_in slots 0, arc_in slots 1) ∷ (arc_in slots 2, arc_in slots 3) ∷ [])
         ((arc_in slots 0, arc_in slots 3) ∷ (arc_in slots 1, arc_in slots 2) ∷ []))
-    go true names slots = refl
-    go false names slots = refl
+    go t names slots = grind (arith, nat_tests)
 
 smoothings-renamed : (crossings : List (List ℕ)) (names : List ℕ) (state new start : ℕ) (places : List ℕ)
     → ((i : ℕ) → i < length places → bit new (start + i) ≡ bit state (slice_index places i))

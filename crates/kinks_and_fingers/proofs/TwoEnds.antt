@@ -1,4 +1,5 @@
 -- Arcs are paired, said by darts: each name that stands at all has one head and one tail.
+use Rattle.std.proofs.lemmas.Bool.Decides.{nat_tests}
 use Rattle.std.proofs.Common.{◌≡◌, ℕ, zero, suc, ◌⊎◌, inl, inr, ◌+◌, ◌*◌, ◌/◌, ◌%◌, ◌<◌, ◌≤◌, ◌∙◌, List, ◌∷◌, length, refl, sym, ap, ap₂, arith, Bool, true, false, cond, not, ◌&&◌, eq-eqb, eqb-true}
 use Rattle.std.specs.Prelude.{nat_eq, if◌then◌else◌}
 use Rattle.std.specs.List.{count_by, flat_map, range_with_len}
@@ -96,8 +97,7 @@ heads-here strands name a =
     by : (b : Bool) (p : ℕ → Bool)
         → 0 + cond (p 0) 1 0 + cond (p (if b then 3 else 1)) 1 0
         ≡ cond (enters b 0 && p 0) 1 0 + cond (enters b 1 && p 1) 1 0 + cond (enters b 2 && p 2) 1 0 + cond (enters b 3 && p 3) 1 0
-    by true p = omega arith
-    by false p = omega arith
+    by b p = grind (arith, nat_tests)
 
 tails-here : (strands : Parts) (name a : ℕ)
     → count_by (λ (pass : Pass). nat_eq pass.leaves name) (passes_at strands a)
@@ -118,8 +118,7 @@ tails-here strands name a =
         → 0 + cond (p 2) 1 0 + cond (p (if b then 1 else 3)) 1 0
         ≡ cond (not (enters b 0) && p 0) 1 0 + cond (not (enters b 1) && p 1) 1 0 + cond (not (enters b 2) && p 2) 1 0
         + cond (not (enters b 3) && p 3) 1 0
-    by true p = omega arith
-    by false p = omega arith
+    by b p = grind (arith, nat_tests)
 
 heads-counted : (strands : Parts) (name a n : ℕ)
     → count_by (λ (pass : Pass). nat_eq pass.enters name) (flat_map (passes_at strands) (range_with_len a n))
@@ -183,12 +182,10 @@ count-some p n x below holds =
     omega (arith, but_one)
 
 both : (a b : Bool) → a ≡ true → b ≡ true → (a && b) ≡ true
-both true b first second = second
-both false b first second = first
+both a b first second = grind (arith, nat_tests)
 
 not_false : (b : Bool) → not b ≡ true → b ≡ false
-not_false true is = sym is
-not_false false is = refl
+not_false b is = grind (arith, nat_tests)
 
 pub head-of : (strands : Parts) (name x : ℕ) → is_head_at strands.positive x ≡ true → arc_of_dart strands.crossings x ≡ name
     → is_head_of strands name x ≡ true
