@@ -31,8 +31,7 @@ use Rattle.diagram_moves.specs.declared.fault.MoveFault.TheVariants.{NoBigon, No
 -- answers
 
 result : (fault : Option MoveFault) (code new : Code) → answered fault code ≡ Ok new → new ≡ code
-result None code new is = cc
-result (Some fault) code new is = absurd (cc)
+result fault code new is = grind (arith, nat_tests)
 
 -- a crossing that there is
 no_crossing-none : (code : Code) (c : ℕ) → IsCrossing code.crossings c → no_crossing code c ≡ None
@@ -116,8 +115,7 @@ kink-made code crossing holds is = (
 
 -- a test that fails is a refusal, and where none fails there is none
 refused-by : (b : Bool) (fault : MoveFault) (code : Code) → (answered (refused_where (not b) fault) code ≡ Err fault) ↔ (b ≡ false)
-refused-by true fault code = ((λ same. absurd (cc)), (λ same. absurd (both_ways true same refl)))
-refused-by false fault code = ((λ same. refl), (λ same. refl))
+refused-by b fault code = grind (arith, nat_tests)
 
 pub no_kink-refused : (code : Code) (crossing : ℕ) → IsTrue (accepted code) → IsCrossing code.crossings crossing
     → (moved code (KinkDrop crossing) ≡ Err (NoKink crossing)) ↔ ¬ HasKink code.crossings crossing
@@ -159,8 +157,7 @@ is_bigon-has crossings c d p q bigon =
     two first_is second_is = cc
 
     differ : (b : Bool) → ¬ (b ≡ true) → not b ≡ true
-    differ true apart = absurd (apart refl)
-    differ false apart = refl
+    differ b apart = grind (arith, nat_tests)
 
 pub no_bigon-refused : (code : Code) (first second : ℕ) → IsCrossing code.crossings first → IsCrossing code.crossings second
     → (moved code (FingerDrop first second) ≡ Err (NoBigon first second))
@@ -224,8 +221,7 @@ no_crossing-refused code crossing = (
 )
   where
     other : (b : Bool) (c : ℕ) (code : Code) → ¬ (answered (refused_where (not b) (NoKink c)) code ≡ Err (NoCrossing c))
-    other true c code same = absurd (cc)
-    other false c code same = absurd (cc)
+    other b c code same = grind (arith, nat_tests)
 
 pub first-refused : (code : Code) (first second : ℕ) → ¬ IsCrossing code.crossings first
     → moved code (FingerDrop first second) ≡ Err (NoCrossing first)

@@ -30,8 +30,7 @@ pub within-none : (x most : ℕ) (fault : MoveFault) → 1 ≤ x → x ≤ most 
 within-none x most fault positive within = grind (arith, nat_tests)
 
 pub held-none : (b : Bool) (fault : MoveFault) → b ≡ true → refused_where (not b) fault ≡ None
-held-none true fault holds = refl
-held-none false fault holds = absurd (cc)
+held-none b fault holds = grind (arith, nat_tests)
 
 module _ (code : Code) (a : ℕ) (over positive : Bool) (holds : IsTrue (accepted code)) (arc : IsArc code.crossings a) where
   abbrev new : Code

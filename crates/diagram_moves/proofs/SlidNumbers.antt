@@ -161,8 +161,7 @@ module _ (code : Code) (x y z : ℕ) (holds : IsTrue (accepted code)) (triangle 
           → MatchBool b
           (arc_in (slots_of code.crossings crossing) 1 ≡ next code.crossings (arc_in (slots_of code.crossings crossing) 3))
           (arc_in (slots_of code.crossings crossing) 3 ≡ next code.crossings (arc_in (slots_of code.crossings crossing) 1))
-      both true crossing pass = pass.follows
-      both false crossing pass = pass.follows
+      both b crossing pass = grind (arith, nat_tests)
 
   new-next : (dart : ℕ) → dart < 4 * length code.crossings → is_head_with (is_positive code.crossings) (dart_at dart) ≡ true
       → arc_of_dart (slid code.crossings x y z) (on dart 2) ≡ next code.crossings (arc_of_dart (slid code.crossings x y z) dart)

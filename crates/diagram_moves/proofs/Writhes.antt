@@ -1,4 +1,5 @@
 -- What moves do to the writhe.
+use Rattle.std.proofs.lemmas.Bool.Decides.{nat_tests}
 use Rattle.std.proofs.Common.{◌≡◌, ℕ, ◌+◌, ◌-◌, ◌≤◌, ◌∙◌, ◌%◌, ℤ, pos, neg_ℤ, ◌+ℤ◌, ◌-ℤ◌, List, length, map, refl, sym, ap, subst, arith, Bool, true, false, not, cond, ◌||◌, IsTrue}
 use Rattle.std.specs.Prelude.{if◌then◌else◌, nat_eq, Option, None, Result, Ok, IfOk, unwrap_or}
 use Rattle.std.proofs.lemmas.Int.{ints}
@@ -68,8 +69,7 @@ plus-dropped code new gone kept k is places =
 
 writhe-kink : (b : Bool) (plus minus new_plus new_minus : ℕ) → new_plus ≡ plus + one_where b → new_minus ≡ minus + one_where (not b)
     → pos new_plus -ℤ pos new_minus ≡ (pos plus -ℤ pos minus) +ℤ (if b then pos 1 else neg_ℤ (pos 1))
-writhe-kink true plus minus new_plus new_minus plus_is minus_is = omega (arith, ints, plus_is, minus_is)
-writhe-kink false plus minus new_plus new_minus plus_is minus_is = omega (arith, ints, plus_is, minus_is)
+writhe-kink b plus minus new_plus new_minus plus_is minus_is = grind (arith, nat_tests)
 
 writhe-drop : (b : Bool) (plus new_plus n m : ℕ) → plus ≡ cond b 1 0 + new_plus → n ≡ m + 1 → new_plus ≤ m
     → pos new_plus -ℤ pos (m - new_plus) ≡ (pos plus -ℤ pos (n - plus)) +ℤ neg_ℤ (if b then pos 1 else neg_ℤ (pos 1))
@@ -111,8 +111,7 @@ writhe-kink_dropped code crossing holds none =
     ∙ ap (λ k. writhe code +ℤ neg_ℤ (sign_of code.crossings k)) back
 
 one_of_both : (b : Bool) → one_if b + one_if (not b) ≡ 1
-one_of_both true = refl
-one_of_both false = refl
+one_of_both b = grind (arith, nat_tests)
 
 writhe-finger_dropped : (code : Code) (first second : ℕ) → IsTrue (accepted code) → finger_drop_fault code first second ≡ None
     → writhe (renumber (without_finger code (place_of first) (place_of second))) ≡ writhe code +ℤ pos 0
