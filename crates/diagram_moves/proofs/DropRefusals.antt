@@ -83,15 +83,7 @@ kink-passes : (slots : List ℕ) (b : Bool)
     → ((s t : ℕ) → s < 4 → t < 4 → arc_in slots s ≡ arc_in slots t → enters b s ≡ enters b t → s ≡ t)
     → (p : ℕ) → p < 4 → arc_in slots p ≡ arc_in slots (after p)
     → (arc_in slots 2 ≡ arc_in slots (if b then 3 else 1)) ⊎ (arc_in slots (if b then 1 else 3) ≡ arc_in slots 0)
-kink-passes slots true apart zero below same = inr (sym same)
-kink-passes slots false apart zero below same = absurd (omega (arith, apart 0 1 (omega arith) (omega arith) same refl))
-kink-passes slots true apart (suc zero) below same = absurd (omega (arith, apart 1 2 (omega arith) (omega arith) same refl))
-kink-passes slots false apart (suc zero) below same = inl (sym same)
-kink-passes slots true apart (suc (suc zero)) below same = inl same
-kink-passes slots false apart (suc (suc zero)) below same = absurd (omega (arith, apart 2 3 (omega arith) (omega arith) same refl))
-kink-passes slots true apart (suc (suc (suc zero))) below same = absurd (omega (arith, apart 3 0 (omega arith) (omega arith) same refl))
-kink-passes slots false apart (suc (suc (suc zero))) below same = inr same
-kink-passes slots b apart (suc (suc (suc (suc p)))) below same = absurd (omega (arith, below))
+kink-passes slots b apart p below same = grind (arith, nat_tests, apart p (after p) below (omega arith) same)
 
 pub is_kink-at : (slots : List ℕ) (p : ℕ) → p < 4 → arc_in slots p ≡ arc_in slots (after p) → is_kink slots ≡ true
 is_kink-at slots p below same = list_any-at (is_kink_at slots) 0 4 p (omega arith) (omega (arith, below)) (eq-eqb (arc_in slots p) (arc_in slots (after p)) same)

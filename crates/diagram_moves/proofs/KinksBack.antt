@@ -11,11 +11,11 @@ use Rattle.orient_arcs.specs.Renumbered.{renumber}
 use Rattle.kinks_and_fingers.specs.Drops.{is_kink, without_kink}
 use Rattle.kinks_and_fingers.specs.Dropping.{HasKinkAt}
 use Rattle.kinks_and_fingers.specs.KinkAdds.{raised, with_kink}
-use Rattle.kinks_and_fingers.proofs.AddedSums.{AreAddedGone-kink, HasKinkAt-kinked, kink_slot}
+use Rattle.kinks_and_fingers.proofs.AddedSums.{AreAddedGone-kink, HasKinkAt-kinked}
 use Rattle.kinks_and_fingers.proofs.Opened.{lowered}
 use Rattle.kinks_and_fingers.proofs.KinkFaces.{accepted-kinked}
 use Rattle.kinks_and_fingers.proofs.KinkedCodes.{IsAdded-kink, IsKinkable-accepted}
-use Rattle.kinks_and_fingers.proofs.KinkSlots.{last, length-kinked}
+use Rattle.kinks_and_fingers.proofs.KinkSlots.{inner_slot, last, length-kinked}
 use Rattle.kinks_and_fingers.proofs.Sound.{IsSound-kink}
 use Rattle.diagram_moves.specs.declared.change.Move.TheVariants.{KinkAdd, KinkDrop}
 use Rattle.diagram_moves.specs.declared.fault.MoveFault.{MoveFault}
@@ -45,7 +45,7 @@ module _ (code : Code) (a : ℕ) (over positive : Bool) (holds : IsTrue (accepte
   place-last : place_of (length code.crossings + 1) ≡ length code.crossings
   place-last = omega arith
 
-  at : HasKinkAt (with_kink over positive a code).crossings (length code.crossings) (kink_slot over positive)
+  at : HasKinkAt (with_kink over positive a code).crossings (length code.crossings) (inner_slot over positive)
   at = HasKinkAt-kinked code.crossings a over positive
 
   none : kink_drop_fault (with_kink over positive a code) (length code.crossings + 1) ≡ None
@@ -55,7 +55,7 @@ module _ (code : Code) (a : ℕ) (over positive : Bool) (holds : IsTrue (accepte
       (omega arith) (omega (arith, size)))
       (held-none (is_kink (slots_of (with_kink over positive a code).crossings (length code.crossings + 1))) (NoKink (length code.crossings + 1))
       (ap (λ k. is_kink (slots_in (with_kink over positive a code).crossings k)) place-last
-      ∙ is_kink-at (slots_in new.crossings n) (kink_slot over positive) at.slot at.same))
+      ∙ is_kink-at (slots_in new.crossings n) (inner_slot over positive) at.slot at.same))
 
   holds-new : IsTrue (accepted (with_kink over positive a code))
   holds-new = accepted-kinked code a over positive holds arc
@@ -68,7 +68,7 @@ module _ (code : Code) (a : ℕ) (over positive : Bool) (holds : IsTrue (accepte
       added-back code new (raised a) (last a) (lowered a) (λ k. positive) (nat_eq (length code.crossings))
       (IsAdded-kink code.crossings a over positive (IsKinkable-accepted code a holds arc))
       (AreAddedGone-kink code.crossings a over positive) refl four
-      (IsSound-kink new n (kink_slot over positive) holds-new at).paired in
+      (IsSound-kink new n (inner_slot over positive) holds-new at).paired in
       ap (λ (fault : Option MoveFault). answered fault (renumber (without_kink new (place_of (n + 1))))) none
       ∙ ap (λ (k : ℕ). okay (renumber (without_kink new k))) place-last ∙ ap okay same
     where

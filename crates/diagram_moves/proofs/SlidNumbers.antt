@@ -75,14 +75,7 @@ across-next : (next : ℕ → ℕ) (b : Bool) (slots : List ℕ) (slot : ℕ) �
     → arc_in slots 2 ≡ next (arc_in slots 0)
     → MatchBool b (arc_in slots 1 ≡ next (arc_in slots 3)) (arc_in slots 3 ≡ next (arc_in slots 1))
     → arc_in slots ((slot + 2) % 4) ≡ next (arc_in slots slot)
-across-next next b slots zero below head under over = under
-across-next next true slots (suc zero) below head under over = absurd (cc)
-across-next next false slots (suc zero) below head under over = over
-across-next next true slots (suc (suc zero)) below head under over = absurd (cc)
-across-next next false slots (suc (suc zero)) below head under over = absurd (cc)
-across-next next true slots (suc (suc (suc zero))) below head under over = over
-across-next next false slots (suc (suc (suc zero))) below head under over = absurd (cc)
-across-next next b slots (suc (suc (suc (suc slot)))) below head under over = absurd (omega (arith, below))
+across-next next b slots slot below head under over = grind (arith, nat_tests)
 
 module _ (code : Code) (x y z : ℕ) (holds : IsTrue (accepted code)) (triangle : IsTriangle code.crossings x y z) where
   abbrev after : List (List ℕ)

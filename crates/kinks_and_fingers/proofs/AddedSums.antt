@@ -22,20 +22,13 @@ use Rattle.kinks_and_fingers.proofs.FingerSlots.{length-fingered}
 use Rattle.kinks_and_fingers.proofs.FingeredCodes.{IsAdded-finger, finger_sign}
 use Rattle.kinks_and_fingers.proofs.KinkDropSums.{state_sum-without_kink}
 use Rattle.kinks_and_fingers.proofs.KinkFaces.{accepted-kinked}
-use Rattle.kinks_and_fingers.proofs.KinkSlots.{kinked_crossings, last, length-kinked, slots_of-new}
+use Rattle.kinks_and_fingers.proofs.KinkSlots.{inner_slot, kinked_crossings, last, length-kinked, slots_of-new}
 use Rattle.kinks_and_fingers.proofs.KinkedCodes.{IsAdded-kink, IsKinkable-accepted}
 use Rattle.kinks_and_fingers.proofs.MovableArcs.{AreFingerable}
 use Rattle.kinks_and_fingers.proofs.Opened.{low, lowered}
 
--- the slot of a kink
-abbrev pub kink_slot : Bool → Bool → ℕ
-kink_slot true true = 0
-kink_slot true false = 3
-kink_slot false true = 2
-kink_slot false false = 1
-
 pub HasKinkAt-kinked : (crossings : List (List ℕ)) (a : ℕ) (over positive : Bool)
-    → HasKinkAt (kinked_crossings crossings a over positive) (length crossings) (kink_slot over positive)
+    → HasKinkAt (kinked_crossings crossings a over positive) (length crossings) (inner_slot over positive)
 HasKinkAt-kinked crossings a over positive =
     let new = kinked_crossings crossings a over positive in
     let e : length crossings ≡ length crossings + 1 - 1 = omega arith in
@@ -44,14 +37,14 @@ HasKinkAt-kinked crossings a over positive =
     record {
       below = omega (arith, length-kinked crossings a over positive);
       slot = slot over positive;
-      same = at (kink_slot over positive) ∙ same over positive ∙ sym (at (after (kink_slot over positive)));
+      same = at (inner_slot over positive) ∙ same over positive ∙ sym (at (after (inner_slot over positive)));
     }
   where
-    slot : (over positive : Bool) → kink_slot over positive < 4
+    slot : (over positive : Bool) → inner_slot over positive < 4
     slot over positive = grind (arith, nat_tests)
 
     same : (over positive : Bool)
-        → arc_in (kink_crossing over positive a) (kink_slot over positive) ≡ arc_in (kink_crossing over positive a) (after (kink_slot over positive))
+        → arc_in (kink_crossing over positive a) (inner_slot over positive) ≡ arc_in (kink_crossing over positive a) (after (inner_slot over positive))
     same over positive = grind (arith, nat_tests)
 
 pub AreAddedGone-kink : (crossings : List (List ℕ)) (a : ℕ) (over positive : Bool)
@@ -72,7 +65,7 @@ pub state_sum-kinked : (code : Code) (a : ℕ) (over positive : Bool) → IsTrue
 state_sum-kinked code a over positive holds arc exponent =
     let new = with_kink over positive a code in
     sym
-    (state_sum-without_kink new (length code.crossings) (kink_slot over positive) (accepted-kinked code a over positive holds arc)
+    (state_sum-without_kink new (length code.crossings) (inner_slot over positive) (accepted-kinked code a over positive holds arc)
     (HasKinkAt-kinked code.crossings a over positive) exponent)
     ∙ state_sum-added code new (raised a) (last a) (lowered a) (λ k. positive) (nat_eq (length code.crossings))
     (IsAdded-kink code.crossings a over positive (IsKinkable-accepted code a holds arc))

@@ -1,13 +1,11 @@
 -- A code with a finger meets what the law on state sums asks.
-use Rattle.std.proofs.Common.{◌≡◌, ◌≢◌, ℕ, zero, suc, ◌⊎◌, inl, inr, ◌+◌, ◌-◌, ◌*◌, ◌/◌, ◌%◌, ◌<◌, ◌≤◌, ◌∙◌, List, [], ◌∷◌, length, refl, sym, ap, subst, arith, Bool, true, false, ◌||◌}
+use Rattle.std.proofs.Common.{◌≡◌, ◌≢◌, ℕ, ◌⊎◌, inl, inr, ◌+◌, ◌-◌, ◌*◌, ◌/◌, ◌%◌, ◌<◌, ◌≤◌, ◌∙◌, List, [], ◌∷◌, length, refl, sym, ap, subst, arith, Bool, true, false, ◌||◌}
 use Rattle.std.specs.Prelude.{nat_eq, slice_index_or, if◌then◌else◌}
-use Rattle.std.proofs.lemmas.Bool.{cases_Bool}
 use Rattle.std.proofs.lemmas.Bool.Decides.{nat_tests}
 use Rattle.std.proofs.lemmas.List.{append_assoc, get_or-map}
 use Rattle.std.proofs.lemmas.List.FromFn.{length-range_with_len, get_or-range_with_len}
 use Rattle.kh_types.specs.Code.{Code, arc_in, crossing_numbers, arc_count, IsArc}
 use Rattle.kh_types.specs.Darts.{arc_of}
-use Rattle.kh_types.specs.Directions.{is_head}
 use Rattle.kinks_and_fingers.specs.FingerAdd.{opened, head_number, moved_arc, dart_with, moved_slots, moved_crossings, first_crossing, second_crossing, fingered}
 use Rattle.kinks_and_fingers.proofs.MovableArcs.{AreFingerable}
 use Rattle.gluing.specs.Arcs.{arc_by_place}
@@ -76,11 +74,7 @@ placed-below over under spare is = plain over under spare is.over_below is.under
 -- the two new crossings show those inside
 shows-four : (arcs : ℕ → ℕ) {i j k l p q r t : ℕ} → i ≡ arcs p → j ≡ arcs q → k ≡ arcs r → l ≡ arcs t
     → Shows arcs (i ∷ j ∷ k ∷ l ∷ []) (p ∷ q ∷ r ∷ t ∷ [])
-shows-four arcs is_i is_j is_k is_l zero below = is_i
-shows-four arcs is_i is_j is_k is_l (suc zero) below = is_j
-shows-four arcs is_i is_j is_k is_l (suc (suc zero)) below = is_k
-shows-four arcs is_i is_j is_k is_l (suc (suc (suc zero))) below = is_l
-shows-four arcs is_i is_j is_k is_l (suc (suc (suc (suc slot)))) below = absurd (omega (arith, below))
+shows-four arcs is_i is_j is_k is_l slot below = grind (arith, nat_tests)
 
 shows-first : (positive ordered : Bool) (over under spare : ℕ)
     → Shows (placed_at over under spare) (first_crossing over under positive ordered) (slice_index_or (finger positive ordered) 0 [])
@@ -115,14 +109,7 @@ moved-end crossings a b place slot below slot_below =
     ∙ ap (λ c. moved_slots crossings a b c)
     (get_or-range_with_len 1 (length crossings) place 0 below ∙ (let e : 1 + place ≡ place + 1 = omega arith in e)))
     ∙ arc_in-moved crossings a b (place + 1) slot slot_below in
-    elim (cases_Bool (is_head crossings dart)) [
-      | inl head ↦
-          inr (at ∙ ap (λ h. if h then head_number a b (arc_of crossings dart) else opened a b (arc_of crossings dart)) head
-          ∙ ap (λ x. head_number a b x) (old-arc crossings place slot))
-      | inr tail ↦
-          inl (at ∙ ap (λ h. if h then head_number a b (arc_of crossings dart) else opened a b (arc_of crossings dart)) tail
-          ∙ ap (λ x. opened a b x) (old-arc crossings place slot))
-    ]
+    grind (arith, nat_tests, at, old-arc crossings place slot)
 
 -- no end is a middle
 end-no_middle : (a b x y z : ℕ) → a ≢ b → IsOneOf a b z → IsEndOf a b x y → y ≢ opened a b z + 1

@@ -70,22 +70,8 @@ count-filter p q [] = refl
 count-filter p q (x ∷ xs) =
     let rest = count-filter p q xs in
     let step = count_by-cons (λ x. p x && q x) x xs in
-    elim (cases_Bool (q x)) [
-      | inl taken ↦
-          ap (λ t. count_by p (cond t (x ∷ filter q xs) (filter q xs))) taken ∙ count_by-cons p x (filter q xs)
-          ∙ ap (λ m. cond (p x) 1 0 + m) rest
-          ∙ ap (λ t. cond t 1 0 + count_by (λ x. p x && q x) xs) (sym (and-true (p x) (q x) taken)) ∙ sym step
-      | inr left ↦
-          ap (λ t. count_by p (cond t (x ∷ filter q xs) (filter q xs))) left ∙ rest
-          ∙ (let z : count_by (λ x. p x && q x) xs ≡ 0 + count_by (λ x. p x && q x) xs = omega arith in z)
-          ∙ ap (λ t. cond t 1 0 + count_by (λ x. p x && q x) xs) (sym (and-false (p x) (q x) left)) ∙ sym step
-    ]
-  where
-    and-true : (a b : Bool) → b ≡ true → (a && b) ≡ a
-    and-true a b is = grind (arith, nat_tests)
-
-    and-false : (a b : Bool) → b ≡ false → (a && b) ≡ false
-    and-false a b is = grind (arith, nat_tests)
+    let first = count_by-cons p x (filter q xs) in
+    grind (arith, nat_tests, rest, step, first)
 
 pub count-none : (a n : ℕ) → count_by (λ x. false) (range_with_len a n) ≡ 0
 count-none a zero = refl

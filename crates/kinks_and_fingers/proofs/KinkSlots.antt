@@ -115,10 +115,7 @@ over_start over a = if over then a else a + 1
 
 pub HasPasses-kink : (over positive : Bool) (a : ℕ)
     → HasPasses (kink_crossing over positive a) positive (under_start over a) (under_start over a + 1) (over_start over a) (over_start over a + 1)
-HasPasses-kink true true a = record { under_from = refl; under_to = omega arith; over_from = refl; over_to = refl }
-HasPasses-kink true false a = record { under_from = refl; under_to = omega arith; over_from = refl; over_to = refl }
-HasPasses-kink false true a = record { under_from = refl; under_to = refl; over_from = refl; over_to = omega arith }
-HasPasses-kink false false a = record { under_from = refl; under_to = refl; over_from = refl; over_to = omega arith }
+HasPasses-kink over positive a = grind (arith, nat_tests)
 
 -- the slots of the new crossing where a, a+2, and twice a+1 stand
 abbrev pub start_slot : Bool → Bool → ℕ
@@ -150,10 +147,7 @@ pub record HasKinkSlots (slots : List ℕ) (a : ℕ) (over positive : Bool) : Ty
   pub outer : arc_in slots (outer_slot over positive) ≡ a + 1
 
 pub HasKinkSlots-kink : (over positive : Bool) (a : ℕ) → HasKinkSlots (kink_crossing over positive a) a over positive
-HasKinkSlots-kink true true a = record { start = refl; end = refl; inner = refl; outer = refl }
-HasKinkSlots-kink true false a = record { start = refl; end = refl; inner = refl; outer = refl }
-HasKinkSlots-kink false true a = record { start = refl; end = refl; inner = refl; outer = refl }
-HasKinkSlots-kink false false a = record { start = refl; end = refl; inner = refl; outer = refl }
+HasKinkSlots-kink over positive a = grind (arith, nat_tests)
 
 pub HasKinkSlots-new : (crossings : List (List ℕ)) (a : ℕ) (over positive : Bool)
     → HasKinkSlots (slots_of (kinked_crossings crossings a over positive) (length crossings + 1)) a over positive
@@ -168,7 +162,4 @@ pub record AreFour (over positive : Bool) : Type 0 where
   pub apart : inner_slot over positive ≢ outer_slot over positive
 
 pub AreFour-kink : (over positive : Bool) → AreFour over positive
-AreFour-kink true true = grind arith
-AreFour-kink true false = grind arith
-AreFour-kink false true = grind arith
-AreFour-kink false false = grind arith
+AreFour-kink over positive = grind (arith, nat_tests)

@@ -1,6 +1,6 @@
 -- Where the passes of a crossing begin and end.
 use Rattle.std.proofs.lemmas.Bool.Decides.{nat_tests}
-use Rattle.std.proofs.Common.{◌≡◌, ℕ, zero, suc, ◌<◌, List, refl, sym, subst, arith, Bool, true, false}
+use Rattle.std.proofs.Common.{◌≡◌, ℕ, zero, suc, ◌<◌, List, sym, subst, arith, Bool, true, false}
 use Rattle.std.specs.Prelude.{if◌then◌else◌}
 use Rattle.kh_types.specs.Code.{arc_in}
 use Rattle.kinks_and_fingers.specs.FingerAdd.{crossing_with}
@@ -25,8 +25,7 @@ pub record HasPasses (slots : List ℕ) (positive : Bool) (u v s t : ℕ) : Type
   pub over_to : arc_in slots (over_to positive) ≡ t
 
 pub HasPasses-crossing_with : (positive : Bool) (u v s t : ℕ) → HasPasses (crossing_with positive u v s t) positive u v s t
-HasPasses-crossing_with true u v s t = record { under_from = refl; under_to = refl; over_from = refl; over_to = refl }
-HasPasses-crossing_with false u v s t = record { under_from = refl; under_to = refl; over_from = refl; over_to = refl }
+HasPasses-crossing_with positive u v s t = grind (arith, nat_tests)
 
 -- a slot is at one of the four ends of the passes
 pub slot_of_pass : (P : ℕ → Type 0) (slots : List ℕ) (positive : Bool) (u v s t slot : ℕ) → HasPasses slots positive u v s t

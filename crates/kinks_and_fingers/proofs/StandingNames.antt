@@ -54,21 +54,7 @@ stands_at slots name =
     nat_eq (arc_in slots 0) name || (nat_eq (arc_in slots 1) name || (nat_eq (arc_in slots 2) name || nat_eq (arc_in slots 3) name))
 
 stands_at-slot : (slots : List ℕ) (name slot : ℕ) → slot < 4 → stands_at slots name ≡ false → arc_in slots slot ≢ name
-stands_at-slot slots name slot below fails =
-    by slot below (none (arc_in slots 0) (arc_in slots 1) (arc_in slots 2) (arc_in slots 3) name fails)
-  where
-    none : (a b c d name : ℕ) → (nat_eq a name || (nat_eq b name || (nat_eq c name || nat_eq d name))) ≡ false
-        → (a ≢ name) × (b ≢ name) × (c ≢ name) × (d ≢ name)
-    none a b c d name fails = grind (arith, nat_tests)
-
-    by : (slot : ℕ) → slot < 4
-        → (arc_in slots 0 ≢ name) × (arc_in slots 1 ≢ name) × (arc_in slots 2 ≢ name) × (arc_in slots 3 ≢ name)
-        → arc_in slots slot ≢ name
-    by zero below each = each.0
-    by (suc zero) below each = each.1
-    by (suc (suc zero)) below each = each.2
-    by (suc (suc (suc zero))) below each = each.3
-    by (suc (suc (suc (suc slot)))) below each = absurd (omega (arith, below))
+stands_at-slot slots name slot below fails same = grind (arith, nat_tests)
 
 pub stands-none : (crossings : List (List ℕ)) (name place slot : ℕ) → stands_in crossings name ≡ false → place < length crossings → slot < 4
     → arc_by_place crossings place slot ≢ name
