@@ -1,5 +1,5 @@
 -- What it says that no fault comes.
-use Rattle.std.proofs.Common.{◌≡◌, ◌≢◌, ℕ, ◌≤◌, length, refl, arith, Bool, not, ◌||◌}
+use Rattle.std.proofs.Common.{◌≡◌, ◌≢◌, ℕ, ◌≤◌, length, arith, Bool, not, ◌||◌}
 use Rattle.std.specs.Prelude.{nat_eq, nat_lt, Option, Some, None, true, false}
 use Rattle.std.specs.Option.{option_or}
 use Rattle.std.proofs.lemmas.Bool.Decides.{nat_tests}

@@ -1,6 +1,6 @@
 -- Searches among the four slots of a crossing.
 use Rattle.std.proofs.lemmas.Bool.Decides.{nat_tests}
-use Rattle.std.proofs.Common.{◌≡◌, ℕ, ◌∙◌, List, arith, refl, ap, ap₂, Bool, true, false, not}
+use Rattle.std.proofs.Common.{◌≡◌, ℕ, ◌∙◌, List, arith, refl, ap, ap₂, Bool, false, not}
 use Rattle.std.specs.Prelude.{nat_eq, ◌&&◌, ◌||◌, if◌then◌else◌, Some, None}
 use Rattle.std.specs.List.{find, list_any, range_with_len}
 use Rattle.slides.specs.Triangles.{dart_at_slot, is_at_crossing, is_triangle, step}

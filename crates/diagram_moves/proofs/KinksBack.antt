@@ -1,5 +1,5 @@
 -- A kink that is added and dropped leaves the code that was.
-use Rattle.std.proofs.Common.{◌≡◌, ℕ, ◌+◌, ◌≤◌, ◌∙◌, List, length, refl, ap, ap₂, subst, arith, Bool, true, false, not, ◌||◌, IsTrue}
+use Rattle.std.proofs.Common.{◌≡◌, ℕ, ◌+◌, ◌≤◌, ◌∙◌, List, length, refl, ap, ap₂, subst, arith, Bool, true, not, ◌||◌, IsTrue}
 use Rattle.std.specs.Prelude.{nat_eq, nat_lt, Option, None, Result, Ok}
 use Rattle.std.specs.Option.{option_or}
 use Rattle.std.specs.List.{AllByRecursion}
