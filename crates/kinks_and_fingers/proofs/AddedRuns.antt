@@ -84,20 +84,9 @@ module _ {old new : List (List ℕ)} {rise end low : ℕ → ℕ} {sign : ℕ �
             behind;
       }
     where
-      to_first : (x y u v : ℕ) → x ≡ y → (if nat_eq x y then u else v) ≡ u
-      to_first x y u v same = grind (arith, nat_tests)
-
-      to_second : (x y u v : ℕ) → x ≢ y → (if nat_eq x y then u else v) ≡ v
-      to_second x y u v other = grind (arith, nat_tests)
-
       stepped : (f g k p q y : ℕ) → p ≡ rise f → q ≡ rise g → rise k ≡ y
           → rise (if nat_eq f g then k else g) ≡ (if nat_eq p q then y else q)
-      stepped f g k p q y is_p is_q is_y = elim (cases_eq f g) [
-        | inl same ↦ ap rise (to_first f g k g same) ∙ is_y ∙ sym (to_first p q y q (is_p ∙ ap rise same ∙ sym is_q))
-        | inr other ↦
-            ap rise (to_second f g k g other) ∙ sym is_q
-            ∙ sym (to_second p q y q (λ same. other (rise-injective added.numbers f g (sym is_p ∙ same ∙ is_q))))
-      ]
+      stepped f g k p q y is_p is_q is_y = grind (arith, nat_tests, rise-injective added.numbers f g)
 
   pub IsStep-inner : (y : ℕ) → IsInner old low y → IsStep first y (y + 1)
   IsStep-inner y inner = IsStep-inside first y (ap (λ z. rise (component old z)) inner.same)

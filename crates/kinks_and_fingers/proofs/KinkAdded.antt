@@ -135,12 +135,6 @@ bare-face n partner x u pairing x_below from below =
 merged-second : (a b c : ℕ) → merged a b c ≡ merged a b b → (c ≡ a) ⊎ (c ≡ b)
 merged-second a b c same = grind (arith, nat_tests)
 
-arc-first : (f : ℕ → ℕ) (a b : ℕ) → with_arc f a b a ≡ b
-arc-first f a b = grind (arith, nat_tests)
-
-arc-second : (f : ℕ → ℕ) (a b : ℕ) → a ≢ b → with_arc f a b b ≡ a
-arc-second f a b apart = grind (arith, nat_tests)
-
 pub AreKinked-kinked : (n : ℕ) (partner : ℕ → ℕ) (x u w v s : ℕ) → IsClosedPlanar n partner → x < 4 * n → AreNew n u w v s
     → AreKinked n partner x u w v s (kinked n partner x u w v s)
 AreKinked-kinked n partner x u w v s closed x_below new =
