@@ -10,13 +10,12 @@ use Rattle.kh_types.specs.Code.{Code, arc_count}
 use Rattle.kh_types.specs.Directions.{positive_at}
 use Rattle.kh_types.specs.Faces.{face_count, planar_face_count}
 use Rattle.kh_types.specs.declared.limits.TheConstants.{CROSSINGS}
-use Rattle.gluing.specs.Codes.{name_count}
 use Rattle.kh_types.specs.StateSum.{state_sum}
-use Rattle.kinks_and_fingers.proofs.FingerWith.{placed_at, lowered_to, IsWithFinger-fingered}
-use Rattle.kinks_and_fingers.proofs.GluedCodes.{state_sum-finger}
-use Rattle.kinks_and_fingers.specs.FingerAdd.{moved_slots, with_finger, differ, opened, fingered}
+use Rattle.kinks_and_fingers.proofs.AddedSums.{state_sum-fingered}
+use Rattle.kinks_and_fingers.specs.FingerAdd.{moved_slots, with_finger, differ}
 use Rattle.kinks_and_fingers.specs.KinkAdds.{with_kink}
-use Rattle.kinks_and_fingers.proofs.FingerAccepted.{accepted-fingered, AreFingerable-accepted}
+use Rattle.kinks_and_fingers.proofs.FingeredCodes.{AreFingerable-accepted}
+use Rattle.kinks_and_fingers.proofs.FingerPlanar.{accepted-fingered}
 use Rattle.kinks_and_fingers.proofs.KinkFaces.{accepted-kinked}
 use Rattle.diagram_moves.specs.AddSteps.{IsTakenArc, AreTakenArcs, kinked_there}
 use Rattle.diagram_moves.proofs.MadeSoFar.{kinked_to, fingered_to}
@@ -98,7 +97,5 @@ fingers_on_the_sphere_are_accepted code a b a_left b_left holds taken none =
 pub sum-fingered : (code : Code) (a b : ℕ) (a_left b_left : Bool) → IsTrue (accepted code) → AreTakenArcs code a b → (exponent : ℤ)
     → state_sum (with_finger code a a_left b b_left) exponent ≡ state_sum code exponent
 sum-fingered code a b a_left b_left holds taken exponent =
-    let can = AreFingerable-accepted code a b holds taken.over_arc taken.under_arc taken.apart in
-    state_sum-finger b_left (differ a_left b_left) code (fingered code a b b_left (differ a_left b_left))
-    (placed_at (opened a b a) (opened a b b) (name_count code + 4)) (lowered_to a b (name_count code + 4))
-    (IsWithFinger-fingered code a b b_left (differ a_left b_left) can) exponent
+    state_sum-fingered code a b b_left (differ a_left b_left)
+    (AreFingerable-accepted code a b holds taken.over_arc taken.under_arc taken.apart) exponent

@@ -14,10 +14,10 @@ use Rattle.kinks_and_fingers.specs.FingerAdd.{with_finger, differ}
 use Rattle.kinks_and_fingers.specs.KinkAdds.{with_kink}
 use Rattle.code_passes.specs.Parts.{slots_in}
 use Rattle.orient_arcs.specs.Renumbered.{renumber}
-use Rattle.kinks_and_fingers.proofs.FingerAccepted.{AreFingerable-accepted, component_count-fingered}
-use Rattle.kinks_and_fingers.proofs.KinkSizes.{IsKinkable-accepted, component_count-kinked}
+use Rattle.kinks_and_fingers.proofs.FingeredCodes.{AreFingerable-accepted, component_count-fingered}
+use Rattle.kinks_and_fingers.proofs.KinkedCodes.{IsKinkable-accepted, component_count-kinked}
 use Rattle.kinks_and_fingers.proofs.FingerPlanar.{planar-two_pieces}
-use Rattle.kinks_and_fingers.proofs.KinkWith.{state_sum-kinked}
+use Rattle.kinks_and_fingers.proofs.AddedSums.{state_sum-kinked}
 use Rattle.slides.specs.Triangles.{has_triangle, slide_slot}
 use Rattle.diagram_moves.specs.declared.change.Move.{Move}
 use Rattle.diagram_moves.specs.declared.change.Move.TheVariants.{KinkAdd, KinkDrop, FingerAdd, FingerDrop, Slide}
@@ -33,8 +33,7 @@ use Rattle.diagram_moves.proofs.FaultLemmas.{both-none, neither-fault, other-fau
 
 -- what holds of the code where no fault comes holds of the answer
 pub answered-keeps : (P : Code → Type 0) (fault : Option MoveFault) (code : Code) → (fault ≡ None → P code) → IfOk (answered fault code) P
-answered-keeps P None code holds = holds refl
-answered-keeps P (Some fault) code holds = tt
+answered-keeps P fault code holds = grind (arith, nat_tests)
 
 -- a code has the state sum of another
 abbrev HasSum : Code → Code → Type 0
@@ -171,8 +170,7 @@ genus-exactly count most faces wanted = by_test (nat_eq count most) refl
     )
 
 or-some : (x y : Option MoveFault) (fault : MoveFault) → ¬ (x ≡ Some fault) → option_or x y ≡ Some fault → (x ≡ None) × (y ≡ Some fault)
-or-some None y fault other same = (refl, same)
-or-some (Some x) y fault other same = absurd (other same)
+or-some x y fault other same = grind (arith, nat_tests)
 
 finger-leaves : (code : Code) (over under : ℕ) (over_left under_left : Bool) (faces wanted : ℕ)
     → (answered (finger_add_fault code over over_left under under_left) (with_finger code over over_left under under_left)

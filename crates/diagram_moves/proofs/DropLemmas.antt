@@ -12,6 +12,7 @@ use Rattle.kh_types.specs.Components.{passes_of}
 use Rattle.kh_types.specs.StateSum.{state_sum}
 use Rattle.std.proofs.lemmas.Grind.{flat_map-append}
 use Rattle.kh_types.proofs.Ranges.{filter-range_more}
+use Rattle.gluing.proofs.CodeCircles.{append-nothing}
 use Rattle.kinks_and_fingers.specs.Drops.{dropped, is_bigon, is_kink, is_of_two, kept_crossings, kept_signs, renamed_slots, straight_names, without_finger, without_kink}
 use Rattle.kinks_and_fingers.specs.Dropping.{HasBigonAt, HasKinkAt}
 use Rattle.orient_arcs.specs.Renumbered.{renumber}
@@ -43,12 +44,8 @@ flat_map-filter_more f p k =
     ap (λ xs. flat_map f xs) (filter-range_more p 0 k k (omega arith))
     ∙ parts (p k) (filter p (range_with_len 0 k))
   where
-    nothing_after : (xs : List (ℕ × ℕ)) → xs ++ [] ≡ xs
-    nothing_after [] = refl
-    nothing_after (x ∷ xs) = ap (λ ys. x ∷ ys) (nothing_after xs)
-
     one : (b : Bool) → flat_map f (if b then k ∷ [] else []) ≡ (if b then f k else [])
-    one true = nothing_after (f k)
+    one true = append-nothing (f k)
     one false = refl
 
     parts : (b : Bool) (xs : List ℕ) → flat_map f (xs ++ (if b then k ∷ [] else [])) ≡ flat_map f xs ++ (if b then f k else [])

@@ -1,5 +1,5 @@
 -- Where drops are refused, and what they leave.
-use Rattle.std.proofs.Common.{◌≡◌, ◌↔◌, ℕ, zero, suc, ◌⊎◌, inl, inr, ◌+◌, ◌*◌, ◌%◌, ◌<◌, ◌≤◌, ◌∙◌, List, length, refl, sym, ap, arith, Bool, true, false, not, ◌&&◌, ◌||◌, IsTrue, eq-eqb, eqb-true}
+use Rattle.std.proofs.Common.{◌≡◌, ◌↔◌, ℕ, ◌⊎◌, inl, inr, ◌+◌, ◌*◌, ◌%◌, ◌<◌, ◌≤◌, ◌∙◌, List, length, refl, sym, ap, arith, Bool, true, false, not, ◌&&◌, ◌||◌, IsTrue, eq-eqb, eqb-true}
 use Rattle.std.specs.Prelude.{nat_eq, nat_lt, Option, Some, None, Ok, Err, if◌then◌else◌}
 use Rattle.std.specs.List.{list_any, range_with_len}
 use Rattle.std.specs.Option.{option_or}
@@ -31,8 +31,7 @@ use Rattle.diagram_moves.specs.declared.fault.MoveFault.TheVariants.{NoBigon, No
 -- answers
 
 result : (fault : Option MoveFault) (code new : Code) → answered fault code ≡ Ok new → new ≡ code
-result None code new is = cc
-result (Some fault) code new is = absurd (cc)
+result fault code new is = grind (arith, nat_tests)
 
 -- a crossing that there is
 no_crossing-none : (code : Code) (c : ℕ) → IsCrossing code.crossings c → no_crossing code c ≡ None
@@ -84,25 +83,17 @@ kink-passes : (slots : List ℕ) (b : Bool)
     → ((s t : ℕ) → s < 4 → t < 4 → arc_in slots s ≡ arc_in slots t → enters b s ≡ enters b t → s ≡ t)
     → (p : ℕ) → p < 4 → arc_in slots p ≡ arc_in slots (after p)
     → (arc_in slots 2 ≡ arc_in slots (if b then 3 else 1)) ⊎ (arc_in slots (if b then 1 else 3) ≡ arc_in slots 0)
-kink-passes slots true apart zero below same = inr (sym same)
-kink-passes slots false apart zero below same = absurd (omega (arith, apart 0 1 (omega arith) (omega arith) same refl))
-kink-passes slots true apart (suc zero) below same = absurd (omega (arith, apart 1 2 (omega arith) (omega arith) same refl))
-kink-passes slots false apart (suc zero) below same = inl (sym same)
-kink-passes slots true apart (suc (suc zero)) below same = inl same
-kink-passes slots false apart (suc (suc zero)) below same = absurd (omega (arith, apart 2 3 (omega arith) (omega arith) same refl))
-kink-passes slots true apart (suc (suc (suc zero))) below same = absurd (omega (arith, apart 3 0 (omega arith) (omega arith) same refl))
-kink-passes slots false apart (suc (suc (suc zero))) below same = inr same
-kink-passes slots b apart (suc (suc (suc (suc p)))) below same = absurd (omega (arith, below))
+kink-passes slots b apart p below same = grind (arith, nat_tests, apart p (after p) below (omega arith) same)
 
-kinked : (slots : List ℕ) (p : ℕ) → p < 4 → arc_in slots p ≡ arc_in slots (after p) → is_kink slots ≡ true
-kinked slots p below same = list_any-at (is_kink_at slots) 0 4 p (omega arith) (omega (arith, below)) (eq-eqb (arc_in slots p) (arc_in slots (after p)) same)
+pub is_kink-at : (slots : List ℕ) (p : ℕ) → p < 4 → arc_in slots p ≡ arc_in slots (after p) → is_kink slots ≡ true
+is_kink-at slots p below same = list_any-at (is_kink_at slots) 0 4 p (omega arith) (omega (arith, below)) (eq-eqb (arc_in slots p) (arc_in slots (after p)) same)
 
 passes-kink : (slots : List ℕ) (b : Bool)
     → (arc_in slots 2 ≡ arc_in slots (if b then 3 else 1)) ⊎ (arc_in slots (if b then 1 else 3) ≡ arc_in slots 0) → is_kink slots ≡ true
-passes-kink slots true (inl same) = kinked slots 2 (omega arith) same
-passes-kink slots true (inr same) = kinked slots 0 (omega arith) (sym same)
-passes-kink slots false (inl same) = kinked slots 1 (omega arith) (sym same)
-passes-kink slots false (inr same) = kinked slots 3 (omega arith) same
+passes-kink slots true (inl same) = is_kink-at slots 2 (omega arith) same
+passes-kink slots true (inr same) = is_kink-at slots 0 (omega arith) (sym same)
+passes-kink slots false (inl same) = is_kink-at slots 1 (omega arith) (sym same)
+passes-kink slots false (inr same) = is_kink-at slots 3 (omega arith) same
 
 pub kink-made : (code : Code) (crossing : ℕ) → IsTrue (accepted code) → IsCrossing code.crossings crossing
     → (is_kink (slots_of code.crossings crossing) ≡ true) ↔ HasKink code.crossings crossing
@@ -116,8 +107,7 @@ kink-made code crossing holds is = (
 
 -- a test that fails is a refusal, and where none fails there is none
 refused-by : (b : Bool) (fault : MoveFault) (code : Code) → (answered (refused_where (not b) fault) code ≡ Err fault) ↔ (b ≡ false)
-refused-by true fault code = ((λ same. absurd (cc)), (λ same. absurd (both_ways true same refl)))
-refused-by false fault code = ((λ same. refl), (λ same. refl))
+refused-by b fault code = grind (arith, nat_tests)
 
 pub no_kink-refused : (code : Code) (crossing : ℕ) → IsTrue (accepted code) → IsCrossing code.crossings crossing
     → (moved code (KinkDrop crossing) ≡ Err (NoKink crossing)) ↔ ¬ HasKink code.crossings crossing
@@ -138,8 +128,8 @@ no_kink-refused code crossing holds is =
 
 -- bigons
 
-bigon-found : (crossings : List (List ℕ)) (c d p q : ℕ) → HasBigonAt crossings c d p q → is_bigon crossings c d ≡ true
-bigon-found crossings c d p q bigon =
+pub is_bigon-has : (crossings : List (List ℕ)) (c d p q : ℕ) → HasBigonAt crossings c d p q → is_bigon crossings c d ≡ true
+is_bigon-has crossings c d p q bigon =
     let p_next : (p % 4 + 1) % 4 ≡ (p + 1) % 4 = omega arith in
     let q_next : (q % 4 + 1) % 4 ≡ (q + 1) % 4 = omega arith in
     let odd : (p % 4 + q % 4) % 2 ≡ 1 = omega (arith, bigon.odd) in
@@ -159,8 +149,7 @@ bigon-found crossings c d p q bigon =
     two first_is second_is = cc
 
     differ : (b : Bool) → ¬ (b ≡ true) → not b ≡ true
-    differ true apart = absurd (apart refl)
-    differ false apart = refl
+    differ b apart = grind (arith, nat_tests)
 
 pub no_bigon-refused : (code : Code) (first second : ℕ) → IsCrossing code.crossings first → IsCrossing code.crossings second
     → (moved code (FingerDrop first second) ≡ Err (NoBigon first second))
@@ -177,7 +166,7 @@ no_bigon-refused code first second is other_is =
     (no_crossing-none code second other_is) in (
       (λ refused p q has.
           both_ways (is_bigon code.crossings (place_of first) (place_of second)) (by.0 (sym same ∙ refused))
-          (bigon-found code.crossings (place_of first) (place_of second) p q has)),
+          (is_bigon-has code.crossings (place_of first) (place_of second) p q has)),
       (λ none. elim (cases_Bool (is_bigon code.crossings (place_of first) (place_of second))) [
         | inl bigon ↦
             let found = HasBigonAt-found code.crossings (place_of first) (place_of second) (omega (arith, is.positive, is.within))
@@ -209,7 +198,7 @@ bigon-dropped code first second p q is other_is has = (
       ∙ ap (λ o. answered (option_or o (no_bigon code first second)) (renumber (without_finger code (place_of first) (place_of second))))
       (no_crossing-none code second other_is)
       ∙ ap (λ b. answered (refused_where (not b) (NoBigon first second)) (renumber (without_finger code (place_of first) (place_of second))))
-      (bigon-found code.crossings (place_of first) (place_of second) p q has),
+      (is_bigon-has code.crossings (place_of first) (place_of second) p q has),
 )
 
 -- crossings that there are not
@@ -224,8 +213,7 @@ no_crossing-refused code crossing = (
 )
   where
     other : (b : Bool) (c : ℕ) (code : Code) → ¬ (answered (refused_where (not b) (NoKink c)) code ≡ Err (NoCrossing c))
-    other true c code same = absurd (cc)
-    other false c code same = absurd (cc)
+    other b c code same = grind (arith, nat_tests)
 
 pub first-refused : (code : Code) (first second : ℕ) → ¬ IsCrossing code.crossings first
     → moved code (FingerDrop first second) ≡ Err (NoCrossing first)

@@ -19,7 +19,7 @@ use Rattle.kinks_and_fingers.specs.Dropping.{HasKinkAt, HasBigonAt, IsPlanarRest
 use Rattle.kinks_and_fingers.specs.DropCircles.{parts_sum}
 use Rattle.kinks_and_fingers.specs.Pulls.{early, late}
 use Rattle.kinks_and_fingers.proofs.KeptCodes.{length-kept, kept-slots, kept-sign, renamed_slots-at, arc_by_place-below, straight-below}
-use Rattle.kinks_and_fingers.proofs.KinkClosing.{kept_are, early-low}
+use Rattle.kinks_and_fingers.proofs.KinkCircles.{kept_are, early-low}
 use Rattle.kinks_and_fingers.proofs.KinkDropSums.{state_sum-without_kink}
 use Rattle.kinks_and_fingers.proofs.FingerDrops.{places-two, late-below}
 use Rattle.kinks_and_fingers.proofs.FingerDropSums.{state_sum-without_finger}

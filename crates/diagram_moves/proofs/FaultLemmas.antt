@@ -1,5 +1,5 @@
 -- What it says that no fault comes.
-use Rattle.std.proofs.Common.{◌≡◌, ◌≢◌, ℕ, ◌≤◌, length, refl, arith, Bool, not, ◌||◌}
+use Rattle.std.proofs.Common.{◌≡◌, ◌≢◌, ℕ, ◌≤◌, length, arith, Bool, not, ◌||◌}
 use Rattle.std.specs.Prelude.{nat_eq, nat_lt, Option, Some, None, true, false}
 use Rattle.std.specs.Option.{option_or}
 use Rattle.std.proofs.lemmas.Bool.Decides.{nat_tests}
@@ -9,16 +9,13 @@ use Rattle.diagram_moves.specs.MoveFaults.{no_crossing, refused_where}
 use Rattle.diagram_moves.specs.declared.fault.MoveFault.TheVariants.{NoCrossing, Genus}
 
 pub both-none : (x y : Option MoveFault) → option_or x y ≡ None → (x ≡ None) × (y ≡ None)
-both-none None y none = (refl, none)
-both-none (Some x) y none = absurd (cc)
+both-none x y none = grind (arith, nat_tests)
 
 pub none-false : (b : Bool) (fault : MoveFault) → refused_where b fault ≡ None → b ≡ false
-none-false false fault none = refl
-none-false true fault none = absurd (cc)
+none-false b fault none = grind (arith, nat_tests)
 
 pub none-not : (b : Bool) (fault : MoveFault) → refused_where (not b) fault ≡ None → b ≡ true
-none-not true fault none = refl
-none-not false fault none = absurd (cc)
+none-not b fault none = grind (arith, nat_tests)
 
 pub none-within : (x most : ℕ) (fault : MoveFault) → refused_where (nat_eq x 0 || nat_lt most x) fault ≡ None → (1 ≤ x) × (x ≤ most)
 none-within x most fault none = grind (arith, nat_tests)
@@ -55,5 +52,4 @@ other-fault true fault faces wanted other same = other (some-same fault (Genus f
 other-fault false fault faces wanted other same = absurd (cc)
 
 pub neither-fault : (x y : Option MoveFault) (fault : MoveFault) → ¬ (x ≡ Some fault) → ¬ (y ≡ Some fault) → ¬ (option_or x y ≡ Some fault)
-neither-fault None y fault no_x no_y same = no_y same
-neither-fault (Some x) y fault no_x no_y same = no_x same
+neither-fault x y fault no_x no_y same = grind (arith, nat_tests)

@@ -32,9 +32,9 @@ use Rattle.orient_arcs.specs.Renumbered.{renumber}
 use Rattle.kinks_and_fingers.specs.DropCircles.{parts_circle_count, parts_plus, parts_minus, parts_term, parts_sum}
 use Rattle.kinks_and_fingers.specs.DropComponents.{parts_component_count}
 use Rattle.kinks_and_fingers.proofs.OldDarts.{arc_of_dart-arc_of}
-use Rattle.kinks_and_fingers.proofs.KinkClosing.{before}
+use Rattle.kinks_and_fingers.proofs.KinkCircles.{before}
 use Rattle.kinks_and_fingers.proofs.KinkDropSums.{count-later, sums-alike}
-use Rattle.kinks_and_fingers.proofs.ComponentDrops.{IsOfNames-passes, IsOfNames-smoothings, standing-classes}
+use Rattle.kinks_and_fingers.proofs.StandingNames.{IsOfNames-passes, IsOfNames-smoothings, standing-classes}
 use Rattle.gluing.specs.Alike.{AreAlike}
 use Rattle.gluing.specs.Glue as glue
 use Rattle.orient_arcs.proofs.Bridge.{IsDirected-renumbered, sign-kept}

@@ -1,5 +1,6 @@
 -- The crossings after a slide become an accepted code.
-use Rattle.std.proofs.Common.{◌≡◌, ℕ, ◌+◌, ◌-◌, ◌*◌, ◌/◌, ◌%◌, ◌^◌, ◌<◌, ◌∙◌, ℤ, List, length, map, refl, sym, ap, ap₂, subst, arith, Bool, true, false, not, IsTrue}
+use Rattle.std.proofs.lemmas.Bool.Decides.{nat_tests}
+use Rattle.std.proofs.Common.{◌≡◌, ℕ, ◌+◌, ◌-◌, ◌*◌, ◌/◌, ◌%◌, ◌^◌, ◌<◌, ◌∙◌, ℤ, List, length, map, sym, ap, ap₂, subst, arith, Bool, true, false, not, IsTrue}
 use Rattle.std.specs.List.{count_by, flat_map, range_with_len}
 use Rattle.std.proofs.lemmas.List.FromFn.{get_or-map-range_with_len, length-map-range_with_len}
 use Rattle.std.proofs.lemmas.List.{length-map}
@@ -27,9 +28,9 @@ use Rattle.face_walk.proofs.FewFaces.{IsPlanar-twice}
 use Rattle.kinks_and_fingers.specs.DropCircles.{parts_circle_count, parts_plus, parts_minus, parts_term, parts_sum}
 use Rattle.kinks_and_fingers.specs.DropComponents.{parts_component_count}
 use Rattle.kinks_and_fingers.proofs.OldDarts.{arc_of_dart-arc_of, arc_of_dart-partner, arc_of_dart-below}
-use Rattle.kinks_and_fingers.proofs.KinkClosing.{before}
+use Rattle.kinks_and_fingers.proofs.KinkCircles.{before}
 use Rattle.kinks_and_fingers.proofs.KinkDropSums.{count-later, sums-alike}
-use Rattle.kinks_and_fingers.proofs.ComponentDrops.{IsOfNames-passes, IsOfNames-smoothings, standing-classes}
+use Rattle.kinks_and_fingers.proofs.StandingNames.{IsOfNames-passes, IsOfNames-smoothings, standing-classes}
 use Rattle.slides.specs.Slid.{slid, slid_code}
 use Rattle.slides.specs.SlideCodes.{is_head_with, HasHeadsAndTails}
 use Rattle.slides.specs.Triangles.{IsTriangle, has_heights}
@@ -49,12 +50,10 @@ abbrev AreSigns : List Bool → (ℕ → Bool) → ℕ → Type 0
 AreSigns signs positive n = (place : ℕ) → place < n → is_positive_at signs place ≡ positive (place + 1)
 
 not_true : (b : Bool) → b ≡ false → not b ≡ true
-not_true true is = sym is
-not_true false is = refl
+not_true b is = grind (arith, nat_tests)
 
 not_false : (b : Bool) → not b ≡ true → b ≡ false
-not_false true is = sym is
-not_false false is = refl
+not_false b is = grind (arith, nat_tests)
 
 -- crossings on which each arc has one head and one tail
 HasTwoEnds-arcs : (crossings : List (List ℕ)) (positive : ℕ → Bool) (signs : List Bool) → HasArcsTwice crossings

@@ -1,5 +1,5 @@
 -- The numbers that a slide leaves: each component keeps its numbers, and begins with its least arc, unless it is over at both its crossings.
-use Rattle.std.proofs.Common.{◌≡◌, ℕ, zero, suc, inl, inr, ◌+◌, ◌-◌, ◌*◌, ◌/◌, ◌%◌, ◌<◌, ◌≤◌, ◌∙◌, List, [], length, refl, sym, ap, ap₂, subst, arith, Bool, true, false, ◌||◌, pos, neg_ℤ, eqb-true, IsTrue}
+use Rattle.std.proofs.Common.{◌≡◌, ℕ, inl, inr, ◌+◌, ◌-◌, ◌*◌, ◌/◌, ◌%◌, ◌<◌, ◌≤◌, ◌∙◌, List, [], length, refl, sym, ap, ap₂, subst, arith, Bool, true, false, ◌||◌, pos, neg_ℤ, eqb-true, IsTrue}
 use Rattle.std.specs.Prelude.{nat_eq, if◌then◌else◌, slice_index_or, MatchBool}
 use Rattle.std.specs.List.{AllByRecursion}
 use Rattle.std.proofs.lemmas.Bool.{both_ways, cases_eq, cases_lt, cases_Bool}
@@ -75,14 +75,7 @@ across-next : (next : ℕ → ℕ) (b : Bool) (slots : List ℕ) (slot : ℕ) �
     → arc_in slots 2 ≡ next (arc_in slots 0)
     → MatchBool b (arc_in slots 1 ≡ next (arc_in slots 3)) (arc_in slots 3 ≡ next (arc_in slots 1))
     → arc_in slots ((slot + 2) % 4) ≡ next (arc_in slots slot)
-across-next next b slots zero below head under over = under
-across-next next true slots (suc zero) below head under over = absurd (cc)
-across-next next false slots (suc zero) below head under over = over
-across-next next true slots (suc (suc zero)) below head under over = absurd (cc)
-across-next next false slots (suc (suc zero)) below head under over = absurd (cc)
-across-next next true slots (suc (suc (suc zero))) below head under over = over
-across-next next false slots (suc (suc (suc zero))) below head under over = absurd (cc)
-across-next next b slots (suc (suc (suc (suc slot)))) below head under over = absurd (omega (arith, below))
+across-next next b slots slot below head under over = grind (arith, nat_tests)
 
 module _ (code : Code) (x y z : ℕ) (holds : IsTrue (accepted code)) (triangle : IsTriangle code.crossings x y z) where
   abbrev after : List (List ℕ)
@@ -161,8 +154,7 @@ module _ (code : Code) (x y z : ℕ) (holds : IsTrue (accepted code)) (triangle 
           → MatchBool b
           (arc_in (slots_of code.crossings crossing) 1 ≡ next code.crossings (arc_in (slots_of code.crossings crossing) 3))
           (arc_in (slots_of code.crossings crossing) 3 ≡ next code.crossings (arc_in (slots_of code.crossings crossing) 1))
-      both true crossing pass = pass.follows
-      both false crossing pass = pass.follows
+      both b crossing pass = grind (arith, nat_tests)
 
   new-next : (dart : ℕ) → dart < 4 * length code.crossings → is_head_with (is_positive code.crossings) (dart_at dart) ≡ true
       → arc_of_dart (slid code.crossings x y z) (on dart 2) ≡ next code.crossings (arc_of_dart (slid code.crossings x y z) dart)

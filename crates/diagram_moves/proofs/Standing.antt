@@ -9,7 +9,7 @@ use Rattle.code_passes.specs.Parts.{Parts, is_positive_at}
 use Rattle.gluing.specs.Codes.{arc_of_dart}
 use Rattle.gluing.specs.Arcs.{arc_by_place, enters}
 use Rattle.kinks_and_fingers.specs.Drops.{stands_in}
-use Rattle.kinks_and_fingers.proofs.StrandCircles.{stands-none, stands-some}
+use Rattle.kinks_and_fingers.proofs.StandingNames.{stands-none, stands-some}
 use Rattle.orient_arcs.specs.Alike.{HasNamesBelow}
 use Rattle.kinks_and_fingers.proofs.OldDarts.{arc_of_dart-arc_of}
 use Rattle.code_passes.specs.Parts.{ArePaired}

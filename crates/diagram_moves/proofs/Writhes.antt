@@ -1,5 +1,6 @@
 -- What moves do to the writhe.
-use Rattle.std.proofs.Common.{◌≡◌, ℕ, ◌+◌, ◌-◌, ◌≤◌, ◌∙◌, ◌%◌, ℤ, pos, neg_ℤ, ◌+ℤ◌, ◌-ℤ◌, List, length, map, refl, sym, ap, subst, arith, Bool, true, false, not, cond, ◌||◌, IsTrue}
+use Rattle.std.proofs.lemmas.Bool.Decides.{nat_tests}
+use Rattle.std.proofs.Common.{◌≡◌, ℕ, ◌+◌, ◌-◌, ◌≤◌, ◌∙◌, ◌%◌, ℤ, pos, neg_ℤ, ◌+ℤ◌, ◌-ℤ◌, List, length, map, sym, ap, subst, arith, Bool, true, false, not, cond, ◌||◌, IsTrue}
 use Rattle.std.specs.Prelude.{if◌then◌else◌, nat_eq, Option, None, Result, Ok, IfOk, unwrap_or}
 use Rattle.std.proofs.lemmas.Int.{ints}
 use Rattle.std.specs.List.{count_by, filter, range_with_len}
@@ -9,21 +10,20 @@ use Rattle.kh_types.specs.Directions.{is_positive, plus_count, minus_count, sign
 use Rattle.kh_types.proofs.DirectionLemmas.{plus_count-le}
 use Rattle.kh_types.proofs.Lists.{count_by-map}
 use Rattle.kh_types.proofs.RangeCounts.{count_by-alike}
+use Rattle.kh_types.proofs.Heads.{HasNoSingleArcs-accepted}
 use Rattle.kinks_and_fingers.specs.DropCircles.{parts_plus}
 use Rattle.kinks_and_fingers.specs.Drops.{dropped, kept_places, is_of_two, without_finger, without_kink}
 use Rattle.kinks_and_fingers.specs.FingerAdd.{with_finger, differ}
 use Rattle.kinks_and_fingers.specs.KinkAdds.{with_kink}
 use Rattle.kinks_and_fingers.specs.KinkCodes.{one_where}
 use Rattle.kinks_and_fingers.specs.Pulls.{early, late}
-use Rattle.kinks_and_fingers.proofs.FingerAccepted.{AreFingerable-accepted}
+use Rattle.kinks_and_fingers.proofs.FingeredCodes.{AreFingerable-accepted, minus_count-fingered, plus_count-fingered}
 use Rattle.kinks_and_fingers.proofs.FingerDrops.{places-two}
 use Rattle.kinks_and_fingers.proofs.FingerDropSums.{HasBigonAt-slots, bigon-signs, plus-kept_two}
-use Rattle.kinks_and_fingers.proofs.FingerSigns.{minus_count-fingered, plus_count-fingered}
-use Rattle.kinks_and_fingers.proofs.KinkClosing.{kept_are}
+use Rattle.kinks_and_fingers.proofs.KinkCircles.{kept_are}
 use Rattle.kinks_and_fingers.proofs.KinkDropSums.{count-later, plus-kept}
 use Rattle.kh_types.specs.Bits.{one_if}
-use Rattle.kinks_and_fingers.proofs.KinkSigns.{minus_count-kinked, plus_count-kinked}
-use Rattle.kinks_and_fingers.proofs.KinkSizes.{IsKinkable-accepted}
+use Rattle.kinks_and_fingers.proofs.KinkedCodes.{IsKinkable-accepted, minus_count-kinked, plus_count-kinked}
 use Rattle.slides.specs.Triangles.{dart_at_slot, step}
 use Rattle.slides.proofs.FoundTriangles.{IsTriangle-slot, has_heights-slot}
 use Rattle.diagram_moves.specs.declared.change.Move.{Move}
@@ -69,8 +69,7 @@ plus-dropped code new gone kept k is places =
 
 writhe-kink : (b : Bool) (plus minus new_plus new_minus : ℕ) → new_plus ≡ plus + one_where b → new_minus ≡ minus + one_where (not b)
     → pos new_plus -ℤ pos new_minus ≡ (pos plus -ℤ pos minus) +ℤ (if b then pos 1 else neg_ℤ (pos 1))
-writhe-kink true plus minus new_plus new_minus plus_is minus_is = omega (arith, ints, plus_is, minus_is)
-writhe-kink false plus minus new_plus new_minus plus_is minus_is = omega (arith, ints, plus_is, minus_is)
+writhe-kink b plus minus new_plus new_minus plus_is minus_is = grind (arith, nat_tests)
 
 writhe-drop : (b : Bool) (plus new_plus n m : ℕ) → plus ≡ cond b 1 0 + new_plus → n ≡ m + 1 → new_plus ≤ m
     → pos new_plus -ℤ pos (m - new_plus) ≡ (pos plus -ℤ pos (n - plus)) +ℤ neg_ℤ (if b then pos 1 else neg_ℤ (pos 1))
@@ -112,8 +111,7 @@ writhe-kink_dropped code crossing holds none =
     ∙ ap (λ k. writhe code +ℤ neg_ℤ (sign_of code.crossings k)) back
 
 one_of_both : (b : Bool) → one_if b + one_if (not b) ≡ 1
-one_of_both true = refl
-one_of_both false = refl
+one_of_both b = grind (arith, nat_tests)
 
 writhe-finger_dropped : (code : Code) (first second : ℕ) → IsTrue (accepted code) → finger_drop_fault code first second ≡ None
     → writhe (renumber (without_finger code (place_of first) (place_of second))) ≡ writhe code +ℤ pos 0
@@ -135,7 +133,8 @@ writhe-finger_dropped code first second holds none =
     (ap (λ n. filter (λ x. not (nat_eq c x || nat_eq d x)) (range_with_len 0 n)) size
     ∙ places-two c d (length code.crossings - 2) c_within d_within bigon.apart) in
     let all = plus-kept_two code c d bigon.first_below bigon.second_below bigon.apart in
-    let sign = bigon-signs code c d p q holds bigon (omega arith) (omega arith) in
+    let directed = HasNoSingleArcs-accepted code holds in
+    let sign = bigon-signs code c d p q directed.0 directed.1 bigon (omega arith) (omega arith) in
     let both : one_if (positive_at code.crossings (place_of first)) + one_if (positive_at code.crossings (place_of second)) ≡ 1 =
     ap (λ b. one_if (positive_at code.crossings (place_of first)) + one_if b) sign
     ∙ one_of_both (positive_at code.crossings (place_of first)) in

@@ -1,21 +1,59 @@
 -- What the smoothings of a crossing and its passes join, by its slots from one on; those of two crossings apart from all others.
-use Rattle.std.proofs.Common.{◌≡◌, ◌≢◌, ℕ, zero, suc, inl, inr, ◌+◌, ◌%◌, ◌<◌, ◌≤◌, ◌∙◌, List, [], ◌∷◌, ◌++◌, sym, ap, subst, arith, refl, Bool, true, false, cond, ◌||◌, length, eq-eqb, eqb-true}
+use Rattle.std.proofs.lemmas.Bool.Decides.{nat_tests}
+use Rattle.std.proofs.Common.{◌≡◌, ◌≢◌, ℕ, zero, suc, ◌⊎◌, inl, inr, ◌+◌, ◌*◌, ◌%◌, ◌<◌, ◌≤◌, ◌∙◌, List, [], ◌∷◌, ◌++◌, sym, ap, subst, arith, refl, Bool, true, false, cond, ◌||◌, length, eq-eqb, eqb-true}
 use Rattle.std.specs.Prelude.{nat_eq}
 use Rattle.std.specs.List.{AllByRecursion}
-use Rattle.std.proofs.lemmas.Bool.{cases_Bool, ne_eqb}
+use Rattle.std.proofs.lemmas.Bool.{cases_Bool, cases_eq, ne_eqb}
 use Rattle.kh_types.specs.Classes.{classes_of, class_count, Respects, AreBelow}
 use Rattle.kh_types.specs.Code.{arc_in, arc_count}
 use Rattle.kh_types.specs.Components.{passes_of}
 use Rattle.kh_types.specs.Circles.{smoothing_of, smoothings_of}
-use Rattle.kh_types.specs.Darts.{HasArcsTwice}
+use Rattle.kh_types.specs.Darts.{HasArcsTwice, partner_at}
 use Rattle.kh_types.proofs.ClassLemmas.{classes-finest}
 use Rattle.kh_types.proofs.JoinedClasses.{classes_of-same, class_count-apart}
 use Rattle.kh_types.proofs.Lists.{AllByRecursion-append}
 use Rattle.code_passes.specs.Parts.{slots_in}
+use Rattle.gluing.specs.Arcs.{arc_by_place}
+use Rattle.gluing.specs.Codes.{arc_of_dart}
+use Rattle.kinks_and_fingers.specs.Pulls.{dart_in}
+use Rattle.kinks_and_fingers.proofs.Smoothed.{dart_in-below}
+use Rattle.kinks_and_fingers.proofs.OldDarts.{partner-named, arc_of_dart-in}
 use Rattle.kinks_and_fingers.specs.Drops.{straight_pairs, is_of_two}
 use Rattle.kinks_and_fingers.specs.DropCircles.{joined_at, outer_pairs, through_at, closing_at}
 use Rattle.kinks_and_fingers.proofs.KeptCodes.{all-gone, gone-all}
-use Rattle.kinks_and_fingers.proofs.KinkCircles.{smoothings-all, smoothings-each, outer-all, outer-each, joined-below, passes-low, smoothing-zero, smoothing-one, to-zero, to-one, all_first, all_second}
+use Rattle.kinks_and_fingers.proofs.SmoothingPairs.{smoothings-all, smoothings-each, outer-all, outer-each, joined-below, passes-low, smoothing-zero, smoothing-one, to-zero, to-one, all_first, all_second}
+
+-- a test of two that fails
+pub or-false : (a b : Bool) → (a || b) ≡ false → (a ≡ false) × (b ≡ false)
+or-false a b fails = grind (arith, nat_tests)
+
+-- what holds of the four darts' names at each crossing that stays holds of its smoothing
+pub marked : (f : ℕ → ℕ) (b : ℕ) (slots : List ℕ) → ((slot : ℕ) → slot < 4 → f (arc_in slots slot) ≡ 0) → Respects f (smoothing_of b slots)
+marked f b slots at = by (nat_eq b 0)
+  where
+    by : (t : Bool)
+        → Respects f (cond t ((arc_in slots 0, arc_in slots 1) ∷ (arc_in slots 2, arc_in slots 3) ∷ [])
+        ((arc_in slots 0, arc_in slots 3) ∷ (arc_in slots 1, arc_in slots 2) ∷ []))
+    by true = (at 0 (omega arith) ∙ sym (at 1 (omega arith)), (at 2 (omega arith) ∙ sym (at 3 (omega arith)), tt))
+    by false = (at 0 (omega arith) ∙ sym (at 3 (omega arith)), (at 1 (omega arith) ∙ sym (at 2 (omega arith)), tt))
+
+-- a name stands at two darts alone
+pub named-own : (crossings : List (List ℕ)) (s place slot : ℕ) → HasArcsTwice crossings → s < 4 * length crossings → place < length crossings
+    → slot < 4 → arc_by_place crossings place slot ≡ arc_of_dart crossings s
+    → (4 * place + slot ≡ s) ⊎ (4 * place + slot ≡ partner_at crossings s)
+named-own crossings s place slot twice s_below below slot_below same =
+    let z = dart_in place slot in
+    let e : slot % 4 ≡ slot = omega (arith, slot_below) in
+    let is : dart_in place slot ≡ 4 * place + slot = ap (λ r. 4 * place + r) e in
+    elim (cases_eq (dart_in place slot) s) [
+      | inl own ↦ inl (sym is ∙ own)
+      | inr other ↦
+          inr
+          (sym is
+          ∙ sym
+          (partner-named crossings twice s (dart_in place slot) s_below (dart_in-below (length crossings) place slot below) other
+          (arc_of_dart-in crossings place slot ∙ ap (arc_by_place crossings place) e ∙ same)))
+    ]
 
 -- what the smoothings of a crossing join, and its passes, by its slots from p on
 
@@ -204,5 +242,4 @@ straight-as crossings n state c d whole twice large c_below d_below low onward b
     ])) parts.0)
   where
     gone_second : (a b : Bool) → b ≡ true → (a || b) ≡ true
-    gone_second true b is = refl
-    gone_second false b is = is
+    gone_second a b is = grind (arith, nat_tests)

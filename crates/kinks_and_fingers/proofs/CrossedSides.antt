@@ -15,15 +15,15 @@ eq_self x = eq-eqb x x refl
 ne_test : (x y : ℕ) → x ≢ y → nat_eq x y ≡ false
 ne_test x y apart = grind (arith, nat_tests)
 
-exchanged-first : {X : Type 0} (g : ℕ → X) (a b : ℕ) → exchanged g a b a ≡ g b
+pub exchanged-first : {X : Type 0} (g : ℕ → X) (a b : ℕ) → exchanged g a b a ≡ g b
 exchanged-first g a b = ap (λ t. cond t (g b) (cond (nat_eq a b) (g a) (g a))) (eq_self a)
 
-exchanged-second : {X : Type 0} (g : ℕ → X) (a b : ℕ) → a ≢ b → exchanged g a b b ≡ g a
+pub exchanged-second : {X : Type 0} (g : ℕ → X) (a b : ℕ) → a ≢ b → exchanged g a b b ≡ g a
 exchanged-second g a b apart =
     ap (λ t. cond t (g b) (cond (nat_eq b b) (g a) (g b))) (ne_test b a (λ same. apart (sym same)))
     ∙ ap (λ t. cond t (g a) (g b)) (eq_self b)
 
-exchanged-else : {X : Type 0} (g : ℕ → X) (a b x : ℕ) → x ≢ a → x ≢ b → exchanged g a b x ≡ g x
+pub exchanged-else : {X : Type 0} (g : ℕ → X) (a b x : ℕ) → x ≢ a → x ≢ b → exchanged g a b x ≡ g x
 exchanged-else g a b x not_a not_b =
     ap (λ t. cond t (g b) (cond (nat_eq x b) (g a) (g x))) (ne_test x a not_a) ∙ ap (λ t. cond t (g a) (g x)) (ne_test x b not_b)
 

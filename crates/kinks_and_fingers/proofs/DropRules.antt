@@ -12,7 +12,7 @@ use Rattle.gluing.specs.Arcs.{arc_by_place}
 use Rattle.kinks_and_fingers.specs.Drops.{dropped, straight_names, straight_pairs, stands_in}
 use Rattle.kinks_and_fingers.specs.DropRule.{AreJoinedNames, IsLeft, named_slots, names_ring}
 use Rattle.kinks_and_fingers.proofs.KeptCodes.{straight-below, straight-joined, straight-finest, arc_by_place-below}
-use Rattle.kinks_and_fingers.proofs.StrandCircles.{arc_by_place-positive}
+use Rattle.kinks_and_fingers.proofs.StandingNames.{arc_by_place-positive}
 
 -- the slots of a crossing hold arcs
 arc_at : (crossings : List (List ℕ)) (place slot : ℕ) → HasArcsTwice crossings → place < length crossings → slot < 4

@@ -1,7 +1,7 @@
 -- What is left where crossings are dropped has arcs with two ends each, two colours, and as many faces as on the sphere.
+use Rattle.std.proofs.lemmas.Bool.Decides.{nat_tests}
 use Rattle.std.proofs.Common.{◌≡◌, ℕ, ◌⊎◌, inl, inr, ◌+◌, ◌*◌, ◌/◌, ◌%◌, ◌<◌, ◌∙◌, List, sym, ap, subst, arith, refl, Bool, true, false, not, length}
 use Rattle.std.specs.Prelude.{nat_eq}
-use Rattle.std.proofs.lemmas.Bool.{both_ways}
 use Rattle.kh_types.specs.Directions.{positive_at}
 use Rattle.kh_types.specs.Bits.{bit}
 use Rattle.face_walk.specs.AddedArcs.{IsPlanar}
@@ -51,8 +51,7 @@ two-dropped crossings gone choice k kept partner is x y x_below y_below same =
     (sym (kept-name crossings gone kept k x is.places x_below) ∙ same ∙ kept-name crossings gone kept k y is.places y_below)
 
 not_own : (b : Bool) → b ≡ not b → ⊥
-not_own true same = both_ways true same refl
-not_own false same = both_ways false refl same
+not_own b same = grind (arith, nat_tests)
 
 pub HasTwoEnds-dropped : (crossings : List (List ℕ)) (gone : ℕ → Bool) (choice k : ℕ) (kept partner : ℕ → ℕ)
     → IsDropped crossings gone choice k kept partner → HasTwoEnds (kept_crossings crossings gone) (kept_signs crossings gone)

@@ -1,13 +1,13 @@
 -- The circles of the four states at two crossings that meet in a bigon.
-use Rattle.std.proofs.Common.{◌≡◌, ◌≢◌, ℕ, zero, suc, ◌⊎◌, inl, inr, ◌+◌, ◌*◌, ◌%◌, ◌<◌, ◌≤◌, ◌∙◌, List, [], ◌∷◌, ◌++◌, sym, ap, subst, arith, refl, Bool, true, false, cond, not, ◌||◌, length, eq-eqb}
+use Rattle.std.proofs.Common.{◌≡◌, ◌≢◌, ℕ, zero, suc, ◌⊎◌, inl, inr, ◌+◌, ◌*◌, ◌%◌, ◌<◌, ◌≤◌, ◌∙◌, List, [], ◌∷◌, ◌++◌, sym, ap, arith, refl, Bool, false, cond, not, length, eq-eqb}
 use Rattle.std.specs.Prelude.{nat_eq}
 use Rattle.std.specs.List.{filter, flat_map, range_with_len}
-use Rattle.std.proofs.lemmas.Bool.{both_ways, cases_eq, cases_Bool}
+use Rattle.std.proofs.lemmas.Bool.{both_ways, cases_Bool}
 use Rattle.kh_types.specs.Bits.{bit}
 use Rattle.kh_types.specs.Classes.{classes_of, class_count, Respects, AreBelow}
-use Rattle.kh_types.specs.Code.{arc_in, arc_count}
+use Rattle.kh_types.specs.Code.{arc_count}
 use Rattle.kh_types.specs.Circles.{smoothing_of, smoothings_of}
-use Rattle.kh_types.specs.Darts.{HasArcsTwice, partner_at}
+use Rattle.kh_types.specs.Darts.{HasArcsTwice}
 use Rattle.kh_types.proofs.Lists.{AllByRecursion-append}
 use Rattle.code_passes.specs.Parts.{slots_in}
 use Rattle.gluing.specs.Arcs.{arc_by_place}
@@ -17,10 +17,10 @@ use Rattle.kinks_and_fingers.specs.Dropping.{HasBigonAt}
 use Rattle.kinks_and_fingers.specs.Pulls.{dart_in}
 use Rattle.kinks_and_fingers.specs.DropCircles.{joined_at, outer_pairs, through_at, closing_at}
 use Rattle.kinks_and_fingers.proofs.Smoothed.{dart_in-below}
-use Rattle.kinks_and_fingers.proofs.OldDarts.{partner-named, arc_of_dart-in, arc_of_dart-partner}
+use Rattle.kinks_and_fingers.proofs.OldDarts.{arc_of_dart-in, arc_of_dart-partner}
 use Rattle.kinks_and_fingers.proofs.KeptCodes.{arc_by_place-below}
-use Rattle.kinks_and_fingers.proofs.KinkCircles.{outer-all, joined-below, all_first, all_second}
-use Rattle.kinks_and_fingers.proofs.BigonJoins.{closing-joined, joined-closing, through-joined, joined-through, straight-pass, pass-straight, packed, unpacked, mark, mark-off, count-leaf, count-leaves, smoothed-as, straight-as}
+use Rattle.kinks_and_fingers.proofs.SmoothingPairs.{outer-all, joined-below, all_first, all_second}
+use Rattle.kinks_and_fingers.proofs.BigonJoins.{named-own, marked, or-false, closing-joined, joined-closing, through-joined, joined-through, straight-pass, pass-straight, packed, unpacked, mark, mark-off, count-leaf, count-leaves, smoothed-as, straight-as}
 
 -- the names round a bigon: a and b on its sides, x, y, u and v on the arcs that lead away
 pub record AreBigonNames (crossings : List (List ℕ)) (c d p q a b x y u v : ℕ) : Type 0 where
@@ -47,24 +47,6 @@ pub record AreBigonNames (crossings : List (List ℕ)) (c d p q a b x y u v : �
   pub a_b : a ≢ b
   pub others_a : (place slot : ℕ) → place < length crossings → slot < 4 → place ≢ c → place ≢ d → arc_by_place crossings place slot ≢ a
   pub others_b : (place slot : ℕ) → place < length crossings → slot < 4 → place ≢ c → place ≢ d → arc_by_place crossings place slot ≢ b
-
--- a name stands at two darts alone
-named-own : (crossings : List (List ℕ)) (s place slot : ℕ) → HasArcsTwice crossings → s < 4 * length crossings → place < length crossings
-    → slot < 4 → arc_by_place crossings place slot ≡ arc_of_dart crossings s
-    → (4 * place + slot ≡ s) ⊎ (4 * place + slot ≡ partner_at crossings s)
-named-own crossings s place slot twice s_below below slot_below same =
-    let z = dart_in place slot in
-    let e : slot % 4 ≡ slot = omega (arith, slot_below) in
-    let is : dart_in place slot ≡ 4 * place + slot = ap (λ r. 4 * place + r) e in
-    elim (cases_eq (dart_in place slot) s) [
-      | inl own ↦ inl (sym is ∙ own)
-      | inr other ↦
-          inr
-          (sym is
-          ∙ sym
-          (partner-named crossings twice s (dart_in place slot) s_below (dart_in-below (length crossings) place slot below) other
-          (arc_of_dart-in crossings place slot ∙ ap (arc_by_place crossings place) e ∙ same)))
-    ]
 
 pub AreBigonNames-bigon : (crossings : List (List ℕ)) (c d p q : ℕ) → HasArcsTwice crossings → HasBigonAt crossings c d p q → p < 4 → q < 4
     → AreBigonNames crossings c d p q (arc_by_place crossings c p) (arc_by_place crossings d q) (arc_by_place crossings c ((p + 2) % 4))
@@ -111,67 +93,20 @@ AreBigonNames-bigon crossings c d p q twice bigon p_slot q_slot =
       y_is = refl;
       u_is = refl;
       v_is = refl;
-      x_a = λ same. neither c d c p (q + 1) ((p + 2) % 4) (omega arith) (own_a c ((p + 2) % 4) c_b (omega arith) same)
-          (λ off. slot_two c p p_slot off) (λ off. elsewhere c d ((p + 2) % 4) (q + 1) (omega arith) apart off);
-      y_a = λ same. neither c d c p (q + 1) ((p + 3) % 4) (omega arith) (own_a c ((p + 3) % 4) c_b (omega arith) same)
-          (λ off. slot_three c p p_slot off) (λ off. elsewhere c d ((p + 3) % 4) (q + 1) (omega arith) apart off);
-      u_a = λ same. neither c d d p (q + 1) ((q + 2) % 4) (omega arith) (own_a d ((q + 2) % 4) d_b (omega arith) same)
-          (λ off. elsewhere d c ((q + 2) % 4) p (omega arith) (λ is. apart (sym is)) off) (λ off. slot_one_two d q off);
-      v_a = λ same. neither c d d p (q + 1) ((q + 3) % 4) (omega arith) (own_a d ((q + 3) % 4) d_b (omega arith) same)
-          (λ off. elsewhere d c ((q + 3) % 4) p (omega arith) (λ is. apart (sym is)) off) (λ off. slot_one_three d q off);
-      x_b = λ same. neither d c c q (p + 1) ((p + 2) % 4) (omega arith) (own_b c ((p + 2) % 4) c_b (omega arith) same)
-          (λ off. elsewhere c d ((p + 2) % 4) q (omega arith) apart off) (λ off. slot_one_two c p off);
-      y_b = λ same. neither d c c q (p + 1) ((p + 3) % 4) (omega arith) (own_b c ((p + 3) % 4) c_b (omega arith) same)
-          (λ off. elsewhere c d ((p + 3) % 4) q (omega arith) apart off) (λ off. slot_one_three c p off);
-      u_b = λ same. neither d c d q (p + 1) ((q + 2) % 4) (omega arith) (own_b d ((q + 2) % 4) d_b (omega arith) same)
-          (λ off. slot_two d q q_slot off) (λ off. elsewhere d c ((q + 2) % 4) (p + 1) (omega arith) (λ is. apart (sym is)) off);
-      v_b = λ same. neither d c d q (p + 1) ((q + 3) % 4) (omega arith) (own_b d ((q + 3) % 4) d_b (omega arith) same)
-          (λ off. slot_three d q q_slot off) (λ off. elsewhere d c ((q + 3) % 4) (p + 1) (omega arith) (λ is. apart (sym is)) off);
-      a_b = λ same. neither d c c q (p + 1) p p_slot (own_b c p c_b p_slot same)
-          (λ off. elsewhere c d p q p_slot apart off) (λ off. slot_own_one c p p_slot off);
+      x_a = λ same. grind (arith, p_slot, q_slot, apart, own_a c ((p + 2) % 4) c_b (omega arith) same);
+      y_a = λ same. grind (arith, p_slot, q_slot, apart, own_a c ((p + 3) % 4) c_b (omega arith) same);
+      u_a = λ same. grind (arith, p_slot, q_slot, apart, own_a d ((q + 2) % 4) d_b (omega arith) same);
+      v_a = λ same. grind (arith, p_slot, q_slot, apart, own_a d ((q + 3) % 4) d_b (omega arith) same);
+      x_b = λ same. grind (arith, p_slot, q_slot, apart, own_b c ((p + 2) % 4) c_b (omega arith) same);
+      y_b = λ same. grind (arith, p_slot, q_slot, apart, own_b c ((p + 3) % 4) c_b (omega arith) same);
+      u_b = λ same. grind (arith, p_slot, q_slot, apart, own_b d ((q + 2) % 4) d_b (omega arith) same);
+      v_b = λ same. grind (arith, p_slot, q_slot, apart, own_b d ((q + 3) % 4) d_b (omega arith) same);
+      a_b = λ same. grind (arith, p_slot, q_slot, apart, own_b c p c_b p_slot same);
       others_a = λ place slot below slot_below not_c not_d same.
-          neither c d place p (q + 1) slot slot_below (own_a place slot below slot_below same)
-          (λ off. elsewhere place c slot p slot_below not_c off) (λ off. elsewhere place d slot (q + 1) slot_below not_d off);
+          grind (arith, slot_below, not_c, not_d, own_a place slot below slot_below same);
       others_b = λ place slot below slot_below not_c not_d same.
-          neither d c place q (p + 1) slot slot_below (own_b place slot below slot_below same)
-          (λ off. elsewhere place d slot q slot_below not_d off) (λ off. elsewhere place c slot (p + 1) slot_below not_c off);
+          grind (arith, slot_below, not_c, not_d, own_b place slot below slot_below same);
     }
-  where
-    neither : (s t place r w slot : ℕ) → slot < 4 → (4 * place + slot ≡ dart_in s r) ⊎ (4 * place + slot ≡ dart_in t w)
-        → (4 * place + slot ≡ dart_in s r → ⊥) → (4 * place + slot ≡ dart_in t w → ⊥) → ⊥
-    neither s t place r w slot below (inl own) first second = first own
-    neither s t place r w slot below (inr own) first second = second own
-
-    elsewhere : (place other slot r : ℕ) → slot < 4 → place ≢ other → 4 * place + slot ≡ dart_in other r → ⊥
-    elsewhere place other slot r below apart same = omega (arith, below, apart, same)
-
-    slot_two : (c p : ℕ) → p < 4 → 4 * c + (p + 2) % 4 ≡ dart_in c p → ⊥
-    slot_two c p below same = omega (arith, below, same)
-
-    slot_three : (c p : ℕ) → p < 4 → 4 * c + (p + 3) % 4 ≡ dart_in c p → ⊥
-    slot_three c p below same = omega (arith, below, same)
-
-    slot_one_two : (c p : ℕ) → 4 * c + (p + 2) % 4 ≡ dart_in c (p + 1) → ⊥
-    slot_one_two c p same = omega (arith, same)
-
-    slot_one_three : (c p : ℕ) → 4 * c + (p + 3) % 4 ≡ dart_in c (p + 1) → ⊥
-    slot_one_three c p same = omega (arith, same)
-
-    slot_own_one : (c p : ℕ) → p < 4 → 4 * c + p ≡ dart_in c (p + 1) → ⊥
-    slot_own_one c p below same = omega (arith, below, same)
-
--- what holds of the four darts' names at each crossing that stays holds of its smoothing
-pub marked : (f : ℕ → ℕ) (b : ℕ) (slots : List ℕ) → ((slot : ℕ) → slot < 4 → f (arc_in slots slot) ≡ 0) → Respects f (smoothing_of b slots)
-marked f b slots at = elim (cases_Bool (nat_eq b 0)) [
-  | inl is ↦
-      subst (λ (t : Bool). Respects f (cond t ((arc_in slots 0, arc_in slots 1) ∷ (arc_in slots 2, arc_in slots 3) ∷ [])
-      ((arc_in slots 0, arc_in slots 3) ∷ (arc_in slots 1, arc_in slots 2) ∷ []))) (sym is)
-      (at 0 (omega arith) ∙ sym (at 1 (omega arith)), (at 2 (omega arith) ∙ sym (at 3 (omega arith)), tt))
-  | inr is ↦
-      subst (λ (t : Bool). Respects f (cond t ((arc_in slots 0, arc_in slots 1) ∷ (arc_in slots 2, arc_in slots 3) ∷ [])
-      ((arc_in slots 0, arc_in slots 3) ∷ (arc_in slots 1, arc_in slots 2) ∷ []))) (sym is)
-      (at 0 (omega arith) ∙ sym (at 3 (omega arith)), (at 1 (omega arith) ∙ sym (at 2 (omega arith)), tt))
-]
 
 outer-free : (crossings : List (List ℕ)) (c d state a : ℕ)
     → ((place slot : ℕ) → place < length crossings → slot < 4 → place ≢ c → place ≢ d → arc_by_place crossings place slot ≢ a)
@@ -179,16 +114,12 @@ outer-free : (crossings : List (List ℕ)) (c d state a : ℕ)
 outer-free crossings c d state a others =
     outer-all (λ pair. mark a pair.0 ≡ mark a pair.1) crossings (is_of_two c d) state
     (λ place below stays.
-    let away = apart_of (nat_eq c place) (nat_eq d place) stays in
+    let away = or-false (nat_eq c place) (nat_eq d place) stays in
     marked (λ z. mark a z) (bit state place) (slots_in crossings place)
     (λ slot slot_below.
     mark-off a (arc_by_place crossings place slot)
     (others place slot below slot_below (λ same. both_ways (nat_eq c place) away.0 (eq-eqb c place (sym same)))
     (λ same. both_ways (nat_eq d place) away.1 (eq-eqb d place (sym same))))))
-  where
-    apart_of : (a b : Bool) → (a || b) ≡ false → (a ≡ false) × (b ≡ false)
-    apart_of true b is = absurd (both_ways true is refl)
-    apart_of false b is = (refl, is)
 
 -- the smoothings of the crossings that stay depend on their bits alone
 
@@ -216,13 +147,9 @@ outer-same : (crossings : List (List ℕ)) (c d state other : ℕ) → ((place :
 outer-same crossings c d state other same =
     pairs-same crossings (is_of_two c d) state other 0 (length crossings)
     (λ place below stays.
-    let away = apart_of (nat_eq c place) (nat_eq d place) stays in
+    let away = or-false (nat_eq c place) (nat_eq d place) stays in
     same place (omega (arith, below)) (λ is. both_ways (nat_eq c place) away.0 (eq-eqb c place (sym is)))
     (λ is. both_ways (nat_eq d place) away.1 (eq-eqb d place (sym is))))
-  where
-    apart_of : (a b : Bool) → (a || b) ≡ false → (a ≡ false) × (b ≡ false)
-    apart_of true b is = absurd (both_ways true is refl)
-    apart_of false b is = (refl, is)
 
 -- the circles of the four states, and of what is joined straight
 pub record FourStates (crossings : List (List ℕ)) (n c d p q : ℕ) : Type 0 where

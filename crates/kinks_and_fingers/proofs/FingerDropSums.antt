@@ -1,20 +1,21 @@
 -- Dropping two crossings that meet in a bigon keeps the state sum.
-use Rattle.std.proofs.Common.{◌≡◌, ◌≢◌, ℕ, zero, suc, ◌⊎◌, inl, inr, ◌+◌, ◌-◌, ◌%◌, ◌^◌, ◌<◌, ◌≤◌, ◌∙◌, ℤ, ◌+ℤ◌, List, sym, refl, map, ap, ap₂, arith, Bool, true, false, cond, not, ◌&&◌, ◌||◌, count_by, length, IsTrue, eqb-true}
+use Rattle.std.proofs.Common.{◌≡◌, ◌≢◌, ℕ, suc, ◌⊎◌, inl, inr, ◌+◌, ◌-◌, ◌%◌, ◌^◌, ◌<◌, ◌≤◌, ◌∙◌, ℤ, ◌+ℤ◌, List, sym, refl, map, ap, ap₂, arith, Bool, true, cond, not, ◌&&◌, ◌||◌, count_by, length, IsTrue, eqb-true}
 use Rattle.std.specs.Prelude.{nat_eq}
 use Rattle.std.specs.List.{filter, range_with_len}
-use Rattle.std.proofs.lemmas.Bool.{both_ways}
 use Rattle.std.proofs.lemmas.List.{length-map}
 use Rattle.std.proofs.lemmas.List.FromFn.{length-map-range_with_len}
 use Rattle.std.proofs.lemmas.List.Sums.{count_by-le-length}
+use Rattle.std.proofs.lemmas.Bool.Decides.{nat_tests}
 use Rattle.kh_types.specs.Acceptance.{accepted}
+use Rattle.kh_types.specs.Accepted.{IsDirected}
 use Rattle.kh_types.specs.Bits.{bit, ones, one_if}
 use Rattle.kh_types.specs.Circles.{circle_count}
 use Rattle.kh_types.specs.Code.{Code, arc_count}
-use Rattle.kh_types.specs.Darts.{partner_at}
-use Rattle.kh_types.specs.Directions.{is_positive, plus_count, minus_count, positive_at}
+use Rattle.kh_types.specs.Darts.{HasArcsTwice, partner_at}
+use Rattle.kh_types.specs.Directions.{HasNoSingleArcs, is_positive, plus_count, minus_count, positive_at}
 use Rattle.kh_types.specs.StateSum.{int_sum, state_sum, state_term}
 use Rattle.kh_types.specs.StateSum as kh
-use Rattle.kh_types.proofs.AcceptedLemmas.{HasArcsTwice-accepted}
+use Rattle.kh_types.proofs.AcceptedLemmas.{HasArcsTwice-directed}
 use Rattle.kh_types.proofs.Heads.{HasNoSingleArcs-accepted}
 use Rattle.kh_types.proofs.Lists.{count_by-map}
 use Rattle.kh_types.proofs.RangeCounts.{count_by-alike}
@@ -29,8 +30,9 @@ use Rattle.kinks_and_fingers.specs.Pulls.{dart_in, early, late}
 use Rattle.kinks_and_fingers.proofs.Smoothed.{dart_in-below, dart_in-place, IsPermutation-late}
 use Rattle.kinks_and_fingers.proofs.OldDarts.{heads-partner, dart_in-slot}
 use Rattle.kinks_and_fingers.proofs.KeptCodes.{length-kept}
-use Rattle.kinks_and_fingers.proofs.StrandCircles.{count-parts, circles-dropped}
-use Rattle.kinks_and_fingers.proofs.KinkClosing.{before}
+use Rattle.kinks_and_fingers.proofs.StandingNames.{count-parts}
+use Rattle.kinks_and_fingers.proofs.StrandCircles.{circles-dropped}
+use Rattle.kinks_and_fingers.proofs.KinkCircles.{before}
 use Rattle.kinks_and_fingers.proofs.KinkDropSums.{count-later, count-filter, count-one, term-is, sums-alike}
 use Rattle.kinks_and_fingers.proofs.Insertions.{int_sum-with_bit, HasBit-with_bit}
 use Rattle.kinks_and_fingers.proofs.FingerDrops.{places-two, late-below}
@@ -60,64 +62,17 @@ HasBigonAt-slots crossings c d p q bigon = record {
 
 -- one of the two crossings is positive, and the other is not
 
-abbrev keeps : Bool → ℕ → Bool
-keeps b p = nat_eq (p % 2) (cond b 1 0)
-
-enters-next : (b : Bool) (p : ℕ) → p < 4 → enters b ((p + 1) % 4) ≡ cond (keeps b p) (enters b (p % 4)) (not (enters b (p % 4)))
-enters-next true zero below = refl
-enters-next true (suc zero) below = refl
-enters-next true (suc (suc zero)) below = refl
-enters-next true (suc (suc (suc zero))) below = refl
-enters-next false zero below = refl
-enters-next false (suc zero) below = refl
-enters-next false (suc (suc zero)) below = refl
-enters-next false (suc (suc (suc zero))) below = refl
-enters-next b (suc (suc (suc (suc p)))) below = absurd (omega (arith, below))
-
-no_fixed : (b : Bool) → b ≡ not b → ⊥
-no_fixed true is = both_ways true is refl
-no_fixed false is = both_ways false refl is
-
-keep_alike : (e f kb ke : Bool) → e ≡ not (cond ke f (not f)) → cond kb e (not e) ≡ not f → kb ≡ ke
-keep_alike e f true true first second = refl
-keep_alike e f false false first second = refl
-keep_alike e f true false first second = absurd (no_fixed (not f) (sym second ∙ first))
-keep_alike e f false true first second = absurd (no_fixed e (first ∙ sym second))
-
 parity : (x : ℕ) → (x % 2 ≡ 0) ⊎ (x % 2 ≡ 1)
 parity x = grind arith
 
-signs-alike : (b e : Bool) (p q : ℕ) → (p + q) % 2 ≡ 1 → keeps b p ≡ keeps e q → e ≡ not b
-signs-alike true false p q odd same = refl
-signs-alike false true p q odd same = refl
-signs-alike true true p q odd same = absurd (differ p q odd same)
-  where
-    differ : (p q : ℕ) → (p + q) % 2 ≡ 1 → nat_eq (p % 2) 1 ≡ nat_eq (q % 2) 1 → ⊥
-    differ p q odd same = elim (parity p) [
-      | inl even ↦
-          let q_odd : q % 2 ≡ 1 = omega (arith, odd, even) in
-          both_ways (nat_eq (p % 2) 1) (ap (λ r. nat_eq r 1) even) (same ∙ ap (λ r. nat_eq r 1) q_odd)
-      | inr p_odd ↦
-          let q_even : q % 2 ≡ 0 = omega (arith, odd, p_odd) in
-          both_ways (nat_eq (p % 2) 1) (same ∙ ap (λ r. nat_eq r 1) q_even) (ap (λ r. nat_eq r 1) p_odd)
-    ]
-signs-alike false false p q odd same = absurd (differ p q odd same)
-  where
-    differ : (p q : ℕ) → (p + q) % 2 ≡ 1 → nat_eq (p % 2) 0 ≡ nat_eq (q % 2) 0 → ⊥
-    differ p q odd same = elim (parity p) [
-      | inl even ↦
-          let q_odd : q % 2 ≡ 1 = omega (arith, odd, even) in
-          both_ways (nat_eq (p % 2) 0) (same ∙ ap (λ r. nat_eq r 0) q_odd) (ap (λ r. nat_eq r 0) even)
-      | inr p_odd ↦
-          let q_even : q % 2 ≡ 0 = omega (arith, odd, p_odd) in
-          both_ways (nat_eq (p % 2) 0) (ap (λ r. nat_eq r 0) p_odd) (same ∙ ap (λ r. nat_eq r 0) q_even)
-    ]
+signs-alike : (b e : Bool) (p q : ℕ) → p < 4 → q < 4 → (p + q) % 2 ≡ 1 → enters e ((q + 1) % 4) ≡ not (enters b (p % 4))
+    → enters b ((p + 1) % 4) ≡ not (enters e (q % 4)) → e ≡ not b
+signs-alike b e p q p_below q_below odd first second = grind (arith, nat_tests)
 
-pub bigon-signs : (code : Code) (c d p q : ℕ) → IsTrue (accepted code) → HasBigonAt code.crossings c d p q → p < 4 → q < 4
+pub bigon-signs : (code : Code) (c d p q : ℕ) → IsDirected code.crossings → HasNoSingleArcs code.crossings → HasBigonAt code.crossings c d p q → p < 4 → q < 4
     → positive_at code.crossings d ≡ not (positive_at code.crossings c)
-bigon-signs code c d p q is bigon p_slot q_slot =
+bigon-signs code c d p q directed alone bigon p_slot q_slot =
     let crossings = code.crossings in
-    let directed = HasNoSingleArcs-accepted code is in
     let head_in : (z r : ℕ) → is_code_head code.crossings (dart_in z r) ≡ enters (positive_at code.crossings z) (r % 4) =
     λ z r. ap (λ a. enters (positive_at code.crossings a) (dart_in z r % 4)) (dart_in-place z r)
     ∙ ap (enters (positive_at code.crossings z)) (dart_in-slot z r) in
@@ -125,20 +80,13 @@ bigon-signs code c d p q is bigon p_slot q_slot =
     let e = positive_at code.crossings d in
     let first : enters (positive_at code.crossings d) ((q + 1) % 4) ≡ not (enters (positive_at code.crossings c) (p % 4)) =
     sym (head_in d (q + 1)) ∙ ap (is_code_head code.crossings) (sym bigon.first_side)
-    ∙ heads-partner code.crossings directed.0 directed.1 (dart_in c p) (dart_in-below (length code.crossings) c p bigon.first_below)
+    ∙ heads-partner code.crossings directed alone (dart_in c p) (dart_in-below (length code.crossings) c p bigon.first_below)
     ∙ ap not (head_in c p) in
     let second : enters (positive_at code.crossings c) ((p + 1) % 4) ≡ not (enters (positive_at code.crossings d) (q % 4)) =
     sym (head_in c (p + 1)) ∙ ap (is_code_head code.crossings) (sym bigon.second_side)
-    ∙ heads-partner code.crossings directed.0 directed.1 (dart_in d q) (dart_in-below (length code.crossings) d q bigon.second_below)
+    ∙ heads-partner code.crossings directed alone (dart_in d q) (dart_in-below (length code.crossings) d q bigon.second_below)
     ∙ ap not (head_in d q) in
-    signs-alike b e p q bigon.odd
-    (keep_alike (enters b (p % 4)) (enters e (q % 4)) (keeps b p) (keeps e q)
-    (twice_back (enters b (p % 4)) ∙ ap not (sym first) ∙ ap not (enters-next e q q_slot))
-    (sym (enters-next b p p_slot) ∙ second))
-  where
-    twice_back : (b : Bool) → b ≡ not (not b)
-    twice_back true = refl
-    twice_back false = refl
+    signs-alike b e p q p_slot q_slot bigon.odd first second
 
 -- the numbers of positive and of negative crossings
 
@@ -173,17 +121,10 @@ plus-kept_two code c d c_below d_below apart =
     omega (arith, all, signs, parts, inner, first, second)
   where
     at_first : (a b e : Bool) → ((a && (b || e)) && b) ≡ (a && b)
-    at_first true true e = refl
-    at_first true false true = refl
-    at_first true false false = refl
-    at_first false b e = refl
+    at_first a b e = grind (arith, nat_tests)
 
     at_second : (a b e : Bool) → (b ≡ true → e ≡ true → ⊥) → ((a && (b || e)) && not b) ≡ (a && e)
-    at_second true true true never = absurd (never refl refl)
-    at_second true true false never = refl
-    at_second true false true never = refl
-    at_second true false false never = refl
-    at_second false b e never = refl
+    at_second a b e never = grind (arith, nat_tests)
 
 -- states with two bits more
 
@@ -239,10 +180,9 @@ pub record FourCircles (code : Code) (k c d p q : ℕ) : Type 0 where
   pub straight : (b e state : ℕ) → b < 2 → e < 2 → state < 2 ^ k → b ≡ through_at p → e ≡ through_at q
       → circle_count code (with_two k c d b e state) ≡ parts_circle_count (arc_count code.crossings + 1) (without_finger code c d) state
 
-FourCircles-bigon : (code : Code) (k c d p q : ℕ) → IsTrue (accepted code) → HasBigonAt code.crossings c d p q → p < 4 → q < 4
+FourCircles-bigon : (code : Code) (k c d p q : ℕ) → HasArcsTwice code.crossings → HasBigonAt code.crossings c d p q → p < 4 → q < 4
     → length code.crossings ≡ k + 1 + 1 → FourCircles code k c d p q
-FourCircles-bigon code k c d p q is bigon p_slot q_slot size =
-    let twice = HasArcsTwice-accepted code is in
+FourCircles-bigon code k c d p q twice bigon p_slot q_slot size =
     let four : FourStates code.crossings (arc_count code.crossings + 1) c d p q =
     FourStates-bigon code.crossings (arc_count code.crossings + 1) c d p q _ _ _ _ _ _ twice (omega arith)
     (AreBigonNames-bigon code.crossings c d p q twice bigon p_slot q_slot) in
@@ -308,12 +248,11 @@ four_terms plus minus new_plus new_minus exponent r0 c0 r1 c1 r2 c2 r3 c3 s0 d0 
         ∙ ap₂ (λ t u. term_at new_plus new_minus exponent t u) r_is c_is
 
 one_of_two : (b : Bool) → one_if b + one_if (not b) ≡ 1
-one_of_two true = omega arith
-one_of_two false = omega arith
+one_of_two b = grind (arith, nat_tests)
 
-state_sum-slots : (code : Code) (c d p q : ℕ) → IsTrue (accepted code) → HasBigonAt code.crossings c d p q → p < 4 → q < 4 → (exponent : ℤ)
+state_sum-slots : (code : Code) (c d p q : ℕ) → IsDirected code.crossings → HasNoSingleArcs code.crossings → HasBigonAt code.crossings c d p q → p < 4 → q < 4 → (exponent : ℤ)
     → parts_sum (arc_count code.crossings + 1) (without_finger code c d) exponent ≡ state_sum code exponent
-state_sum-slots code c d p q is bigon p_slot q_slot exponent =
+state_sum-slots code c d p q directed alone bigon p_slot q_slot exponent =
     let k = length code.crossings - 2 in
     let size : length code.crossings ≡ length code.crossings - 2 + 1 + 1 = two_below (length code.crossings) c d bigon.first_below bigon.second_below bigon.apart in
     let size_suc : length code.crossings ≡ suc (length code.crossings - 2 + 1) = omega (arith, size) in
@@ -334,12 +273,12 @@ state_sum-slots code c d p q is bigon p_slot q_slot exponent =
     let few : parts_plus (without_finger code c d) ≤ length code.crossings - 2 =
     omega (arith, count_by-le-length (λ (b : Bool). b) (kept_signs code.crossings (is_of_two c d)), signs_size) in
     let counted = plus-kept_two code c d bigon.first_below bigon.second_below bigon.apart in
-    let sign = bigon-signs code c d p q is bigon p_slot q_slot in
+    let sign = bigon-signs code c d p q directed alone bigon p_slot q_slot in
     let both : one_if (positive_at code.crossings c) + one_if (positive_at code.crossings d) ≡ 1 =
     ap (λ b. one_if (positive_at code.crossings c) + one_if b) sign ∙ one_of_two (positive_at code.crossings c) in
     let plus_is : plus_count code.crossings ≡ parts_plus (without_finger code c d) + 1 = omega (arith, counted, both) in
     let minus_is : minus_count code.crossings ≡ parts_minus (without_finger code c d) + 1 = omega (arith, plus_is, left_size, few, size) in
-    let four = FourCircles-bigon code (length code.crossings - 2) c d p q is bigon p_slot q_slot size in
+    let four = FourCircles-bigon code (length code.crossings - 2) c d p q (HasArcsTwice-directed code.crossings directed) bigon p_slot q_slot size in
     let g : ℕ → ℤ = λ s. state_term code exponent (with_bit (length code.crossings - 2 + 1) c 0 s)
     +ℤ state_term code exponent (with_bit (length code.crossings - 2 + 1) c 1 s) in
     let split : state_sum code exponent
@@ -419,7 +358,13 @@ state_sum-slots code c d p q is bigon p_slot q_slot exponent =
     two_below : (n c d : ℕ) → c < n → d < n → c ≢ d → n ≡ n - 2 + 1 + 1
     two_below n c d c_below d_below apart = omega (arith, c_below, d_below, apart)
 
+pub state_sum-bigon : (code : Code) (c d p q : ℕ) → IsDirected code.crossings → HasNoSingleArcs code.crossings
+    → HasBigonAt code.crossings c d p q → (exponent : ℤ)
+    → parts_sum (arc_count code.crossings + 1) (without_finger code c d) exponent ≡ state_sum code exponent
+state_sum-bigon code c d p q directed alone bigon exponent =
+    state_sum-slots code c d (p % 4) (q % 4) directed alone (HasBigonAt-slots code.crossings c d p q bigon) (omega arith) (omega arith) exponent
+
 pub state_sum-without_finger : (code : Code) (c d p q : ℕ) → IsTrue (accepted code) → HasBigonAt code.crossings c d p q → (exponent : ℤ)
     → parts_sum (arc_count code.crossings + 1) (without_finger code c d) exponent ≡ state_sum code exponent
 state_sum-without_finger code c d p q is bigon exponent =
-    state_sum-slots code c d (p % 4) (q % 4) is (HasBigonAt-slots code.crossings c d p q bigon) (omega arith) (omega arith) exponent
+    let directed = HasNoSingleArcs-accepted code is in state_sum-bigon code c d p q directed.0 directed.1 bigon exponent

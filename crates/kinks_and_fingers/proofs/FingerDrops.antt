@@ -45,6 +45,31 @@ AreSides-bigon crossings c d p q bigon =
       c_d = (dart_in-apart d q).4;
     }
 
+-- the darts opposite the sides keep their values
+pub record AreFarKept {X : Type 0} (g h : ℕ → X) (c p : ℕ) : Type 0 where
+  pub two : h (dart_in c (p + 2)) ≡ g (dart_in c (p + 2))
+  pub three : h (dart_in c (p + 3)) ≡ g (dart_in c (p + 3))
+
+crossed-far : {X : Type 0} (g : ℕ → X) (c d p q : ℕ) → c ≢ d
+    → AreFarKept g (crossed g (dart_in c p) (dart_in c (p + 1)) (dart_in d q) (dart_in d (q + 1))) c p
+    × AreFarKept g (crossed g (dart_in c p) (dart_in c (p + 1)) (dart_in d q) (dart_in d (q + 1))) d q
+crossed-far g c d p q apart =
+    let at = crossed-else g (dart_in c p) (dart_in c (p + 1)) (dart_in d q) (dart_in d (q + 1)) in
+    let other : (r s : ℕ) → dart_in c r ≢ dart_in d s =
+    λ r s same. apart (sym (dart_in-place c r) ∙ ap (λ z. z / 4) same ∙ dart_in-place d s) in
+    let c_apart = dart_in-apart c p in
+    let d_apart = dart_in-apart d q in (
+      record {
+        two = at (dart_in c (p + 2)) (λ same. c_apart.5 (sym same)) (λ same. c_apart.0 (sym same)) (other (p + 2) q) (other (p + 2) (q + 1));
+        three = at (dart_in c (p + 3)) c_apart.1 c_apart.2 (other (p + 3) q) (other (p + 3) (q + 1));
+      },
+      record {
+        two = at (dart_in d (q + 2)) (λ same. other p (q + 2) (sym same)) (λ same. other (p + 1) (q + 2) (sym same))
+            (λ same. d_apart.5 (sym same)) (λ same. d_apart.0 (sym same));
+        three = at (dart_in d (q + 3)) (λ same. other p (q + 3) (sym same)) (λ same. other (p + 1) (q + 3) (sym same)) d_apart.1 d_apart.2;
+      },
+    )
+
 -- the joints of both crossings, where passes lead across in the way that turn says
 pub record AreJoints {X : Type 0} (g : ℕ → X) (turn : X → X) (c p : ℕ) : Type 0 where
   pub first : g (dart_in c (p + 1)) ≡ turn (g (dart_in c (p + 2)))
@@ -62,31 +87,17 @@ crossed-joints {X} g turn crossings c d p q bigon across =
     let b = dart_in c (p + 1) in
     let e = dart_in d q in
     let f = dart_in d (q + 1) in
-    let other : (r s : ℕ) → dart_in c r ≢ dart_in d s =
-    λ r s same. bigon.apart (sym (dart_in-place c r) ∙ ap (λ z. z / 4) same ∙ dart_in-place d s) in
-    let c_apart = dart_in-apart c p in
-    let d_apart = dart_in-apart d q in
-    let h : ℕ → X = crossed g a b e f in
-    let c_two : crossed g a b e f (dart_in c (p + 2)) ≡ g (dart_in c (p + 2)) =
-    crossed-else g a b e f (dart_in c (p + 2)) (λ same. c_apart.5 (sym same)) (λ same. c_apart.0 (sym same)) (other (p + 2) q) (other (p + 2) (q + 1)) in
-    let c_three : crossed g a b e f (dart_in c (p + 3)) ≡ g (dart_in c (p + 3)) =
-    crossed-else g a b e f (dart_in c (p + 3)) c_apart.1 c_apart.2 (other (p + 3) q) (other (p + 3) (q + 1)) in
-    let d_two : crossed g a b e f (dart_in d (q + 2)) ≡ g (dart_in d (q + 2)) =
-    crossed-else g a b e f (dart_in d (q + 2)) (λ same. other p (q + 2) (sym same)) (λ same. other (p + 1) (q + 2) (sym same))
-    (λ same. d_apart.5 (sym same)) (λ same. d_apart.0 (sym same)) in
-    let d_three : crossed g a b e f (dart_in d (q + 3)) ≡ g (dart_in d (q + 3)) =
-    crossed-else g a b e f (dart_in d (q + 3)) (λ same. other p (q + 3) (sym same)) (λ same. other (p + 1) (q + 3) (sym same))
-    d_apart.1 d_apart.2 in
+    let far = crossed-far g c d p q bigon.apart in
     let p_next : p + 1 + 2 ≡ p + 3 = omega arith in
     let q_next : q + 1 + 2 ≡ q + 3 = omega arith in (
       record {
-        first = crossed-b g m partner a b e f are ∙ (across c p (inl refl)).0 ∙ ap turn (sym c_two);
-        second = c_three ∙ ap (λ r. g (dart_in c r)) (sym p_next) ∙ (across c (p + 1) (inl refl)).1
+        first = crossed-b g m partner a b e f are ∙ (across c p (inl refl)).0 ∙ ap turn (sym far.0.two);
+        second = far.0.three ∙ ap (λ r. g (dart_in c r)) (sym p_next) ∙ (across c (p + 1) (inl refl)).1
             ∙ ap turn (sym (crossed-a g m partner a b e f are));
       },
       record {
-        first = crossed-d g m partner a b e f are ∙ (across d q (inr refl)).0 ∙ ap turn (sym d_two);
-        second = d_three ∙ ap (λ r. g (dart_in d r)) (sym q_next) ∙ (across d (q + 1) (inr refl)).1
+        first = crossed-d g m partner a b e f are ∙ (across d q (inr refl)).0 ∙ ap turn (sym far.1.two);
+        second = far.1.three ∙ ap (λ r. g (dart_in d r)) (sym q_next) ∙ (across d (q + 1) (inr refl)).1
             ∙ ap turn (sym (crossed-c g m partner a b e f are));
       },
     )
@@ -186,32 +197,19 @@ joints-crossed w crossings c d p q bigon c_joints d_joints e r which =
     let b = dart_in c (p + 1) in
     let s = dart_in d q in
     let t = dart_in d (q + 1) in
-    let other : (r s : ℕ) → dart_in c r ≢ dart_in d s =
-    λ r s same. bigon.apart (sym (dart_in-place c r) ∙ ap (λ z. z / 4) same ∙ dart_in-place d s) in
-    let c_apart = dart_in-apart c p in
-    let d_apart = dart_in-apart d q in
-    let c_two : crossed w a b s t (dart_in c (p + 2)) ≡ w (dart_in c (p + 2)) =
-    crossed-else w a b s t (dart_in c (p + 2)) (λ same. c_apart.5 (sym same)) (λ same. c_apart.0 (sym same)) (other (p + 2) q) (other (p + 2) (q + 1)) in
-    let c_three : crossed w a b s t (dart_in c (p + 3)) ≡ w (dart_in c (p + 3)) =
-    crossed-else w a b s t (dart_in c (p + 3)) c_apart.1 c_apart.2 (other (p + 3) q) (other (p + 3) (q + 1)) in
-    let d_two : crossed w a b s t (dart_in d (q + 2)) ≡ w (dart_in d (q + 2)) =
-    crossed-else w a b s t (dart_in d (q + 2)) (λ same. other p (q + 2) (sym same)) (λ same. other (p + 1) (q + 2) (sym same))
-    (λ same. d_apart.5 (sym same)) (λ same. d_apart.0 (sym same)) in
-    let d_three : crossed w a b s t (dart_in d (q + 3)) ≡ w (dart_in d (q + 3)) =
-    crossed-else w a b s t (dart_in d (q + 3)) (λ same. other p (q + 3) (sym same)) (λ same. other (p + 1) (q + 3) (sym same))
-    d_apart.1 d_apart.2 in
+    let far = crossed-far w c d p q bigon.apart in
     elim which [
       | inl at ↦
           ap (λ z. crossed w a b s t (dart_in z r)) at
           ∙ across-all (crossed w a b s t) c p
-          (crossed-a w m partner a b s t are ∙ c_joints.first ∙ sym c_two)
-          (crossed-b w m partner a b s t are ∙ sym c_joints.second ∙ sym c_three) r
+          (crossed-a w m partner a b s t are ∙ c_joints.first ∙ sym far.0.two)
+          (crossed-b w m partner a b s t are ∙ sym c_joints.second ∙ sym far.0.three) r
           ∙ ap (λ z. crossed w a b s t (dart_in z (r + 2))) (sym at)
       | inr at ↦
           ap (λ z. crossed w a b s t (dart_in z r)) at
           ∙ across-all (crossed w a b s t) d q
-          (crossed-c w m partner a b s t are ∙ d_joints.first ∙ sym d_two)
-          (crossed-d w m partner a b s t are ∙ sym d_joints.second ∙ sym d_three) r
+          (crossed-c w m partner a b s t are ∙ d_joints.first ∙ sym far.1.two)
+          (crossed-d w m partner a b s t are ∙ sym d_joints.second ∙ sym far.1.three) r
           ∙ ap (λ z. crossed w a b s t (dart_in z (r + 2))) (sym at)
     ]
 
@@ -338,10 +336,6 @@ IsDropped-finger code choice k c d p q is coloured size bigon =
     } in
     let c_joints : AreJoints taken.whole (λ z. z) c p = record { first = taken.first; second = taken.second } in
     let value_across = joints-crossed taken.whole crossings c d p q bigon c_joints d_joints in
-    let e_two : q + 1 + 1 ≡ q + 2 = omega arith in
-    let e_four : q + 3 + 1 ≡ q + 4 = omega arith in
-    let p_two : p + 1 + 1 ≡ p + 2 = omega arith in
-    let p_four : p + 3 + 1 ≡ p + 4 = omega arith in
     let next_two : (z r : ℕ) → is_colour choice (dart_in z (r + 1)) ≡ not (is_colour choice (dart_in z (r + 2))) =
     λ z r. let f : r + 1 + 1 ≡ r + 2 = omega arith in
     colours-next choice z (r + 1) ∙ ap (λ r. not (is_colour choice (dart_in z r))) f in

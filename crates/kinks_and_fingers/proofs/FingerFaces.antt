@@ -1,5 +1,5 @@
 -- The faces of a code with a finger: those of the old code with two images exchanged, and one more, between the two new crossings.
-use Rattle.std.proofs.Common.{◌≡◌, ◌≢◌, ℕ, zero, suc, inl, inr, ◌+◌, ◌-◌, ◌*◌, ◌<◌, ◌≤◌, ◌∙◌, List, [], ◌∷◌, map, refl, sym, ap, subst, arith, Bool, true, false, not, ◌&&◌, eq-eqb, eqb-true}
+use Rattle.std.proofs.Common.{◌≡◌, ◌≢◌, ℕ, zero, suc, inl, inr, ◌+◌, ◌-◌, ◌*◌, ◌<◌, ◌≤◌, ◌∙◌, List, [], ◌∷◌, map, refl, sym, ap, arith, Bool, true, false, not, ◌&&◌, eq-eqb, eqb-true}
 use Rattle.std.specs.Prelude.{nat_eq, nat_lt, slice_index, if◌then◌else◌}
 use Rattle.std.specs.List.{range_with_len}
 use Rattle.std.proofs.lemmas.Bool.{cases_eq, cases_lt}
@@ -11,6 +11,7 @@ use Rattle.kh_types.proofs.ClassLemmas.{classes-together}
 use Rattle.kh_types.proofs.RangeCounts.{but, count_by-but}
 use Rattle.face_walk.specs.AddedArcs.{open_face_count}
 use Rattle.kh_types.proofs.RangeImages.{map_range-at}
+use Rattle.kinks_and_fingers.proofs.CrossedSides.{exchanged, exchanged-first, exchanged-second, exchanged-else}
 use Rattle.kh_types.specs.Permutations.{IsExchange, step_pair, cycles_of}
 use Rattle.kh_types.proofs.Cycles.{step_pairs-below, IsNamed-cycles_of}
 use Rattle.face_walk.proofs.OpenFaces.{AreCycles-open_faces}
@@ -187,44 +188,28 @@ pub record EndsKept (n : ℕ) (q c : ℕ → ℕ) (new : List ℕ) (ta ha tb hb 
 
 ends-kept : (n : ℕ) (p q c : ℕ → ℕ) (positive ordered : Bool) (ta ha tb hb : ℕ) → HasNewPartners n p q positive ordered ta ha tb hb
     → EndsKept n q c (labels positive ordered (c ta) (c tb) (c ha) (c hb) (4 * n)) ta ha tb hb
-ends-kept n p q c true true ta ha tb hb has =
-    let new = labels true true (c ta) (c tb) (c ha) (c hb) (4 * n) in record {
-      at_ta = to_new n q c new ta 3 (c ta) has.q_ta refl;
-      at_ha = to_new n q c new ha 7 (c ha) has.q_ha refl;
-      at_tb = to_new n q c new tb 0 (c tb) has.q_tb refl;
-      at_hb = to_new n q c new hb 6 (c hb) has.q_hb refl;
+ends-kept n p q c positive ordered ta ha tb hb has =
+    let new = labels positive ordered (c ta) (c tb) (c ha) (c hb) (4 * n) in
+    let ends = labels-ends positive ordered (c ta) (c tb) (c ha) (c hb) (4 * n) in record {
+      at_ta = to_new n q c new ta (if positive then 3 else 1) (c ta) has.q_ta ends.0;
+      at_ha = to_new n q c new ha (if positive then 7 else 5) (c ha) has.q_ha ends.1;
+      at_tb = to_new n q c new tb (if ordered then 0 else 4) (c tb) has.q_tb ends.2;
+      at_hb = to_new n q c new hb (if ordered then 6 else 2) (c hb) has.q_hb ends.3;
     }
-ends-kept n p q c true false ta ha tb hb has =
-    let new = labels true false (c ta) (c tb) (c ha) (c hb) (4 * n) in record {
-      at_ta = to_new n q c new ta 3 (c ta) has.q_ta refl;
-      at_ha = to_new n q c new ha 7 (c ha) has.q_ha refl;
-      at_tb = to_new n q c new tb 4 (c tb) has.q_tb refl;
-      at_hb = to_new n q c new hb 2 (c hb) has.q_hb refl;
-    }
-ends-kept n p q c false true ta ha tb hb has =
-    let new = labels false true (c ta) (c tb) (c ha) (c hb) (4 * n) in record {
-      at_ta = to_new n q c new ta 1 (c ta) has.q_ta refl;
-      at_ha = to_new n q c new ha 5 (c ha) has.q_ha refl;
-      at_tb = to_new n q c new tb 0 (c tb) has.q_tb refl;
-      at_hb = to_new n q c new hb 6 (c hb) has.q_hb refl;
-    }
-ends-kept n p q c false false ta ha tb hb has =
-    let new = labels false false (c ta) (c tb) (c ha) (c hb) (4 * n) in record {
-      at_ta = to_new n q c new ta 1 (c ta) has.q_ta refl;
-      at_ha = to_new n q c new ha 5 (c ha) has.q_ha refl;
-      at_tb = to_new n q c new tb 4 (c tb) has.q_tb refl;
-      at_hb = to_new n q c new hb 2 (c hb) has.q_hb refl;
-    }
+  where
+    labels-ends : (positive ordered : Bool) (at bt ah bh g : ℕ) → (let new = labels positive ordered at bt ah bh g in
+        (at ≡ slice_index new (turned (if positive then 3 else 1))) × (ah ≡ slice_index new (turned (if positive then 7 else 5)))
+        × (bt ≡ slice_index new (turned (if ordered then 0 else 4))) × (bh ≡ slice_index new (turned (if ordered then 6 else 2))))
+    labels-ends true true at bt ah bh g = (refl, refl, refl, refl)
+    labels-ends true false at bt ah bh g = (refl, refl, refl, refl)
+    labels-ends false true at bt ah bh g = (refl, refl, refl, refl)
+    labels-ends false false at bt ah bh g = (refl, refl, refl, refl)
 
 side_not : (positive ordered : Bool) (x ta ha : ℕ) → x ≢ ta → x ≢ ha → x ≢ over_side positive ordered ta ha
-side_not true true x ta ha not_ta not_ha = not_ha
-side_not true false x ta ha not_ta not_ha = not_ta
-side_not false true x ta ha not_ta not_ha = not_ta
-side_not false false x ta ha not_ta not_ha = not_ha
+side_not positive ordered x ta ha not_ta not_ha = grind (arith, nat_tests)
 
 under_not : (positive : Bool) (x tb hb : ℕ) → x ≢ tb → x ≢ hb → x ≢ under_side positive tb hb
-under_not true x tb hb not_tb not_hb = not_tb
-under_not false x tb hb not_tb not_hb = not_hb
+under_not positive x tb hb not_tb not_hb = grind (arith, nat_tests)
 
 -- each face step keeps the label
 label-kept : (n : ℕ) (p q c : ℕ → ℕ) (positive ordered : Bool) (ta ha tb hb y : ℕ) → IsPairing (4 * n) p
@@ -268,16 +253,10 @@ abbrev pub between : Bool → Bool → ℕ
 between positive ordered = if positive then (if ordered then 1 else 0) else (if ordered then 2 else 3)
 
 between-label : (positive ordered : Bool) (at bt ah bh g : ℕ) → slice_index (labels positive ordered at bt ah bh g) (between positive ordered) ≡ g
-between-label true true at bt ah bh g = refl
-between-label true false at bt ah bh g = refl
-between-label false true at bt ah bh g = refl
-between-label false false at bt ah bh g = refl
+between-label positive ordered at bt ah bh g = grind (arith, nat_tests)
 
 between-below : (positive ordered : Bool) → between positive ordered < 8
-between-below true true = omega arith
-between-below true false = omega arith
-between-below false true = omega arith
-between-below false false = omega arith
+between-below positive ordered = grind (arith, nat_tests)
 
 pub but_passes : (b : Bool) (m k : ℕ) → b ≡ true → (k ≡ m → ⊥) → (b && not (nat_eq k m)) ≡ true
 but_passes b m k passes other = grind (arith, nat_tests)
@@ -323,27 +302,6 @@ faces-many n p q cs positive ordered ta ha tb hb pairing new_pairing has named e
     )
 
 -- the two images exchanged
-abbrev pub exchanged : (ℕ → ℕ) → ℕ → ℕ → ℕ → ℕ
-exchanged f x y z = if nat_eq z x then f y else (if nat_eq z y then f x else f z)
-
-pub exchanged-first : (f : ℕ → ℕ) (x y : ℕ) → exchanged f x y x ≡ f y
-exchanged-first f x y = plain x (f y) (if nat_eq x y then f x else f x)
-  where
-    plain : (x u v : ℕ) → (if nat_eq x x then u else v) ≡ u
-    plain x u v = grind (arith, nat_tests)
-
-pub exchanged-second : (f : ℕ → ℕ) (x y : ℕ) → x ≢ y → exchanged f x y y ≡ f x
-exchanged-second f x y apart = plain x y (f y) (f x) (f y) apart
-  where
-    plain : (x y u v w : ℕ) → x ≢ y → (if nat_eq y x then u else (if nat_eq y y then v else w)) ≡ v
-    plain x y u v w apart = grind (arith, nat_tests)
-
-pub exchanged-other : (f : ℕ → ℕ) (x y z : ℕ) → z ≢ x → z ≢ y → exchanged f x y z ≡ f z
-exchanged-other f x y z not_x not_y = plain x y z (f y) (f x) (f z) not_x not_y
-  where
-    plain : (x y z u v w : ℕ) → z ≢ x → z ≢ y → (if nat_eq z x then u else (if nat_eq z y then v else w)) ≡ w
-    plain x y z u v w not_x not_y = grind (arith, nat_tests)
-
 pub IsExchange-exchanged : (n : ℕ) (f : ℕ → ℕ) (x y : ℕ) → x < n → y < n → x ≢ y → IsExchange n f (exchanged f x y) x y
 IsExchange-exchanged n f x y x_below y_below apart = record {
   x_below = x_below;
@@ -351,17 +309,15 @@ IsExchange-exchanged n f x y x_below y_below apart = record {
   apart = apart;
   at_x = exchanged-first f x y;
   at_y = exchanged-second f x y apart;
-  others = λ z z_below not_x not_y. exchanged-other f x y z not_x not_y;
+  others = λ z z_below not_x not_y. exchanged-else f x y z not_x not_y;
 }
 
 exchanged-below : (n : ℕ) (f : ℕ → ℕ) (x y z : ℕ) → ((z : ℕ) → z < n → f z < n) → x < n → y < n → x ≢ y → z < n → exchanged f x y z < n
-exchanged-below n f x y z below x_below y_below apart z_below = elim (cases_eq z x) [
-  | inl is_x ↦ subst (λ (w : ℕ). w < n) (sym (ap (λ k. exchanged f x y k) is_x ∙ exchanged-first f x y)) (below y y_below)
-  | inr not_x ↦ elim (cases_eq z y) [
-    | inl is_y ↦ subst (λ (w : ℕ). w < n) (sym (ap (λ k. exchanged f x y k) is_y ∙ exchanged-second f x y apart)) (below x x_below)
-    | inr not_y ↦ subst (λ (w : ℕ). w < n) (sym (exchanged-other f x y z not_x not_y)) (below z z_below)
-  ]
-]
+exchanged-below n f x y z below x_below y_below apart z_below =
+    plain (f x) (f y) (f z) (below x x_below) (below y y_below) (below z z_below)
+  where
+    plain : (u v w : ℕ) → u < n → v < n → w < n → (if nat_eq z x then v else if nat_eq z y then u else w) < n
+    plain u v w u_below v_below w_below = grind (arith, nat_tests)
 
 -- so there are as many faces as the exchange leaves cycles, and one more, or more
 pub faces-exchanged : (n : ℕ) (p q : ℕ → ℕ) (positive ordered : Bool) (ta ha tb hb : ℕ) → IsPairing (4 * n) p
@@ -385,5 +341,5 @@ faces-exchanged n p q positive ordered ta ha tb hb pairing new_pairing has x_bel
       at_first = kept x x_below ∙ ap (λ z. slice_index cs z) (exchanged-first (face_step p) x y);
       at_second = kept y y_below ∙ ap (λ z. slice_index cs z) (exchanged-second (face_step p) x y apart);
       others = λ z z_below not_x not_y.
-          kept z z_below ∙ ap (λ w. slice_index cs w) (exchanged-other (face_step p) x y z not_x not_y);
+          kept z z_below ∙ ap (λ w. slice_index cs w) (exchanged-else (face_step p) x y z not_x not_y);
     })

@@ -85,8 +85,7 @@ same-pieces n p q positive ordered ta ha tb hb pairing new_pairing has =
     }
   where
     one_below : (b : Bool) (x y m : ℕ) → x < m → y < m → (if b then x else y) < m
-    one_below true x y m first second = first
-    one_below false x y m first second = second
+    one_below b x y m first second = grind (arith, nat_tests)
 
     one_from : (b : Bool) (x y m : ℕ) → m ≤ x → m ≤ y → m ≤ (if b then x else y)
     one_from true x y m first second = first
@@ -126,8 +125,7 @@ pieces-few n p q ta tb pairing new_pairing ta_below same =
     omega (arith, few, class_count-counts n old named.size, class_count-counts (n + 2) new new_named.size)
 
 chosen : (b : Bool) (x y : ℕ) → ((if b then y else x) ≡ x) ⊎ ((if b then y else x) ≡ y)
-chosen true x y = inr refl
-chosen false x y = inl refl
+chosen b x y = grind (arith, nat_tests)
 
 not_chosen : (k x y : ℕ) → x ≢ y → (if nat_eq k x then y else x) ≢ k
 not_chosen k x y apart same = grind (arith, nat_tests)

@@ -1,6 +1,7 @@
 -- Where the named sides are of one face, or the two arcs of two pieces, a code with a finger has the faces of a drawing on the sphere.
+use Rattle.std.proofs.lemmas.Bool.Decides.{nat_tests}
 use Rattle.std.proofs.Common.{◌≡◌, ◌≢◌, ℕ, ◌⊎◌, inl, inr, ◌+◌, ◌-◌, ◌*◌, ◌/◌, ◌<◌, ◌≤◌, ◌∙◌, List, length, refl, sym, ap, subst, arith, Bool, true, false, not}
-use Rattle.std.specs.Prelude.{slice_index, if◌then◌else◌, IsTrue}
+use Rattle.std.specs.Prelude.{◌↔◌, slice_index, if◌then◌else◌, IsTrue}
 use Rattle.std.proofs.lemmas.Bool.{cases_Bool}
 use Rattle.kh_types.specs.declared.dart.Dart.{Dart}
 use Rattle.kh_types.specs.Code.{Code, IsArc}
@@ -12,20 +13,19 @@ use Rattle.kh_types.proofs.AcceptedLemmas.{IsAccepted-is, HasArcsTwice-directed}
 use Rattle.kh_types.proofs.DartPairs.{dart_at-place, dart_place-at, dart_place-below, IsDart-at, IsOtherPlace-partner_at, partner_at-only, IsPairing-partner_at}
 use Rattle.kh_types.proofs.Heads.{HasEnds-directed}
 use Rattle.face_walk.specs.AddedArcs.{open_face_count, open_piece_count}
+use Rattle.face_walk.proofs.Board.{IsCheckerboard-planar}
 use Rattle.face_walk.proofs.FewFaces.{face_count-le}
 use Rattle.face_walk.proofs.OpenFaces.{face_back, IsPermutation-face_step, open_faces-in_pieces}
 use Rattle.kh_types.proofs.ExchangedCycles.{class_count-exchange_apart, class_count-exchange_together}
-use Rattle.kinks_and_fingers.specs.FingerAdd.{opened, dart_with, fingered_crossings, with_finger, differ, side_dart, AreOfOneFace, AreOfTwoPieces}
+use Rattle.kinks_and_fingers.specs.FingerAdd.{opened, dart_with, fingered, fingered_crossings, with_finger, differ, side_dart, AreOfOneFace, AreOfTwoPieces}
 use Rattle.kinks_and_fingers.proofs.MovableArcs.{AreFingerable}
-use Rattle.kinks_and_fingers.proofs.Opened.{head_number-one}
 use Rattle.face_walk.proofs.Cover.{pieces-ends}
-use Rattle.kinks_and_fingers.proofs.FingerSlots.{length-fingered, over_from, over_to, over_from-below, over_to-below}
-use Rattle.kinks_and_fingers.proofs.FingerRuns.{HasPasses-first, HasPasses-second}
-use Rattle.kinks_and_fingers.proofs.FingerDarts.{IsDart-old, IsDart-new, tail_dart, head_dart, old_or_new, first_or_second}
-use Rattle.kinks_and_fingers.proofs.FingerAccepted.{AreFingerable-accepted}
-use Rattle.kinks_and_fingers.proofs.FingerSizes.{IsDirected-fingered}
-use Rattle.kinks_and_fingers.proofs.FingerSigns.{arc_of-other}
-use Rattle.kinks_and_fingers.proofs.FingerFaces.{HasNewPartners, over_side, under_side, exchanged, IsExchange-exchanged, faces-exchanged}
+use Rattle.kinks_and_fingers.proofs.PassEnds.{over_from, over_to, over_from-below, over_to-below}
+use Rattle.kinks_and_fingers.proofs.FingerSlots.{length-fingered, HasPasses-first, HasPasses-second}
+use Rattle.kinks_and_fingers.proofs.AddedCodes.{IsDart-old, IsDart-new, tail_dart, head_dart, old_or_new, arc_of-uncut}
+use Rattle.kinks_and_fingers.proofs.FingeredCodes.{AreFingerable-accepted, IsAdded-finger, IsDirected-fingered, IsNew-finger, component_count-fingered, head_number-own, head_number-uncut}
+use Rattle.kinks_and_fingers.proofs.CrossedSides.{exchanged}
+use Rattle.kinks_and_fingers.proofs.FingerFaces.{HasNewPartners, over_side, under_side, IsExchange-exchanged, faces-exchanged}
 use Rattle.kinks_and_fingers.proofs.FingerPieces.{same-pieces, pieces-few, pieces-fewer_apart}
 use Rattle.kinks_and_fingers.proofs.KinkFaces.{partner-of, both-ways}
 
@@ -33,6 +33,10 @@ place-apart : (crossings : List (List ℕ)) (dart other : Dart) → IsDart cross
     → dart_place dart ≢ dart_place other
 place-apart crossings dart other is other_is apart alike =
     apart (sym (dart_at-place crossings dart is) ∙ ap dart_at alike ∙ dart_at-place crossings other other_is)
+
+first_or_second : (n slot other : ℕ) → dart_with (n + 1) slot ≢ dart_with (n + 2) other
+first_or_second n slot other same =
+    let e : n + 1 ≡ n + 2 = ap (λ (d : Dart). d.crossing) same in omega (arith, e)
 
 -- the place of a dart of the first and of the second new crossing
 place-first : (n slot : ℕ) → dart_place (dart_with (n + 1) slot) ≡ 4 * n + slot
@@ -42,12 +46,10 @@ place-second : (n slot : ℕ) → dart_place (dart_with (n + 2) slot) ≡ 4 * n 
 place-second n slot = omega arith
 
 four_more : (positive : Bool) → 4 + over_from (not positive) ≡ (if positive then 5 else 7)
-four_more true = refl
-four_more false = refl
+four_more positive = grind (arith, nat_tests)
 
 four_more_to : (positive : Bool) → 4 + over_to (not positive) ≡ (if positive then 7 else 5)
-four_more_to true = refl
-four_more_to false = refl
+four_more_to positive = grind (arith, nat_tests)
 
 -- the partners along the under arc
 record UnderPairs (n : ℕ) (q : ℕ → ℕ) (ordered : Bool) (tb hb : ℕ) : Type 0 where
@@ -63,39 +65,41 @@ unders : (crossings : List (List ℕ)) (a b : ℕ) (positive ordered : Bool) →
     (dart_place (tail_of crossings b)) (dart_place (head_of crossings b))
 unders crossings a b positive true can =
     let new = fingered_crossings crossings a b positive true in
+    let added = IsAdded-finger crossings a b positive true can in
     let n = length crossings in
     let twice = HasArcsTwice-directed new (IsDirected-fingered crossings a b positive true can) in
     let ends = HasEnds-directed crossings can.directed can.no_single b can.under in
     let first = HasPasses-first crossings a b positive true in
     let second = HasPasses-second crossings a b positive true in
     let tail = both-ways new (tail_of crossings b) (dart_with (n + 1) 0) (dart_place (tail_of crossings b)) (4 * n + 0) twice
-    (IsDart-old crossings a b positive true (tail_of crossings b) ends.tail.within) (IsDart-new crossings a b positive true 1 0 (omega arith) (omega arith) (omega arith))
-    (old_or_new crossings (tail_of crossings b) 1 0 ends.tail.within (omega arith))
-    (tail_dart crossings a b positive true b ends ∙ sym first.under_from) refl (place-first n 0) in
-    let middle = both-ways new (dart_with (n + 1) 2) (dart_with (n + 2) 0) (4 * n + 2) (4 * n + 4) twice (IsDart-new crossings a b positive true 1 2 (omega arith) (omega arith) (omega arith)) (IsDart-new crossings a b positive true 2 0 (omega arith) (omega arith) (omega arith))
+    (IsDart-old added (tail_of crossings b) ends.tail.within) (IsDart-new added (n + 1) 0 (IsNew-finger crossings a b 1 positive true (omega arith) (omega arith)) (omega arith))
+    (old_or_new crossings (tail_of crossings b) (n + 1) 0 ends.tail.within (omega arith))
+    (tail_dart added b ends ∙ sym first.under_from) refl (place-first n 0) in
+    let middle = both-ways new (dart_with (n + 1) 2) (dart_with (n + 2) 0) (4 * n + 2) (4 * n + 4) twice (IsDart-new added (n + 1) 2 (IsNew-finger crossings a b 1 positive true (omega arith) (omega arith)) (omega arith)) (IsDart-new added (n + 2) 0 (IsNew-finger crossings a b 2 positive true (omega arith) (omega arith)) (omega arith))
     (first_or_second n 2 0) (first.under_to ∙ sym second.under_from) (place-first n 2) (place-second n 0) in
     let head = both-ways new (head_of crossings b) (dart_with (n + 2) 2) (dart_place (head_of crossings b)) (4 * n + 6) twice
-    (IsDart-old crossings a b positive true (head_of crossings b) ends.head.within) (IsDart-new crossings a b positive true 2 2 (omega arith) (omega arith) (omega arith))
-    (old_or_new crossings (head_of crossings b) 2 2 ends.head.within (omega arith))
-    (head_dart crossings a b positive true b ends ∙ head_number-one a b b (inr refl) ∙ sym second.under_to) refl (place-second n 2) in
+    (IsDart-old added (head_of crossings b) ends.head.within) (IsDart-new added (n + 2) 2 (IsNew-finger crossings a b 2 positive true (omega arith) (omega arith)) (omega arith))
+    (old_or_new crossings (head_of crossings b) (n + 2) 2 ends.head.within (omega arith))
+    (head_dart added b ends ∙ head_number-own a b b (inr refl) ∙ sym second.under_to) refl (place-second n 2) in
     record { q_tb = tail.0; q_under = tail.1; q_between = middle.0; q_between_back = middle.1; q_under_last = head.1; q_hb = head.0 }
 unders crossings a b positive false can =
     let new = fingered_crossings crossings a b positive false in
+    let added = IsAdded-finger crossings a b positive false can in
     let n = length crossings in
     let twice = HasArcsTwice-directed new (IsDirected-fingered crossings a b positive false can) in
     let ends = HasEnds-directed crossings can.directed can.no_single b can.under in
     let first = HasPasses-first crossings a b positive false in
     let second = HasPasses-second crossings a b positive false in
     let tail = both-ways new (tail_of crossings b) (dart_with (n + 2) 0) (dart_place (tail_of crossings b)) (4 * n + 4) twice
-    (IsDart-old crossings a b positive false (tail_of crossings b) ends.tail.within) (IsDart-new crossings a b positive false 2 0 (omega arith) (omega arith) (omega arith))
-    (old_or_new crossings (tail_of crossings b) 2 0 ends.tail.within (omega arith))
-    (tail_dart crossings a b positive false b ends ∙ sym second.under_from) refl (place-second n 0) in
-    let middle = both-ways new (dart_with (n + 2) 2) (dart_with (n + 1) 0) (4 * n + 6) (4 * n + 0) twice (IsDart-new crossings a b positive false 2 2 (omega arith) (omega arith) (omega arith)) (IsDart-new crossings a b positive false 1 0 (omega arith) (omega arith) (omega arith))
+    (IsDart-old added (tail_of crossings b) ends.tail.within) (IsDart-new added (n + 2) 0 (IsNew-finger crossings a b 2 positive false (omega arith) (omega arith)) (omega arith))
+    (old_or_new crossings (tail_of crossings b) (n + 2) 0 ends.tail.within (omega arith))
+    (tail_dart added b ends ∙ sym second.under_from) refl (place-second n 0) in
+    let middle = both-ways new (dart_with (n + 2) 2) (dart_with (n + 1) 0) (4 * n + 6) (4 * n + 0) twice (IsDart-new added (n + 2) 2 (IsNew-finger crossings a b 2 positive false (omega arith) (omega arith)) (omega arith)) (IsDart-new added (n + 1) 0 (IsNew-finger crossings a b 1 positive false (omega arith) (omega arith)) (omega arith))
     (λ s. first_or_second n 0 2 (sym s)) (second.under_to ∙ sym first.under_from) (place-second n 2) (place-first n 0) in
     let head = both-ways new (head_of crossings b) (dart_with (n + 1) 2) (dart_place (head_of crossings b)) (4 * n + 2) twice
-    (IsDart-old crossings a b positive false (head_of crossings b) ends.head.within) (IsDart-new crossings a b positive false 1 2 (omega arith) (omega arith) (omega arith))
-    (old_or_new crossings (head_of crossings b) 1 2 ends.head.within (omega arith))
-    (head_dart crossings a b positive false b ends ∙ head_number-one a b b (inr refl) ∙ sym first.under_to) refl (place-first n 2) in
+    (IsDart-old added (head_of crossings b) ends.head.within) (IsDart-new added (n + 1) 2 (IsNew-finger crossings a b 1 positive false (omega arith) (omega arith)) (omega arith))
+    (old_or_new crossings (head_of crossings b) (n + 1) 2 ends.head.within (omega arith))
+    (head_dart added b ends ∙ head_number-own a b b (inr refl) ∙ sym first.under_to) refl (place-first n 2) in
     record { q_tb = tail.0; q_under = tail.1; q_between = middle.0; q_between_back = middle.1; q_under_last = head.1; q_hb = head.0 }
 
 pub partners-fingered : (crossings : List (List ℕ)) (a b : ℕ) (positive ordered : Bool) → AreFingerable crossings a b
@@ -103,6 +107,7 @@ pub partners-fingered : (crossings : List (List ℕ)) (a b : ℕ) (positive orde
     (dart_place (tail_of crossings a)) (dart_place (head_of crossings a)) (dart_place (tail_of crossings b)) (dart_place (head_of crossings b))
 partners-fingered crossings a b positive ordered can =
     let new = fingered_crossings crossings a b positive ordered in
+    let added = IsAdded-finger crossings a b positive ordered can in
     let n = length crossings in
     let twice = HasArcsTwice-directed crossings can.directed in
     let new_twice = HasArcsTwice-directed new (IsDirected-fingered crossings a b positive ordered can) in
@@ -119,12 +124,12 @@ partners-fingered crossings a b positive ordered can =
     let apart = λ (d e : Dart) (d_is : IsDart crossings d) (e_is : IsDart crossings e) (differ : d ≢ e). place-apart crossings d e d_is e_is differ in
     let first = HasPasses-first crossings a b positive ordered in
     let second = HasPasses-second crossings a b positive ordered in
-    let fresh = λ (k slot : ℕ) (from : 1 ≤ k) (to : k ≤ 2) (below : slot < 4). IsDart-new crossings a b positive ordered k slot from to below in
-    let kept = λ (d : Dart) (is : IsDart crossings d). IsDart-old crossings a b positive ordered d is in
-    let ta_on = tail_dart crossings a b positive ordered a over in
-    let ha_on = head_dart crossings a b positive ordered a over ∙ head_number-one a b a (inl refl) in
-    let tb_on = tail_dart crossings a b positive ordered b under in
-    let hb_on = head_dart crossings a b positive ordered b under ∙ head_number-one a b b (inr refl) in
+    let fresh = λ (k slot : ℕ) (from : 1 ≤ k) (to : k ≤ 2) (below : slot < 4). IsDart-new added (n + k) slot (IsNew-finger crossings a b k positive ordered from to) below in
+    let kept = λ (d : Dart) (is : IsDart crossings d). IsDart-old added d is in
+    let ta_on = tail_dart added a over in
+    let ha_on = head_dart added a over ∙ head_number-own a b a (inl refl) in
+    let tb_on = tail_dart added b under in
+    let hb_on = head_dart added b under ∙ head_number-own a b b (inr refl) in
     let one_way : (d e : Dart) → IsDart new d → IsDart new e → d ≢ e → arc_of new d ≡ arc_of new e → (k : ℕ) → dart_place e ≡ k
     → partner_at new (dart_place d) ≡ k =
     λ d e d_is e_is differ same k place. partner-of new d e new_twice d_is e_is differ same ∙ place in
@@ -143,8 +148,8 @@ partners-fingered crossings a b positive ordered can =
     let of_second_at = place-second n (over_from (not positive)) ∙ ap (λ k. 4 * n + k) (four_more positive) in
     let to_second_at = place-second n (over_to (not positive)) ∙ ap (λ k. 4 * n + k) (four_more_to positive) in
     let middle_same : arc_of new to_first ≡ arc_of new of_second = first.over_to ∙ sym second.over_from in
-    let ta_differs = old_or_new crossings ta 1 (over_from positive) over.tail.within (omega arith) in
-    let ha_differs = old_or_new crossings ha 2 (over_to (not positive)) over.head.within (omega arith) in
+    let ta_differs = old_or_new crossings ta (n + 1) (over_from positive) over.tail.within (omega arith) in
+    let ha_differs = old_or_new crossings ha (n + 2) (over_to (not positive)) over.head.within (omega arith) in
     let ta_same : arc_of new ta ≡ arc_of new of_first = ta_on ∙ sym first.over_from in
     let ha_same : arc_of new ha ≡ arc_of new to_second = ha_on ∙ sym second.over_to in
     let under_pairs = unders crossings a b positive ordered can in
@@ -185,10 +190,10 @@ partners-fingered crossings a b positive ordered can =
           (record {
             below = omega (arith, y_is.below, length-fingered crossings a b positive ordered);
             differs = y_is.differs;
-            same_arc = arc_of-other crossings a b positive ordered (dart_at y) e_is
-                (λ s. not_a (sym y_is.same_arc ∙ s)) (λ s. not_b (sym y_is.same_arc ∙ s))
+            same_arc = arc_of-uncut added (dart_at y) e_is
+                (head_number-uncut a b (arc_of crossings (dart_at y)) (λ s. not_a (sym y_is.same_arc ∙ s)) (λ s. not_b (sym y_is.same_arc ∙ s)))
                 ∙ ap (λ z. opened a b z) y_is.same_arc
-                ∙ sym (arc_of-other crossings a b positive ordered d d_is not_a not_b);
+                ∙ sym (arc_of-uncut added d d_is (head_number-uncut a b (arc_of crossings d) not_a not_b));
           }));
       q_ta = one_way ta of_first (kept ta over.tail.within) of_first_is ta_differs ta_same
           (4 * n + (if positive then 3 else 1)) (place-first n (over_from positive));
@@ -216,14 +221,10 @@ partners-fingered crossings a b positive ordered can =
 
 -- a side of an arc is at one of its ends
 over_side-cases : (positive ordered : Bool) (ta ha : ℕ) → (over_side positive ordered ta ha ≡ ta) ⊎ (over_side positive ordered ta ha ≡ ha)
-over_side-cases true true ta ha = inr refl
-over_side-cases true false ta ha = inl refl
-over_side-cases false true ta ha = inl refl
-over_side-cases false false ta ha = inr refl
+over_side-cases positive ordered ta ha = grind (arith, nat_tests)
 
 under_side-cases : (positive : Bool) (tb hb : ℕ) → (under_side positive tb hb ≡ tb) ⊎ (under_side positive tb hb ≡ hb)
-under_side-cases true tb hb = inl refl
-under_side-cases false tb hb = inr refl
+under_side-cases positive tb hb = grind (arith, nat_tests)
 
 -- what is known of a finger on a planar code
 record OnPlanar (crossings : List (List ℕ)) (a b x y : ℕ) : Type 0 where
@@ -283,12 +284,14 @@ pairing-fingered crossings a b positive ordered can =
     subst (λ (k : ℕ). IsPairing (4 * k) (partner_at new)) (length-fingered crossings a b positive ordered)
     (IsPairing-partner_at new (HasArcsTwice-directed new (IsDirected-fingered crossings a b positive ordered can)))
 
--- between two pieces there are as many faces as before, and there is one piece fewer
-pub planar-between : (crossings : List (List ℕ)) (a b : ℕ) (positive ordered : Bool) → AreFingerable crossings a b
+-- through one face there are two faces more than before, and no more pieces; between two pieces as many faces, and a piece fewer
+pub planar-fingered : (crossings : List (List ℕ)) (a b : ℕ) (positive ordered : Bool) → AreFingerable crossings a b
     → face_count crossings ≡ planar_face_count crossings
-    → slice_index (pieces_of crossings) (dart_place (tail_of crossings a) / 4) ≢ slice_index (pieces_of crossings) (dart_place (tail_of crossings b) / 4)
+    → (slice_index (faces_of crossings) (over_side positive ordered (dart_place (tail_of crossings a)) (dart_place (head_of crossings a)))
+    ≡ slice_index (faces_of crossings) (under_side positive (dart_place (tail_of crossings b)) (dart_place (head_of crossings b))))
+    ⊎ (slice_index (pieces_of crossings) (dart_place (tail_of crossings a) / 4) ≢ slice_index (pieces_of crossings) (dart_place (tail_of crossings b) / 4))
     → face_count (fingered_crossings crossings a b positive ordered) ≡ planar_face_count (fingered_crossings crossings a b positive ordered)
-planar-between crossings a b positive ordered can planar in_two =
+planar-fingered crossings a b positive ordered can planar places =
     let new = fingered_crossings crossings a b positive ordered in
     let n = length crossings in
     let p = partner_at crossings in
@@ -298,94 +301,50 @@ planar-between crossings a b positive ordered can planar in_two =
     let new_pairing = pairing-fingered crossings a b positive ordered can in
     let has = partners-fingered crossings a b positive ordered can in
     let on = on-planar crossings a b positive ordered can in
+    let ta = dart_place (tail_of crossings a) in
+    let ha = dart_place (head_of crossings a) in
+    let tb = dart_place (tail_of crossings b) in
+    let hb = dart_place (head_of crossings b) in
     let x = over_side positive ordered (dart_place (tail_of crossings a)) (dart_place (head_of crossings a)) in
     let y = under_side positive (dart_place (tail_of crossings b)) (dart_place (head_of crossings b)) in
-    let ta = dart_place (tail_of crossings a) in
-    let tb = dart_place (tail_of crossings b) in
-    let faces_apart : slice_index (faces_of crossings) x ≢ slice_index (faces_of crossings) y =
-    λ same. in_two (sym on.x_piece ∙ open_faces-in_pieces n p x y pairing on.x_below on.y_below same ∙ on.y_piece) in
-    let cycles = class_count-exchange_apart (4 * n) (face_step p) (face_back p) (exchanged (face_step p) x y) x y
-    (IsPermutation-face_step n p pairing) (IsExchange-exchanged (4 * n) (face_step p) x y on.x_below on.y_below on.apart) faces_apart in
-    let many = faces-exchanged n p q positive ordered ta (dart_place (head_of crossings a)) tb (dart_place (head_of crossings b)) pairing
-    new_pairing has on.x_below on.y_below on.apart in
-    let same = same-pieces n p q positive ordered ta (dart_place (head_of crossings a)) tb (dart_place (head_of crossings b)) pairing new_pairing has in
-    let fewer = pieces-fewer_apart n p q ta tb pairing new_pairing has.ta_below has.tb_below same in_two in
+    let steps = IsPermutation-face_step n p pairing in
+    let exchange = IsExchange-exchanged (4 * n) (face_step p) x y on.x_below on.y_below on.apart in
+    let many = faces-exchanged n p q positive ordered ta ha tb hb pairing new_pairing has on.x_below on.y_below on.apart in
+    let same = same-pieces n p q positive ordered ta ha tb hb pairing new_pairing has in
     let new_faces : face_count new ≡ open_face_count (n + 2) q = ap (λ k. open_face_count k q) size in
     let new_pieces : piece_count new ≡ open_piece_count (n + 2) q = ap (λ k. open_piece_count k q) size in
-    omega (
-      arith,
-      planar,
-      cycles,
-      many,
-      fewer,
-      new_faces,
-      new_pieces,
-      size,
-      face_count-le new (HasArcsTwice-directed new (IsDirected-fingered crossings a b positive ordered can)),
-    )
-
--- through one face there are two faces more than before, and no more pieces
-pub planar-through : (crossings : List (List ℕ)) (a b : ℕ) (positive ordered : Bool) → AreFingerable crossings a b
-    → face_count crossings ≡ planar_face_count crossings
-    → slice_index (faces_of crossings) (over_side positive ordered (dart_place (tail_of crossings a)) (dart_place (head_of crossings a)))
-    ≡ slice_index (faces_of crossings) (under_side positive (dart_place (tail_of crossings b)) (dart_place (head_of crossings b)))
-    → face_count (fingered_crossings crossings a b positive ordered) ≡ planar_face_count (fingered_crossings crossings a b positive ordered)
-planar-through crossings a b positive ordered can planar together =
-    let new = fingered_crossings crossings a b positive ordered in
-    let n = length crossings in
-    let p = partner_at crossings in
-    let q = partner_at new in
-    let size = length-fingered crossings a b positive ordered in
-    let pairing = IsPairing-partner_at crossings (HasArcsTwice-directed crossings can.directed) in
-    let new_pairing = pairing-fingered crossings a b positive ordered can in
-    let has = partners-fingered crossings a b positive ordered can in
-    let on = on-planar crossings a b positive ordered can in
-    let x = over_side positive ordered (dart_place (tail_of crossings a)) (dart_place (head_of crossings a)) in
-    let y = under_side positive (dart_place (tail_of crossings b)) (dart_place (head_of crossings b)) in
-    let ta = dart_place (tail_of crossings a) in
-    let tb = dart_place (tail_of crossings b) in
-    let cycles = class_count-exchange_together (4 * n) (face_step p) (face_back p) (exchanged (face_step p) x y) x y
-    (IsPermutation-face_step n p pairing) (IsExchange-exchanged (4 * n) (face_step p) x y on.x_below on.y_below on.apart) together in
-    let many = faces-exchanged n p q positive ordered ta (dart_place (head_of crossings a)) tb (dart_place (head_of crossings b)) pairing
-    new_pairing has on.x_below on.y_below on.apart in
-    let same = same-pieces n p q positive ordered ta (dart_place (head_of crossings a)) tb (dart_place (head_of crossings b)) pairing new_pairing has in
-    let few = pieces-few n p q ta tb pairing new_pairing has.ta_below same in
-    let new_faces : face_count new ≡ open_face_count (n + 2) q = ap (λ k. open_face_count k q) size in
-    let new_pieces : piece_count new ≡ open_piece_count (n + 2) q = ap (λ k. open_piece_count k q) size in
-    omega (
-      arith,
-      planar,
-      cycles,
-      many,
-      few,
-      new_faces,
-      new_pieces,
-      size,
-      face_count-le new (HasArcsTwice-directed new (IsDirected-fingered crossings a b positive ordered can)),
-    )
+    let most = face_count-le new (HasArcsTwice-directed new (IsDirected-fingered crossings a b positive ordered can)) in
+    elim places [
+      | inl together ↦
+          let cycles = class_count-exchange_together (4 * n) (face_step p) (face_back p) (exchanged (face_step p) x y) x y steps exchange together in
+          let few = pieces-few n p q ta tb pairing new_pairing has.ta_below same in
+          omega (arith, planar, cycles, many, few, new_faces, new_pieces, size, most)
+      | inr in_two ↦
+          let faces_apart : slice_index (faces_of crossings) x ≢ slice_index (faces_of crossings) y =
+          λ one. in_two (sym on.x_piece ∙ open_faces-in_pieces n p x y pairing on.x_below on.y_below one ∙ on.y_piece) in
+          let cycles = class_count-exchange_apart (4 * n) (face_step p) (face_back p) (exchanged (face_step p) x y) x y steps exchange faces_apart in
+          let fewer = pieces-fewer_apart n p q ta tb pairing new_pairing has.ta_below has.tb_below same in_two in
+          omega (arith, planar, cycles, many, fewer, new_faces, new_pieces, size, most)
+    ]
 
 -- by names of sides
 over_side-named : (crossings : List (List ℕ)) (a : ℕ) (a_left b_left : Bool)
     → over_side b_left (differ a_left b_left) (dart_place (tail_of crossings a)) (dart_place (head_of crossings a))
     ≡ dart_place (side_dart crossings a a_left)
-over_side-named crossings a true true = refl
-over_side-named crossings a true false = refl
-over_side-named crossings a false true = refl
-over_side-named crossings a false false = refl
+over_side-named crossings a a_left b_left = grind (arith, nat_tests)
 
 under_side-named : (crossings : List (List ℕ)) (b : ℕ) (b_left : Bool)
     → under_side b_left (dart_place (tail_of crossings b)) (dart_place (head_of crossings b)) ≡ dart_place (side_dart crossings b b_left)
-under_side-named crossings b true = refl
-under_side-named crossings b false = refl
+under_side-named crossings b b_left = grind (arith, nat_tests)
 
 pub planar-one_face : (code : Code) (a b : ℕ) (a_left b_left : Bool) → IsTrue (accepted code) → IsArc code.crossings a → IsArc code.crossings b
     → a ≢ b → AreOfOneFace code.crossings a a_left b b_left
     → face_count (with_finger code a a_left b b_left).crossings ≡ planar_face_count (with_finger code a a_left b b_left).crossings
 planar-one_face code a b a_left b_left holds over under apart one =
-    planar-through code.crossings a b b_left (differ a_left b_left) (AreFingerable-accepted code a b holds over under apart)
+    planar-fingered code.crossings a b b_left (differ a_left b_left) (AreFingerable-accepted code a b holds over under apart)
     ((IsAccepted-is code).0 holds).faces
-    (ap (λ z. slice_index (faces_of code.crossings) z) (over_side-named code.crossings a a_left b_left) ∙ one
-    ∙ ap (λ z. slice_index (faces_of code.crossings) z) (sym (under_side-named code.crossings b b_left)))
+    (inl (ap (λ z. slice_index (faces_of code.crossings) z) (over_side-named code.crossings a a_left b_left) ∙ one
+    ∙ ap (λ z. slice_index (faces_of code.crossings) z) (sym (under_side-named code.crossings b b_left))))
 
 pub planar-two_pieces : (code : Code) (a b : ℕ) (a_left b_left : Bool) → IsTrue (accepted code) → IsArc code.crossings a
     → IsArc code.crossings b → AreOfTwoPieces code.crossings a b
@@ -397,6 +356,25 @@ planar-two_pieces code a b a_left b_left holds over under two =
     λ x is.
     let slot = (HasEnds-directed code.crossings can.directed can.no_single x is).tail.within.slot in
     omega (arith, slot) in
-    planar-between code.crossings a b b_left (differ a_left b_left) can ((IsAccepted-is code).0 holds).faces
-    (λ same. two
-    (ap (λ z. slice_index (pieces_of code.crossings) z) (sym (place a over)) ∙ same ∙ ap (λ z. slice_index (pieces_of code.crossings) z) (place b under)))
+    planar-fingered code.crossings a b b_left (differ a_left b_left) can ((IsAccepted-is code).0 holds).faces
+    (inr (λ same. two
+    (ap (λ z. slice_index (pieces_of code.crossings) z) (sym (place a over)) ∙ same ∙ ap (λ z. slice_index (pieces_of code.crossings) z) (place b under))))
+
+-- the code is accepted exactly where it has the faces of a drawing on the sphere
+pub accepted-fingered : (code : Code) (a b : ℕ) (positive ordered : Bool) → IsTrue (accepted code) → IsArc code.crossings a
+    → IsArc code.crossings b → a ≢ b
+    → (face_count (fingered code a b positive ordered).crossings ≡ planar_face_count (fingered code a b positive ordered).crossings)
+    ↔ IsTrue (accepted (fingered code a b positive ordered))
+accepted-fingered code a b positive ordered holds over under apart =
+    let new = fingered code a b positive ordered in
+    let can = AreFingerable-accepted code a b holds over under apart in
+    let directed = IsDirected-fingered code.crossings a b positive ordered can in
+    let old = (IsAccepted-is code).0 holds in (
+      λ planar. (IsAccepted-is new).1 (record {
+        directed = directed;
+        checkerboard = IsCheckerboard-planar new.crossings (HasArcsTwice-directed new.crossings directed) planar;
+        faces = planar;
+        components = omega (arith, old.components, component_count-fingered code.crossings a b positive ordered can);
+      }),
+      λ is. ((IsAccepted-is new).0 is).faces,
+    )

@@ -1,5 +1,5 @@
 -- The slots of a code with a finger.
-use Rattle.std.proofs.Common.{◌≡◌, ℕ, zero, suc, ◌+◌, ◌-◌, ◌<◌, ◌∙◌, List, [], ◌∷◌, length, refl, ap, arith, Bool, true, false}
+use Rattle.std.proofs.Common.{◌≡◌, ℕ, zero, suc, ◌+◌, ◌-◌, ◌<◌, ◌∙◌, List, [], ◌∷◌, length, refl, sym, ap, subst, arith, Bool, true, false, not}
 use Rattle.std.specs.Prelude.{slice_index_or, if◌then◌else◌}
 use Rattle.std.proofs.lemmas.List.{get_or_append_left, get_or-append-add, get_or-map, length-append, length-map}
 use Rattle.std.proofs.lemmas.List.FromFn.{length-range_with_len, get_or-range_with_len}
@@ -8,6 +8,7 @@ use Rattle.kh_types.specs.Code.{arc_in, slots_of, crossing_numbers, IsCrossing}
 use Rattle.kh_types.specs.Darts.{arc_of, IsDart}
 use Rattle.kh_types.specs.Directions.{is_head}
 use Rattle.kinks_and_fingers.specs.FingerAdd.{opened, head_number, moved_arc, dart_with, moved_slots, moved_crossings, crossing_with, first_crossing, second_crossing, fingered_crossings}
+use Rattle.kinks_and_fingers.proofs.PassEnds.{HasPasses, HasPasses-crossing_with}
 
 pub length-moved : (crossings : List (List ℕ)) (a b : ℕ) → length (moved_crossings crossings a b) ≡ length crossings
 length-moved crossings a b =
@@ -81,41 +82,49 @@ arc_of-tail crossings a b positive ordered dart is tail =
     arc_of-old crossings a b positive ordered dart is
     ∙ ap (λ h. if h then head_number a b (arc_of crossings dart) else opened a b (arc_of crossings dart)) tail
 
--- what is so of the four numbers of a crossing is so at each slot
-pub crossing_with-all : (P : ℕ → Type 0) (positive : Bool) (u v s t slot : ℕ) → P u → P v → P s → P t → slot < 4
-    → P (arc_in (crossing_with positive u v s t) slot)
-crossing_with-all P true u v s t zero at_u at_v at_s at_t below = at_u
-crossing_with-all P true u v s t (suc zero) at_u at_v at_s at_t below = at_t
-crossing_with-all P true u v s t (suc (suc zero)) at_u at_v at_s at_t below = at_v
-crossing_with-all P true u v s t (suc (suc (suc zero))) at_u at_v at_s at_t below = at_s
-crossing_with-all P true u v s t (suc (suc (suc (suc slot)))) at_u at_v at_s at_t below = absurd (omega (arith, below))
-crossing_with-all P false u v s t zero at_u at_v at_s at_t below = at_u
-crossing_with-all P false u v s t (suc zero) at_u at_v at_s at_t below = at_s
-crossing_with-all P false u v s t (suc (suc zero)) at_u at_v at_s at_t below = at_v
-crossing_with-all P false u v s t (suc (suc (suc zero))) at_u at_v at_s at_t below = at_t
-crossing_with-all P false u v s t (suc (suc (suc (suc slot)))) at_u at_v at_s at_t below = absurd (omega (arith, below))
+-- the numbers on which the under passes of the two new crossings enter
+abbrev pub first_start : Bool → ℕ → ℕ
+first_start ordered under = if ordered then under else under + 1
 
--- where the passes of a crossing begin and end
-abbrev pub over_from : Bool → ℕ
-over_from positive = if positive then 3 else 1
+abbrev pub second_start : Bool → ℕ → ℕ
+second_start ordered under = if ordered then under + 1 else under
 
-abbrev pub over_to : Bool → ℕ
-over_to positive = if positive then 1 else 3
+pub HasPasses-first : (crossings : List (List ℕ)) (a b : ℕ) (positive ordered : Bool)
+    → HasPasses (slots_of (fingered_crossings crossings a b positive ordered) (length crossings + 1)) positive
+    (first_start ordered (opened a b b)) (first_start ordered (opened a b b) + 1) (opened a b a) (opened a b a + 1)
+HasPasses-first crossings a b positive ordered =
+    let u = first_start ordered (opened a b b) in
+    subst (λ (slots : List ℕ). HasPasses slots positive u (u + 1) (opened a b a) (opened a b a + 1))
+    (sym (slots_of-first crossings a b positive ordered)) (by ordered (opened a b a) (opened a b b))
+  where
+    by : (ordered : Bool) (over under : ℕ)
+        → HasPasses (first_crossing over under positive ordered) positive (first_start ordered under) (first_start ordered under + 1) over (over + 1)
+    by true over under = HasPasses-crossing_with positive under (under + 1) over (over + 1)
+    by false over under =
+        subst (λ (v : ℕ). HasPasses (crossing_with positive (under + 1) (under + 2) over (over + 1)) positive (under + 1) v over (over + 1))
+        (omega arith) (HasPasses-crossing_with positive (under + 1) (under + 2) over (over + 1))
 
-pub over_from-below : (positive : Bool) → over_from positive < 4
-over_from-below true = omega arith
-over_from-below false = omega arith
+pub HasPasses-second : (crossings : List (List ℕ)) (a b : ℕ) (positive ordered : Bool)
+    → HasPasses (slots_of (fingered_crossings crossings a b positive ordered) (length crossings + 2)) (not positive)
+    (second_start ordered (opened a b b)) (second_start ordered (opened a b b) + 1) (opened a b a + 1) (opened a b a + 1 + 1)
+HasPasses-second crossings a b positive ordered =
+    let u = second_start ordered (opened a b b) in
+    subst (λ (slots : List ℕ). HasPasses slots (not positive) u (u + 1) (opened a b a + 1) (opened a b a + 1 + 1))
+    (sym (slots_of-second crossings a b positive ordered)) (by ordered (opened a b a) (opened a b b))
+  where
+    two_more : (x : ℕ) → x + 1 + 1 ≡ x + 2
+    two_more x = omega arith
 
-pub over_to-below : (positive : Bool) → over_to positive < 4
-over_to-below true = omega arith
-over_to-below false = omega arith
-
-pub record HasPasses (slots : List ℕ) (positive : Bool) (u v s t : ℕ) : Type 0 where
-  pub under_from : arc_in slots 0 ≡ u
-  pub under_to : arc_in slots 2 ≡ v
-  pub over_from : arc_in slots (over_from positive) ≡ s
-  pub over_to : arc_in slots (over_to positive) ≡ t
-
-pub HasPasses-crossing_with : (positive : Bool) (u v s t : ℕ) → HasPasses (crossing_with positive u v s t) positive u v s t
-HasPasses-crossing_with true u v s t = record { under_from = refl; under_to = refl; over_from = refl; over_to = refl }
-HasPasses-crossing_with false u v s t = record { under_from = refl; under_to = refl; over_from = refl; over_to = refl }
+    by : (ordered : Bool) (over under : ℕ)
+        → HasPasses (second_crossing over under positive ordered) (not positive) (second_start ordered under) (second_start ordered under + 1)
+        (over + 1) (over + 1 + 1)
+    by true over under =
+        subst (λ (t : ℕ). HasPasses (crossing_with (not positive) (under + 1) (under + 2) (over + 1) t) (not positive) (under + 1) (under + 1 + 1)
+        (over + 1) (over + 1 + 1)) (two_more over)
+        (subst (λ (v : ℕ). HasPasses (crossing_with (not positive) (under + 1) v (over + 1) (over + 1 + 1)) (not positive) (under + 1) (under + 1 + 1)
+        (over + 1) (over + 1 + 1)) (two_more under)
+        (HasPasses-crossing_with (not positive) (under + 1) (under + 1 + 1) (over + 1) (over + 1 + 1)))
+    by false over under =
+        subst (λ (t : ℕ). HasPasses (crossing_with (not positive) under (under + 1) (over + 1) t) (not positive) under (under + 1)
+        (over + 1) (over + 1 + 1)) (two_more over)
+        (HasPasses-crossing_with (not positive) under (under + 1) (over + 1) (over + 1 + 1))

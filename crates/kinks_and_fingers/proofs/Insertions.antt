@@ -1,5 +1,5 @@
 -- Sums over states with one bit more.
-use Rattle.std.proofs.Common.{◌≡◌, ℕ, zero, suc, ◌⊎◌, inl, inr, ◌+◌, ◌-◌, ◌*◌, ◌^◌, ◌<◌, ◌≤◌, ◌∙◌, ℤ, ◌+ℤ◌, sym, refl, map, ap, ap₂, arith, true, false, cond}
+use Rattle.std.proofs.Common.{◌≡◌, ℕ, zero, suc, ◌⊎◌, inl, inr, ◌+◌, ◌-◌, ◌*◌, ◌^◌, ◌<◌, ◌≤◌, ◌∙◌, ℤ, ◌+ℤ◌, sym, refl, map, ap, ap₂, arith, cond}
 use Rattle.std.specs.Prelude.{nat_eq, nat_lt}
 use Rattle.std.specs.List.{range_with_len}
 use Rattle.std.proofs.Math.Nat.{pow-suc}
@@ -23,39 +23,21 @@ bit-lower n state k below k_below =
 -- the three cases of a bit more
 
 with_bit-top : (k c b state : ℕ) → c ≡ suc k → with_bit (suc k) c b state ≡ b * 2 ^ (suc k) + state
-with_bit-top k c b state is =
-    ap (λ t. cond t (b * 2 ^ (suc k) + state) (cond (nat_lt state (2 ^ k)) (with_bit k c b state) (2 ^ (suc k) + with_bit k c b (state - 2 ^ k))))
-    (same_test c (suc k) is)
-  where
-    same_test : (x y : ℕ) → x ≡ y → nat_eq x y ≡ true
-    same_test x y is = grind (arith, nat_tests)
+with_bit-top k c b state is = grind (arith, nat_tests)
 
 with_bit-low : (k c b state : ℕ) → c ≤ k → state < 2 ^ k → with_bit (suc k) c b state ≡ with_bit k c b state
-with_bit-low k c b state within below =
-    ap (λ t. cond t (b * 2 ^ (suc k) + state) (cond (nat_lt state (2 ^ k)) (with_bit k c b state) (2 ^ (suc k) + with_bit k c b (state - 2 ^ k))))
-    (other_test c k within)
-    ∙ ap (λ t. cond t (with_bit k c b state) (2 ^ (suc k) + with_bit k c b (state - 2 ^ k))) (low_test state (2 ^ k) below)
-  where
-    other_test : (c k : ℕ) → c ≤ k → nat_eq c (suc k) ≡ false
-    other_test c k within = grind (arith, nat_tests)
-
-    low_test : (x y : ℕ) → x < y → nat_lt x y ≡ true
-    low_test x y below = grind (arith, nat_tests)
+with_bit-low k c b state within below = grind (arith, nat_tests)
 
 with_bit-high : (k c b state : ℕ) → c ≤ k → with_bit (suc k) c b (2 ^ k + state) ≡ 2 ^ (suc k) + with_bit k c b state
 with_bit-high k c b state within =
-    let full = 2 ^ k + state in
     let e : 2 ^ k + state - 2 ^ k ≡ state = omega arith in
-    ap (λ t. cond t (b * 2 ^ (suc k) + full) (cond (nat_lt full (2 ^ k)) (with_bit k c b full) (2 ^ (suc k) + with_bit k c b (full - 2 ^ k))))
-    (other_test c k within)
-    ∙ ap (λ t. cond t (with_bit k c b full) (2 ^ (suc k) + with_bit k c b (full - 2 ^ k))) (high_test (2 ^ k) state)
-    ∙ ap (λ s. 2 ^ (suc k) + with_bit k c b s) e
+    plain k c b (2 ^ k) state within ∙ ap (λ s. 2 ^ (suc k) + with_bit k c b s) e
   where
-    other_test : (c k : ℕ) → c ≤ k → nat_eq c (suc k) ≡ false
-    other_test c k within = grind (arith, nat_tests)
-
-    high_test : (x y : ℕ) → nat_lt (x + y) x ≡ false
-    high_test x y = grind (arith, nat_tests)
+    plain : (k c b power state : ℕ) → c ≤ k
+        → cond (nat_eq c (suc k)) (b * 2 ^ (suc k) + (power + state))
+        (cond (nat_lt (power + state) power) (with_bit k c b (power + state)) (2 ^ (suc k) + with_bit k c b (power + state - power)))
+        ≡ 2 ^ (suc k) + with_bit k c b (power + state - power)
+    plain k c b power state within = grind (arith, nat_tests)
 
 last_or_within : (c k : ℕ) → c ≤ suc k → (c ≡ suc k) ⊎ (c ≤ k)
 last_or_within c k within = grind arith

@@ -77,11 +77,7 @@ places-but c k within =
 -- the crossings and the names of those that stay
 
 pub renamed_slots-at : (names slots : List ℕ) (slot : ℕ) → slot < 4 → arc_in (renamed_slots names slots) slot ≡ slice_index names (arc_in slots slot)
-renamed_slots-at names slots zero below = refl
-renamed_slots-at names slots (suc zero) below = refl
-renamed_slots-at names slots (suc (suc zero)) below = refl
-renamed_slots-at names slots (suc (suc (suc zero))) below = refl
-renamed_slots-at names slots (suc (suc (suc (suc slot)))) below = absurd (omega (arith, below))
+renamed_slots-at names slots slot below = grind (arith, nat_tests)
 
 pub block_place : (a x : ℕ) → (4 * a + x % 4) / 4 ≡ a
 block_place a x = omega arith

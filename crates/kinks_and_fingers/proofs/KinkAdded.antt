@@ -31,60 +31,40 @@ cut-ends n partner x z is = grind (arith, nat_tests)
 cut-high : (n : ℕ) (partner : ℕ → ℕ) (x z : ℕ) → 4 * n ≤ z → with_bare_cut n partner x z ≡ z
 cut-high n partner x z high = grind (arith, nat_tests)
 
-cut-low : (n : ℕ) (partner : ℕ → ℕ) (x z : ℕ) → z < 4 * n → z ≢ x → z ≢ partner x → with_bare_cut n partner x z ≡ partner z
-cut-low n partner x z low not_x not_y = grind (arith, nat_tests)
-
 IsPairing-bare : (n : ℕ) (partner : ℕ → ℕ) → IsPairing (4 * n) partner → IsPairing (4 * (n + 1)) (with_bare n partner)
 IsPairing-bare n partner pairing = record {
-  below = λ z below. elim (cases_lt z (4 * n)) [
-    | inl low ↦ omega (arith, bare-low n partner z low, pairing.below z low)
-    | inr high ↦ omega (arith, bare-high n partner z high, below)
-  ];
-  back = λ z below. elim (cases_lt z (4 * n)) [
-    | inl low ↦
-        ap (with_bare n partner) (bare-low n partner z low) ∙ bare-low n partner (partner z) (pairing.below z low) ∙ pairing.back z low
-    | inr high ↦ ap (with_bare n partner) (bare-high n partner z high) ∙ bare-high n partner z high
-  ];
+  below = λ z below. within n partner z below (pairing.below z);
+  back = λ z below. back n partner z (pairing.below z) (pairing.back z);
 }
+  where
+    within : (n : ℕ) (partner : ℕ → ℕ) (z : ℕ) → z < 4 * (n + 1) → (z < 4 * n → partner z < 4 * n) → with_bare n partner z < 4 * (n + 1)
+    within n partner z below low = grind (arith, nat_tests)
+
+    back : (n : ℕ) (partner : ℕ → ℕ) (z : ℕ) → (z < 4 * n → partner z < 4 * n) → (z < 4 * n → partner (partner z) ≡ z)
+        → with_bare n partner (with_bare n partner z) ≡ z
+    back n partner z low there = grind (arith, nat_tests)
 
 IsPart-bare_cut : (n : ℕ) (partner : ℕ → ℕ) (x m : ℕ) → IsPart m (with_bare_cut n partner x) (with_bare n partner)
-IsPart-bare_cut n partner x m z below = elim (cases_lt z (4 * n)) [
-  | inr high ↦ inr (cut-high n partner x z high)
-  | inl low ↦ elim (ends_or_not x (partner x) z) [
-    | inl is ↦ inr (cut-ends n partner x z (inl is))
-    | inr more ↦ elim more [
-      | inl is ↦ inr (cut-ends n partner x z (inr is))
-      | inr none ↦ inl (cut-low n partner x z low none.0 none.1 ∙ sym (bare-low n partner z low))
-    ]
-  ]
-]
+IsPart-bare_cut n partner x m z below = plain n partner x z
+  where
+    plain : (n : ℕ) (partner : ℕ → ℕ) (x z : ℕ)
+        → (with_bare_cut n partner x z ≡ with_bare n partner z) ⊎ (with_bare_cut n partner x z ≡ z)
+    plain n partner x z = grind (arith, nat_tests)
 
 IsPairing-bare_cut : (n : ℕ) (partner : ℕ → ℕ) (x : ℕ) → IsPairing (4 * n) partner → x < 4 * n
     → IsPairing (4 * (n + 1)) (with_bare_cut n partner x)
 IsPairing-bare_cut n partner x pairing x_below = record {
-  below = λ z below. elim (IsPart-bare_cut n partner x (4 * (n + 1)) z below) [
-    | inl same ↦ omega (arith, same, (IsPairing-bare n partner pairing).below z below)
-    | inr own ↦ omega (arith, own, below)
-  ];
-  back = λ z below.
-      let fixed : with_bare_cut n partner x z ≡ z → with_bare_cut n partner x (with_bare_cut n partner x z) ≡ z =
-      λ own. ap (with_bare_cut n partner x) own ∙ own in
-      elim (cases_lt z (4 * n)) [
-        | inr high ↦ fixed (cut-high n partner x z high)
-        | inl low ↦ elim (ends_or_not x (partner x) z) [
-          | inl is ↦ fixed (cut-ends n partner x z (inl is))
-          | inr more ↦ elim more [
-            | inl is ↦ fixed (cut-ends n partner x z (inr is))
-            | inr none ↦
-                ap (with_bare_cut n partner x) (cut-low n partner x z low none.0 none.1)
-                ∙ cut-low n partner x (partner z) (pairing.below z low)
-                (λ same. none.1 (sym (pairing.back z low) ∙ ap partner same))
-                (λ same. none.0 (sym (pairing.back z low) ∙ ap partner same ∙ pairing.back x x_below))
-                ∙ pairing.back z low
-          ]
-        ]
-      ];
+  below = λ z below. within n partner x z below (pairing.below z);
+  back = λ z below. back n partner x z (pairing.below z) (pairing.back z) (pairing.back x x_below);
 }
+  where
+    within : (n : ℕ) (partner : ℕ → ℕ) (x z : ℕ) → z < 4 * (n + 1) → (z < 4 * n → partner z < 4 * n)
+        → with_bare_cut n partner x z < 4 * (n + 1)
+    within n partner x z below low = grind (arith, nat_tests)
+
+    back : (n : ℕ) (partner : ℕ → ℕ) (x z : ℕ) → (z < 4 * n → partner z < 4 * n) → (z < 4 * n → partner (partner z) ≡ z)
+        → partner (partner x) ≡ x → with_bare_cut n partner x (with_bare_cut n partner x z) ≡ z
+    back n partner x z low there back_x = grind (arith, nat_tests)
 
 -- a bare crossing is in no piece with others, and all its darts are on one face
 
@@ -98,13 +78,10 @@ old_one : (n : ℕ) → is_old n n ≡ 1
 old_one n = grind (arith, nat_tests)
 
 cut-stays : (n : ℕ) (partner : ℕ → ℕ) (x z : ℕ) → IsPairing (4 * n) partner → z < 4 * n → with_bare_cut n partner x z < 4 * n
-cut-stays n partner x z pairing low = elim (ends_or_not x (partner x) z) [
-  | inl is ↦ omega (arith, cut-ends n partner x z (inl is), low)
-  | inr more ↦ elim more [
-    | inl is ↦ omega (arith, cut-ends n partner x z (inr is), low)
-    | inr none ↦ omega (arith, cut-low n partner x z low none.0 none.1, pairing.below z low)
-  ]
-]
+cut-stays n partner x z pairing low = plain n partner x z low (pairing.below z low)
+  where
+    plain : (n : ℕ) (partner : ℕ → ℕ) (x z : ℕ) → z < 4 * n → partner z < 4 * n → with_bare_cut n partner x z < 4 * n
+    plain n partner x z low there = grind (arith, nat_tests)
 
 bare-alone : (n : ℕ) (partner : ℕ → ℕ) (x z : ℕ) → IsPairing (4 * n) partner → x < 4 * n → z < 4 * n
     → slice_index (open_pieces (n + 1) (with_bare_cut n partner x)) (z / 4) ≡ slice_index (open_pieces (n + 1) (with_bare_cut n partner x)) n
@@ -158,43 +135,15 @@ bare-face n partner x u pairing x_below from below =
 merged-second : (a b c : ℕ) → merged a b c ≡ merged a b b → (c ≡ a) ⊎ (c ≡ b)
 merged-second a b c same = grind (arith, nat_tests)
 
-arc-first : (f : ℕ → ℕ) (a b : ℕ) → with_arc f a b a ≡ b
-arc-first f a b = grind (arith, nat_tests)
-
-arc-second : (f : ℕ → ℕ) (a b : ℕ) → a ≢ b → with_arc f a b b ≡ a
-arc-second f a b apart = grind (arith, nat_tests)
-
-arc-else : (f : ℕ → ℕ) (a b z : ℕ) → z ≢ a → z ≢ b → with_arc f a b z ≡ f z
-arc-else f a b z not_a not_b = grind (arith, nat_tests)
-
 pub AreKinked-kinked : (n : ℕ) (partner : ℕ → ℕ) (x u w v s : ℕ) → IsClosedPlanar n partner → x < 4 * n → AreNew n u w v s
     → AreKinked n partner x u w v s (kinked n partner x u w v s)
 AreKinked-kinked n partner x u w v s closed x_below new =
-    let y = partner x in
-    let y_below = closed.pairing.below x x_below in
-    let y_x = closed.other x x_below in
-    let part : ℕ → ℕ = with_bare_cut n partner x in
-    let low : (z a : ℕ) → z < 4 * n → 4 * n ≤ a → z ≢ a = λ z a below from same. apart n z a below from same in
-    let three : (z : ℕ) → z ≢ v → z ≢ s → kinked n partner x u w v s z ≡ with_arc (with_arc part x u) (partner x) w z =
-    λ z not_v not_s. arc-else (with_arc (with_arc part x u) (partner x) w) v s z not_v not_s in
-    let two : (z : ℕ) → z ≢ partner x → z ≢ w → with_arc (with_arc part x u) (partner x) w z ≡ with_arc part x u z =
-    λ z not_y not_w. arc-else (with_arc part x u) (partner x) w z not_y not_w in
-    record {
-      at_x = three x (low x v x_below new.v_from) (low x s x_below new.s_from)
-          ∙ two x (λ same. y_x (sym same)) (low x w x_below new.w_from) ∙ arc-first part x u;
-      at_u = three u new.u_v new.u_s ∙ two u (λ same. low y u y_below new.u_from (sym same)) new.u_w
-          ∙ arc-second part x u (low x u x_below new.u_from);
-      at_y = three y (low y v y_below new.v_from) (low y s y_below new.s_from) ∙ arc-first (with_arc part x u) y w;
-      at_w = three w new.w_v new.w_s ∙ arc-second (with_arc part x u) y w (low y w y_below new.w_from);
-      at_v = arc-first (with_arc (with_arc part x u) y w) v s;
-      at_s = arc-second (with_arc (with_arc part x u) y w) v s new.v_s;
-      old = λ z below not_x not_y.
-          three z (low z v below new.v_from) (low z s below new.s_from) ∙ two z not_y (low z w below new.w_from)
-          ∙ arc-else part x u z not_x (low z u below new.u_from) ∙ cut-low n partner x z below not_x not_y;
-    }
+    plain n partner x u w v s x_below (closed.pairing.below x x_below) (closed.other x x_below) new.u_from new.w_from new.v_from new.s_from
+    new.u_w new.u_v new.u_s new.w_v new.w_s new.v_s
   where
-    apart : (n z a : ℕ) → z < 4 * n → 4 * n ≤ a → z ≢ a
-    apart n z a below from same = omega (arith, below, from, same)
+    plain : (n : ℕ) (partner : ℕ → ℕ) (x u w v s : ℕ) → x < 4 * n → partner x < 4 * n → partner x ≢ x → 4 * n ≤ u → 4 * n ≤ w → 4 * n ≤ v
+        → 4 * n ≤ s → u ≢ w → u ≢ v → u ≢ s → w ≢ v → w ≢ s → v ≢ s → AreKinked n partner x u w v s (kinked n partner x u w v s)
+    plain n partner x u w v s x_low y_low y_x u_high w_high v_high s_high u_w u_v u_s w_v w_s v_s = grind (arith, nat_tests)
 
 pub IsClosedPlanar-kinked : (n : ℕ) (partner : ℕ → ℕ) (x u w v s : ℕ) → IsClosedPlanar n partner → x < 4 * n → AreNew n u w v s
     → IsClosedPlanar (n + 1) (kinked n partner x u w v s)

@@ -1,181 +1,40 @@
--- The circles of the two smoothings of a kink.
-use Rattle.std.proofs.Common.{◌≡◌, ℕ, zero, suc, inl, inr, ◌+◌, ◌%◌, ◌<◌, ◌≤◌, ◌∙◌, List, [], ◌∷◌, ◌++◌, sym, ap, subst, arith, refl, Bool, true, false, cond, not, length, eq-eqb, eqb-true}
-use Rattle.std.specs.Prelude.{slice_index_or, nat_eq}
-use Rattle.std.specs.List.{flat_map, AllByRecursion, enumerate_from}
-use Rattle.std.proofs.lemmas.Bool.{cases_eq, cases_Bool, ne_eqb}
+-- The circles of states at a kink: those that go through it have as many as without it, and those that close it one more.
+use Rattle.std.proofs.Common.{◌≡◌, ◌≢◌, ℕ, ◌⊎◌, inl, inr, ◌+◌, ◌*◌, ◌/◌, ◌%◌, ◌<◌, ◌≤◌, ◌∙◌, List, [], ◌∷◌, ◌++◌, sym, ap, subst, arith, refl, false, cond, not, length, map, eq-eqb, eqb-true, IsTrue}
+use Rattle.std.specs.Prelude.{slice_index, nat_eq}
+use Rattle.std.specs.List.{filter, range_with_len}
+use Rattle.std.proofs.lemmas.Bool.{both_ways, cases_eq, ne_eqb}
+use Rattle.std.proofs.lemmas.Bool.Decides.{nat_tests}
+use Rattle.kh_types.specs.Acceptance.{accepted}
 use Rattle.kh_types.specs.Bits.{bit}
-use Rattle.kh_types.specs.Classes.{classes_of, Respects, AreBelow}
-use Rattle.kh_types.specs.Code.{arc_in, arc_count}
+use Rattle.kh_types.specs.Classes.{classes_of, class_count, Respects, AreBelow}
+use Rattle.kh_types.specs.Code.{Code, arc_count}
 use Rattle.kh_types.specs.Components.{passes_of}
-use Rattle.kh_types.specs.Circles.{smoothing_of, smoothings_of}
+use Rattle.kh_types.specs.Circles.{smoothings_of, circle_count}
 use Rattle.kh_types.specs.Darts.{HasArcsTwice}
-use Rattle.kh_types.proofs.JoinedClasses.{classes_of-same}
+use Rattle.kh_types.proofs.AcceptedLemmas.{HasArcsTwice-accepted}
+use Rattle.kh_types.proofs.ClassLemmas.{classes-finest}
+use Rattle.kh_types.proofs.ClassCounts.{class_count-wider, class_count-circles}
+use Rattle.kh_types.proofs.JoinedClasses.{classes_of-same, class_count-apart}
 use Rattle.kh_types.proofs.Lists.{AllByRecursion-append}
 use Rattle.code_passes.specs.Parts.{slots_in}
-use Rattle.kinks_and_fingers.specs.Drops.{straight_pairs}
+use Rattle.gluing.specs.Arcs.{arc_by_place}
+use Rattle.kinks_and_fingers.specs.Drops.{straight_pairs, kept_places, without_kink}
 use Rattle.kinks_and_fingers.specs.Dropping.{HasKinkAt}
-use Rattle.kinks_and_fingers.specs.DropCircles.{joined_at, outer_pairs, through_at}
-use Rattle.kinks_and_fingers.proofs.KeptCodes.{arc_by_place-below, all-gone, gone-all}
-
--- all smoothings are those of the crossings that stay and those of the crossings that are gone
-
-smoothings-by_places : (P : ℕ × ℕ → Type 0) (state start : ℕ) (crossings : List (List ℕ))
-    → ((place : ℕ) → place < length crossings
-    → AllByRecursion P (smoothing_of (bit state (start + place)) (slice_index_or crossings place [])))
-    → AllByRecursion P (flat_map (λ at. smoothing_of (bit state at.0) at.1) (enumerate_from start crossings))
-smoothings-by_places P state start [] each = tt
-smoothings-by_places P state start (slots ∷ rest) each =
-    let z : start + 0 ≡ start = omega arith in
-    AllByRecursion-append P (smoothing_of (bit state start) slots)
-    (flat_map (λ at. smoothing_of (bit state at.0) at.1) (enumerate_from (start + 1) rest))
-    (subst (λ (k : ℕ). AllByRecursion P (smoothing_of (bit state k) slots)) z (each 0 (omega arith)))
-    (smoothings-by_places P state (start + 1) rest
-    (λ place below.
-    let e : start + suc place ≡ start + 1 + place = omega arith in
-    subst (λ (k : ℕ). AllByRecursion P (smoothing_of (bit state k) (slice_index_or rest place []))) e (each (suc place) (omega (arith, below)))))
-
-pub all_first : (P : ℕ × ℕ → Type 0) (xs ys : List (ℕ × ℕ)) → AllByRecursion P (xs ++ ys) → AllByRecursion P xs
-all_first P [] ys holds = tt
-all_first P (x ∷ xs) ys holds = (holds.0, all_first P xs ys holds.1)
-
-pub all_second : (P : ℕ × ℕ → Type 0) (xs ys : List (ℕ × ℕ)) → AllByRecursion P (xs ++ ys) → AllByRecursion P ys
-all_second P [] ys holds = holds
-all_second P (x ∷ xs) ys holds = all_second P xs ys holds.1
-
-smoothings-at_place : (P : ℕ × ℕ → Type 0) (state start : ℕ) (crossings : List (List ℕ)) (place : ℕ)
-    → AllByRecursion P (flat_map (λ at. smoothing_of (bit state at.0) at.1) (enumerate_from start crossings))
-    → place < length crossings → AllByRecursion P (smoothing_of (bit state (start + place)) (slice_index_or crossings place []))
-smoothings-at_place P state start [] place holds below = absurd (omega (arith, below))
-smoothings-at_place P state start (slots ∷ rest) zero holds below =
-    let z : start ≡ start + 0 = omega arith in
-    subst (λ (k : ℕ). AllByRecursion P (smoothing_of (bit state k) slots)) z
-    (all_first P (smoothing_of (bit state start) slots)
-    (flat_map (λ at. smoothing_of (bit state at.0) at.1) (enumerate_from (start + 1) rest)) holds)
-smoothings-at_place P state start (slots ∷ rest) (suc place) holds below =
-    let e : start + 1 + place ≡ start + suc place = omega arith in
-    subst (λ (k : ℕ). AllByRecursion P (smoothing_of (bit state k) (slice_index_or rest place []))) e
-    (smoothings-at_place P state (start + 1) rest place
-    (all_second P (smoothing_of (bit state start) slots)
-    (flat_map (λ at. smoothing_of (bit state at.0) at.1) (enumerate_from (start + 1) rest)) holds) (omega (arith, below)))
-
-pub smoothings-all : (P : ℕ × ℕ → Type 0) (crossings : List (List ℕ)) (state : ℕ)
-    → ((place : ℕ) → place < length crossings → AllByRecursion P (joined_at crossings state place))
-    → AllByRecursion P (smoothings_of crossings state)
-smoothings-all P crossings state each =
-    smoothings-by_places P state 0 crossings
-    (λ place below.
-    let e : place ≡ 0 + place = omega arith in
-    subst (λ (k : ℕ). AllByRecursion P (smoothing_of (bit state k) (slice_index_or crossings place []))) e (each place below))
-
-pub smoothings-each : (P : ℕ × ℕ → Type 0) (crossings : List (List ℕ)) (state place : ℕ)
-    → AllByRecursion P (smoothings_of crossings state) → place < length crossings → AllByRecursion P (joined_at crossings state place)
-smoothings-each P crossings state place holds below =
-    let e : 0 + place ≡ place = omega arith in
-    subst (λ (k : ℕ). AllByRecursion P (smoothing_of (bit state k) (slice_index_or crossings place []))) e
-    (smoothings-at_place P state 0 crossings place holds below)
-
-pub outer-all : (P : ℕ × ℕ → Type 0) (crossings : List (List ℕ)) (gone : ℕ → Bool) (state : ℕ)
-    → ((place : ℕ) → place < length crossings → gone place ≡ false → AllByRecursion P (joined_at crossings state place))
-    → AllByRecursion P (outer_pairs crossings gone state)
-outer-all P crossings gone state each =
-    all-gone P (joined_at crossings state) (λ place. not (gone place)) 0 (length crossings)
-    (λ place from below stays. each place (omega (arith, below)) (not_true (gone place) stays))
-  where
-    not_true : (b : Bool) → not b ≡ true → b ≡ false
-    not_true true stays = sym stays
-    not_true false stays = refl
-
-pub outer-each : (P : ℕ × ℕ → Type 0) (crossings : List (List ℕ)) (gone : ℕ → Bool) (state place : ℕ)
-    → AllByRecursion P (outer_pairs crossings gone state) → place < length crossings → gone place ≡ false
-    → AllByRecursion P (joined_at crossings state place)
-outer-each P crossings gone state place holds below stays =
-    gone-all P (joined_at crossings state) (λ place. not (gone place)) 0 (length crossings) place holds (omega arith)
-    (omega (arith, below)) (ap not stays)
-
--- the pairs are of arcs
-
-pub smoothing-low : (n b : ℕ) (slots : List ℕ) → ((slot : ℕ) → slot < 4 → arc_in slots slot < n)
-    → AreBelow n (smoothing_of b slots)
-smoothing-low n b slots low = elim (cases_Bool (nat_eq b 0)) [
-  | inl is ↦
-      subst (λ (t : Bool). AreBelow n (cond t ((arc_in slots 0, arc_in slots 1) ∷ (arc_in slots 2, arc_in slots 3) ∷ [])
-      ((arc_in slots 0, arc_in slots 3) ∷ (arc_in slots 1, arc_in slots 2) ∷ []))) (sym is)
-      ((low 0 (omega arith), low 1 (omega arith)), ((low 2 (omega arith), low 3 (omega arith)), tt))
-  | inr is ↦
-      subst (λ (t : Bool). AreBelow n (cond t ((arc_in slots 0, arc_in slots 1) ∷ (arc_in slots 2, arc_in slots 3) ∷ [])
-      ((arc_in slots 0, arc_in slots 3) ∷ (arc_in slots 1, arc_in slots 2) ∷ []))) (sym is)
-      ((low 0 (omega arith), low 3 (omega arith)), ((low 1 (omega arith), low 2 (omega arith)), tt))
-]
-
-pub joined-below : (crossings : List (List ℕ)) (n state place : ℕ) → HasArcsTwice crossings → arc_count crossings + 1 ≤ n
-    → place < length crossings → AreBelow n (joined_at crossings state place)
-joined-below crossings n state place twice large below =
-    smoothing-low n (bit state place) (slots_in crossings place)
-    (λ slot slot_below. omega (arith, large, arc_by_place-below crossings place slot twice below slot_below))
-
-pub passes-low : (crossings : List (List ℕ)) (n place : ℕ) → HasArcsTwice crossings → arc_count crossings + 1 ≤ n
-    → place < length crossings → AreBelow n (passes_of (slots_in crossings place))
-passes-low crossings n place twice large below =
-    let low = λ (slot : ℕ) (slot_below : slot < 4). arc_by_place-below crossings place slot twice below slot_below in (
-      (omega (arith, large, low 0 (omega arith)), omega (arith, large, low 2 (omega arith))),
-      ((omega (arith, large, low 1 (omega arith)), omega (arith, large, low 3 (omega arith))), tt),
-    )
-
--- what the two smoothings join, by the slots from p on
-
-pub smoothing-zero : (f : ℕ → ℕ) (slots : List ℕ) (b : ℕ) → b ≡ 0 → Respects f (smoothing_of b slots)
-    → (f (arc_in slots 0) ≡ f (arc_in slots 1)) × (f (arc_in slots 2) ≡ f (arc_in slots 3))
-smoothing-zero f slots b is respects =
-    let whole = subst (λ (k : ℕ). Respects f (smoothing_of k slots)) is respects in (whole.0, whole.1.0)
-
-pub smoothing-one : (f : ℕ → ℕ) (slots : List ℕ) (b : ℕ) → b ≡ 1 → Respects f (smoothing_of b slots)
-    → (f (arc_in slots 0) ≡ f (arc_in slots 3)) × (f (arc_in slots 1) ≡ f (arc_in slots 2))
-smoothing-one f slots b is respects =
-    let whole = subst (λ (k : ℕ). Respects f (smoothing_of k slots)) is respects in (whole.0, whole.1.0)
-
-pub to-zero : (f : ℕ → ℕ) (slots : List ℕ) (b : ℕ) → b ≡ 0 → f (arc_in slots 0) ≡ f (arc_in slots 1) → f (arc_in slots 2) ≡ f (arc_in slots 3)
-    → Respects f (smoothing_of b slots)
-to-zero f slots b is first second = subst (λ (k : ℕ). Respects f (smoothing_of k slots)) (sym is) (first, (second, tt))
-
-pub to-one : (f : ℕ → ℕ) (slots : List ℕ) (b : ℕ) → b ≡ 1 → f (arc_in slots 0) ≡ f (arc_in slots 3) → f (arc_in slots 1) ≡ f (arc_in slots 2)
-    → Respects f (smoothing_of b slots)
-to-one f slots b is first second = subst (λ (k : ℕ). Respects f (smoothing_of k slots)) (sym is) (first, (second, tt))
-
--- through a kink: as straight on
-pub through-straight : (f : ℕ → ℕ) (slots : List ℕ) (p b : ℕ) → p < 4 → b ≡ through_at p
-    → arc_in slots p ≡ arc_in slots ((p + 1) % 4) → Respects f (smoothing_of b slots) → Respects f (passes_of slots)
-through-straight f slots zero b below is kink respects =
-    let two = smoothing-one f slots b is respects in
-    (ap f kink ∙ two.1, (sym (ap f kink) ∙ two.0, tt))
-through-straight f slots (suc zero) b below is kink respects =
-    let two = smoothing-zero f slots b is respects in
-    (two.0 ∙ ap f kink, (ap f kink ∙ two.1, tt))
-through-straight f slots (suc (suc zero)) b below is kink respects =
-    let two = smoothing-one f slots b is respects in
-    (two.0 ∙ sym (ap f kink), (two.1 ∙ ap f kink, tt))
-through-straight f slots (suc (suc (suc zero))) b below is kink respects =
-    let two = smoothing-zero f slots b is respects in
-    (sym (ap f kink) ∙ sym two.1, (sym two.0 ∙ sym (ap f kink), tt))
-through-straight f slots (suc (suc (suc (suc p)))) b below is kink respects = absurd (omega (arith, below))
-
-pub straight-through : (f : ℕ → ℕ) (slots : List ℕ) (p b : ℕ) → p < 4 → b ≡ through_at p
-    → arc_in slots p ≡ arc_in slots ((p + 1) % 4) → Respects f (passes_of slots) → Respects f (smoothing_of b slots)
-straight-through f slots zero b below is kink respects =
-    to-one f slots b is (ap f kink ∙ respects.1.0) (sym (ap f kink) ∙ respects.0)
-straight-through f slots (suc zero) b below is kink respects =
-    to-zero f slots b is (respects.0 ∙ sym (ap f kink)) (sym (ap f kink) ∙ respects.1.0)
-straight-through f slots (suc (suc zero)) b below is kink respects =
-    to-one f slots b is (respects.0 ∙ ap f kink) (respects.1.0 ∙ sym (ap f kink))
-straight-through f slots (suc (suc (suc zero))) b below is kink respects =
-    to-zero f slots b is (sym (ap f kink) ∙ sym respects.1.0) (sym respects.0 ∙ sym (ap f kink))
-straight-through f slots (suc (suc (suc (suc p)))) b below is kink respects = absurd (omega (arith, below))
+use Rattle.kinks_and_fingers.specs.Pulls.{dart_in, early}
+use Rattle.kinks_and_fingers.specs.DropCircles.{joined_at, outer_pairs, through_at, closing_at, parts_circle_count}
+use Rattle.kinks_and_fingers.proofs.Smoothed.{dart_in-below, dart_in-place, dart_in-apart}
+use Rattle.kinks_and_fingers.proofs.OldDarts.{arc_of_dart-in}
+use Rattle.kinks_and_fingers.proofs.KinkDrops.{kink-partner}
+use Rattle.kinks_and_fingers.proofs.KeptCodes.{arc_by_place-below, all-gone, gone-all, places-but}
+use Rattle.kinks_and_fingers.proofs.SmoothingPairs.{smoothings-all, smoothings-each, outer-all, outer-each, joined-below, passes-low, all_first, all_second}
+use Rattle.kinks_and_fingers.proofs.BigonJoins.{closing-joined, joined-closing, joined-through, through-joined, mark, mark-off, marked, named-own, pass-straight, straight-pass}
+use Rattle.kinks_and_fingers.proofs.StrandCircles.{circles-dropped}
 
 -- a state that goes through the kink has the classes of the other crossings' smoothings and the straight pairs
-pub classes_of-through : (crossings : List (List ℕ)) (n state c p : ℕ) → HasArcsTwice crossings → HasKinkAt crossings c p
+classes_of-through : (crossings : List (List ℕ)) (n state c p : ℕ) → HasArcsTwice crossings → HasKinkAt crossings c p
     → arc_count crossings + 1 ≤ n → bit state c ≡ through_at p
     → classes_of n (smoothings_of crossings state) ≡ classes_of n (straight_pairs crossings (nat_eq c) ++ outer_pairs crossings (nat_eq c) state)
 classes_of-through crossings n state c p twice kink large is =
-    let gone : ℕ → Bool = nat_eq c in
     let slots = slots_in crossings c in
     classes_of-same n (smoothings_of crossings state) (straight_pairs crossings (nat_eq c) ++ outer_pairs crossings (nat_eq c) state)
     (smoothings-all (λ pair. (pair.0 < n) × (pair.1 < n)) crossings state
@@ -190,8 +49,9 @@ classes_of-through crossings n state c p twice kink large is =
     (all-gone (λ pair. f pair.0 ≡ f pair.1) (λ place. passes_of (slots_in crossings place)) (nat_eq c) 0 (length crossings)
     (λ place from below gone_there.
     subst (λ (k : ℕ). Respects f (passes_of (slots_in crossings k))) (eqb-true c place gone_there)
-    (through-straight f (slots_in crossings c) p (bit state c) kink.slot is kink.same
-    (smoothings-each (λ pair. f pair.0 ≡ f pair.1) crossings state c respects kink.below))))
+    (let two = through-joined f slots p (bit state c) kink.slot is
+    (smoothings-each (λ pair. f pair.0 ≡ f pair.1) crossings state c respects kink.below) in
+    pass-straight f slots p kink.slot (ap f kink.same ∙ two.0) (sym (ap f kink.same) ∙ sym two.1))))
     (outer-all (λ pair. f pair.0 ≡ f pair.1) crossings (nat_eq c) state
     (λ place below stays. smoothings-each (λ pair. f pair.0 ≡ f pair.1) crossings state place respects below)))
     (λ f respects.
@@ -200,12 +60,177 @@ classes_of-through crossings n state c p twice kink large is =
     elim (cases_eq c place) [
       | inl same ↦
           subst (λ (k : ℕ). Respects f (joined_at crossings state k)) same
-          (straight-through f (slots_in crossings c) p (bit state c) kink.slot is kink.same
+          (let two = straight-pass f slots p kink.slot
           (gone-all (λ pair. f pair.0 ≡ f pair.1) (λ place. passes_of (slots_in crossings place)) (nat_eq c) 0 (length crossings) c
           (all_first (λ pair. f pair.0 ≡ f pair.1) (straight_pairs crossings (nat_eq c)) (outer_pairs crossings (nat_eq c) state) respects)
-          (omega arith) (omega (arith, kink.below)) (eq-eqb c c refl)))
+          (omega arith) (omega (arith, kink.below)) (eq-eqb c c refl)) in
+          joined-through f slots p (bit state c) kink.slot is (sym (ap f kink.same) ∙ two.0) (sym two.1 ∙ sym (ap f kink.same)))
       | inr apart ↦
           outer-each (λ pair. f pair.0 ≡ f pair.1) crossings (nat_eq c) state place
           (all_second (λ pair. f pair.0 ≡ f pair.1) (straight_pairs crossings (nat_eq c)) (outer_pairs crossings (nat_eq c) state) respects)
           below (ne_eqb c place apart)
     ]))
+
+-- the arc of a kink stands at its two slots alone
+kink-own : (crossings : List (List ℕ)) (c p place slot : ℕ) → HasArcsTwice crossings → HasKinkAt crossings c p → place < length crossings
+    → slot < 4 → arc_by_place crossings place slot ≡ arc_by_place crossings c p
+    → (4 * place + slot ≡ dart_in c p) ⊎ (4 * place + slot ≡ dart_in c (p + 1))
+kink-own crossings c p place slot twice kink below slot_below same =
+    let e : p % 4 ≡ p = omega (arith, kink.slot) in
+    elim (named-own crossings (dart_in c p) place slot twice (dart_in-below (length crossings) c p kink.below) below slot_below
+    (same ∙ sym (arc_of_dart-in crossings c p ∙ ap (arc_by_place crossings c) e))) [
+      | inl own ↦ inl own
+      | inr other ↦ inr (other ∙ kink-partner crossings c p twice kink)
+    ]
+
+mark-own : (v : ℕ) → mark v v ≡ 1
+mark-own v = ap (λ t. cond t 1 0) (eq-eqb v v refl)
+
+pub class_count-closing : (crossings : List (List ℕ)) (n state c p : ℕ) → HasArcsTwice crossings → HasKinkAt crossings c p
+    → arc_count crossings + 1 ≤ n → bit state c ≡ closing_at p
+    → class_count (classes_of n (smoothings_of crossings state))
+    ≡ class_count (classes_of n (straight_pairs crossings (nat_eq c) ++ outer_pairs crossings (nat_eq c) state)) + 1
+class_count-closing crossings n state c p twice kink large is =
+    let slots = slots_in crossings c in
+    let v = arc_by_place crossings c p in
+    let x = arc_by_place crossings c ((p + 2) % 4) in
+    let y = arc_by_place crossings c ((p + 3) % 4) in
+    let outer = outer_pairs crossings (nat_eq c) state in
+    let straight = straight_pairs crossings (nat_eq c) in
+    let low : (slot : ℕ) → slot < 4 → arc_by_place crossings c slot < n =
+    λ slot below. omega (arith, large, arc_by_place-below crossings c slot twice kink.below below) in
+    let v_low = low p kink.slot in
+    let x_low = low ((p + 2) % 4) (omega arith) in
+    let y_low = low ((p + 3) % 4) (omega arith) in
+    let outer_low : AreBelow n (outer_pairs crossings (nat_eq c) state) =
+    outer-all (λ pair. (pair.0 < n) × (pair.1 < n)) crossings (nat_eq c) state
+    (λ place below stays. joined-below crossings n state place twice large below) in
+    let more_low : AreBelow n (outer_pairs crossings (nat_eq c) state ++ (x, y) ∷ []) =
+    AllByRecursion-append (λ pair. (pair.0 < n) × (pair.1 < n)) outer ((x, y) ∷ []) outer_low ((x_low, y_low), tt) in
+    let last_low : AreBelow n ((outer_pairs crossings (nat_eq c) state ++ (x, y) ∷ []) ++ (v, x) ∷ []) =
+    AllByRecursion-append (λ pair. (pair.0 < n) × (pair.1 < n)) (outer ++ (x, y) ∷ []) ((v, x) ∷ []) more_low ((v_low, x_low), tt) in
+    let straight_low : AreBelow n (straight_pairs crossings (nat_eq c)) =
+    all-gone (λ pair. (pair.0 < n) × (pair.1 < n)) (λ place. passes_of (slots_in crossings place)) (nat_eq c) 0 (length crossings)
+    (λ place from below gone_there. passes-low crossings n place twice large (omega (arith, below))) in
+    let first : classes_of n (smoothings_of crossings state) ≡ classes_of n (outer_pairs crossings (nat_eq c) state ++ (x, y) ∷ []) =
+    classes_of-same n (smoothings_of crossings state) (outer ++ (x, y) ∷ [])
+    (smoothings-all (λ pair. (pair.0 < n) × (pair.1 < n)) crossings state
+    (λ place below. joined-below crossings n state place twice large below)) more_low
+    (λ f respects.
+    AllByRecursion-append (λ pair. f pair.0 ≡ f pair.1) outer ((x, y) ∷ [])
+    (outer-all (λ pair. f pair.0 ≡ f pair.1) crossings (nat_eq c) state
+    (λ place below stays. smoothings-each (λ pair. f pair.0 ≡ f pair.1) crossings state place respects below)) (
+      (closing-joined f slots p (bit state c) kink.slot is
+          (smoothings-each (λ pair. f pair.0 ≡ f pair.1) crossings state c respects kink.below)).1,
+      tt,
+    ))
+    (λ f respects.
+    smoothings-all (λ pair. f pair.0 ≡ f pair.1) crossings state
+    (λ place below.
+    elim (cases_eq c place) [
+      | inl same ↦
+          subst (λ (k : ℕ). Respects f (joined_at crossings state k)) same
+          (joined-closing f slots p (bit state c) kink.slot is (ap f kink.same)
+          (all_second (λ pair. f pair.0 ≡ f pair.1) outer ((x, y) ∷ []) respects).0)
+      | inr apart ↦
+          outer-each (λ pair. f pair.0 ≡ f pair.1) crossings (nat_eq c) state place
+          (all_first (λ pair. f pair.0 ≡ f pair.1) outer ((x, y) ∷ []) respects) below (ne_eqb c place apart)
+    ])) in
+    let second : classes_of n (straight_pairs crossings (nat_eq c) ++ outer_pairs crossings (nat_eq c) state)
+    ≡ classes_of n ((outer_pairs crossings (nat_eq c) state ++ (x, y) ∷ []) ++ (v, x) ∷ []) =
+    classes_of-same n (straight ++ outer) ((outer ++ (x, y) ∷ []) ++ (v, x) ∷ [])
+    (AllByRecursion-append (λ pair. (pair.0 < n) × (pair.1 < n)) straight outer straight_low outer_low) last_low
+    (λ f respects.
+    let here = straight-pass f slots p kink.slot
+    (gone-all (λ pair. f pair.0 ≡ f pair.1) (λ place. passes_of (slots_in crossings place)) (nat_eq c) 0 (length crossings) c
+    (all_first (λ pair. f pair.0 ≡ f pair.1) straight outer respects) (omega arith) (omega (arith, kink.below)) (eq-eqb c c refl)) in
+    AllByRecursion-append (λ pair. f pair.0 ≡ f pair.1) (outer ++ (x, y) ∷ []) ((v, x) ∷ [])
+    (AllByRecursion-append (λ pair. f pair.0 ≡ f pair.1) outer ((x, y) ∷ []) (all_second (λ pair. f pair.0 ≡ f pair.1) straight outer respects)
+    (sym here.0 ∙ ap f kink.same ∙ here.1, tt)) (here.0, tt))
+    (λ f respects.
+    let front = all_first (λ pair. f pair.0 ≡ f pair.1) (outer ++ (x, y) ∷ []) ((v, x) ∷ []) respects in
+    let last = (all_second (λ pair. f pair.0 ≡ f pair.1) (outer ++ (x, y) ∷ []) ((v, x) ∷ []) respects).0 in
+    let middle = (all_second (λ pair. f pair.0 ≡ f pair.1) outer ((x, y) ∷ []) front).0 in
+    AllByRecursion-append (λ pair. f pair.0 ≡ f pair.1) straight outer
+    (all-gone (λ pair. f pair.0 ≡ f pair.1) (λ place. passes_of (slots_in crossings place)) (nat_eq c) 0 (length crossings)
+    (λ place from below gone_there.
+    subst (λ (k : ℕ). Respects f (passes_of (slots_in crossings k))) (eqb-true c place gone_there)
+    (pass-straight f slots p kink.slot last (sym (ap f kink.same) ∙ last ∙ middle))))
+    (all_first (λ pair. f pair.0 ≡ f pair.1) outer ((x, y) ∷ []) front)) in
+    let off : (place slot : ℕ) → place < length crossings → slot < 4 → 4 * place + slot ≢ dart_in c p → 4 * place + slot ≢ dart_in c (p + 1)
+    → mark v (arc_by_place crossings place slot) ≡ 0 =
+    λ place slot below slot_below one two.
+    mark-off v (arc_by_place crossings place slot)
+    (
+    (λ same. elim (kink-own crossings c p place slot twice kink below slot_below same) [ inl own ↦ one own | inr own ↦ two own ])) in
+    let apart4 = dart_in-apart c p in
+    let x_off : mark v x ≡ 0 =
+    off c ((p + 2) % 4) kink.below (omega arith) (λ same. apart4.5 (sym same)) (λ same. apart4.0 (sym same)) in
+    let y_off : mark v y ≡ 0 = off c ((p + 3) % 4) kink.below (omega arith) apart4.1 apart4.2 in
+    let mark_respects : Respects (λ z. mark v z) (outer_pairs crossings (nat_eq c) state ++ (x, y) ∷ []) =
+    AllByRecursion-append (λ pair. mark v pair.0 ≡ mark v pair.1) outer ((x, y) ∷ [])
+    (outer-all (λ pair. mark v pair.0 ≡ mark v pair.1) crossings (nat_eq c) state
+    (λ place below stays.
+    let away : (r slot : ℕ) → slot < 4 → 4 * place + slot ≢ dart_in c r =
+    λ r slot slot_below same. not_gone c place stays (block_of place slot slot_below ∙ ap (λ z. z / 4) same ∙ dart_in-place c r) in
+    let at : (slot : ℕ) → slot < 4 → mark v (arc_by_place crossings place slot) ≡ 0 =
+    λ slot slot_below. off place slot below slot_below (away p slot slot_below) (away (p + 1) slot slot_below) in
+    marked (λ z. mark v z) (bit state place) (slots_in crossings place) at))
+    (x_off ∙ sym y_off, tt) in
+    let v_x : slice_index (classes_of n (outer_pairs crossings (nat_eq c) state ++ (x, y) ∷ [])) v
+    ≢ slice_index (classes_of n (outer_pairs crossings (nat_eq c) state ++ (x, y) ∷ [])) x =
+    λ same.
+    let found = classes-finest (λ z. mark v z) n (outer ++ (x, y) ∷ []) mark_respects more_low v x v_low x_low same in
+    let one_zero : 1 ≡ 0 = sym (mark-own v) ∙ found ∙ x_off in
+    omega (arith, one_zero) in
+    ap class_count first ∙ class_count-apart n (outer ++ (x, y) ∷ []) (v, x) more_low v_low x_low v_x
+    ∙ ap (λ cs. class_count cs + 1) (sym second)
+  where
+    block_of : (place slot : ℕ) → slot < 4 → place ≡ (4 * place + slot) / 4
+    block_of place slot below = omega (arith, below)
+
+    not_gone : (c place : ℕ) → nat_eq c place ≡ false → place ≡ c → ⊥
+    not_gone c place stays same = both_ways (nat_eq c place) stays (eq-eqb c place (sym same))
+
+-- a state that goes through the kink has as many circles as the same state without it, and a state that closes it has one more
+
+pub before : (code : Code) (state : ℕ) → HasArcsTwice code.crossings
+    → circle_count code state + 1 ≡ class_count (classes_of (arc_count code.crossings + 1) (smoothings_of code.crossings state)) + code.loops
+before code state twice =
+    let low : (n : ℕ) → arc_count code.crossings + 1 ≤ n → AreBelow n (smoothings_of code.crossings state) =
+    λ n large. smoothings-all (λ pair. (pair.0 < n) × (pair.1 < n)) code.crossings state
+    (λ place below. joined-below code.crossings n state place twice large below) in
+    let n = arc_count code.crossings + 1 in
+    let e : arc_count code.crossings + code.loops + 1 ≡ arc_count code.crossings + 1 + code.loops = omega arith in
+    sym (class_count-circles code state (low (arc_count code.crossings + code.loops + 1) (omega arith)))
+    ∙ ap (λ m. class_count (classes_of m (smoothings_of code.crossings state))) e
+    ∙ class_count-wider (arc_count code.crossings + 1) code.loops (smoothings_of code.crossings state) (low n (omega arith))
+
+pub kept_are : (code : Code) (c k : ℕ) → length code.crossings ≡ k + 1 → c ≤ k
+    → kept_places code.crossings (nat_eq c) ≡ map (early c k) (range_with_len 0 k)
+kept_are code c k size within = ap (λ n. filter (λ x. not (nat_eq c x)) (range_with_len 0 n)) size ∙ places-but c k within
+
+pub early-low : (n c k i : ℕ) → n ≡ k + 1 → c ≤ k → i < k → early c k i < n
+early-low n c k i size within below = grind (arith, nat_tests)
+
+pub circles-through : (code : Code) (c p k state new : ℕ) → IsTrue (accepted code) → HasKinkAt code.crossings c p
+    → length code.crossings ≡ k + 1 → ((i : ℕ) → i < k → bit new i ≡ bit state (early c k i)) → bit state c ≡ through_at p
+    → circle_count code state ≡ parts_circle_count (arc_count code.crossings + 1) (without_kink code c) new
+circles-through code c p k state new is kink size agree through =
+    let twice = HasArcsTwice-accepted code is in
+    let within : c ≤ k = omega (arith, kink.below, size) in
+    let left = circles-dropped code (nat_eq c) (early c k) k state new twice (kept_are code c k size within)
+    (λ i below. early-low (length code.crossings) c k i size within below) agree in
+    let same = classes_of-through code.crossings (arc_count code.crossings + 1) state c p twice kink (omega arith) through in
+    omega (arith, left, before code state twice, ap class_count same)
+
+pub circles-closing : (code : Code) (c p k state new : ℕ) → IsTrue (accepted code) → HasKinkAt code.crossings c p
+    → length code.crossings ≡ k + 1 → ((i : ℕ) → i < k → bit new i ≡ bit state (early c k i)) → bit state c ≡ closing_at p
+    → circle_count code state ≡ parts_circle_count (arc_count code.crossings + 1) (without_kink code c) new + 1
+circles-closing code c p k state new is kink size agree closes =
+    let twice = HasArcsTwice-accepted code is in
+    let within : c ≤ k = omega (arith, kink.below, size) in
+    let left = circles-dropped code (nat_eq c) (early c k) k state new twice (kept_are code c k size within)
+    (λ i below. early-low (length code.crossings) c k i size within below) agree in
+    let more = class_count-closing code.crossings (arc_count code.crossings + 1) state c p twice kink (omega arith) closes in
+    omega (arith, left, before code state twice, more)

@@ -6,6 +6,7 @@ use Rattle.std.proofs.lemmas.Bool.{cases_Bool, ne_eqb}
 use Rattle.std.proofs.lemmas.List.{length-map}
 use Rattle.std.proofs.lemmas.List.FromFn.{length-map-range_with_len}
 use Rattle.std.proofs.lemmas.List.Sums.{count_by-le-length}
+use Rattle.std.proofs.lemmas.Bool.Decides.{nat_tests}
 use Rattle.kh_types.specs.Acceptance.{accepted}
 use Rattle.kh_types.specs.Bits.{one_if, ones}
 use Rattle.kh_types.specs.Code.{Code, arc_count}
@@ -28,8 +29,8 @@ use Rattle.kinks_and_fingers.proofs.Smoothed.{dart_in-below, dart_in-place}
 use Rattle.kinks_and_fingers.proofs.OldDarts.{heads-partner, dart_in-slot}
 use Rattle.kinks_and_fingers.proofs.KinkDrops.{kink-partner}
 use Rattle.kinks_and_fingers.proofs.KeptCodes.{length-kept}
-use Rattle.kinks_and_fingers.proofs.StrandCircles.{count-parts, count_by-cons}
-use Rattle.kinks_and_fingers.proofs.KinkClosing.{kept_are, circles-through, circles-closing}
+use Rattle.kinks_and_fingers.proofs.StandingNames.{count-parts, count_by-cons}
+use Rattle.kinks_and_fingers.proofs.KinkCircles.{kept_are, circles-through, circles-closing}
 use Rattle.gluing.proofs.KinkSums.{term_of-positive_kink, term_of-negative_kink}
 use Rattle.kinks_and_fingers.proofs.Insertions.{int_sum-with_bit, HasBit-with_bit}
 use Rattle.gluing.proofs.SlidSums.{signed_by-difference}
@@ -37,15 +38,7 @@ use Rattle.gluing.proofs.SlidSums.{signed_by-difference}
 -- the sign of a kink
 
 sign-by_slot : (b : Bool) (p : ℕ) → p < 4 → enters b ((p + 1) % 4) ≡ not (enters b (p % 4)) → b ≡ nat_eq (p % 2) 0
-sign-by_slot true zero below same = refl
-sign-by_slot true (suc zero) below same = sym same
-sign-by_slot true (suc (suc zero)) below same = refl
-sign-by_slot true (suc (suc (suc zero))) below same = same
-sign-by_slot false zero below same = sym same
-sign-by_slot false (suc zero) below same = refl
-sign-by_slot false (suc (suc zero)) below same = same
-sign-by_slot false (suc (suc (suc zero))) below same = refl
-sign-by_slot b (suc (suc (suc (suc p)))) below same = absurd (omega (arith, below))
+sign-by_slot b p below same = grind (arith, nat_tests)
 
 pub kink-sign : (code : Code) (c p : ℕ) → IsTrue (accepted code) → HasKinkAt code.crossings c p
     → positive_at code.crossings c ≡ nat_eq (p % 2) 0
@@ -77,26 +70,10 @@ count-filter p q [] = refl
 count-filter p q (x ∷ xs) =
     let rest = count-filter p q xs in
     let step = count_by-cons (λ x. p x && q x) x xs in
-    elim (cases_Bool (q x)) [
-      | inl taken ↦
-          ap (λ t. count_by p (cond t (x ∷ filter q xs) (filter q xs))) taken ∙ count_by-cons p x (filter q xs)
-          ∙ ap (λ m. cond (p x) 1 0 + m) rest
-          ∙ ap (λ t. cond t 1 0 + count_by (λ x. p x && q x) xs) (sym (and-true (p x) (q x) taken)) ∙ sym step
-      | inr left ↦
-          ap (λ t. count_by p (cond t (x ∷ filter q xs) (filter q xs))) left ∙ rest
-          ∙ (let z : count_by (λ x. p x && q x) xs ≡ 0 + count_by (λ x. p x && q x) xs = omega arith in z)
-          ∙ ap (λ t. cond t 1 0 + count_by (λ x. p x && q x) xs) (sym (and-false (p x) (q x) left)) ∙ sym step
-    ]
-  where
-    and-true : (a b : Bool) → b ≡ true → (a && b) ≡ a
-    and-true true b is = is
-    and-true false b is = refl
+    let first = count_by-cons p x (filter q xs) in
+    grind (arith, nat_tests, rest, step, first)
 
-    and-false : (a b : Bool) → b ≡ false → (a && b) ≡ false
-    and-false true b is = is
-    and-false false b is = refl
-
-count-none : (a n : ℕ) → count_by (λ x. false) (range_with_len a n) ≡ 0
+pub count-none : (a n : ℕ) → count_by (λ x. false) (range_with_len a n) ≡ 0
 count-none a zero = refl
 count-none a (suc n) =
     let rest = count-none (a + 1) n in count_by-cons (λ x. false) a (range_with_len (a + 1) n) ∙ omega (arith, rest)
@@ -117,13 +94,10 @@ count-one p c n below = elim (cases_Bool (p c)) [
 ]
   where
     and-off : (a : Bool) → (a && false) ≡ false
-    and-off true = refl
-    and-off false = refl
+    and-off a = grind (arith, nat_tests)
 
     off : (a b : Bool) → (b ≡ true → a ≡ false) → (a && b) ≡ false
-    off a true tells = ap (λ t. t && true) (tells refl)
-    off true false tells = refl
-    off false false tells = refl
+    off a b tells = grind (arith, nat_tests)
 
 pub plus-kept : (code : Code) (c : ℕ) → c < length code.crossings
     → plus_count code.crossings ≡ cond (positive_at code.crossings c) 1 0 + parts_plus (without_kink code c)

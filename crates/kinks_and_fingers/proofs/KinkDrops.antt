@@ -1,5 +1,5 @@
 -- A crossing with a kink is dropped.
-use Rattle.std.proofs.Common.{◌≡◌, ◌≢◌, ℕ, ◌⊎◌, inl, inr, ◌+◌, ◌*◌, ◌/◌, ◌%◌, ◌<◌, ◌≤◌, ◌∙◌, List, sym, ap, subst, arith, refl, Bool, true, false, not, ◌||◌, length, IsTrue, cond, eqb-true, eq-eqb}
+use Rattle.std.proofs.Common.{◌≡◌, ◌≢◌, ℕ, ◌⊎◌, inl, inr, ◌+◌, ◌*◌, ◌/◌, ◌%◌, ◌<◌, ◌≤◌, ◌∙◌, List, sym, ap, subst, arith, refl, Bool, true, not, ◌||◌, length, IsTrue, cond, eqb-true, eq-eqb}
 use Rattle.std.specs.Prelude.{nat_eq, slice_index, min}
 use Rattle.std.specs.List.{filter, range_with_len}
 use Rattle.std.proofs.lemmas.Bool.Decides.{nat_tests}
@@ -52,72 +52,44 @@ on_arcs-across crossings f c across = (
 abbrev pub pair_of : (ℕ → ℕ) → ℕ → ℕ
 pair_of partner x = min x (partner x)
 
-min_cases : (a b : ℕ) → (min a b ≡ a) ⊎ (min a b ≡ b)
-min_cases a b = grind (arith, nat_tests)
-
 pub pair_of-partner : (m : ℕ) (partner : ℕ → ℕ) → IsPairing m partner → (x : ℕ) → x < m
     → pair_of partner (partner x) ≡ pair_of partner x
-pair_of-partner m partner pairing x below = ap (min (partner x)) (pairing.back x below) ∙ min_swapped (partner x) x
+pair_of-partner m partner pairing x below = plain partner x (pairing.back x below)
   where
-    min_swapped : (a b : ℕ) → min a b ≡ min b a
-    min_swapped a b = grind (arith, nat_tests)
+    plain : (partner : ℕ → ℕ) (x : ℕ) → partner (partner x) ≡ x → pair_of partner (partner x) ≡ pair_of partner x
+    plain partner x back = grind (arith, nat_tests)
 
 pub pair_of-same : (m : ℕ) (partner : ℕ → ℕ) → IsPairing m partner → (x y : ℕ) → x < m → y < m
     → pair_of partner x ≡ pair_of partner y → (y ≡ x) ⊎ (y ≡ partner x)
-pair_of-same m partner pairing x y x_below y_below same = elim (min_cases x (partner x)) [
-  | inl at_x ↦ elim (min_cases y (partner y)) [
-    | inl at_y ↦ inl (sym at_y ∙ sym same ∙ at_x)
-    | inr at_y ↦ inr (sym (pairing.back y y_below) ∙ ap partner (sym at_y ∙ sym same ∙ at_x))
-  ]
-  | inr at_x ↦ elim (min_cases y (partner y)) [
-    | inl at_y ↦ inr (sym at_y ∙ sym same ∙ at_x)
-    | inr at_y ↦ inl (sym (pairing.back y y_below) ∙ ap partner (sym at_y ∙ sym same ∙ at_x) ∙ pairing.back x x_below)
-  ]
-]
+pair_of-same m partner pairing x y x_below y_below same = plain partner x y (pairing.back x x_below) (pairing.back y y_below) same
+  where
+    plain : (partner : ℕ → ℕ) (x y : ℕ) → partner (partner x) ≡ x → partner (partner y) ≡ y → pair_of partner x ≡ pair_of partner y
+        → (y ≡ x) ⊎ (y ≡ partner x)
+    plain partner x y back_x back_y same = grind (arith, nat_tests)
 
 -- a test with the other value at two darts
 abbrev pub turned_at : (ℕ → Bool) → ℕ → ℕ → ℕ → Bool
 turned_at test v s x = cond (nat_eq x v || nat_eq x s) (not (test x)) (test x)
 
 pub turned_at-there : (test : ℕ → Bool) (v s x : ℕ) → (x ≡ v) ⊎ (x ≡ s) → turned_at test v s x ≡ not (test x)
-turned_at-there test v s x is = ap (λ b. cond b (not (test x)) (test x)) (there v s x is)
-  where
-    there : (v s x : ℕ) → (x ≡ v) ⊎ (x ≡ s) → (nat_eq x v || nat_eq x s) ≡ true
-    there v s x is = grind (arith, nat_tests)
+turned_at-there test v s x is = grind (arith, nat_tests)
 
 pub turned_at-else : (test : ℕ → Bool) (v s x : ℕ) → x ≢ v → x ≢ s → turned_at test v s x ≡ test x
-turned_at-else test v s x not_v not_s = ap (λ b. cond b (not (test x)) (test x)) (away v s x not_v not_s)
-  where
-    away : (v s x : ℕ) → x ≢ v → x ≢ s → (nat_eq x v || nat_eq x s) ≡ false
-    away v s x not_v not_s = grind (arith, nat_tests)
-
-one_of_two : (v s x : ℕ) → (x ≡ v) ⊎ ((x ≡ s) ⊎ ((x ≢ v) × (x ≢ s)))
-one_of_two v s x = grind arith
+turned_at-else test v s x not_v not_s = grind (arith, nat_tests)
 
 -- where v and s are partners the turned test is told apart by partners, as the test is
 pub turned_at-flips : (m : ℕ) (partner : ℕ → ℕ) (test : ℕ → Bool) (v s : ℕ) → IsPairing m partner → v < m → partner v ≡ s
     → ((x : ℕ) → x < m → test (partner x) ≡ not (test x))
     → (x : ℕ) → x < m → turned_at test v s (partner x) ≡ not (turned_at test v s x)
 turned_at-flips m partner test v s pairing v_below mates flips x below =
-    let back_v : partner s ≡ v = ap partner (sym mates) ∙ pairing.back v v_below in
-    let both : ((partner x ≡ v) ⊎ (partner x ≡ s)) → ((x ≡ v) ⊎ (x ≡ s))
-    → turned_at test v s (partner x) ≡ not (turned_at test v s x) =
-    λ image here. turned_at-there test v s (partner x) image ∙ ap not (flips x below) ∙ ap not (sym (turned_at-there test v s x here)) in
-    elim (one_of_two v s x) [
-      | inl is_v ↦ both (inr (ap partner is_v ∙ mates)) (inl is_v)
-      | inr more ↦ elim more [
-        | inl is_s ↦ both (inl (ap partner is_s ∙ back_v)) (inr is_s)
-        | inr none ↦
-            turned_at-else test v s (partner x)
-            (λ same. none.1 (sym (pairing.back x below) ∙ ap partner same ∙ mates))
-            (λ same. none.0 (sym (pairing.back x below) ∙ ap partner same ∙ back_v))
-            ∙ flips x below ∙ ap not (sym (turned_at-else test v s x none.0 none.1))
-      ]
-    ]
+    plain partner test v s x mates (pairing.back v v_below) (pairing.back x below) (flips x below)
+  where
+    plain : (partner : ℕ → ℕ) (test : ℕ → Bool) (v s x : ℕ) → partner v ≡ s → partner (partner v) ≡ v → partner (partner x) ≡ x
+        → test (partner x) ≡ not (test x) → turned_at test v s (partner x) ≡ not (turned_at test v s x)
+    plain partner test v s x mates back_v back_x flips = grind (arith, nat_tests)
 
 pub twice_not : (b : Bool) → not (not b) ≡ b
-twice_not true = refl
-twice_not false = refl
+twice_not b = grind (arith, nat_tests)
 
 pub kink-partner : (crossings : List (List ℕ)) (c p : ℕ) → HasArcsTwice crossings → HasKinkAt crossings c p
     → partner_at crossings (dart_in c p) ≡ dart_in c (p + 1)

@@ -1,7 +1,8 @@
 -- The partners in a code with a kink are those that the law on planar kinks speaks of; so it has the faces of a drawing on the sphere.
-use Rattle.std.proofs.Common.{◌≡◌, ◌≢◌, ℕ, ◌⊎◌, inl, inr, ◌+◌, ◌*◌, ◌/◌, ◌<◌, ◌≤◌, ◌∙◌, List, length, refl, sym, ap, subst, arith, Bool, true, false}
+use Rattle.std.proofs.Common.{◌≡◌, ◌≢◌, ℕ, ◌⊎◌, inl, inr, ◌+◌, ◌*◌, ◌/◌, ◌<◌, ◌∙◌, List, length, refl, sym, ap, subst, arith, Bool, true, false}
 use Rattle.std.specs.Prelude.{IsTrue, nat_eq}
 use Rattle.std.proofs.lemmas.Bool.{cases_Bool, cases_lt}
+use Rattle.std.proofs.lemmas.Bool.Decides.{nat_tests}
 use Rattle.kh_types.specs.declared.dart.Dart.{Dart}
 use Rattle.kh_types.specs.Code.{Code, IsArc}
 use Rattle.kh_types.specs.Classes.{classes_of, class_count}
@@ -23,13 +24,10 @@ use Rattle.kinks_and_fingers.specs.Pulls.{kinked, AreNew}
 use Rattle.kinks_and_fingers.proofs.PulledDarts.{AreKinked}
 use Rattle.kinks_and_fingers.proofs.OldDarts.{IsClosedPlanar-accepted}
 use Rattle.kinks_and_fingers.proofs.KinkAdded.{AreKinked-kinked, IsClosedPlanar-kinked}
-use Rattle.kinks_and_fingers.proofs.KinkEnds.{kinked_crossings}
 use Rattle.kinks_and_fingers.proofs.MovableArcs.{IsKinkable}
-use Rattle.kinks_and_fingers.proofs.Numbers.{last-own, raised-own}
-use Rattle.kinks_and_fingers.proofs.KinkSlots.{length-kinked, start_slot, end_slot, inner_slot, outer_slot, HasKinkSlots-new, AreFour-kink}
-use Rattle.kinks_and_fingers.proofs.KinkDirected.{IsDart-old, IsDart-new, tail_dart, head_dart, old_or_new, slots_apart}
-use Rattle.kinks_and_fingers.proofs.KinkSizes.{IsKinkable-accepted, IsDirected-kinked, component_count-kinked}
-use Rattle.kinks_and_fingers.proofs.KinkSigns.{arc_of-other}
+use Rattle.kinks_and_fingers.proofs.KinkSlots.{kinked_crossings, last, length-kinked, arc_of-other, start_slot, end_slot, inner_slot, outer_slot, HasKinkSlots-new, AreFour-kink}
+use Rattle.kinks_and_fingers.proofs.AddedCodes.{IsDart-old, IsDart-new, tail_dart, head_dart, old_or_new}
+use Rattle.kinks_and_fingers.proofs.KinkedCodes.{IsAdded-kink, IsDirected-kinked, IsKinkable-accepted, IsNew-kink, component_count-kinked}
 
 -- two darts of an arc are partners, by their places
 pub partner-of : (crossings : List (List ℕ)) (dart other : Dart) → HasArcsTwice crossings → IsDart crossings dart → IsDart crossings other
@@ -55,63 +53,24 @@ both-ways crossings dart other j k twice is other_is apart same place other_plac
       ∙ partner-of crossings other dart twice other_is is (λ alike. apart (sym alike)) (sym same) ∙ place,
 )
 
+-- the numbers of the arc with the kink at its ends
+pub raised-own : (a : ℕ) → raised a a ≡ a
+raised-own a = grind (arith, nat_tests)
+
+pub last-own : (a : ℕ) → last a a ≡ a + 2
+last-own a = grind (arith, nat_tests)
+
 -- the place of a dart of the new crossing
 place-new : (n slot : ℕ) → dart_place (dart_with (n + 1) slot) ≡ 4 * n + slot
 place-new n slot = omega arith
 
 -- the four darts of the new crossing
-AreNew-four : (n p q r s : ℕ) → p < 4 → q < 4 → r < 4 → s < 4 → p ≢ q → p ≢ r → p ≢ s → q ≢ r → q ≢ s → r ≢ s → turned s ≡ r
-    → ((z : ℕ) → 4 * n ≤ z → z < 4 * (n + 1)
-    → ((z ≡ 4 * n + p) ⊎ (z ≡ 4 * n + q)) ⊎ ((z ≡ 4 * n + r) ⊎ (z ≡ 4 * n + s)))
-    → AreNew n (4 * n + p) (4 * n + q) (4 * n + r) (4 * n + s)
-AreNew-four n p q r s p4 q4 r4 s4 pq pr ps qr qs rs beside all = record {
-  u_from = omega arith;
-  w_from = omega arith;
-  v_from = omega arith;
-  s_from = omega arith;
-  u_below = omega (arith, p4);
-  w_below = omega (arith, q4);
-  v_below = omega (arith, r4);
-  s_below = omega (arith, s4);
-  u_w = λ same. pq (omega (arith, same));
-  u_v = λ same. pr (omega (arith, same));
-  u_s = λ same. ps (omega (arith, same));
-  w_v = λ same. qr (omega (arith, same));
-  w_s = λ same. qs (omega (arith, same));
-  v_s = λ same. rs (omega (arith, same));
-  beside = turned_there n s ∙ ap (λ k. 4 * n + k) beside;
-  all = all;
-}
-  where
-    turned_there : (n s : ℕ) → turned (4 * n + s) ≡ 4 * n + turned s
-    turned_there n s = omega arith
-
 AreNew-kink : (n : ℕ) (over positive : Bool)
     → AreNew n (4 * n + start_slot over positive) (4 * n + end_slot over positive) (4 * n + inner_slot over positive) (4 * n + outer_slot over positive)
-AreNew-kink n true true =
-    AreNew-four n 3 2 0 1 (omega arith) (omega arith) (omega arith) (omega arith) (λ s. omega (arith, s)) (λ s. omega (arith, s))
-    (λ s. omega (arith, s)) (λ s. omega (arith, s)) (λ s. omega (arith, s)) (λ s. omega (arith, s)) refl (λ z from below. one_of n z from below)
-  where
-    one_of : (n z : ℕ) → 4 * n ≤ z → z < 4 * (n + 1) → ((z ≡ 4 * n + 3) ⊎ (z ≡ 4 * n + 2)) ⊎ ((z ≡ 4 * n + 0) ⊎ (z ≡ 4 * n + 1))
-    one_of n z from below = grind arith
-AreNew-kink n true false =
-    AreNew-four n 1 2 3 0 (omega arith) (omega arith) (omega arith) (omega arith) (λ s. omega (arith, s)) (λ s. omega (arith, s))
-    (λ s. omega (arith, s)) (λ s. omega (arith, s)) (λ s. omega (arith, s)) (λ s. omega (arith, s)) refl (λ z from below. one_of n z from below)
-  where
-    one_of : (n z : ℕ) → 4 * n ≤ z → z < 4 * (n + 1) → ((z ≡ 4 * n + 1) ⊎ (z ≡ 4 * n + 2)) ⊎ ((z ≡ 4 * n + 3) ⊎ (z ≡ 4 * n + 0))
-    one_of n z from below = grind arith
-AreNew-kink n false true =
-    AreNew-four n 0 1 2 3 (omega arith) (omega arith) (omega arith) (omega arith) (λ s. omega (arith, s)) (λ s. omega (arith, s))
-    (λ s. omega (arith, s)) (λ s. omega (arith, s)) (λ s. omega (arith, s)) (λ s. omega (arith, s)) refl (λ z from below. one_of n z from below)
-  where
-    one_of : (n z : ℕ) → 4 * n ≤ z → z < 4 * (n + 1) → ((z ≡ 4 * n + 0) ⊎ (z ≡ 4 * n + 1)) ⊎ ((z ≡ 4 * n + 2) ⊎ (z ≡ 4 * n + 3))
-    one_of n z from below = grind arith
-AreNew-kink n false false =
-    AreNew-four n 0 3 1 2 (omega arith) (omega arith) (omega arith) (omega arith) (λ s. omega (arith, s)) (λ s. omega (arith, s))
-    (λ s. omega (arith, s)) (λ s. omega (arith, s)) (λ s. omega (arith, s)) (λ s. omega (arith, s)) refl (λ z from below. one_of n z from below)
-  where
-    one_of : (n z : ℕ) → 4 * n ≤ z → z < 4 * (n + 1) → ((z ≡ 4 * n + 0) ⊎ (z ≡ 4 * n + 3)) ⊎ ((z ≡ 4 * n + 1) ⊎ (z ≡ 4 * n + 2))
-    one_of n z from below = grind arith
+AreNew-kink n true true = grind arith
+AreNew-kink n true false = grind arith
+AreNew-kink n false true = grind arith
+AreNew-kink n false false = grind arith
 
 -- two partner functions that meet what is said of a kink's are one
 AreKinked-one : (n : ℕ) (partner : ℕ → ℕ) (x u w v s : ℕ) (new other : ℕ → ℕ) → AreNew n u w v s → AreKinked n partner x u w v s new
@@ -155,22 +114,23 @@ AreKinked-code crossings a over positive can =
     let head = head_of crossings a in
     let slots = HasKinkSlots-new crossings a over positive in
     let four = AreFour-kink over positive in
-    let fresh = λ (slot : ℕ) (below : slot < 4). IsDart-new crossings a over positive slot below in
-    let tail_is = IsDart-old crossings a over positive tail ends.tail.within in
-    let head_is = IsDart-old crossings a over positive head ends.head.within in
+    let added = IsAdded-kink crossings a over positive can in
+    let fresh = λ (slot : ℕ) (below : slot < 4). IsDart-new added (n + 1) slot (IsNew-kink crossings a over positive) below in
+    let tail_is = IsDart-old added tail ends.tail.within in
+    let head_is = IsDart-old added head ends.head.within in
     let tail_head : tail ≢ head = λ same. ends.leaves (ap (λ d. is_head crossings d) same ∙ ends.enters) in
     let partner_is : partner_at crossings (dart_place tail) ≡ dart_place head =
     partner-of crossings tail head twice ends.tail.within ends.head.within tail_head (ends.tail.on_arc ∙ sym ends.head.on_arc) in
     let start = both-ways new tail (dart_with (n + 1) (start_slot over positive)) (dart_place tail) (4 * n + start_slot over positive) new_twice
-    tail_is (fresh (start_slot over positive) four.start) (old_or_new crossings tail (start_slot over positive) ends.tail.within)
-    (tail_dart crossings a over positive a ends ∙ raised-own a ∙ sym slots.start) refl (place-new n (start_slot over positive)) in
+    tail_is (fresh (start_slot over positive) four.start) (old_or_new crossings tail (n + 1) (start_slot over positive) ends.tail.within (omega arith))
+    (tail_dart added a ends ∙ raised-own a ∙ sym slots.start) refl (place-new n (start_slot over positive)) in
     let end = both-ways new head (dart_with (n + 1) (end_slot over positive)) (dart_place head) (4 * n + end_slot over positive) new_twice
-    head_is (fresh (end_slot over positive) four.end) (old_or_new crossings head (end_slot over positive) ends.head.within)
-    (head_dart crossings a over positive a ends ∙ last-own a a refl ∙ sym slots.end) refl (place-new n (end_slot over positive)) in
+    head_is (fresh (end_slot over positive) four.end) (old_or_new crossings head (n + 1) (end_slot over positive) ends.head.within (omega arith))
+    (head_dart added a ends ∙ last-own a ∙ sym slots.end) refl (place-new n (end_slot over positive)) in
     let middle = both-ways new (dart_with (n + 1) (inner_slot over positive)) (dart_with (n + 1) (outer_slot over positive))
     (4 * n + inner_slot over positive) (4 * n + outer_slot over positive) new_twice
     (fresh (inner_slot over positive) four.inner) (fresh (outer_slot over positive) four.outer)
-    (slots_apart (n + 1) (inner_slot over positive) (outer_slot over positive) four.apart)
+    (λ same. four.apart (ap (λ (d : Dart). d.slot) same))
     (slots.inner ∙ sym slots.outer) (place-new n (inner_slot over positive)) (place-new n (outer_slot over positive)) in
     record {
       at_x = start.0;

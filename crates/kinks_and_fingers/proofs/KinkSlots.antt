@@ -1,19 +1,26 @@
 -- The slots of a code with a kink.
-use Rattle.std.proofs.Common.{◌≡◌, ℕ, zero, suc, ◌+◌, ◌-◌, ◌<◌, ◌≢◌, ◌∙◌, List, [], ◌∷◌, length, refl, sym, ap, subst, arith, Bool, true, false}
+use Rattle.std.proofs.Common.{◌≡◌, ℕ, zero, suc, ◌+◌, ◌-◌, ◌<◌, ◌≢◌, ◌∙◌, List, [], ◌∷◌, ◌++◌, length, refl, sym, ap, subst, arith, Bool, true, false}
 use Rattle.std.specs.Prelude.{slice_index_or, nat_eq, ◌&&◌, if◌then◌else◌}
 use Rattle.std.specs.List.{range_with_len}
 use Rattle.std.proofs.lemmas.List.{get_or_append_left, get_or-append-add, get_or-map, length-append, length-map}
 use Rattle.std.proofs.lemmas.List.FromFn.{length-range_with_len, get_or-range_with_len}
+use Rattle.std.proofs.lemmas.Bool.Decides.{nat_tests}
 use Rattle.kh_types.specs.declared.dart.Dart.{Dart}
 use Rattle.kh_types.specs.Code.{arc_in, slots_of}
 use Rattle.kh_types.specs.Darts.{arc_of, IsDart}
 use Rattle.kh_types.specs.Directions.{is_head, is_positive, positive_at}
-use Rattle.kinks_and_fingers.proofs.FingerSlots.{HasPasses}
+use Rattle.kinks_and_fingers.proofs.PassEnds.{HasPasses}
 use Rattle.gluing.specs.Arcs.{enters}
 use Rattle.code_passes.specs.Parts.{slots_in}
 use Rattle.kinks_and_fingers.specs.KinkAdds.{raised, kinked_name, kinked_slots, kink_crossing, raised_crossings}
-use Rattle.kinks_and_fingers.proofs.KinkEnds.{kinked_crossings}
-use Rattle.kinks_and_fingers.proofs.Numbers.{last}
+
+-- the crossings with a kink on the arc a, whose first pass is over or under, and which is positive or negative
+abbrev pub kinked_crossings : List (List ℕ) → ℕ → Bool → Bool → List (List ℕ)
+kinked_crossings crossings a is_over is_positive = raised_crossings a crossings ++ kink_crossing is_over is_positive a ∷ []
+
+-- the number at the head of an old arc: of the arc a, which has three parts now, it is the last part
+abbrev pub last : ℕ → ℕ → ℕ
+last a x = if nat_eq x a then a + 2 else raised a x
 
 pub length-moved : (crossings : List (List ℕ)) (a : ℕ) → length (raised_crossings a crossings) ≡ length crossings
 length-moved crossings a =
@@ -77,8 +84,7 @@ arc_of-head crossings a over positive dart is head =
     ∙ ap (λ h. kinked_name a h (arc_of crossings dart)) head ∙ with_true (nat_eq (arc_of crossings dart) a) (a + 2) (raised a (arc_of crossings dart))
   where
     with_true : (b : Bool) (x y : ℕ) → (if b && true then x else y) ≡ (if b then x else y)
-    with_true true x y = refl
-    with_true false x y = refl
+    with_true b x y = grind (arith, nat_tests)
 
 pub arc_of-tail : (crossings : List (List ℕ)) (a : ℕ) (over positive : Bool) (dart : Dart) → IsDart crossings dart
     → is_head crossings dart ≡ false
@@ -88,28 +94,28 @@ arc_of-tail crossings a over positive dart is tail =
     ∙ ap (λ h. kinked_name a h (arc_of crossings dart)) tail ∙ with_false (nat_eq (arc_of crossings dart) a) (a + 2) (raised a (arc_of crossings dart))
   where
     with_false : (b : Bool) (x y : ℕ) → (if b && false then x else y) ≡ y
-    with_false true x y = refl
-    with_false false x y = refl
+    with_false b x y = grind (arith, nat_tests)
 
--- where the passes of the new crossing begin and end: the first pass goes from a to a+1, the second from there to a+2
+-- the arc there, where it is not a
+pub arc_of-other : (crossings : List (List ℕ)) (a : ℕ) (over positive : Bool) (dart : Dart) → IsDart crossings dart
+    → arc_of crossings dart ≢ a
+    → arc_of (kinked_crossings crossings a over positive) dart ≡ raised a (arc_of crossings dart)
+arc_of-other crossings a over positive dart is not_a =
+    arc_of-old crossings a over positive dart is ∙ plain a (is_head crossings dart) (arc_of crossings dart) not_a
+  where
+    plain : (a : ℕ) (head : Bool) (x : ℕ) → x ≢ a → kinked_name a head x ≡ raised a x
+    plain a head x other = grind (arith, nat_tests)
+
+-- the numbers on which the passes of the new crossing enter
 abbrev pub under_start : Bool → ℕ → ℕ
 under_start over a = if over then a + 1 else a
-
-abbrev pub under_end : Bool → ℕ → ℕ
-under_end over a = if over then a + 2 else a + 1
 
 abbrev pub over_start : Bool → ℕ → ℕ
 over_start over a = if over then a else a + 1
 
-abbrev pub over_end : Bool → ℕ → ℕ
-over_end over a = if over then a + 1 else a + 2
-
 pub HasPasses-kink : (over positive : Bool) (a : ℕ)
-    → HasPasses (kink_crossing over positive a) positive (under_start over a) (under_end over a) (over_start over a) (over_end over a)
-HasPasses-kink true true a = record { under_from = refl; under_to = refl; over_from = refl; over_to = refl }
-HasPasses-kink true false a = record { under_from = refl; under_to = refl; over_from = refl; over_to = refl }
-HasPasses-kink false true a = record { under_from = refl; under_to = refl; over_from = refl; over_to = refl }
-HasPasses-kink false false a = record { under_from = refl; under_to = refl; over_from = refl; over_to = refl }
+    → HasPasses (kink_crossing over positive a) positive (under_start over a) (under_start over a + 1) (over_start over a) (over_start over a + 1)
+HasPasses-kink over positive a = grind (arith, nat_tests)
 
 -- the slots of the new crossing where a, a+2, and twice a+1 stand
 abbrev pub start_slot : Bool → Bool → ℕ
@@ -141,10 +147,7 @@ pub record HasKinkSlots (slots : List ℕ) (a : ℕ) (over positive : Bool) : Ty
   pub outer : arc_in slots (outer_slot over positive) ≡ a + 1
 
 pub HasKinkSlots-kink : (over positive : Bool) (a : ℕ) → HasKinkSlots (kink_crossing over positive a) a over positive
-HasKinkSlots-kink true true a = record { start = refl; end = refl; inner = refl; outer = refl }
-HasKinkSlots-kink true false a = record { start = refl; end = refl; inner = refl; outer = refl }
-HasKinkSlots-kink false true a = record { start = refl; end = refl; inner = refl; outer = refl }
-HasKinkSlots-kink false false a = record { start = refl; end = refl; inner = refl; outer = refl }
+HasKinkSlots-kink over positive a = grind (arith, nat_tests)
 
 pub HasKinkSlots-new : (crossings : List (List ℕ)) (a : ℕ) (over positive : Bool)
     → HasKinkSlots (slots_of (kinked_crossings crossings a over positive) (length crossings + 1)) a over positive
@@ -159,7 +162,4 @@ pub record AreFour (over positive : Bool) : Type 0 where
   pub apart : inner_slot over positive ≢ outer_slot over positive
 
 pub AreFour-kink : (over positive : Bool) → AreFour over positive
-AreFour-kink true true = record { start = omega arith; end = omega arith; inner = omega arith; outer = omega arith; apart = λ same. omega (arith, same) }
-AreFour-kink true false = record { start = omega arith; end = omega arith; inner = omega arith; outer = omega arith; apart = λ same. omega (arith, same) }
-AreFour-kink false true = record { start = omega arith; end = omega arith; inner = omega arith; outer = omega arith; apart = λ same. omega (arith, same) }
-AreFour-kink false false = record { start = omega arith; end = omega arith; inner = omega arith; outer = omega arith; apart = λ same. omega (arith, same) }
+AreFour-kink over positive = grind (arith, nat_tests)

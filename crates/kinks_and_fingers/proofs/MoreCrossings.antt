@@ -18,7 +18,7 @@ use Rattle.kh_types.specs.Permutations.{IsPermutation, step_pair, cycles_of}
 use Rattle.kh_types.specs.Darts.{IsPairing, turned, face_step}
 use Rattle.kh_types.specs.Faces.{piece_pair, open_faces, open_pieces}
 use Rattle.face_walk.specs.AddedArcs.{IsPlanar, HasArcMore, is_open, open_face_count, open_piece_count, open_dart_count}
-use Rattle.kinks_and_fingers.proofs.Steps.{same_or_other, all_on, all_of, AreBelow-piece_pair}
+use Rattle.kinks_and_fingers.proofs.Steps.{all_on, all_of, AreBelow-piece_pair}
 use Rattle.face_walk.proofs.OpenFaces.{turned-below, crossing-below, AreCycles-open_faces, IsNamed-open_pieces}
 use Rattle.face_walk.proofs.AddedArcs.{open_dart_count-more, open_faces-split, JoinsPieces-apart, StaysInPiece-together, IsPairing-more}
 use Rattle.kh_types.proofs.ExchangedCycles.{AreJoined-count}
@@ -267,20 +267,7 @@ turned_from n x from below = omega (arith, from, below)
 
 pub turned_last : (n x : ℕ) → 4 * n ≤ x → x < 4 * (n + 1)
     → (x ≡ 4 * n) ⊎ ((turned x ≡ 4 * n) ⊎ ((turned (turned x) ≡ 4 * n) ⊎ (turned (turned (turned x)) ≡ 4 * n)))
-turned_last n x from below = elim (same_or_other x (4 * n)) [
-  | inl zeroth ↦ inl zeroth
-  | inr not_zeroth ↦ elim (same_or_other x (4 * n + 1)) [
-    | inl first ↦ inr (inl (omega (arith, first)))
-    | inr not_first ↦ elim (same_or_other x (4 * n + 2)) [
-      | inl second ↦ inr (inr (inl (omega (arith, second))))
-      | inr not_second ↦ inr (inr (inr (third n x from below not_zeroth not_first not_second)))
-    ]
-  ]
-]
-  where
-    third : (n x : ℕ) → 4 * n ≤ x → x < 4 * (n + 1) → x ≢ 4 * n → x ≢ 4 * n + 1 → x ≢ 4 * n + 2 → turned (turned (turned x)) ≡ 4 * n
-    third n x from below not_zeroth not_first not_second =
-        let is : x ≡ 4 * n + 3 = omega (arith, from, below, not_zeroth, not_first, not_second) in omega (arith, is)
+turned_last n x from below = grind arith
 
 pub open_face_count-bare : (n : ℕ) (partner more : ℕ → ℕ) → IsPairing (4 * n) partner → ((x : ℕ) → x < 4 * n → more x ≡ partner x)
     → ((x : ℕ) → 4 * n ≤ x → x < 4 * (n + 1) → more x ≡ x) → open_face_count (n + 1) more ≡ open_face_count n partner + 1

@@ -1,6 +1,7 @@
 -- The darts of an accepted code, by their places.
-use Rattle.std.proofs.Common.{◌≡◌, ◌≢◌, ℕ, ◌⊎◌, inl, inr, ◌+◌, ◌-◌, ◌*◌, ◌/◌, ◌%◌, ◌<◌, ◌∙◌, List, sym, ap, arith, Bool, true, false, not, length, IsTrue}
+use Rattle.std.proofs.Common.{◌≡◌, ◌≢◌, ℕ, ◌⊎◌, inl, inr, ◌+◌, ◌-◌, ◌*◌, ◌/◌, ◌%◌, ◌<◌, ◌∙◌, List, sym, ap, arith, Bool, not, length, IsTrue}
 use Rattle.std.specs.Prelude.{nat_eq}
+use Rattle.std.proofs.lemmas.Bool.Decides.{nat_tests}
 use Rattle.kh_types.specs.Bits.{bit}
 use Rattle.kh_types.specs.Code.{Code, arc_count}
 use Rattle.kh_types.specs.Acceptance.{accepted}
@@ -55,19 +56,7 @@ heads-partner crossings directed moves x below =
     ∙ is_head-partner crossings (dart_at x) directed moves (IsDart-at crossings x below)
 
 flip : (a b : ℕ) → a % 2 ≢ b % 2 → nat_eq (a % 2) 1 ≡ not (nat_eq (b % 2) 1)
-flip a b apart = elim (parity a) [
-  | inl even ↦ elim (parity b) [
-    | inl b_even ↦ absurd (apart (even ∙ sym b_even))
-    | inr b_odd ↦ ap (λ r. nat_eq r 1) even ∙ sym (ap (λ r. not (nat_eq r 1)) b_odd)
-  ]
-  | inr odd ↦ elim (parity b) [
-    | inl b_even ↦ ap (λ r. nat_eq r 1) odd ∙ sym (ap (λ r. not (nat_eq r 1)) b_even)
-    | inr b_odd ↦ absurd (apart (odd ∙ sym b_odd))
-  ]
-]
-  where
-    parity : (x : ℕ) → (x % 2 ≡ 0) ⊎ (x % 2 ≡ 1)
-    parity x = grind arith
+flip a b apart = grind (arith, nat_tests)
 
 pub colours-partner : (crossings : List (List ℕ)) (choice : ℕ) → IsColoured crossings choice → HasArcsTwice crossings → (x : ℕ)
     → x < 4 * length crossings → is_colour choice (partner_at crossings x) ≡ not (is_colour choice x)
@@ -122,24 +111,11 @@ arc_of_dart-in crossings c q =
 
 pub across_cases : (q : ℕ) → (((q % 4 ≡ 0) × ((q + 2) % 4 ≡ 2)) ⊎ ((q % 4 ≡ 1) × ((q + 2) % 4 ≡ 3)))
     ⊎ (((q % 4 ≡ 2) × ((q + 2) % 4 ≡ 0)) ⊎ ((q % 4 ≡ 3) × ((q + 2) % 4 ≡ 1)))
-across_cases q = elim (quarter q) [
-  | inl low ↦ elim low [ inl a ↦ inl (inl (a, omega (arith, a))) | inr a ↦ inl (inr (a, omega (arith, a))) ]
-  | inr high ↦ elim high [ inl a ↦ inr (inl (a, omega (arith, a))) | inr a ↦ inr (inr (a, omega (arith, a))) ]
-]
-  where
-    quarter : (q : ℕ) → ((q % 4 ≡ 0) ⊎ (q % 4 ≡ 1)) ⊎ ((q % 4 ≡ 2) ⊎ (q % 4 ≡ 3))
-    quarter q = grind arith
+across_cases q = grind arith
 
 enters-across : (b : Bool) (r s : ℕ) → (((r ≡ 0) × (s ≡ 2)) ⊎ ((r ≡ 1) × (s ≡ 3))) ⊎ (((r ≡ 2) × (s ≡ 0)) ⊎ ((r ≡ 3) × (s ≡ 1)))
     → enters b s ≡ not (enters b r)
-enters-across true r s (inl (inl at)) = ap (enters true) at.1 ∙ sym (ap (λ z. not (enters true z)) at.0)
-enters-across true r s (inl (inr at)) = ap (enters true) at.1 ∙ sym (ap (λ z. not (enters true z)) at.0)
-enters-across true r s (inr (inl at)) = ap (enters true) at.1 ∙ sym (ap (λ z. not (enters true z)) at.0)
-enters-across true r s (inr (inr at)) = ap (enters true) at.1 ∙ sym (ap (λ z. not (enters true z)) at.0)
-enters-across false r s (inl (inl at)) = ap (enters false) at.1 ∙ sym (ap (λ z. not (enters false z)) at.0)
-enters-across false r s (inl (inr at)) = ap (enters false) at.1 ∙ sym (ap (λ z. not (enters false z)) at.0)
-enters-across false r s (inr (inl at)) = ap (enters false) at.1 ∙ sym (ap (λ z. not (enters false z)) at.0)
-enters-across false r s (inr (inr at)) = ap (enters false) at.1 ∙ sym (ap (λ z. not (enters false z)) at.0)
+enters-across b r s at = grind (arith, nat_tests)
 
 pub heads-across : (crossings : List (List ℕ)) (c q : ℕ)
     → is_code_head crossings (dart_in c (q + 2)) ≡ not (is_code_head crossings (dart_in c q))

@@ -1,5 +1,5 @@
 -- The numbers of arcs after a finger was added.
-use Rattle.std.proofs.Common.{◌≡◌, ◌≢◌, ℕ, ◌⊎◌, ◌+◌, ◌-◌, ◌<◌, ◌≤◌, arith}
+use Rattle.std.proofs.Common.{◌≡◌, ◌≢◌, ℕ, ◌⊎◌, ◌+◌, ◌-◌, ◌≤◌, arith}
 use Rattle.std.specs.Prelude.{nat_lt, if◌then◌else◌}
 use Rattle.std.proofs.lemmas.Bool.Decides.{nat_tests}
 use Rattle.kinks_and_fingers.specs.FingerAdd.{opened, head_number}
@@ -25,37 +25,8 @@ low-head_number a b x apart = grind (arith, nat_tests)
 pub head_number-one : (a b x : ℕ) → IsOneOf a b x → head_number a b x ≡ opened a b x + 2
 head_number-one a b x is = grind (arith, nat_tests)
 
-pub head_number-other : (a b x : ℕ) → x ≢ a → x ≢ b → head_number a b x ≡ opened a b x
-head_number-other a b x not_a not_b = grind (arith, nat_tests)
-
-pub low-middle : (a b x : ℕ) → a ≢ b → IsOneOf a b x → low a b (opened a b x + 1) ≡ x
-low-middle a b x apart is = grind (arith, nat_tests)
-
-pub low-last : (a b x : ℕ) → a ≢ b → IsOneOf a b x → low a b (opened a b x + 2) ≡ x
-low-last a b x apart is = grind (arith, nat_tests)
-
--- each number is an old arc's, or the second or the third part of one of the two arcs
-pub number-cases : (a b y : ℕ) → a ≢ b
-    → (y ≡ opened a b (low a b y)) ⊎ (IsOneOf a b (low a b y) × ((y ≡ opened a b (low a b y) + 1) ⊎ (y ≡ opened a b (low a b y) + 2)))
-number-cases a b y apart = grind (arith, nat_tests)
-
-pub opened-suc : (a b x : ℕ) → a ≢ b → opened a b (x + 1) ≡ head_number a b x + 1
-opened-suc a b x apart = grind (arith, nat_tests)
-
-pub opened-le : (a b x y : ℕ) → x ≤ y → opened a b x ≤ opened a b y
-opened-le a b x y le = grind (arith, nat_tests)
-
-pub opened-less : (a b x y : ℕ) → x < y → opened a b x < opened a b y
-opened-less a b x y less = grind (arith, nat_tests)
-
-pub opened-injective : (a b x y : ℕ) → opened a b x ≡ opened a b y → x ≡ y
-opened-injective a b x y same = grind (arith, nat_tests)
-
 pub opened-from : (a b x : ℕ) → x ≤ opened a b x
 opened-from a b x = grind (arith, nat_tests)
-
-pub opened-zero : (a b : ℕ) → opened a b 0 ≡ 0
-opened-zero a b = grind (arith, nat_tests)
 
 -- within the numbers of the arcs
 pub head_number-within : (a b x m : ℕ) → a ≢ b → a ≤ m → b ≤ m → x ≤ m → head_number a b x ≤ m + 4
@@ -63,12 +34,3 @@ head_number-within a b x m apart a_within b_within within = grind (arith, nat_te
 
 pub opened-le-head_number : (a b x : ℕ) → opened a b x ≤ head_number a b x
 opened-le-head_number a b x = grind (arith, nat_tests)
-
-pub low-within : (a b y m : ℕ) → a ≢ b → a ≤ m → b ≤ m → y ≤ m + 4 → low a b y ≤ m
-low-within a b y m apart a_within b_within within = grind (arith, nat_tests)
-
-pub low-past : (a b y m : ℕ) → a ≢ b → a ≤ m → b ≤ m → m + 4 < y → m < low a b y
-low-past a b y m apart a_within b_within past = grind (arith, nat_tests)
-
-pub low-positive : (a b y : ℕ) → 1 ≤ a → 1 ≤ b → 1 ≤ y → 1 ≤ low a b y
-low-positive a b y a_positive b_positive positive = grind (arith, nat_tests)

@@ -15,11 +15,6 @@ use Rattle.kinks_and_fingers.specs.Pulls.{pulled}
 use Rattle.kinks_and_fingers.proofs.PulledDarts.{cut}
 use Rattle.kinks_and_fingers.proofs.MoreCrossings.{IsPlanar-added}
 
--- what a place is, whose partner is q: one of the two darts, one of the other ends, or none of these
-pub pull_cases : (s t p q : ℕ)
-    → (p ≡ s) ⊎ ((p ≡ t) ⊎ (((q ≡ s) × (p ≢ s) × (p ≢ t)) ⊎ (((q ≡ t) × (p ≢ s) × (p ≢ t)) ⊎ ((p ≢ s) × (p ≢ t) × (q ≢ s) × (q ≢ t)))))
-pull_cases s t p q = grind arith
-
 pub pulled-first : (partner : ℕ → ℕ) (s t : ℕ) → pulled partner s t s ≡ s
 pulled-first partner s t = grind (arith, nat_tests)
 
@@ -31,12 +26,6 @@ pulled-to_first partner s t p not_s not_t is = grind (arith, nat_tests)
 
 pub pulled-to_second : (partner : ℕ → ℕ) (s t p : ℕ) → s ≢ t → p ≢ s → p ≢ t → partner p ≡ t → pulled partner s t p ≡ partner s
 pulled-to_second partner s t p apart not_s not_t is = grind (arith, nat_tests)
-
-pub pulled-else : (partner : ℕ → ℕ) (s t p : ℕ) → p ≢ s → p ≢ t → partner p ≢ s → partner p ≢ t → pulled partner s t p ≡ partner p
-pulled-else partner s t p not_s not_t to_s to_t = grind (arith, nat_tests)
-
-cut-else : (partner : ℕ → ℕ) (s t p : ℕ) → p ≢ s → p ≢ t → partner p ≢ s → partner p ≢ t → cut partner s t p ≡ partner p
-cut-else partner s t p not_s not_t to_s to_t = grind (arith, nat_tests)
 
 cut-there : (partner : ℕ → ℕ) (s t p : ℕ) → ((p ≡ s) ⊎ (p ≡ t)) ⊎ ((partner p ≡ s) ⊎ (partner p ≡ t)) → cut partner s t p ≡ p
 cut-there partner s t p there = grind (arith, nat_tests)
@@ -54,86 +43,32 @@ pub record AreHeld (m : ℕ) (partner : ℕ → ℕ) (s t : ℕ) : Type 0 where
 
 pub IsPairing-pulled : (m : ℕ) (partner : ℕ → ℕ) (s t : ℕ) → IsPairing m partner → AreHeld m partner s t
     → IsPairing m (pulled partner s t)
-IsPairing-pulled m partner s t pairing held =
-    let back_s = pairing.back s held.first_below in
-    let back_t = pairing.back t held.second_below in
-    record {
-      below = λ p p_below. elim (pull_cases s t p (partner p)) [
-        | inl is_s ↦ omega (arith, ap (pulled partner s t) is_s ∙ pulled-first partner s t, held.first_below)
-        | inr a ↦ elim a [
-          | inl is_t ↦ omega (arith, ap (pulled partner s t) is_t ∙ pulled-second partner s t, held.second_below)
-          | inr b ↦ elim b [
-            | inl to_s ↦ omega (arith, pulled-to_first partner s t p to_s.1 to_s.2 to_s.0, pairing.below t held.second_below)
-            | inr c ↦ elim c [
-              | inl to_t ↦
-                  omega (arith, pulled-to_second partner s t p held.apart to_t.1 to_t.2 to_t.0, pairing.below s held.first_below)
-              | inr none ↦
-                  omega (arith, pulled-else partner s t p none.0 none.1 none.2 none.3, pairing.below p p_below)
-            ]
-          ]
-        ]
-      ];
-      back = λ p p_below.
-          let g : ℕ → ℕ = pulled partner s t in
-          let back_p = pairing.back p p_below in
-          elim (pull_cases s t p (partner p)) [
-            | inl is_s ↦
-                ap (λ z. g (g z)) is_s ∙ ap g (pulled-first partner s t) ∙ pulled-first partner s t ∙ sym is_s
-            | inr a ↦ elim a [
-              | inl is_t ↦
-                  ap (λ z. g (g z)) is_t ∙ ap g (pulled-second partner s t) ∙ pulled-second partner s t ∙ sym is_t
-              | inr b ↦ elim b [
-                | inl to_s ↦
-                    let is_p : partner s ≡ p = ap partner (sym to_s.0) ∙ back_p in
-                    let not_s : partner t ≢ s = λ same. to_s.2 (sym is_p ∙ ap partner (sym same) ∙ back_t) in
-                    ap g (pulled-to_first partner s t p to_s.1 to_s.2 to_s.0)
-                    ∙ pulled-to_second partner s t (partner t) held.apart not_s held.second_held back_t ∙ is_p
-                | inr c ↦ elim c [
-                  | inl to_t ↦
-                      let is_p : partner t ≡ p = ap partner (sym to_t.0) ∙ back_p in
-                      let not_t : partner s ≢ t = λ same. to_t.1 (sym is_p ∙ ap partner (sym same) ∙ back_s) in
-                      ap g (pulled-to_second partner s t p held.apart to_t.1 to_t.2 to_t.0)
-                      ∙ pulled-to_first partner s t (partner s) held.first_held not_t back_s ∙ is_p
-                  | inr none ↦
-                      let not_s : partner p ≢ s = none.2 in
-                      let not_t : partner p ≢ t = none.3 in
-                      ap g (pulled-else partner s t p none.0 none.1 none.2 none.3)
-                      ∙ pulled-else partner s t (partner p) not_s not_t (λ same. none.0 (sym back_p ∙ same))
-                      (λ same. none.1 (sym back_p ∙ same)) ∙ back_p
-                ]
-              ]
-            ]
-          ];
-    }
-
-IsPairing-cut : (m : ℕ) (partner : ℕ → ℕ) (s t : ℕ) → IsPairing m partner → AreHeld m partner s t → IsPairing m (cut partner s t)
-IsPairing-cut m partner s t pairing held = record {
-  below = λ p p_below. elim (cut-cases partner s t p) [
-    | inl is ↦ omega (arith, is, pairing.below p p_below)
-    | inr is ↦ omega (arith, is, p_below)
-  ];
+IsPairing-pulled m partner s t pairing held = record {
+  below = λ p p_below.
+      within partner s t p m p_below (pairing.below p p_below) (pairing.below s held.first_below) (pairing.below t held.second_below);
   back = λ p p_below.
-      let g : ℕ → ℕ = cut partner s t in
-      let back_p = pairing.back p p_below in
-      let stays : ((p ≡ s) ⊎ (p ≡ t)) ⊎ ((partner p ≡ s) ⊎ (partner p ≡ t)) → cut partner s t (cut partner s t p) ≡ p =
-      λ there. let is = cut-there partner s t p there in ap (cut partner s t) is ∙ is in
-      elim (pull_cases s t p (partner p)) [
-        | inl is_s ↦ stays (inl (inl is_s))
-        | inr a ↦ elim a [
-          | inl is_t ↦ stays (inl (inr is_t))
-          | inr b ↦ elim b [
-            | inl to_s ↦ stays (inr (inl to_s.0))
-            | inr c ↦ elim c [
-              | inl to_t ↦ stays (inr (inr to_t.0))
-              | inr none ↦
-                  ap g (cut-else partner s t p none.0 none.1 none.2 none.3)
-                  ∙ cut-else partner s t (partner p) none.2 none.3 (λ same. none.0 (sym back_p ∙ same))
-                  (λ same. none.1 (sym back_p ∙ same)) ∙ back_p
-            ]
-          ]
-        ]
-      ];
+      back partner s t p held.apart held.first_held held.second_held (pairing.back p p_below) (pairing.back s held.first_below)
+      (pairing.back t held.second_below);
 }
+  where
+    within : (partner : ℕ → ℕ) (s t p m : ℕ) → p < m → partner p < m → partner s < m → partner t < m → pulled partner s t p < m
+    within partner s t p m p_below to_p to_s to_t = grind (arith, nat_tests)
+
+    back : (partner : ℕ → ℕ) (s t p : ℕ) → s ≢ t → partner s ≢ s → partner t ≢ t → partner (partner p) ≡ p → partner (partner s) ≡ s
+        → partner (partner t) ≡ t → pulled partner s t (pulled partner s t p) ≡ p
+    back partner s t p apart s_held t_held back_p back_s back_t = grind (arith, nat_tests)
+
+IsPairing-cut : (m : ℕ) (partner : ℕ → ℕ) (s t : ℕ) → IsPairing m partner → IsPairing m (cut partner s t)
+IsPairing-cut m partner s t pairing = record {
+  below = λ p p_below. within partner s t p m p_below (pairing.below p p_below);
+  back = λ p p_below. back partner s t p (pairing.back p p_below);
+}
+  where
+    within : (partner : ℕ → ℕ) (s t p m : ℕ) → p < m → partner p < m → cut partner s t p < m
+    within partner s t p m p_below to_p = grind (arith, nat_tests)
+
+    back : (partner : ℕ → ℕ) (s t p : ℕ) → partner (partner p) ≡ p → cut partner s t (cut partner s t p) ≡ p
+    back partner s t p back_p = grind (arith, nat_tests)
 
 IsPart-cut : (m : ℕ) (partner : ℕ → ℕ) (s t : ℕ) → IsPart m (cut partner s t) partner
 IsPart-cut m partner s t p p_below = cut-cases partner s t p
@@ -153,48 +88,21 @@ HasArcMore-pulled m partner s t pairing held not_mates =
       other_open = cut-there partner s t (partner t) (inr (inr back_t));
       dart_after = pulled-to_first partner s t (partner s) held.first_held not_mates back_s;
       other_after = pulled-to_second partner s t (partner t) held.apart not_s held.second_held back_t;
-      others = λ p p_below not_first not_second.
-          let back_p = pairing.back p p_below in
-          elim (pull_cases s t p (partner p)) [
-            | inl is_s ↦
-                ap (pulled partner s t) is_s ∙ pulled-first partner s t ∙ sym is_s
-                ∙ sym (cut-there partner s t p (inl (inl is_s)))
-            | inr a ↦ elim a [
-              | inl is_t ↦
-                  ap (pulled partner s t) is_t ∙ pulled-second partner s t ∙ sym is_t
-                  ∙ sym (cut-there partner s t p (inl (inr is_t)))
-              | inr b ↦ elim b [
-                | inl to_s ↦ absurd (not_first (sym back_p ∙ ap partner to_s.0))
-                | inr c ↦ elim c [
-                  | inl to_t ↦ absurd (not_second (sym back_p ∙ ap partner to_t.0))
-                  | inr none ↦
-                      pulled-else partner s t p none.0 none.1 none.2 none.3
-                      ∙ sym (cut-else partner s t p none.0 none.1 none.2 none.3)
-                ]
-              ]
-            ]
-          ];
+      others = λ p p_below not_first not_second. others partner s t p not_first not_second (pairing.back p p_below);
     }
+  where
+    others : (partner : ℕ → ℕ) (s t p : ℕ) → p ≢ partner s → p ≢ partner t → partner (partner p) ≡ p
+        → pulled partner s t p ≡ cut partner s t p
+    others partner s t p not_first not_second back_p = grind (arith, nat_tests)
 
 -- where they are partners, their arc goes
 IsPart-pulled : (m : ℕ) (partner : ℕ → ℕ) (s t : ℕ) → IsPairing m partner → AreHeld m partner s t → partner s ≡ t
     → IsPart m (pulled partner s t) partner
-IsPart-pulled m partner s t pairing held mates p p_below =
-    let back_s = pairing.back s held.first_below in
-    let back_p = pairing.back p p_below in
-    elim (pull_cases s t p (partner p)) [
-      | inl is_s ↦ inr (ap (pulled partner s t) is_s ∙ pulled-first partner s t ∙ sym is_s)
-      | inr a ↦ elim a [
-        | inl is_t ↦ inr (ap (pulled partner s t) is_t ∙ pulled-second partner s t ∙ sym is_t)
-        | inr b ↦ elim b [
-          | inl to_s ↦ absurd (to_s.2 (sym back_p ∙ ap partner to_s.0 ∙ mates))
-          | inr c ↦ elim c [
-            | inl to_t ↦ absurd (to_t.1 (sym back_p ∙ ap partner to_t.0 ∙ ap partner (sym mates) ∙ back_s))
-            | inr none ↦ inl (pulled-else partner s t p none.0 none.1 none.2 none.3)
-          ]
-        ]
-      ]
-    ]
+IsPart-pulled m partner s t pairing held mates p p_below = part partner s t p mates (pairing.back p p_below) (pairing.back s held.first_below)
+  where
+    part : (partner : ℕ → ℕ) (s t p : ℕ) → partner s ≡ t → partner (partner p) ≡ p → partner (partner s) ≡ s
+        → (pulled partner s t p ≡ partner p) ⊎ (pulled partner s t p ≡ p)
+    part partner s t p mates back_p back_s = grind (arith, nat_tests)
 
 IsPart-with : (m : ℕ) (part after whole : ℕ → ℕ) (dart other : ℕ) → IsPart m part whole → HasArcMore m part after dart other
     → whole dart ≡ other → whole other ≡ dart → IsPart m after whole
@@ -224,7 +132,7 @@ pulled-face n partner s t pairing planar held neighbours not_mates together =
     let back_t = pairing.back t held.second_below in
     let x_below = pairing.below s held.first_below in
     let y_below = pairing.below t held.second_below in
-    let part_pairing = IsPairing-cut (4 * n) partner s t pairing held in
+    let part_pairing = IsPairing-cut (4 * n) partner s t pairing in
     let is_part = IsPart-cut (4 * n) partner s t in
     let x_open = cut-there partner s t x (inr (inl back_s)) in
     let y_open = cut-there partner s t y (inr (inr back_t)) in
@@ -295,7 +203,7 @@ IsPlanar-pulled n partner s t pairing planar held neighbours =
           IsPlanar-part n (pulled partner s t) partner after_pairing pairing
           (IsPart-pulled (4 * n) partner s t pairing held mates) planar
       | inr not_mates ↦
-          let part_pairing = IsPairing-cut (4 * n) partner s t pairing held in
+          let part_pairing = IsPairing-cut (4 * n) partner s t pairing in
           IsPlanar-added n (cut partner s t) (pulled partner s t) (partner s) (partner t) part_pairing
           (HasArcMore-pulled (4 * n) partner s t pairing held not_mates)
           (pulled-face n partner s t pairing planar held neighbours not_mates)

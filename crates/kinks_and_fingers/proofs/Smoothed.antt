@@ -10,54 +10,28 @@ use Rattle.face_walk.specs.AddedArcs.{is_open, open_dart_count, IsPlanar}
 use Rattle.kh_types.specs.Permutations.{IsPermutation}
 use Rattle.face_walk.proofs.OpenFaces.{turned-crossing}
 use Rattle.kinks_and_fingers.specs.Pulls.{pulled, bared, dart_in, late, early, late_dart, early_dart, smoothed, IsClosedPlanar}
-use Rattle.kinks_and_fingers.proofs.Pulls.{AreHeld, pull_cases, pulled-first, pulled-second, pulled-to_first, pulled-to_second, pulled-else, IsPairing-pulled, IsPlanar-pulled}
+use Rattle.kinks_and_fingers.proofs.Pulls.{AreHeld, pulled-first, pulled-second, IsPairing-pulled, IsPlanar-pulled}
 use Rattle.kinks_and_fingers.proofs.MoreCrossings.{open_face_count-renamed, open_piece_count-renamed, IsPlanar-not_bare}
 
 -- what is not pulled stays with some other dart
 pulled-held : (m : ℕ) (partner : ℕ → ℕ) (s t x : ℕ) → IsPairing m partner → AreHeld m partner s t → x < m → partner x ≢ x → x ≢ s → x ≢ t
     → pulled partner s t x ≢ x
-pulled-held m partner s t x pairing held below other not_s not_t same =
-    let back = pairing.back x below in
-    let back_s = pairing.back s held.first_below in
-    let back_t = pairing.back t held.second_below in
-    elim (pull_cases s t x (partner x)) [
-      | inl is_s ↦ not_s is_s
-      | inr a ↦ elim a [
-        | inl is_t ↦ not_t is_t
-        | inr b ↦ elim b [
-          | inl to_s ↦
-              let is_x : partner t ≡ x = sym (pulled-to_first partner s t x not_s not_t to_s.0) ∙ same in
-              held.apart (sym to_s.0 ∙ ap partner (sym is_x) ∙ back_t)
-          | inr c ↦ elim c [
-            | inl to_t ↦
-                let is_x : partner s ≡ x = sym (pulled-to_second partner s t x held.apart not_s not_t to_t.0) ∙ same in
-                held.apart (sym back_s ∙ ap partner is_x ∙ to_t.0)
-            | inr none ↦ other (sym (pulled-else partner s t x none.0 none.1 none.2 none.3) ∙ same)
-          ]
-        ]
-      ]
-    ]
+pulled-held m partner s t x pairing held below other not_s not_t =
+    plain partner s t x held.apart (pairing.back x below) (pairing.back s held.first_below) (pairing.back t held.second_below) other not_s not_t
+  where
+    plain : (partner : ℕ → ℕ) (s t x : ℕ) → s ≢ t → partner (partner x) ≡ x → partner (partner s) ≡ s → partner (partner t) ≡ t
+        → partner x ≢ x → x ≢ s → x ≢ t → pulled partner s t x ≢ x
+    plain partner s t x apart back back_s back_t other not_s not_t same = grind (arith, nat_tests)
 
 -- names that partners share, and the two pulled darts too, are shared by the new partners
 pub pulled-named : (m : ℕ) (partner : ℕ → ℕ) (s t : ℕ) (name : ℕ → ℕ) → IsPairing m partner → AreHeld m partner s t
     → ((x : ℕ) → x < m → name (partner x) ≡ name x) → name s ≡ name t → (x : ℕ) → x < m → name (pulled partner s t x) ≡ name x
-pulled-named m partner s t name pairing held named joint x below = elim (pull_cases s t x (partner x)) [
-  | inl is_s ↦ ap (λ z. name (pulled partner s t z)) is_s ∙ ap name (pulled-first partner s t) ∙ ap name (sym is_s)
-  | inr a ↦ elim a [
-    | inl is_t ↦ ap (λ z. name (pulled partner s t z)) is_t ∙ ap name (pulled-second partner s t) ∙ ap name (sym is_t)
-    | inr b ↦ elim b [
-      | inl to_s ↦
-          ap name (pulled-to_first partner s t x to_s.1 to_s.2 to_s.0) ∙ named t held.second_below ∙ sym joint
-          ∙ ap name (sym to_s.0) ∙ named x below
-      | inr c ↦ elim c [
-        | inl to_t ↦
-            ap name (pulled-to_second partner s t x held.apart to_t.1 to_t.2 to_t.0) ∙ named s held.first_below ∙ joint
-            ∙ ap name (sym to_t.0) ∙ named x below
-        | inr none ↦ ap name (pulled-else partner s t x none.0 none.1 none.2 none.3) ∙ named x below
-      ]
-    ]
-  ]
-]
+pulled-named m partner s t name pairing held named joint x below =
+    plain partner name s t x (named s held.first_below) (named t held.second_below) (named x below) joint
+  where
+    plain : (partner name : ℕ → ℕ) (s t x : ℕ) → name (partner s) ≡ name s → name (partner t) ≡ name t → name (partner x) ≡ name x
+        → name s ≡ name t → name (pulled partner s t x) ≡ name x
+    plain partner name s t x at_s at_t at_x joint = grind (arith, nat_tests)
 
 -- the four darts of a crossing
 
@@ -67,21 +41,9 @@ dart_in-below n c slot below = omega (arith, below)
 dart_in-turned : (c slot : ℕ) → turned (dart_in c (slot + 1)) ≡ dart_in c slot
 dart_in-turned c slot = omega arith
 
-dart_in-round : (c slot : ℕ) → dart_in c (slot + 4) ≡ dart_in c slot
-dart_in-round c slot = omega arith
-
 pub dart_cases : (c p x : ℕ) → x / 4 ≡ c
     → (x ≡ dart_in c (p + 1)) ⊎ ((x ≡ dart_in c (p + 2)) ⊎ ((x ≡ dart_in c (p + 3)) ⊎ (x ≡ dart_in c p)))
-dart_cases c p x is = elim (slot_cases p (x % 4)) [
-  | inl a ↦ inl (omega (arith, a, is))
-  | inr b ↦ elim b [
-    | inl a ↦ inr (inl (omega (arith, a, is)))
-    | inr d ↦ elim d [ inl a ↦ inr (inr (inl (omega (arith, a, is)))) | inr a ↦ inr (inr (inr (omega (arith, a, is)))) ]
-  ]
-]
-  where
-    slot_cases : (p r : ℕ) → (r % 4 ≡ (p + 1) % 4) ⊎ ((r % 4 ≡ (p + 2) % 4) ⊎ ((r % 4 ≡ (p + 3) % 4) ⊎ (r % 4 ≡ p % 4)))
-    slot_cases p r = grind arith
+dart_cases c p x is = grind arith
 
 dart_in-turned_last : (c slot : ℕ) → turned (dart_in c slot) ≡ dart_in c (slot + 3)
 dart_in-turned_last c slot = omega arith
@@ -95,8 +57,7 @@ pub dart_in-apart : (c slot : ℕ) → (dart_in c (slot + 1) ≢ dart_in c (slot
 dart_in-apart c slot = (omega arith, omega arith, omega arith, omega arith, omega arith, omega arith)
 
 pulled-fixed : (partner : ℕ → ℕ) (s t x : ℕ) → partner x ≡ x → x ≢ s → x ≢ t → pulled partner s t x ≡ x
-pulled-fixed partner s t x fixed not_s not_t =
-    pulled-else partner s t x not_s not_t (λ same. not_s (sym fixed ∙ same)) (λ same. not_t (sym fixed ∙ same)) ∙ fixed
+pulled-fixed partner s t x fixed not_s not_t = grind (arith, nat_tests)
 
 -- the pulled darts have arcs
 pub holds-twice : (n : ℕ) (partner : ℕ → ℕ) (c p : ℕ) → IsClosedPlanar n partner → c < n

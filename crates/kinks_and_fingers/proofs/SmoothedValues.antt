@@ -1,38 +1,24 @@
 -- What functions on darts keep where a crossing is smoothed away.
-use Rattle.std.proofs.Common.{◌≡◌, ◌≢◌, ℕ, ◌⊎◌, inl, inr, ◌+◌, ◌*◌, ◌/◌, ◌<◌, ◌≤◌, ◌∙◌, sym, ap, arith, refl, Bool, true, false, not}
+use Rattle.std.proofs.Common.{◌≡◌, ◌≢◌, ℕ, inl, inr, ◌+◌, ◌*◌, ◌/◌, ◌<◌, ◌≤◌, ◌∙◌, sym, ap, arith, Bool, not}
 use Rattle.std.proofs.lemmas.Bool.{cases_eq}
 use Rattle.std.proofs.lemmas.Bool.Decides.{nat_tests}
 use Rattle.kh_types.specs.Darts.{IsPairing}
 use Rattle.kinks_and_fingers.specs.Pulls.{pulled, bared, dart_in, late, early, late_dart, early_dart, smoothed, IsClosedPlanar}
 use Rattle.kinks_and_fingers.proofs.PulledDarts.{taken_back}
-use Rattle.kinks_and_fingers.proofs.Pulls.{AreHeld, pull_cases, pulled-to_first, pulled-to_second, pulled-else, IsPairing-pulled}
+use Rattle.kinks_and_fingers.proofs.Pulls.{AreHeld, IsPairing-pulled}
 use Rattle.kinks_and_fingers.proofs.Smoothed.{holds-twice, dart_in-apart, dart_in-place, IsBared-closed, IsPermutation-late, IsPermutation-dartwise, block_place, place_below}
-
-not_not : (b : Bool) → not (not b) ≡ b
-not_not true = refl
-not_not false = refl
 
 -- a test that partners tell apart, and the two pulled darts too, is told apart by the new partners
 pulled-flipped : (m : ℕ) (partner : ℕ → ℕ) (s t : ℕ) (test : ℕ → Bool) → AreHeld m partner s t
     → test (partner s) ≡ not (test s) → test (partner t) ≡ not (test t) → test s ≡ not (test t)
     → (x : ℕ) → test (partner x) ≡ not (test x) → x ≢ s → x ≢ t
     → test (pulled partner s t x) ≡ not (test x)
-pulled-flipped m partner s t test held first second joint x here not_s not_t = elim (pull_cases s t x (partner x)) [
-  | inl is_s ↦ absurd (not_s is_s)
-  | inr a ↦ elim a [
-    | inl is_t ↦ absurd (not_t is_t)
-    | inr b ↦ elim b [
-      | inl to_s ↦
-          ap test (pulled-to_first partner s t x to_s.1 to_s.2 to_s.0) ∙ second ∙ sym joint ∙ ap test (sym to_s.0) ∙ here
-      | inr c ↦ elim c [
-        | inl to_t ↦
-            ap test (pulled-to_second partner s t x held.apart to_t.1 to_t.2 to_t.0) ∙ first ∙ ap not joint ∙ not_not (test t)
-            ∙ ap test (sym to_t.0) ∙ here
-        | inr none ↦ ap test (pulled-else partner s t x none.0 none.1 none.2 none.3) ∙ here
-      ]
-    ]
-  ]
-]
+pulled-flipped m partner s t test held first second joint x here not_s not_t =
+    plain partner test s t x held.apart first second joint here not_s not_t
+  where
+    plain : (partner : ℕ → ℕ) (test : ℕ → Bool) (s t x : ℕ) → s ≢ t → test (partner s) ≡ not (test s) → test (partner t) ≡ not (test t)
+        → test s ≡ not (test t) → test (partner x) ≡ not (test x) → x ≢ s → x ≢ t → test (pulled partner s t x) ≡ not (test x)
+    plain partner test s t x apart first second joint here not_s not_t = grind (arith, nat_tests)
 
 bared-flipped : (n : ℕ) (partner : ℕ → ℕ) (c p : ℕ) (test : ℕ → Bool) → IsClosedPlanar n partner → c < n
     → ((x : ℕ) → x < 4 * n → test (partner x) ≡ not (test x)) → test (dart_in c (p + 1)) ≡ not (test (dart_in c (p + 2)))
@@ -69,84 +55,23 @@ smoothed-flipped k partner c p test closed within flips first second x below =
 
 -- functions taken back
 
-taken_back-first : (partner h : ℕ → ℕ) (s t x : ℕ) → (x ≡ s) ⊎ (x ≡ t) → partner s ≢ t → taken_back partner h s t x ≡ h (partner s)
-taken_back-first partner h s t x is apart = grind (arith, nat_tests)
-
-taken_back-mates : (partner h : ℕ → ℕ) (s t x : ℕ) → (x ≡ s) ⊎ (x ≡ t) → partner s ≡ t → taken_back partner h s t x ≡ h s
-taken_back-mates partner h s t x is mates = grind (arith, nat_tests)
-
 taken_back-else : (partner h : ℕ → ℕ) (s t x : ℕ) → x ≢ s → x ≢ t → taken_back partner h s t x ≡ h x
 taken_back-else partner h s t x not_s not_t = grind (arith, nat_tests)
 
 taken_back-joint : (partner h : ℕ → ℕ) (s t : ℕ) → taken_back partner h s t s ≡ taken_back partner h s t t
-taken_back-joint partner h s t = elim (cases_eq (partner s) t) [
-  | inl mates ↦ taken_back-mates partner h s t s (inl refl) mates ∙ sym (taken_back-mates partner h s t t (inr refl) mates)
-  | inr apart ↦ taken_back-first partner h s t s (inl refl) apart ∙ sym (taken_back-first partner h s t t (inr refl) apart)
-]
+taken_back-joint partner h s t = grind (arith, nat_tests)
 
 taken_back-shared : (m : ℕ) (partner h : ℕ → ℕ) (s t : ℕ) → IsPairing m partner → AreHeld m partner s t
     → ((x : ℕ) → x < m → h (pulled partner s t x) ≡ h x) → (x : ℕ) → x < m
     → taken_back partner h s t (partner x) ≡ taken_back partner h s t x
 taken_back-shared m partner h s t pairing held shared x below =
-    let g : ℕ → ℕ = taken_back partner h s t in
-    let back_s = pairing.back s held.first_below in
-    let back_t = pairing.back t held.second_below in
-    let back = pairing.back x below in
-    elim (cases_eq (partner s) t) [
-      | inl mates ↦
-          let to_s : partner t ≡ s = ap partner (sym mates) ∙ back_s in
-          elim (pull_cases s t x (partner x)) [
-            | inl is_s ↦
-                taken_back-mates partner h s t (partner x) (inr (ap partner is_s ∙ mates)) mates
-                ∙ sym (taken_back-mates partner h s t x (inl is_s) mates)
-            | inr a ↦ elim a [
-              | inl is_t ↦
-                  taken_back-mates partner h s t (partner x) (inl (ap partner is_t ∙ to_s)) mates
-                  ∙ sym (taken_back-mates partner h s t x (inr is_t) mates)
-              | inr b ↦ elim b [
-                | inl at ↦ absurd (at.2 (sym back ∙ ap partner at.0 ∙ mates))
-                | inr c ↦ elim c [
-                  | inl at ↦ absurd (at.1 (sym back ∙ ap partner at.0 ∙ to_s))
-                  | inr none ↦
-                      taken_back-else partner h s t (partner x) none.2 none.3
-                      ∙ ap h (sym (pulled-else partner s t x none.0 none.1 none.2 none.3)) ∙ shared x below
-                      ∙ sym (taken_back-else partner h s t x none.0 none.1)
-                ]
-              ]
-            ]
-          ]
-      | inr apart ↦
-          let not_s : partner t ≢ s = λ same. apart (ap partner (sym same) ∙ back_t) in
-          let ends : h (partner s) ≡ h (partner t) =
-          sym (shared (partner s) (pairing.below s held.first_below))
-          ∙ ap h (pulled-to_first partner s t (partner s) held.first_held apart back_s) in
-          elim (pull_cases s t x (partner x)) [
-            | inl is_s ↦
-                ap (λ z. taken_back partner h s t (partner z)) is_s
-                ∙ taken_back-else partner h s t (partner s) held.first_held apart
-                ∙ sym (taken_back-first partner h s t x (inl is_s) apart)
-            | inr a ↦ elim a [
-              | inl is_t ↦
-                  ap (λ z. taken_back partner h s t (partner z)) is_t
-                  ∙ taken_back-else partner h s t (partner t) not_s held.second_held ∙ sym ends
-                  ∙ sym (taken_back-first partner h s t x (inr is_t) apart)
-              | inr b ↦ elim b [
-                | inl at ↦
-                    taken_back-first partner h s t (partner x) (inl at.0) apart ∙ ap h (ap partner (sym at.0) ∙ back)
-                    ∙ sym (taken_back-else partner h s t x at.1 at.2)
-                | inr c ↦ elim c [
-                  | inl at ↦
-                      taken_back-first partner h s t (partner x) (inr at.0) apart ∙ ends ∙ ap h (ap partner (sym at.0) ∙ back)
-                      ∙ sym (taken_back-else partner h s t x at.1 at.2)
-                  | inr none ↦
-                      taken_back-else partner h s t (partner x) none.2 none.3
-                      ∙ ap h (sym (pulled-else partner s t x none.0 none.1 none.2 none.3)) ∙ shared x below
-                      ∙ sym (taken_back-else partner h s t x none.0 none.1)
-                ]
-              ]
-            ]
-          ]
-    ]
+    plain partner h s t x held.apart held.first_held held.second_held (pairing.back x below) (pairing.back s held.first_below)
+    (pairing.back t held.second_below) (shared x below) (shared (partner s) (pairing.below s held.first_below))
+  where
+    plain : (partner h : ℕ → ℕ) (s t x : ℕ) → s ≢ t → partner s ≢ s → partner t ≢ t → partner (partner x) ≡ x → partner (partner s) ≡ s
+        → partner (partner t) ≡ t → h (pulled partner s t x) ≡ h x → h (pulled partner s t (partner s)) ≡ h (partner s)
+        → taken_back partner h s t (partner x) ≡ taken_back partner h s t x
+    plain partner h s t x apart s_held t_held back back_s back_t here ends = grind (arith, nat_tests)
 
 -- a function on the darts that are left, taken back to all
 pub record IsTakenBack (k : ℕ) (partner : ℕ → ℕ) (c p : ℕ) (h : ℕ → ℕ) : Type 0 where

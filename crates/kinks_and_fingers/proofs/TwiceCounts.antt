@@ -1,47 +1,21 @@
 -- Where each slot holds an arc and each arc stands at least twice, each stands exactly twice, since there are twice as many slots.
-use Rattle.std.proofs.Common.{◌≡◌, ◌≢◌, ℕ, zero, suc, inl, inr, ◌+◌, ◌*◌, ◌<◌, ◌≤◌, ◌∙◌, List, length, refl, sym, ap, ap₂, arith, Bool, true, not, ◌&&◌, eq-eqb}
+use Rattle.std.proofs.Common.{◌≡◌, ◌≢◌, ℕ, zero, suc, inl, inr, ◌+◌, ◌*◌, ◌<◌, ◌≤◌, ◌∙◌, List, length, refl, sym, ap, arith, Bool, true, cond, not, ◌&&◌, eq-eqb}
 use Rattle.std.specs.Prelude.{nat_eq}
 use Rattle.std.specs.List.{count_by, sum_by, range_with_len}
-use Rattle.std.proofs.lemmas.Bool.{cases_eq}
+use Rattle.std.proofs.lemmas.Bool.{cases_eq, ne_eqb}
 use Rattle.std.proofs.lemmas.Bool.Decides.{nat_tests}
 use Rattle.std.proofs.lemmas.List.Sums.{sum_by-cons}
 use Rattle.kh_types.specs.declared.dart.Dart.{Dart}
 use Rattle.kh_types.specs.Code.{arc_count, IsArc}
 use Rattle.kh_types.specs.Darts.{dart_at, arc_of, times, IsDart}
 use Rattle.kh_types.proofs.Lists.{count_by-map}
-use Rattle.kh_types.proofs.Ranges.{count_by-range_more}
+use Rattle.kh_types.proofs.ListSums.{sum_by-range_alike, sum_by-single, sum_by-turned}
+use Rattle.code_passes.proofs.Sums.{sum_by-ones}
+use Rattle.std.proofs.lemmas.List.FromFn.{length-range_with_len}
 use Rattle.kh_types.proofs.RangeCounts.{but, count_by-but}
 use Rattle.kh_types.proofs.DartPairs.{IsDart-at}
-use Rattle.face_walk.proofs.PlainCounts.{counted}
 
 -- sums over a range
-
-sum-alike : (f g : ℕ → ℕ) (a m : ℕ) → ((y : ℕ) → a ≤ y → y < a + m → f y ≡ g y) → sum_by f (range_with_len a m) ≡ sum_by g (range_with_len a m)
-sum-alike f g a zero alike = refl
-sum-alike f g a (suc m) alike =
-    sum_by-cons f a (range_with_len (a + 1) m)
-    ∙ ap₂ (λ x y. x + y) (alike a (omega arith) (omega arith))
-    (sum-alike f g (a + 1) m (λ y from below. alike y (omega (arith, from)) (omega (arith, below))))
-    ∙ sym (sum_by-cons g a (range_with_len (a + 1) m))
-
-sum-plus : (f g : ℕ → ℕ) (a m : ℕ)
-    → sum_by (λ y. f y + g y) (range_with_len a m) ≡ sum_by f (range_with_len a m) + sum_by g (range_with_len a m)
-sum-plus f g a zero = refl
-sum-plus f g a (suc m) =
-    let rest = sum-plus f g (a + 1) m in
-    omega (
-      arith,
-      rest,
-      sum_by-cons (λ y. f y + g y) a (range_with_len (a + 1) m),
-      sum_by-cons f a (range_with_len (a + 1) m),
-      sum_by-cons g a (range_with_len (a + 1) m),
-    )
-
-sum-none : (f : ℕ → ℕ) (a m : ℕ) → ((y : ℕ) → a ≤ y → y < a + m → f y ≡ 0) → sum_by f (range_with_len a m) ≡ 0
-sum-none f a zero none = refl
-sum-none f a (suc m) none =
-    let rest = sum-none f (a + 1) m (λ y from below. none y (omega (arith, from)) (omega (arith, below))) in
-    omega (arith, rest, none a (omega arith) (omega arith), sum_by-cons f a (range_with_len (a + 1) m))
 
 sum-from : (f : ℕ → ℕ) (a m : ℕ) → ((y : ℕ) → a ≤ y → y < a + m → 2 ≤ f y) → 2 * m ≤ sum_by f (range_with_len a m)
 sum-from f a zero each = omega arith
@@ -63,40 +37,18 @@ sum-with f a (suc m) y each from below = elim (cases_eq a y) [
       omega (arith, rest, each a (omega arith) (omega arith), sum_by-cons f a (range_with_len (a + 1) m))
 ]
 
--- one number of a range is one number
-sum-one : (c a m : ℕ) → a ≤ c → c < a + m → sum_by (λ y. counted (nat_eq c y)) (range_with_len a m) ≡ 1
-sum-one c a zero from below = absurd (omega (arith, from, below))
-sum-one c a (suc m) from below = elim (cases_eq a c) [
-  | inl same ↦
-      let none = sum-none (λ y. counted (nat_eq c y)) (a + 1) m (λ y y_from y_below. not_same c y (omega (arith, same, y_from))) in
-      omega (arith, none, is_same c a (sym same), sum_by-cons (λ y. counted (nat_eq c y)) a (range_with_len (a + 1) m))
-  | inr apart ↦
-      let rest = sum-one c (a + 1) m (omega (arith, from, apart)) (omega (arith, below)) in
-      omega (arith, rest, not_same c a (omega (arith, apart)), sum_by-cons (λ y. counted (nat_eq c y)) a (range_with_len (a + 1) m))
-]
-  where
-    is_same : (x y : ℕ) → x ≡ y → counted (nat_eq x y) ≡ 1
-    is_same x y same = grind (arith, nat_tests)
-
-    not_same : (x y : ℕ) → x ≢ y → counted (nat_eq x y) ≡ 0
-    not_same x y apart = grind (arith, nat_tests)
-
 -- so the places are as many as the numbers that stand on them, with how often each stands
 sum-places : (f : ℕ → ℕ) (m k : ℕ) → ((i : ℕ) → i < k → (1 ≤ f i) × (f i ≤ m))
     → sum_by (λ y. count_by (λ i. nat_eq (f i) y) (range_with_len 0 k)) (range_with_len 1 m) ≡ k
-sum-places f m zero within = sum-none (λ (y : ℕ). 0) 1 m (λ y from below. refl)
-sum-places f m (suc k) within =
-    let e : suc k ≡ k + 1 = omega arith in
-    let here = within k (omega arith) in
-    sum-alike (λ y. count_by (λ i. nat_eq (f i) y) (range_with_len 0 (suc k)))
-    (λ y. count_by (λ i. nat_eq (f i) y) (range_with_len 0 k) + counted (nat_eq (f k) y)) 1 m
-    (λ y from below.
-    ap (λ j. count_by (λ i. nat_eq (f i) y) (range_with_len 0 j)) e
-    ∙ count_by-range_more (λ i. nat_eq (f i) y) 0 k k (omega arith))
-    ∙ sum-plus (λ y. count_by (λ i. nat_eq (f i) y) (range_with_len 0 k)) (λ y. counted (nat_eq (f k) y)) 1 m
-    ∙ ap₂ (λ x y. x + y) (sum-places f m k (λ i below. within i (omega arith)))
-    (sum-one (f k) 1 m here.0 (omega (arith, here.1)))
-    ∙ sym e
+sum-places f m k within =
+    sum_by-turned (λ y i. cond (nat_eq (f i) y) 1 0) (range_with_len 1 m) (range_with_len 0 k)
+    ∙ sum_by-range_alike (λ i. sum_by (λ y. cond (nat_eq (f i) y) 1 0) (range_with_len 1 m)) (λ i. 1) 0 k
+    (λ i from below.
+    let here = within i (omega (arith, below)) in
+    sum_by-single (λ y. cond (nat_eq (f i) y) 1 0) 1 m (f i) here.0 (omega (arith, here.1))
+    (λ y y_from y_below other. ap (λ t. cond t 1 0) (ne_eqb (f i) y (λ same. other (sym same))))
+    ∙ ap (λ t. cond t 1 0) (eq-eqb (f i) (f i) refl))
+    ∙ sum_by-ones (range_with_len 0 k) ∙ length-range_with_len 0 k
 
 exactly_two : (f : ℕ → ℕ) (m k : ℕ) → ((i : ℕ) → i < k → (1 ≤ f i) × (f i ≤ m)) → k ≡ 2 * m
     → ((y : ℕ) → 1 ≤ y → y < 1 + m → 2 ≤ count_by (λ i. nat_eq (f i) y) (range_with_len 0 k))

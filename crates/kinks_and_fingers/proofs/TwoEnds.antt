@@ -1,4 +1,5 @@
 -- Arcs are paired, said by darts: each name that stands at all has one head and one tail.
+use Rattle.std.proofs.lemmas.Bool.Decides.{nat_tests}
 use Rattle.std.proofs.Common.{◌≡◌, ℕ, zero, suc, ◌⊎◌, inl, inr, ◌+◌, ◌*◌, ◌/◌, ◌%◌, ◌<◌, ◌≤◌, ◌∙◌, List, ◌∷◌, length, refl, sym, ap, ap₂, arith, Bool, true, false, cond, not, ◌&&◌, eq-eqb, eqb-true}
 use Rattle.std.specs.Prelude.{nat_eq, if◌then◌else◌}
 use Rattle.std.specs.List.{count_by, flat_map, range_with_len}
@@ -73,6 +74,11 @@ name-at crossings a s below =
 
 -- the passes of a crossing have the ends that its darts are
 
+sums : {x y z w p q r s : Bool} → x ≡ p → y ≡ q → z ≡ r → w ≡ s
+    → cond x 1 0 + cond y 1 0 + cond z 1 0 + cond w 1 0 ≡ cond p 1 0 + cond q 1 0 + cond r 1 0 + cond s 1 0
+sums {x} {y} {z} {w} {p} {q} {r} {s} one two three four =
+    omega (arith, ap {B = ℕ} (λ t. cond t 1 0) one, ap {B = ℕ} (λ t. cond t 1 0) two, ap {B = ℕ} (λ t. cond t 1 0) three, ap {B = ℕ} (λ t. cond t 1 0) four)
+
 heads-here : (strands : Parts) (name a : ℕ)
     → count_by (λ (pass : Pass). nat_eq pass.enters name) (passes_at strands a)
     ≡ cond (is_head_of strands name (4 * a)) 1 0 + cond (is_head_of strands name (4 * a + 1)) 1 0
@@ -91,13 +97,7 @@ heads-here strands name a =
     by : (b : Bool) (p : ℕ → Bool)
         → 0 + cond (p 0) 1 0 + cond (p (if b then 3 else 1)) 1 0
         ≡ cond (enters b 0 && p 0) 1 0 + cond (enters b 1 && p 1) 1 0 + cond (enters b 2 && p 2) 1 0 + cond (enters b 3 && p 3) 1 0
-    by true p = omega arith
-    by false p = omega arith
-
-    sums : {x y z w p q r s : Bool} → x ≡ p → y ≡ q → z ≡ r → w ≡ s
-        → cond x 1 0 + cond y 1 0 + cond z 1 0 + cond w 1 0 ≡ cond p 1 0 + cond q 1 0 + cond r 1 0 + cond s 1 0
-    sums {x} {y} {z} {w} {p} {q} {r} {s} one two three four =
-        omega (arith, ap {B = ℕ} (λ t. cond t 1 0) one, ap {B = ℕ} (λ t. cond t 1 0) two, ap {B = ℕ} (λ t. cond t 1 0) three, ap {B = ℕ} (λ t. cond t 1 0) four)
+    by b p = grind (arith, nat_tests)
 
 tails-here : (strands : Parts) (name a : ℕ)
     → count_by (λ (pass : Pass). nat_eq pass.leaves name) (passes_at strands a)
@@ -118,13 +118,7 @@ tails-here strands name a =
         → 0 + cond (p 2) 1 0 + cond (p (if b then 1 else 3)) 1 0
         ≡ cond (not (enters b 0) && p 0) 1 0 + cond (not (enters b 1) && p 1) 1 0 + cond (not (enters b 2) && p 2) 1 0
         + cond (not (enters b 3) && p 3) 1 0
-    by true p = omega arith
-    by false p = omega arith
-
-    sums : {x y z w p q r s : Bool} → x ≡ p → y ≡ q → z ≡ r → w ≡ s
-        → cond x 1 0 + cond y 1 0 + cond z 1 0 + cond w 1 0 ≡ cond p 1 0 + cond q 1 0 + cond r 1 0 + cond s 1 0
-    sums {x} {y} {z} {w} {p} {q} {r} {s} one two three four =
-        omega (arith, ap {B = ℕ} (λ t. cond t 1 0) one, ap {B = ℕ} (λ t. cond t 1 0) two, ap {B = ℕ} (λ t. cond t 1 0) three, ap {B = ℕ} (λ t. cond t 1 0) four)
+    by b p = grind (arith, nat_tests)
 
 heads-counted : (strands : Parts) (name a n : ℕ)
     → count_by (λ (pass : Pass). nat_eq pass.enters name) (flat_map (passes_at strands) (range_with_len a n))
@@ -188,12 +182,10 @@ count-some p n x below holds =
     omega (arith, but_one)
 
 both : (a b : Bool) → a ≡ true → b ≡ true → (a && b) ≡ true
-both true b first second = second
-both false b first second = first
+both a b first second = grind (arith, nat_tests)
 
 not_false : (b : Bool) → not b ≡ true → b ≡ false
-not_false true is = sym is
-not_false false is = refl
+not_false b is = grind (arith, nat_tests)
 
 pub head-of : (strands : Parts) (name x : ℕ) → is_head_at strands.positive x ≡ true → arc_of_dart strands.crossings x ≡ name
     → is_head_of strands name x ≡ true
@@ -265,12 +257,7 @@ ArePaired-ends strands ends =
     }
   where
     alike : (a b : ℕ) → a ≤ 1 → b ≤ 1 → (0 < a → 0 < b) → (0 < b → 0 < a) → a ≡ b
-    alike zero zero first second onward back = refl
-    alike (suc zero) (suc zero) first second onward back = refl
-    alike zero (suc b) first second onward back = absurd (omega (arith, back (omega arith)))
-    alike (suc a) zero first second onward back = absurd (omega (arith, onward (omega arith)))
-    alike (suc (suc a)) b first second onward back = absurd (omega (arith, first))
-    alike a (suc (suc b)) first second onward back = absurd (omega (arith, second))
+    alike a b first second onward back = grind arith
 
 -- and back
 

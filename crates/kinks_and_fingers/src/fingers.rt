@@ -59,8 +59,8 @@ pub fn fingers_follow_the_rule()
         → IsFollowed (with_finger code a a_left b b_left).crossings (opened a b b) }
 {}
 
-/// The old crossings keep their signs, and the two new ones have opposite signs; the code with the
-/// finger meets what the law on state sums asks, and has the state sum of the code without it.
+/// The old crossings keep their signs, and the two new ones have opposite signs; the old arcs go on
+/// by way of the new ones, and the code with the finger has the state sum of the code without it.
 pub fn fingers_keep_signs()
     ensures old { (code : Code) (a b crossing : ℕ) (a_left b_left : Bool) → IsTrue (accepted code)
         → IsArc code.crossings a → IsArc code.crossings b → a ≢ b

@@ -1,4 +1,4 @@
-use Rattle.kinks_and_fingers.proofs.KinkClosing.{circles-closing, circles-through}
+use Rattle.kinks_and_fingers.proofs.KinkCircles.{circles-closing, circles-through}
 use Rattle.kinks_and_fingers.proofs.circles.kinks_close_or_go_through.Goals as goal
 
 pub returns : goal.returns

@@ -1,6 +1,6 @@
 use Rattle.kinks_and_fingers.specs.FingerAdd.{differ}
-use Rattle.kinks_and_fingers.proofs.FingerAccepted.{AreFingerable-accepted, component_count-fingered, accepted-fingered}
-use Rattle.kinks_and_fingers.proofs.FingerSizes.{IsDirected-fingered}
+use Rattle.kinks_and_fingers.proofs.FingeredCodes.{AreFingerable-accepted, IsDirected-fingered, component_count-fingered}
+use Rattle.kinks_and_fingers.proofs.FingerPlanar.{accepted-fingered}
 use Rattle.kinks_and_fingers.proofs.fingers.fingers_are_accepted_where_they_are_planar.Goals as goal
 
 pub returns : goal.returns

@@ -1,9 +1,9 @@
 use Rattle.std.specs.Prelude.{◌+◌}
-use Rattle.kinks_and_fingers.specs.FingerAdd.{differ, opened, fingered}
+use Rattle.kinks_and_fingers.specs.FingerAdd.{differ, opened}
 use Rattle.gluing.specs.Codes.{name_count}
-use Rattle.kinks_and_fingers.proofs.GluedCodes.{state_sum-finger}
-use Rattle.kinks_and_fingers.proofs.FingerAccepted.{AreFingerable-accepted}
-use Rattle.kinks_and_fingers.proofs.FingerSigns.{sign-old, sign-first, sign-second}
+use Rattle.kinks_and_fingers.proofs.AddedSums.{state_sum-fingered}
+use Rattle.kinks_and_fingers.proofs.FingeredCodes.{AreFingerable-accepted}
+use Rattle.kinks_and_fingers.proofs.FingeredCodes.{sign-old, sign-first, sign-second}
 use Rattle.kinks_and_fingers.proofs.FingerWith.{placed_at, lowered_to, IsWithFinger-fingered}
 use Rattle.kinks_and_fingers.proofs.fingers.fingers_keep_signs.Goals as goal
 
@@ -21,7 +21,5 @@ returns c = record {
     IsWithFinger-fingered code a b b_left (differ a_left b_left) (AreFingerable-accepted code a b holds over under apart),
   );
   state_sum = λ code a b a_left b_left holds over under apart.
-      state_sum-finger b_left (differ a_left b_left) code (fingered code a b b_left (differ a_left b_left))
-      (placed_at (opened a b a) (opened a b b) (name_count code + 4)) (lowered_to a b (name_count code + 4))
-      (IsWithFinger-fingered code a b b_left (differ a_left b_left) (AreFingerable-accepted code a b holds over under apart));
+      state_sum-fingered code a b b_left (differ a_left b_left) (AreFingerable-accepted code a b holds over under apart);
 }

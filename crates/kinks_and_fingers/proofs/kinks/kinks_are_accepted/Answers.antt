@@ -1,5 +1,5 @@
 use Rattle.kinks_and_fingers.proofs.KinkSlots.{length-kinked}
-use Rattle.kinks_and_fingers.proofs.KinkSizes.{IsKinkable-accepted, IsDirected-kinked, component_count-kinked}
+use Rattle.kinks_and_fingers.proofs.KinkedCodes.{IsKinkable-accepted, IsDirected-kinked, component_count-kinked}
 use Rattle.kinks_and_fingers.proofs.KinkFaces.{planar-kinked, accepted-kinked}
 use Rattle.kinks_and_fingers.proofs.kinks.kinks_are_accepted.Goals as goal
 

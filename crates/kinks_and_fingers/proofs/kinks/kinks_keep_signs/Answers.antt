@@ -1,6 +1,6 @@
-use Rattle.kinks_and_fingers.proofs.KinkSizes.{IsKinkable-accepted}
-use Rattle.kinks_and_fingers.proofs.KinkSigns.{sign-old, sign-new, plus_count-kinked}
-use Rattle.kinks_and_fingers.proofs.KinkWith.{state_sum-kinked}
+use Rattle.kinks_and_fingers.proofs.KinkedCodes.{IsKinkable-accepted}
+use Rattle.kinks_and_fingers.proofs.KinkedCodes.{sign-old, sign-new, plus_count-kinked}
+use Rattle.kinks_and_fingers.proofs.AddedSums.{state_sum-kinked}
 use Rattle.kinks_and_fingers.proofs.kinks.kinks_keep_signs.Goals as goal
 
 pub returns : goal.returns
