@@ -5,15 +5,15 @@ use Rattle.std.specs.List.{list_all, Contains}
 use Rattle.std.proofs.lemmas.Bool.{cases_Bool, cases_eq, and_parts, or_parts}
 use Rattle.kh_types.specs.Bits.{one_if}
 use Rattle.kh_types.specs.Differential.{is_merge, is_split}
+use Rattle.kh_types.proofs.Lists.{Contains-later, Contains-cases}
 use Rattle.dotted_surfaces.specs.Surfaces.{weight, product_below}
 use Rattle.dotted_surfaces.proofs.Products.{product_below-ones, product_below-without, without}
-use Rattle.added_crossings.proofs.Members.{Contains-next, Contains-cons_cases}
 
 all-true : (p : ℕ → Bool) (xs : List ℕ) (x : ℕ) → list_all p xs ≡ true → Contains xs x → p x ≡ true
 all-true p [] x all (i, below, is) = absurd (omega (arith, below))
 all-true p (y ∷ ys) x all has =
     let parts = and_parts (p y) (list_all p ys) all in
-    elim (Contains-cons_cases y x ys has) [ inl is ↦ ap p (sym is) ∙ parts.0 | inr later ↦ all-true p ys x parts.1 later ]
+    elim (Contains-cases y x ys has) [ inl is ↦ ap p (sym is) ∙ parts.0 | inr later ↦ all-true p ys x parts.1 later ]
 
 -- one of them fails
 record Fails (p : ℕ → Bool) (xs : List ℕ) : Type 0 where
@@ -27,7 +27,7 @@ all-false p (y ∷ ys) all = elim (cases_Bool (p y)) [
   | inr fails ↦ record { at = y; has = (0, omega arith, refl); fails = fails }
   | inl passes ↦
       let later = all-false p ys (ap (λ b. b && list_all p ys) (sym passes) ∙ all) in
-      record { at = later.at; has = Contains-next y later.at ys later.has; fails = later.fails }
+      record { at = later.at; has = Contains-later y later.at ys later.has; fails = later.fails }
 ]
 
 product-zero : (n k : ℕ) (f : ℕ → ℕ) → k < n → f k ≡ 0 → product_below n f ≡ 0

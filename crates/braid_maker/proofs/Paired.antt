@@ -7,6 +7,7 @@ use Rattle.std.proofs.lemmas.List.Sums.{sum_by-append, sum_by-cons}
 use Rattle.std.proofs.lemmas.List.FromFn.{get_or-map-range_with_len}
 use Rattle.kh_types.specs.Code.{arc_in}
 use Rattle.kh_types.proofs.Ranges.{sum_by-range_more}
+use Rattle.kh_types.proofs.ListSums.{sum_by-flat_map}
 use Rattle.code_passes.specs.Passes.{Pass}
 use Rattle.code_passes.specs.Parts.{ArePaired, Parts, head_count, is_positive_at, passes_at, over_pass, slots_in, tail_count, under_pass}
 use Rattle.braid_maker.specs.Closures.{named_parts}
@@ -21,12 +22,6 @@ use Rattle.braid_maker.proofs.Weights.{sum-alike}
 
 abbrev counted : Bool → ℕ
 counted passes = cond passes 1 0
-
-sum-flat_map : {X Y : Type 0} (f : Y → ℕ) (g : X → List Y) (xs : List X) → sum_by f (flat_map g xs) ≡ sum_by (λ x. sum_by f (g x)) xs
-sum-flat_map f g [] = refl
-sum-flat_map f g (x ∷ xs) =
-    sum_by-append f (g x) (flat_map g xs) ∙ ap (λ k. sum_by f (g x) + k) (sum-flat_map f g xs)
-    ∙ sym (sum_by-cons (λ y. sum_by f (g y)) x xs)
 
 sum-two : {X : Type 0} (f : X → ℕ) (x y : X) → sum_by f (x ∷ y ∷ []) ≡ f x + f y
 sum-two f x y = omega (arith, sum_by-cons f x (y ∷ []), sum_by-cons f y [])
@@ -135,7 +130,7 @@ heads-sum : (strands n : ℕ) (left : ℕ → ℕ) (is_over : ℕ → Bool) (loo
 heads-sum strands n left is_over loops name =
     let parts : Parts = named_parts strands n left is_over loops in
     let size : length parts.crossings ≡ n = (AreAlike-named strands n left is_over loops).size ∙ length-crossings n left is_over in
-    sum-flat_map (λ (pass : Pass). counted (nat_eq pass.enters name)) (passes_at parts) (range_with_len 0 (length parts.crossings))
+    sum_by-flat_map (λ (pass : Pass). counted (nat_eq pass.enters name)) (passes_at parts) (range_with_len 0 (length parts.crossings))
     ∙ ap (λ k. sum_by (λ i. count_by (λ (pass : Pass). nat_eq pass.enters name) (passes_at parts i)) (range_with_len 0 k)) size
     ∙ sum-alike (λ i. count_by (λ (pass : Pass). nat_eq pass.enters name) (passes_at parts i))
     (λ i. counted (holds parts.crossings is_over name i 0) + counted (holds parts.crossings is_over name i 1)) n
@@ -148,7 +143,7 @@ tails-sum : (strands n : ℕ) (left : ℕ → ℕ) (is_over : ℕ → Bool) (loo
 tails-sum strands n left is_over loops name =
     let parts : Parts = named_parts strands n left is_over loops in
     let size : length parts.crossings ≡ n = (AreAlike-named strands n left is_over loops).size ∙ length-crossings n left is_over in
-    sum-flat_map (λ (pass : Pass). counted (nat_eq pass.leaves name)) (passes_at parts) (range_with_len 0 (length parts.crossings))
+    sum_by-flat_map (λ (pass : Pass). counted (nat_eq pass.leaves name)) (passes_at parts) (range_with_len 0 (length parts.crossings))
     ∙ ap (λ k. sum_by (λ i. count_by (λ (pass : Pass). nat_eq pass.leaves name) (passes_at parts i)) (range_with_len 0 k)) size
     ∙ sum-alike (λ i. count_by (λ (pass : Pass). nat_eq pass.leaves name) (passes_at parts i))
     (λ i. counted (holds parts.crossings is_over name i 2) + counted (holds parts.crossings is_over name i 3)) n

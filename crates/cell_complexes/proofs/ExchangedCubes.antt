@@ -11,7 +11,7 @@ use Rattle.kh_types.specs.Code.{Code, place_of}
 use Rattle.kh_types.specs.Differential.{coefficient, coefficient_at}
 use Rattle.kh_types.specs.Generators.{Generator, generator_of, generators, generators_of, one_count, states}
 use Rattle.kh_types.specs.Residues.{HasInverses, Same}
-use Rattle.kh_types.proofs.Lists.{Contains-flat_map, Contains-map}
+use Rattle.kh_types.proofs.Lists.{Contains-flat_map, Contains-map, Contains-range}
 use Rattle.kh_types.proofs.ListSums.{sum_by-alike, sum_by-flat_map, sum_by-map, sum_by-some}
 use Rattle.kh_types.proofs.Residues.{same-equal, same-multiple, same-scaled}
 use Rattle.cube_squares.proofs.Degrees.{coefficient-below}
@@ -26,14 +26,7 @@ use Rattle.cell_complexes.proofs.ExchangedBits.{bit-exchanged, both_ones, exchan
 use Rattle.cell_complexes.proofs.ExchangedCodes.{circle_count-exchanged, code_with, fits-exchanged, length-with}
 use Rattle.cell_complexes.proofs.Matched.{sum_by-paired}
 use Rattle.cell_complexes.proofs.Members.{Contains-flattened, Contains-made}
-
-Contains-range : (n k : ℕ) → k < n → Contains (range_with_len 0 n) k
-Contains-range n k below = (k, omega (arith, below, length-range_with_len 0 n), get_or-range_with_len 0 n k k below ∙ omega arith)
-
-pub range-contains : (n k : ℕ) → Contains (range_with_len 0 n) k → k < n
-range-contains n k has =
-    let within : has.0 < n = omega (arith, has.1, length-range_with_len 0 n) in
-    omega (arith, within, sym has.2 ∙ get_or-range_with_len 0 n has.0 k within)
+pub use Rattle.kh_types.proofs.Lists.{range-contains}
 
 record IsMember (code : Code) (x : Generator) : Type 0 where
   state : x.state < 2 ^ length code.crossings

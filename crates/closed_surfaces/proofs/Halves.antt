@@ -5,22 +5,16 @@
 -- (`discs-half`).
 use Rattle.std.proofs.Common.{◌≡◌, ℕ, inl, inr, ◌+◌, ◌*◌, ◌<◌, ◌∙◌, List, ◌++◌, refl, sym, ap, ap₂, subst, arith, Bool, true, false, ◌&&◌, ◌||◌, cond, eq-eqb}
 use Rattle.std.specs.Prelude.{nat_eq, slice_index}
-use Rattle.std.proofs.lemmas.Bool.{cases_Bool, and_parts, eqb-true}
+use Rattle.std.proofs.lemmas.Bool.{cases_Bool, and_parts, eqb-true, or_left, or_right}
 use Rattle.kh_types.specs.Classes.{classes_of, is_least, Respects}
-use Rattle.kh_types.proofs.ClassLemmas.{classes-together, classes-finest}
+use Rattle.kh_types.proofs.ClassLemmas.{classes-together, classes-finest, Respects-append, Respects-first, AreBelow-append}
 use Rattle.kh_types.proofs.JoinedClasses.{IsNamed-classes_of}
+use Rattle.kh_types.proofs.RangeCounts.{counted}
 use Rattle.tangle_surfaces.specs.Orbits.{is_in, count_in}
 use Rattle.tangle_surfaces.specs.Surfaces.{Lead, is_disc}
-use Rattle.tangle_surfaces.proofs.Counts.{counted, count_by-either, count_by-matched}
-use Rattle.tangle_surfaces.proofs.DiscCounts.{all_three, both_pass, or_else, or_first, or_second, end_by}
-use Rattle.tangle_surfaces.proofs.LeadLemmas.{AreApart, AreApart-turned, either}
-use Rattle.tangle_surfaces.proofs.OrbitLemmas.{Respects-append, Respects-first, AreBelow-append}
-
-counted-same : (b c : Bool) → counted b ≡ counted c → b ≡ c
-counted-same true true same = refl
-counted-same false false same = refl
-counted-same true false same = absurd (omega (arith, same))
-counted-same false true same = absurd (omega (arith, same))
+use Rattle.tangle_surfaces.proofs.Counts.{count_by-either, count_by-matched}
+use Rattle.tangle_surfaces.proofs.DiscCounts.{all_three, both_pass, end_by, counted-same}
+use Rattle.tangle_surfaces.proofs.LeadLemmas.{AreApart, AreApart-turned, either, either-other}
 
 module _ (n : ℕ) (ends starts : ℕ → Bool) (pairs : List (ℕ × ℕ)) (all : List ℕ) (name : ℕ) (apart : AreApart n ends starts)
     (lead : Lead n ends starts pairs) (respects : Respects (λ x. slice_index all x) pairs) where
@@ -83,7 +77,7 @@ module _ (n : ℕ) (ends starts : ℕ → Bool) (pairs : List (ℕ × ℕ)) (all
         subst (λ (e : ℕ). IsEndOf x e) (ap (λ b. cond b x (lead.back x)) (sym end))
         record { below = below; is = end; same = λ g keeps. refl }
     | inr other ↦
-        let start = or_else (ends x) (starts x) is other in
+        let start = either-other (ends x) (starts x) is other in
         let from = lead.back_from x below start in
         let from_below = lead.back_below x below start in
         subst (λ (e : ℕ). IsEndOf x e) (ap (λ b. cond b x (lead.back x)) (sym other))
@@ -110,7 +104,7 @@ module _ (n : ℕ) (ends starts : ℕ → Bool) (pairs : List (ℕ × ℕ)) (all
       lead.only (λ z. counted (either ends starts z))
       (λ x below end.
       let next = lead.next x in
-      ap counted (or_first (ends x) (starts x) end ∙ sym (or_second (ends next) (starts next) (lead.next_to x below end))))
+      ap counted (or_left (ends x) (starts x) end ∙ sym (or_right (ends next) (starts next) (lead.next_to x below end))))
 
   pub discs-half : count_in n all name (is_disc ends starts (classes_of n (pairs ++ pairs))) ≡ count_in n all name ends
   discs-half =
@@ -146,7 +140,7 @@ module _ (n : ℕ) (ends starts : ℕ → Bool) (pairs : List (ℕ × ℕ)) (all
             (ap (λ c. nat_eq c name) (one_value (λ z. slice_index all z) respects (disc x) x (disc_below x x_below) x_below own) ∙ has.0)
             (counted-same (either ends starts (disc x)) (either ends starts x)
             (one_value (λ z. counted (either ends starts z)) open-respects (disc x) x (disc_below x x_below) x_below own)
-            ∙ or_first (ends x) (starts x) has.1)
+            ∙ or_left (ends x) (starts x) has.1)
             (eq-eqb (disc (disc x)) (disc x) own),
       ))
       (λ x y x_below y_below x_holds y_holds same.

@@ -14,13 +14,13 @@ use Rattle.kh_types.specs.Code.{Code}
 use Rattle.kh_types.specs.Classes.{Respects}
 use Rattle.kh_types.specs.Colours.{IsColoured}
 use Rattle.kh_types.proofs.AcceptedLemmas.{HasArcsTwice-accepted}
-use Rattle.dotted_surfaces.proofs.Components.{AllByRecursion-weaker}
+use Rattle.kh_types.proofs.Lists.{AllByRecursion-weaker}
+use Rattle.kh_types.proofs.RangeCounts.{counted}
 use Rattle.added_crossings.specs.Codes.{ends_before, is_alive, points_at, outer_smoothings}
 use Rattle.added_crossings.proofs.CodeSteps.{outer-among, count_of}
 use Rattle.added_crossings.proofs.Members.{those-are}
 use Rattle.tangle_surfaces.specs.CutCodes.{is_inside, ends_there, starts_there}
 use Rattle.tangle_surfaces.specs.Surfaces.{Lead, other_than}
-use Rattle.tangle_surfaces.proofs.Counts.{counted}
 use Rattle.tangle_surfaces.proofs.CutCodes.{Lead-outside}
 use Rattle.tangle_surfaces.proofs.CutSteps.{IsNext, IsPairAt, inside-more, new-outside}
 use Rattle.tangle_surfaces.proofs.CutSurfaces.{is_either}

@@ -2,16 +2,17 @@
 -- other.
 use Rattle.std.proofs.Common.{◌≡◌, ◌≢◌, ℕ, ◌⊎◌, inl, inr, ◌<◌, ◌∙◌, List, [], ◌∷◌, ◌++◌, refl, sym, ap, ap₂, subst, true, false, not, ◌||◌, eq-eqb}
 use Rattle.std.specs.Prelude.{nat_eq, slice_index}
-use Rattle.std.proofs.lemmas.Bool.{cases_eq, or_right, false_from_ne_true, eqb-true}
+use Rattle.std.proofs.lemmas.Bool.{cases_eq, or_right, false_from_ne_true, eqb-true, not-true}
 use Rattle.kh_types.specs.Classes.{classes_of, Respects, AreBelow}
 use Rattle.kh_types.specs.Permutations.{AreJoined, cycles_of}
-use Rattle.kh_types.proofs.ExchangedCycles.{AreJoined-apart, AreJoined-split}
+use Rattle.kh_types.proofs.ExchangedCycles.{AreJoined-apart, AreJoined-split, exchange_back}
 use Rattle.kh_types.proofs.JoinedClasses.{classes_of-same}
+use Rattle.kh_types.proofs.ClassLemmas.{Respects-append, Respects-first, Respects-second, AreBelow-append}
 use Rattle.tangle_surfaces.specs.Orbits.{steps_of}
 use Rattle.tangle_surfaces.specs.Surfaces.{Lead, other_than}
 use Rattle.tangle_surfaces.specs.Saddles.{JoinTwo}
-use Rattle.tangle_surfaces.proofs.OrbitLemmas.{Keeps, Respects-steps, Keeps-steps, Respects-append, Respects-first, Respects-second, AreBelow-append, steps-below, each, exchanged, exchanged_back, IsExchange-exchanged, IsPermutation-exchanged}
-use Rattle.tangle_surfaces.proofs.Leading.{led, led-inside, led-outside, IsPermutation-led, Keeps-led, Respects-outer, not-true}
+use Rattle.tangle_surfaces.proofs.OrbitLemmas.{Keeps, Respects-steps, Keeps-steps, steps-below, each, exchanged, IsExchange-exchanged, IsPermutation-exchanged}
+use Rattle.tangle_surfaces.proofs.Leading.{led, led-inside, led-outside, IsPermutation-led, Keeps-led, Respects-outer}
 use Rattle.tangle_surfaces.proofs.Paths.{false_true}
 use Rattle.tangle_surfaces.proofs.LeadLemmas.{either, is_one, Lead-append, Lead-one}
 use Rattle.tangle_surfaces.proofs.CutSurfaces.{are_apart}
@@ -44,7 +45,7 @@ saddle-joined n a b a_too b_too s t w a_below b_below a_too_below b_too_below a_
     let f_back = led tails inner.back outer.back in
     let permutes = IsPermutation-led n heads tails pairs w inner outer in
     let other = exchanged f a a_too in
-    let other_back = exchanged_back f f_back a a_too in
+    let other_back = exchange_back f f_back a a_too in
     let exchange = IsExchange-exchanged n f a a_too a_below a_too_below a_apart in
     let other_permutes = IsPermutation-exchanged n f f_back a a_too permutes a_below a_too_below a_apart in
     let head_a : heads a ≡ true = ap (λ c. c || nat_eq a a_too) (eq-eqb a a refl) in

@@ -7,7 +7,7 @@ use Rattle.std.proofs.lemmas.Bool.{cases_eq, cases_lt}
 use Rattle.std.proofs.lemmas.Bool.Decides.{nat_tests}
 use Rattle.std.proofs.lemmas.List.{length-append}
 use Rattle.std.proofs.lemmas.List.Elements.{All-from_recursion, All-get_or}
-use Rattle.kh_types.proofs.Lists.{AllByRecursion-append, AllByRecursion-first, AllByRecursion-second}
+use Rattle.kh_types.proofs.Lists.{AllByRecursion-append, AllByRecursion-first, AllByRecursion-second, AllByRecursion-weaker}
 use Rattle.code_passes.specs.Labels.{listed_number}
 use Rattle.code_passes.specs.Passes.{Pass, is_over, turned_labels, pass_at, passes_from, all_passes, all_labels}
 
@@ -157,10 +157,10 @@ start-past first (labels ∷ more) arc past =
 
 -- the passes of the first component
 
-leaves-last : (first at size : ℕ) → at + 1 ≡ size → (if nat_eq (at + 1) size then first else first + at + 1) ≡ first
+pub leaves-last : (first at size : ℕ) → at + 1 ≡ size → (if nat_eq (at + 1) size then first else first + at + 1) ≡ first
 leaves-last first at size last = grind (arith, nat_tests)
 
-leaves-inside : (first at size : ℕ) → at + 1 ≢ size → (if nat_eq (at + 1) size then first else first + at + 1) ≡ first + at + 1
+pub leaves-inside : (first at size : ℕ) → at + 1 ≢ size → (if nat_eq (at + 1) size then first else first + at + 1) ≡ first + at + 1
 leaves-inside first at size inside = grind (arith, nat_tests)
 
 pub after_arc-inside : (arc start start_of_next : ℕ) → start_of_next ≡ start → after_arc arc start start_of_next ≡ arc + 1
@@ -249,17 +249,13 @@ All-map_range P f a (suc n) each = (
   All-map_range P f (a + 1) n (λ k from below. each k (omega (arith, from)) (omega (arith, below))),
 )
 
-pub All-weaker : {X : Type 0} (P Q : X → Type 0) (xs : List X) → ((x : X) → P x → Q x) → AllByRecursion P xs → AllByRecursion Q xs
-All-weaker P Q [] onward all = tt
-All-weaker P Q (x ∷ xs) onward all = (onward x all.0, All-weaker P Q xs onward all.1)
-
 pub IsPassOf-all : (first : ℕ) (groups : List (List ℤ)) → 1 ≤ first → AllByRecursion (IsPassOf first groups) (all_passes first groups)
 IsPassOf-all first [] positive = tt
 IsPassOf-all first (labels ∷ more) positive =
     AllByRecursion-append (IsPassOf first (labels ∷ more)) (passes_from first (turned_labels labels)) (all_passes (first + length labels) more)
     (All-map_range (IsPassOf first (labels ∷ more)) (pass_at first (turned_labels labels)) 0 (length (turned_labels labels))
     (λ at from below. pass-here first labels more at positive (omega (arith, below, length-turned_labels labels))))
-    (All-weaker (IsPassOf (first + length labels) more) (IsPassOf first (labels ∷ more)) (all_passes (first + length labels) more)
+    (AllByRecursion-weaker (IsPassOf (first + length labels) more) (IsPassOf first (labels ∷ more)) (all_passes (first + length labels) more)
     (pass-later first labels more)
     (IsPassOf-all (first + length labels) more (omega (arith, positive))))
 

@@ -10,8 +10,8 @@ use Rattle.std.proofs.lemmas.List.{take_all}
 use Rattle.std.proofs.lemmas.List.Elements.{All-from_get_or, recursion_from_All}
 use Rattle.std.proofs.lemmas.List.Sums.{sum_by_more}
 use Rattle.code_passes.specs.Labels.{listed_number, is_bad_label, bad_label}
-use Rattle.code_passes.proofs.Sums.{value_if, only_at, sum-only, sum_by-alike, sum_by-ones, sum-at_most_two, each-two, count_by-none}
-use Rattle.kh_types.proofs.ListSums.{sum_by-range_alike, sum_by-plus, sum_by-turned}
+use Rattle.code_passes.proofs.Sums.{value_if, only_at, sum-only, sum_by-ones, sum-at_most_two, each-two, count_by-none}
+use Rattle.kh_types.proofs.ListSums.{sum_by-range_alike, sum_by-plus, sum_by-turned, sum_by-on}
 use Rattle.kh_types.proofs.Integers.{int_eq-other, int_eq-same}
 
 -- a label names one of some crossings
@@ -66,7 +66,7 @@ pub sum-by_crossings : {X : Type 0} (entering_label : X → ℤ) (f : X → ℕ)
     → sum_by (λ place. sum_by (λ x. at_crossing (f x) (entering_label x) place) xs) (range_with_len 0 crossings) ≡ sum_by f xs
 sum-by_crossings {X} entering_label f crossings xs names =
     sum_by-turned (λ place x. at_crossing (f x) (entering_label x) place) (range_with_len 0 crossings) xs
-    ∙ sum_by-alike (λ x. sum_by (λ place. at_crossing (f x) (entering_label x) place) (range_with_len 0 crossings)) f xs (each xs names)
+    ∙ sum_by-on (λ x. sum_by (λ place. at_crossing (f x) (entering_label x) place) (range_with_len 0 crossings)) f xs (each xs names)
   where
     each : (ys : List X) → AllByRecursion (λ x. Names crossings (entering_label x)) ys
         → AllByRecursion (λ x. sum_by (λ place. at_crossing (f x) (entering_label x) place) (range_with_len 0 crossings) ≡ f x) ys

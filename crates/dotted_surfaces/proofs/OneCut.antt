@@ -6,12 +6,15 @@ use Rattle.std.proofs.lemmas.Bool.{cases_eq, cases_lt}
 use Rattle.std.proofs.lemmas.Bool.Decides.{nat_tests}
 use Rattle.std.proofs.lemmas.List.Sums.{sum_by-cons}
 use Rattle.kh_types.specs.Classes.{AreBelow, merged}
+use Rattle.kh_types.proofs.ClassLemmas.{merged-first, merged-others}
+use Rattle.kh_types.proofs.JoinedClasses.{merged-same}
+use Rattle.kh_types.proofs.EdgeNames.{becomes_least}
 use Rattle.dotted_surfaces.specs.Surfaces.{Surface, component_of, is_component, faces_on, marks_on, lowers_on, raises_on, HasGenus, IsClosed, weight, factor, value, product_below}
 use Rattle.dotted_surfaces.specs.Cuts.{with_faces}
 use Rattle.dotted_surfaces.proofs.Products.{without, rest_of, product_below-without, product_below-two, rest_of-alike, without-alike}
 use Rattle.dotted_surfaces.proofs.Components.{list_any-contained, component-below}
 use Rattle.dotted_surfaces.proofs.Factors.{AreAlike, HaveOneCount-each, factor-alike, genus-alike, factor-at, factor-none, weight-apart, weight-together}
-use Rattle.dotted_surfaces.proofs.JoinedCounts.{tied, component_of-tied, amount_at, sum_at-others, sum_at-same, sum_at-lesser, is_component-others, is_component-lesser, is_component-greater, merged-first, merged-second, merged-others, merged-same}
+use Rattle.dotted_surfaces.proofs.JoinedCounts.{tied, component_of-tied, amount_at, sum_at-others, sum_at-same, sum_at-lesser, is_component-others, is_component-lesser, is_component-greater, merged-second}
 
 -- how the counts are sums over places
 abbrev pub place_of_face : ℕ × ℕ → ℕ
@@ -292,10 +295,6 @@ value-tied surface a b below a_below b_below has_a has_b closed =
 
 -- and it stays closed
 
-both-merged : (u v z : ℕ) → (z ≡ u) ⊎ (z ≡ v) → merged u v z ≡ min u v
-both-merged u v z either = elim either [
-  | inl is ↦ ap (λ k. merged u v k) is ∙ merged-first u v
-  | inr is ↦ ap (λ k. merged u v k) is ∙ merged-second u v
 ]
 
 pub at_place : (surface : Surface) (c d genus : ℕ) → c ≡ d → HasGenus surface d genus → HasGenus surface c genus
@@ -310,7 +309,7 @@ closed-apart surface a i b j g h apart has_g has_h place either =
     let v = component_of surface b in (
       g + h,
       at_place (tied surface a b) (component_of (tied surface a b) place) (min u v) (g + h)
-          (component_of-tied surface a b place ∙ both-merged u v (component_of surface place) either)
+          (component_of-tied surface a b place ∙ becomes_least u v (component_of surface place) either)
           (genus-apart surface a i b j g h apart has_g has_h),
     )
 

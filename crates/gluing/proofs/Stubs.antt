@@ -3,6 +3,7 @@ use Rattle.std.proofs.Common.{◌≡◌, ℕ, zero, suc, ◌⊎◌, inl, inr, �
 use Rattle.std.specs.Prelude.{slice_index, nat_eq, nat_lt}
 use Rattle.std.specs.List.{range_with_len}
 use Rattle.std.proofs.lemmas.Bool.Decides.{nat_tests}
+use Rattle.std.proofs.lemmas.Bool.{cases_order}
 use Rattle.kh_types.specs.Classes.{classes_of, class_count, Respects, AreBelow}
 use Rattle.kh_types.proofs.ClassLemmas.{classes-together, classes-finest}
 use Rattle.kh_types.proofs.JoinedClasses.{slice_index-range}
@@ -270,12 +271,9 @@ at_stubs-apart_ordered n arcs placed i j less below same = elim (kind_of j below
   ]
 ]
 
-pub order_of : (i j : ℕ) → (i ≡ j) ⊎ ((i < j) ⊎ (j < i))
-order_of i j = grind (arith, nat_tests)
-
 pub at_stubs-apart : (n : ℕ) (arcs : ℕ → ℕ) → IsPlacedTriangle n arcs → (i j : ℕ) → i < 10 → j < 10
     → at_stubs n arcs i ≡ at_stubs n arcs j → i ≡ j
-at_stubs-apart n arcs placed i j i_below j_below same = elim (order_of i j) [
+at_stubs-apart n arcs placed i j i_below j_below same = elim (cases_order i j) [
   | inl is ↦ is
   | inr other ↦ elim other [
     | inl less ↦ absurd (at_stubs-apart_ordered n arcs placed i j less j_below same)

@@ -8,6 +8,7 @@ use Rattle.std.specs.List.{All, AllByRecursion, Contains, filter, flat_map, find
 use Rattle.std.proofs.lemmas.List.{length-append, length-map, get_or-map, take-map, drop-map, map-append}
 use Rattle.std.proofs.lemmas.List.Elements.{filter-append, All-nil, All-append, All-head, Contains-append_left, Contains-append_right, All-contains, All-from_recursion}
 use Rattle.std.proofs.lemmas.List.Sums.{sum_by-cons, prefix_len-le-length}
+use Rattle.std.proofs.lemmas.List.FromFn.{length-range_with_len, get_or-range_with_len}
 use Rattle.kh_types.proofs.Ranges.{range_around}
 use Rattle.std.proofs.lemmas.Bool.Decides.{nat_tests}
 
@@ -33,10 +34,10 @@ pub AllByRecursion-second : {X : Type 0} (P : X → Type 0) (xs ys : List X) →
 AllByRecursion-second P [] ys holds = holds
 AllByRecursion-second P (x ∷ xs) ys holds = AllByRecursion-second P xs ys holds.1
 
-pub AllByRecursion-onward : {X : Type 0} (P Q : X → Type 0) (xs : List X) → ((x : X) → P x → Q x) → AllByRecursion P xs
+pub AllByRecursion-weaker : {X : Type 0} (P Q : X → Type 0) (xs : List X) → ((x : X) → P x → Q x) → AllByRecursion P xs
     → AllByRecursion Q xs
-AllByRecursion-onward P Q [] onward all = tt
-AllByRecursion-onward P Q (x ∷ xs) onward all = (onward x all.0, AllByRecursion-onward P Q xs onward all.1)
+AllByRecursion-weaker P Q [] weaker all = tt
+AllByRecursion-weaker P Q (x ∷ xs) weaker all = (weaker x all.0, AllByRecursion-weaker P Q xs weaker all.1)
 
 pub AllByRecursion-both : {X : Type 0} (P Q R : X → Type 0) (xs : List X) → ((x : X) → P x → Q x → R x) → AllByRecursion P xs
     → AllByRecursion Q xs → AllByRecursion R xs
@@ -58,6 +59,14 @@ Contains-later x y xs (k, below, is) = (suc k, omega (arith, below), is)
 pub Contains-cases : {X : Type 0} (x y : X) (xs : List X) → Contains (x ∷ xs) y → (x ≡ y) ⊎ Contains xs y
 Contains-cases x y xs (zero, below, is) = inl is
 Contains-cases x y xs (suc k, below, is) = inr (k, omega (arith, below), is)
+
+pub Contains-range : (n k : ℕ) → k < n → Contains (range_with_len 0 n) k
+Contains-range n k below = (k, omega (arith, below, length-range_with_len 0 n), get_or-range_with_len 0 n k k below ∙ omega arith)
+
+pub range-contains : (n k : ℕ) → Contains (range_with_len 0 n) k → k < n
+range-contains n k has =
+    let within : has.0 < n = omega (arith, has.1, length-range_with_len 0 n) in
+    omega (arith, within, sym has.2 ∙ get_or-range_with_len 0 n has.0 k within)
 
 -- tests that agree on a range pass the same of its numbers
 

@@ -2,7 +2,7 @@
 use Rattle.std.proofs.Common.{◌≡◌, ◌≢◌, ℕ, ◌⊎◌, inl, inr, ◌+◌, ◌%◌, ◌<◌, ◌≤◌, ◌∙◌, List, [], ◌∷◌, map, get_or, refl, sym, ap, ap₂, subst, arith, Bool, true, false, not, ◌&&◌, ◌||◌, pos, neg_ℤ, IsTrue}
 use Rattle.std.specs.Prelude.{nat_eq, if◌then◌else◌, int_lt, MatchBool}
 use Rattle.std.specs.List.{range_with_len}
-use Rattle.std.proofs.lemmas.Bool.{both_ways, cases_eq, cases_lt}
+use Rattle.std.proofs.lemmas.Bool.{both_ways, cases_eq, cases_lt, ne_eqb}
 use Rattle.std.proofs.lemmas.Bool.Decides.{nat_tests}
 use Rattle.std.proofs.lemmas.Int.{ints}
 use Rattle.kh_types.specs.Acceptance.{accepted}
@@ -19,7 +19,6 @@ use Rattle.code_passes.specs.Passes.{is_over, turned_labels}
 use Rattle.code_passes.proofs.CutArcs.{IsFirst, component-in, end-within, size}
 use Rattle.code_passes.proofs.LeastArcs.{IsFirstOf-directed}
 use Rattle.code_passes.proofs.TwoArcComponents.{turned_labels-component}
-use Rattle.orient_arcs.proofs.Members.{neq-eqb}
 use Rattle.orient_arcs.proofs.PlacedNumbers.{placed-numbers}
 use Rattle.orient_arcs.specs.Renumbered.{label_entered, number_in, order_of}
 use Rattle.code_passes.specs.Parts.{passes_through}
@@ -42,7 +41,7 @@ ascending-labels a b a_some b_some same = by ((is_over (pos a) && is_over (pos b
     by false test same = kept test
 
 label-over : (dart : Dart) → dart.slot ≢ 0 → label_at dart ≡ pos dart.crossing
-label-over dart over = ap (λ b. if b then neg_ℤ (pos dart.crossing) else pos dart.crossing) (neq-eqb dart.slot 0 over)
+label-over dart over = ap (λ b. if b then neg_ℤ (pos dart.crossing) else pos dart.crossing) (ne_eqb dart.slot 0 over)
 
 module _ (code : Code) (holds : IsTrue (accepted code)) where
   abbrev cs : List (List ℕ)
@@ -99,7 +98,7 @@ module _ (code : Code) (holds : IsTrue (accepted code)) where
           | inl same ↦ inr same
           | inr neither ↦ absurd
               (both_ways (nat_eq s 0 || nat_eq s (if b then 3 else 1))
-              (ap (λ t. t || nat_eq s (if b then 3 else 1)) (neq-eqb s 0 other) ∙ neq-eqb s (if b then 3 else 1) neither) enters)
+              (ap (λ t. t || nat_eq s (if b then 3 else 1)) (ne_eqb s 0 other) ∙ ne_eqb s (if b then 3 else 1) neither) enters)
         ]
       ]
 

@@ -2,7 +2,7 @@
 use Rattle.std.proofs.Common.{◌≡◌, ◌≢◌, ℕ, zero, suc, inl, inr, ◌+◌, ◌-◌, ◌*◌, ◌%◌, ◌<◌, ◌≤◌, ◌∙◌, List, [], ◌∷◌, length, refl, sym, ap, subst, arith, Bool, true, false, not, cond, IsTrue}
 use Rattle.std.specs.Prelude.{nat_eq, if◌then◌else◌, MatchBool, slice_index_or}
 use Rattle.std.specs.List.{AllByRecursion, position_or_len}
-use Rattle.std.proofs.lemmas.Bool.{cases_eq, cases_lt, eq-eqb}
+use Rattle.std.proofs.lemmas.Bool.{cases_eq, cases_lt, eq-eqb, ne_eqb}
 use Rattle.std.proofs.lemmas.List.{length-map}
 use Rattle.kh_types.specs.Acceptance.{accepted}
 use Rattle.kh_types.specs.Accepted.{IsDirected}
@@ -19,11 +19,11 @@ use Rattle.orient_arcs.specs.OtherNames.{IsNamedBy, KeepsComponents}
 use Rattle.code_passes.specs.Parts.{ArePaired, is_positive_at, over_pass, passes_at, passes_through, slots_in, under_pass}
 use Rattle.orient_arcs.specs.Renumbered.{follows, label_entered, number_in, order_of, walk}
 use Rattle.orient_arcs.proofs.KeptOrder.{own-crossings}
-use Rattle.orient_arcs.proofs.Members.{IsIn, neq-eqb}
+use Rattle.orient_arcs.proofs.Members.{IsIn}
 use Rattle.orient_arcs.proofs.PairedPasses.{All-flat_map_range, entering-enters, entering-holds, heads_of, length-heads}
 use Rattle.link_algebra.specs.Mirrors.{reversal_of, reversal_parts, reversal_slots, slots_from}
 use Rattle.link_algebra.proofs.MirrorParts.{IsTurnOf-reversal, listed, own-sign, reversal-listed, reversal_size}
-use Rattle.link_algebra.proofs.NumberedBlocks.{GoesOver, placed-numbers}
+use Rattle.orient_arcs.proofs.NumberedBlocks.{GoesOver, placed-numbers}
 use Rattle.link_algebra.proofs.TurnedCodes.{reversal-accepted, reversal-rotated, reversal-signs, reversal_name, reversal_number}
 use Rattle.link_algebra.proofs.TurnedParts.{IsTurnOf, arc-head, head-arc, number-is, paired}
 
@@ -178,7 +178,7 @@ module _ (code : Code) (holds : IsTrue (accepted code)) where
       let to : before (first + suc (suc i)) ≡ first + suc i = before-later first (suc i) is below in
       let on : before (first + suc (suc i)) ≢ first = λ same. absurd (omega (arith, same, to)) in
       ap (λ b. (first + suc (suc i)) ∷ (if b then [] else walk (follows (passes_through (reversal_parts code))) first fuel (before (first + suc (suc i)))))
-      (neq-eqb (before (first + suc (suc i))) first on)
+      (ne_eqb (before (first + suc (suc i))) first on)
       ∙ ap (λ y. (first + suc (suc i)) ∷ walk (follows (passes_through (reversal_parts code))) first fuel y) to
       ∙ ap (λ ys. (first + suc (suc i)) ∷ ys) (walk-down first is fuel i (omega (arith, below)) (omega (arith, enough)))
 
@@ -207,7 +207,7 @@ module _ (code : Code) (holds : IsTrue (accepted code)) where
           let on : before first ≢ first = λ same. absurd (omega (arith, same, to)) in
           let e : suc (suc i) - 1 ≡ suc i = omega arith in
           ap (λ b. first ∷ (if b then [] else walk (follows (passes_through (reversal_parts code))) first fuel (before first)))
-          (neq-eqb (before first) first on)
+          (ne_eqb (before first) first on)
           ∙ ap (λ y. first ∷ walk (follows (passes_through (reversal_parts code))) first fuel y) to
           ∙ ap (λ ys. first ∷ ys) (walk-down first is fuel i (omega (arith, is_s)) (omega (arith, enough)))
           ∙ ap (λ n. first ∷ down first n) (sym e)

@@ -14,7 +14,7 @@ use Rattle.kh_types.specs.Accepted.{IsDirected, IsInterval}
 use Rattle.kh_types.specs.Code.{Code, IsArc, IsCrossing, arc_count, arc_in, slots_of}
 use Rattle.kh_types.specs.Components.{arcs_in, component_of, components_of, next}
 use Rattle.kh_types.specs.Darts.{arc_of, dart_at, times}
-use Rattle.link_algebra.proofs.ClassParts.{count-shifted}
+use Rattle.kh_types.proofs.LabelDegrees.{sum_by-later}
 use Rattle.link_algebra.proofs.UnitedComponents.{IsPart, IsPart-first, IsPart-second, component-is, index-past, length-components}
 use Rattle.link_algebra.proofs.UnitedSigns.{next-part, part-arc}
 use Rattle.link_algebra.proofs.UnitedSums.{length-both}
@@ -73,7 +73,7 @@ times-blocks first second arc =
     ∙ ap₂ (λ x y. x + y)
     (sum_by-range_alike (on_arc whole arc) (λ q. on_arc whole arc (4 * 0 + q)) 0 (4 * n)
     (λ q from below. ap (on_arc whole arc) (let e : q ≡ 4 * 0 + q = omega arith in e)))
-    (ap (λ c. sum_by (on_arc whole arc) (range_with_len c (4 * k))) f ∙ count-shifted (on_arc whole arc) (4 * n) 0 (4 * k))
+    (ap (λ c. sum_by (on_arc whole arc) (range_with_len c (4 * k))) f ∙ sum_by-later (on_arc whole arc) (4 * n) 0 (4 * k))
 
 times-own : (before : ℕ) (part whole : List (List ℕ)) (arc : ℕ) → IsPart before part whole
     → sum_by (λ q. on_arc whole (arc + 2 * before) (4 * before + q)) (range_with_len 0 (4 * length part)) ≡ times part arc

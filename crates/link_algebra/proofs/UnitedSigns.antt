@@ -13,7 +13,8 @@ use Rattle.kh_types.specs.Acceptance.{accepted}
 use Rattle.kh_types.specs.Code.{Code, IsArc, IsCrossing, arc_count, arc_in, place_of, slots_of}
 use Rattle.kh_types.specs.Components.{arcs_in, component_of, components_of, next}
 use Rattle.kh_types.specs.Directions.{first_over, first_under, is_positive_by_next, is_positive_by_order, is_positive_by_under, is_positive_in, is_positive_of_two, passes_over, passes_under, plus_count}
-use Rattle.link_algebra.proofs.ClassParts.{count-shifted}
+use Rattle.kh_types.proofs.LabelDegrees.{sum_by-later}
+use Rattle.kh_types.proofs.Lists.{find-none}
 use Rattle.link_algebra.proofs.UnitedComponents.{IsPart, IsPart-first, IsPart-second, component-is, component-past}
 use Rattle.link_algebra.proofs.UnitedSums.{length-both}
 use Rattle.link_algebra.specs.Unions.{union_of}
@@ -60,13 +61,6 @@ next-part before part whole arc is is_arc =
     no_choice : (u v x y arc by most : ℕ) → (u ≡ 0) ⊎ (most + by < u) → v ≡ y + by → x ≡ 0 → 1 ≤ y → y ≤ most
         → cond (nat_eq u v) (arc + by + 1) v ≡ cond (nat_eq x y) (arc + 1) y + by
     no_choice u v x y arc by most border is_v is_x positive within = grind (arith, nat_tests)
-
--- a search through the crossings, which only crossings of the part can pass
-find-none : (p : ℕ → Bool) (a n : ℕ) → ((k : ℕ) → a ≤ k → k < a + n → p k ≡ false) → find p (range_with_len a n) ≡ None
-find-none p a zero fails = refl
-find-none p a (suc n) fails =
-    ap (λ b. cond b (Some a) (find p (range_with_len (a + 1) n))) (fails a (omega arith) (omega arith))
-    ∙ find-none p (a + 1) n (λ k from below. fails k (omega arith) (omega arith))
 
 find-shifted : (p q : ℕ → Bool) (before a n : ℕ) → ((k : ℕ) → a ≤ k → k < a + n → p (before + k) ≡ q k)
     → find p (range_with_len (before + a) n) ≡ option_map (λ k. before + k) (find q (range_with_len a n))
@@ -315,7 +309,7 @@ plus-both first second first_is second_is =
     (ap (is_positive_in whole (components_of whole)) e
     ∙ positive-part 0 first.crossings whole c (IsPart-first first second first_is second_is)
     (IsAlone-first first second first_is second_is) (record { positive = from; within = omega (arith, below) }))))
-    (ap (λ c. sum_by (test whole) (range_with_len c k)) f ∙ count-shifted (test whole) n 1 k
+    (ap (λ c. sum_by (test whole) (range_with_len c k)) f ∙ sum_by-later (test whole) n 1 k
     ∙ sum_by-range_alike (λ c. test whole (n + c)) (test second.crossings) 1 k
     (λ c from below.
     ap (λ b. cond b 1 0)

@@ -9,13 +9,14 @@ use Rattle.kh_types.specs.Circles.{smoothing_of}
 use Rattle.kh_types.specs.Colours.{IsColoured}
 use Rattle.kh_types.specs.CircleSteps.{arc_at}
 use Rattle.kh_types.proofs.JoinedSlots.{arc_at-slot}
+use Rattle.kh_types.proofs.BitLemmas.{bit-cases}
 use Rattle.tangle_surfaces.specs.Surfaces.{Lead, other_than, IsSurface}
 use Rattle.tangle_surfaces.specs.CutCodes.{is_inside, ends_there, starts_there, outer_smoothings}
 use Rattle.tangle_surfaces.proofs.Paths.{Lead-turned}
 use Rattle.tangle_surfaces.proofs.LeadLemmas.{AreApart, either, is_one, Lead-append, Lead-none, Lead-one, Lead-one_turned}
 use Rattle.tangle_surfaces.proofs.CutCodes.{Lead-outside, ends-starts}
 use Rattle.tangle_surfaces.proofs.CutTests.{stays, leads, closes_ends, closes_starts, kept_ends, kept_starts, at_behind}
-use Rattle.tangle_surfaces.proofs.CutSteps.{IsNext, IsPairAt, IsPairAt-turned, IsPairAt-slots, pair-below, pair-apart, inside-more, new-outside, bit-cases}
+use Rattle.tangle_surfaces.proofs.CutSteps.{IsNext, IsPairAt, IsPairAt-turned, IsPairAt-slots, pair-below, pair-apart, inside-more, new-outside}
 
 -- the numbers of arcs and loops of a code, and 0
 abbrev pub size_of : Code → ℕ

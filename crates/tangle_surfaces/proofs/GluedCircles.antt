@@ -3,22 +3,17 @@
 use Rattle.std.proofs.Common.{◌≡◌, ℕ, suc, inl, inr, ◌+◌, ◌<◌, ◌∙◌, List, [], ◌∷◌, ◌++◌, refl, sym, ap, ap₂, arith, Bool, true, false, not, ◌&&◌, cond, eq-eqb}
 use Rattle.std.specs.Prelude.{nat_eq, slice_index, unwrap_or}
 use Rattle.std.specs.List.{find, list_any, range_with_len}
-use Rattle.std.proofs.lemmas.Bool.{cases_Bool, eqb-true, false_from_ne_true}
+use Rattle.std.proofs.lemmas.Bool.{cases_Bool, eqb-true, false_from_ne_true, and_parts}
 use Rattle.kh_types.specs.Classes.{classes_of, is_least, Respects, AreBelow, IsNamed}
-use Rattle.kh_types.proofs.ClassLemmas.{classes-together, classes-finest}
+use Rattle.kh_types.proofs.ClassLemmas.{classes-together, classes-finest, Respects-append, Respects-first, Respects-second, AreBelow-append}
 use Rattle.kh_types.proofs.JoinedClasses.{IsNamed-classes_of}
-use Rattle.kh_types.proofs.RangeCounts.{list_any-at, list_any-one, count_by-alike}
+use Rattle.kh_types.proofs.RangeCounts.{list_any-at, list_any-one, count_by-alike, counted}
 use Rattle.tangle_surfaces.specs.Orbits.{is_in, count_in, parts_in}
 use Rattle.tangle_surfaces.specs.Pairings.{JoinOpen, seek, JoinOpenAlone, has_open, is_closed}
-use Rattle.tangle_surfaces.proofs.Counts.{counted, count_by-matched, count_by-either}
+use Rattle.tangle_surfaces.proofs.Counts.{count_by-matched, count_by-either}
 use Rattle.tangle_surfaces.proofs.PartCounts.{AreFiner}
-use Rattle.tangle_surfaces.proofs.OrbitLemmas.{Respects-append, Respects-first, Respects-second, AreBelow-append}
 use Rattle.tangle_surfaces.proofs.DiscCounts.{all_three, both_pass}
 use Rattle.tangle_surfaces.proofs.Paths.{false_true, IsSought, IsSought-seek}
-
-two_pass : (s t : Bool) → (s && t) ≡ true → (s ≡ true) × (t ≡ true)
-two_pass true t both = (refl, both)
-two_pass false t both = absurd (false_true both)
 
 -- what depends on a class alone
 Respects-after : (f c : ℕ → ℕ) (pairs : List (ℕ × ℕ)) → Respects c pairs → Respects (λ x. f (c x)) pairs
@@ -42,7 +37,7 @@ open_found : (n : ℕ) (opened : ℕ → Bool) (classes : List ℕ) (x : ℕ) �
     → (y : ℕ) × IsSought n classes opened x y
 open_found n opened classes x has =
     let found = list_any-one (λ z. opened z && nat_eq (slice_index classes z) (slice_index classes x)) 0 n has in
-    let passes = two_pass (opened found.0) (nat_eq (slice_index classes found.0) (slice_index classes x)) found.3 in (
+    let passes = and_parts (opened found.0) (nat_eq (slice_index classes found.0) (slice_index classes x)) found.3 in (
       found.0,
       record {
         below = omega (arith, found.2);

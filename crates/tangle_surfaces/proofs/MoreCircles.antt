@@ -9,15 +9,14 @@ use Rattle.kh_types.specs.Classes.{classes_of, is_least, Respects, AreBelow}
 use Rattle.kh_types.specs.Circles.{smoothing_of}
 use Rattle.kh_types.specs.Colours.{IsColoured}
 use Rattle.kh_types.specs.CircleSteps.{arc_at, across}
-use Rattle.kh_types.proofs.ClassLemmas.{classes-together, classes-finest}
+use Rattle.kh_types.proofs.ClassLemmas.{classes-together, classes-finest, Respects-append, AreBelow-append}
 use Rattle.kh_types.proofs.JoinedSlots.{smoothings_from, across-below, across-crossing}
 use Rattle.kh_types.proofs.CircleCycles.{arc-at_place}
+use Rattle.kh_types.proofs.RangeCounts.{counted}
 use Rattle.tangle_surfaces.specs.Orbits.{count_in, parts_in}
 use Rattle.tangle_surfaces.specs.Surfaces.{Lead, is_open}
 use Rattle.tangle_surfaces.specs.CutCodes.{colour_at, is_inside, ends_there, starts_there, is_alive, outer_smoothings}
 use Rattle.tangle_surfaces.specs.Pairings.{JoinOpen, JoinOpenAlone, is_closed}
-use Rattle.tangle_surfaces.proofs.Counts.{counted}
-use Rattle.tangle_surfaces.proofs.OrbitLemmas.{Respects-append, AreBelow-append}
 use Rattle.tangle_surfaces.proofs.Paths.{false_true}
 use Rattle.tangle_surfaces.proofs.CutCodes.{Lead-outside, is_inside-at, inside-found, behind-outside}
 use Rattle.tangle_surfaces.proofs.CutSurfaces.{size_of, pairs_at, smoothing-at}

@@ -2,15 +2,17 @@
 -- together, or two where the crossing is not.
 use Rattle.std.proofs.Common.{◌≡◌, ◌≢◌, ℕ, ◌+◌, ◌<◌, ◌∙◌, List, [], ◌∷◌, ◌++◌, refl, sym, ap, ap₂, subst, Bool, true, false, not, ◌||◌, eq-eqb}
 use Rattle.std.specs.Prelude.{nat_eq, slice_index}
-use Rattle.std.proofs.lemmas.Bool.{false_from_ne_true, eqb-true}
+use Rattle.std.proofs.lemmas.Bool.{false_from_ne_true, eqb-true, not-true, or_right}
 use Rattle.kh_types.specs.Classes.{classes_of, Respects, AreBelow}
 use Rattle.kh_types.specs.Permutations.{cycles_of}
 use Rattle.kh_types.proofs.JoinedClasses.{classes_of-same}
+use Rattle.kh_types.proofs.ClassLemmas.{Respects-append, Respects-first, Respects-second, AreBelow-append}
+use Rattle.kh_types.proofs.ExchangedCycles.{exchange_back}
 use Rattle.tangle_surfaces.specs.Orbits.{is_in, parts_in, steps_of, orbits_of, one_if}
 use Rattle.tangle_surfaces.specs.Surfaces.{Lead, other_than}
 use Rattle.tangle_surfaces.specs.Saddles.{JoinTwo}
-use Rattle.tangle_surfaces.proofs.OrbitLemmas.{Keeps, Respects-steps, Keeps-steps, Respects-append, Respects-first, Respects-second, AreBelow-append, steps-below, orbit_steps-below, each, exchanged, exchanged_back, IsExchange-exchanged, IsPermutation-exchanged}
-use Rattle.tangle_surfaces.proofs.Leading.{led, led-inside, led-outside, IsPermutation-led, Keeps-led, Respects-outer, not-true}
+use Rattle.tangle_surfaces.proofs.OrbitLemmas.{Keeps, Respects-steps, Keeps-steps, steps-below, orbit_steps-below, each, exchanged, IsExchange-exchanged, IsPermutation-exchanged}
+use Rattle.tangle_surfaces.proofs.Leading.{led, led-inside, led-outside, IsPermutation-led, Keeps-led, Respects-outer}
 use Rattle.tangle_surfaces.proofs.Paths.{false_true}
 use Rattle.tangle_surfaces.proofs.LeadLemmas.{either, is_one, Lead-append, Lead-one}
 use Rattle.tangle_surfaces.proofs.CutSurfaces.{are_apart}
@@ -19,12 +21,8 @@ use Rattle.tangle_surfaces.proofs.ExchangeCounts.{exchange-counted}
 neither : (x a b : ℕ) → (nat_eq x a || nat_eq x b) ≡ false → (x ≢ a) × (x ≢ b)
 neither x a b none = (
   λ same. false_true (sym none ∙ ap (λ t. t || nat_eq x b) (eq-eqb x a same)),
-  λ same. false_true (sym none ∙ last (nat_eq x a) (nat_eq x b) (eq-eqb x b same)),
+  λ same. false_true (sym none ∙ or_right (nat_eq x a) (nat_eq x b) (eq-eqb x b same)),
 )
-  where
-    last : (s t : Bool) → t ≡ true → (s || t) ≡ true
-    last true t is = refl
-    last false t is = is
 
 one_of_two : (x a b : ℕ) → x ≢ a → x ≢ b → (nat_eq x a || nat_eq x b) ≡ false
 one_of_two x a b not_a not_b =
@@ -51,11 +49,11 @@ saddle-counted n a b a_too b_too s t w a_below b_below a_too_below b_too_below a
     let f_back = led tails inner.back outer.back in
     let permutes = IsPermutation-led n heads tails pairs w inner outer in
     let other = exchanged f a a_too in
-    let other_back = exchanged_back f f_back a a_too in
+    let other_back = exchange_back f f_back a a_too in
     let exchange = IsExchange-exchanged n f a a_too a_below a_too_below a_apart in
     let other_permutes = IsPermutation-exchanged n f f_back a a_too permutes a_below a_too_below a_apart in
     let head_a : heads a ≡ true = ap (λ c. c || nat_eq a a_too) (eq-eqb a a refl) in
-    let head_a_too : heads a_too ≡ true = second_true (nat_eq a_too a) (nat_eq a_too a_too) (eq-eqb a_too a_too refl) in
+    let head_a_too : heads a_too ≡ true = or_right (nat_eq a_too a) (nat_eq a_too a_too) (eq-eqb a_too a_too refl) in
     let f_a : f a ≡ b =
     led-inside heads inner.next outer.next a head_a ∙ led-inside (is_one a) (λ x. b) (λ x. b_too) a (eq-eqb a a refl) in
     let f_a_too : f a_too ≡ b_too =
@@ -115,7 +113,3 @@ saddle-counted n a b a_too b_too s t w a_below b_below a_too_below b_too_below a
     (ap₂ (λ p q. parts_in n (orbits_of n f other) name p + parts_in n (orbits_of n f other) name q) s_are t_are
     ∙ exchange-counted n f f_back other other_back a a_too permutes other_permutes exchange name below
     (ap (λ cs. slice_index cs name) (sym all_are) ∙ own))
-  where
-    second_true : (s t : Bool) → t ≡ true → (s || t) ≡ true
-    second_true true t is = refl
-    second_true false t is = is
