@@ -16,6 +16,7 @@ use Rattle.kh_types.proofs.ListSums.{sum_by-alike, sum_by-flat_map, sum_by-map, 
 use Rattle.kh_types.proofs.Residues.{same-equal, same-multiple, same-scaled}
 use Rattle.cube_squares.proofs.Degrees.{coefficient-below}
 use Rattle.cube_squares.proofs.Pairs.{coefficient-one, edge_or_zero}
+use Rattle.cube_squares.proofs.Signs.{power_sign, same_parity, signs-product}
 use Rattle.cube_squares.proofs.TouchedCircles.{fits}
 use Rattle.cell_complexes.specs.Alike.{AreAlike}
 use Rattle.cell_complexes.specs.Cells.{AreComplex, dimension_at}
@@ -47,49 +48,6 @@ member-of code x is =
     Contains-flat_map (generators_of code) (states code) x.state x (Contains-range (2 ^ length code.crossings) x.state is.state)
     (Contains-map (generator_of x.state) (range_with_len 0 (2 ^ circle_count code x.state)) x.label
     (Contains-range (2 ^ circle_count code x.state) x.label is.label))
-
--- signs multiply
-abbrev power_sign : ℕ → ℕ → ℕ
-power_sign p n = if nat_eq (n % 2) 0 then 1 else p - 1
-
-same_parity : (p a b : ℕ) → a % 2 ≡ b % 2 → power_sign p a ≡ power_sign p b
-same_parity p a b same = ap (λ r. if nat_eq r 0 then 1 else p - 1) same
-
-signs-product : (p a b : ℕ) → 0 < p → Same p (power_sign p a * power_sign p b) (power_sign p (a + b))
-signs-product p a b positive = by (a % 2) (b % 2) refl refl
-  where
-    even : (n : ℕ) → n % 2 ≡ 0 → power_sign p n ≡ 1
-    even n is = grind (arith, nat_tests)
-
-    odd : (n : ℕ) → n % 2 ≡ 1 → power_sign p n ≡ p - 1
-    odd n is = grind (arith, nat_tests)
-
-    ring : (m : ℕ) → m * m + (m + 1) * 1 ≡ 1 + (m + 1) * m
-    ring m = omega arith
-
-    square_of : (m q : ℕ) → q ≡ m + 1 → m * m + q * 1 ≡ 1 + q * m
-    square_of m q is = ap (λ x. m * m + x * 1) is ∙ ring m ∙ ap (λ x. 1 + x * m) (sym is)
-
-    square : (q : ℕ) → 0 < q → (q - 1) * (q - 1) + q * 1 ≡ 1 + q * (q - 1)
-    square q positive = square_of (q - 1) q (omega (arith, positive))
-
-    by : (x y : ℕ) → a % 2 ≡ x → b % 2 ≡ y → Same p (power_sign p a * power_sign p b) (power_sign p (a + b))
-    by zero zero is_a is_b =
-        same-equal p (power_sign p a * power_sign p b) (power_sign p (a + b))
-        (ap₂ (λ x y. x * y) (even a is_a) (even b is_b) ∙ sym (even (a + b) (omega (arith, is_a, is_b))))
-    by zero (suc zero) is_a is_b =
-        same-equal p (power_sign p a * power_sign p b) (power_sign p (a + b))
-        (ap₂ (λ x y. x * y) (even a is_a) (odd b is_b) ∙ omega (arith, odd (a + b) (omega (arith, is_a, is_b))))
-    by (suc zero) zero is_a is_b =
-        same-equal p (power_sign p a * power_sign p b) (power_sign p (a + b))
-        (ap₂ (λ x y. x * y) (odd a is_a) (even b is_b) ∙ omega (arith, odd (a + b) (omega (arith, is_a, is_b))))
-    by (suc zero) (suc zero) is_a is_b =
-        same-equal p (power_sign p a * power_sign p b) ((p - 1) * (p - 1)) (ap₂ (λ x y. x * y) (odd a is_a) (odd b is_b))
-        ∙ sym (same-multiple p ((p - 1) * (p - 1)) 1) ∙ same-equal p ((p - 1) * (p - 1) + p * 1) (1 + p * (p - 1)) (square p positive)
-        ∙ same-multiple p 1 (p - 1) ∙ same-equal p 1 (power_sign p (a + b)) (sym (even (a + b) (omega (arith, is_a, is_b))))
-    by zero (suc (suc y)) is_a is_b = absurd (omega (arith, is_b))
-    by (suc zero) (suc (suc y)) is_a is_b = absurd (omega (arith, is_b))
-    by (suc (suc x)) y is_a is_b = absurd (omega (arith, is_a))
 
 -- steps, by their places
 record IsStepAt (code : Code) (s t place : ℕ) : Type 0 where

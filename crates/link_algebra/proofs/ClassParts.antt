@@ -3,7 +3,7 @@ use Rattle.std.proofs.Common.{List, [], ap, ap₂, arith, cond, length, map, ref
 use Rattle.std.proofs.lemmas.Bool.Decides.{nat_tests}
 use Rattle.std.proofs.lemmas.List.{length-append, length-map, map-append}
 use Rattle.std.proofs.lemmas.List.FromFn.{length-range_with_len}
-use Rattle.std.proofs.lemmas.List.Sums.{length-filter, sum_by-append, sum_by-cons}
+use Rattle.std.proofs.lemmas.List.Sums.{length-filter, sum_by-append}
 use Rattle.std.specs.List.{fold, range_with_len, sum_by}
 use Rattle.std.specs.Prelude.{nat_eq, slice_index}
 use Rattle.kh_types.proofs.JoinedClasses.{slice_index-range}

@@ -2,7 +2,6 @@
 use Rattle.std.proofs.Common.{◌≡◌, ◌≢◌, ℕ, zero, suc, ◌+◌, ◌^◌, ◌<◌, ◌∙◌, inl, inr, ℤ, List, length, get_or, arith, true, cond}
 use Rattle.std.specs.List.{AllByRecursion, Contains, flat_map, range_with_len, sum_by}
 use Rattle.std.proofs.lemmas.List.Elements.{All-filter, All-from_recursion, All-get_or, filter_passes}
-use Rattle.std.proofs.lemmas.List.FromFn.{get_or-range_with_len, length-range_with_len}
 use Rattle.std.proofs.lemmas.List.Sums.{length-filter}
 use Rattle.kh_types.specs.Circles.{circle_count}
 use Rattle.kh_types.specs.Code.{Code, IsCrossing}

@@ -249,7 +249,7 @@ module _ (code : Code) (holds : IsTrue (accepted code)) where
         ∙ names.there y y_is.positive (omega (arith, y_is.within));
     across = λ x y x_is y_is less.
         let placed = λ (z : ℕ) (z_is : IsArc cs z).
-        placed-numbers code directed (reversal_parts code) paired_parts arc-there there-arc names_from walked rounds turn.size z z_is in
+        placed-numbers code directed (reversal_parts code) paired_parts arc-there there-arc names_from walked rounds z z_is in
         let x_first = IsFirstOf-directed cs directed x x_is in
         let first_is : IsFirst cs (component cs x) = record { is_arc = x_first.is_arc; own = x_first.own } in
         let y_place = HasPlace-directed cs directed y y_is in
@@ -262,7 +262,7 @@ module _ (code : Code) (holds : IsTrue (accepted code)) where
         ] in
         omega (arith, f-is x x_is, f-is y y_is, (placed x x_is).below, (placed y y_is).from, behind);
     within = λ x x_is.
-        let placed = placed-numbers code directed (reversal_parts code) paired_parts arc-there there-arc names_from walked rounds turn.size x x_is in
+        let placed = placed-numbers code directed (reversal_parts code) paired_parts arc-there there-arc names_from walked rounds x x_is in
         let x_first = IsFirstOf-directed cs directed x x_is in
         elim (placed.least) [
           | inl low ↦ inl (omega (arith, f-is (component cs x) x_first.is_arc, f-is x x_is, low))

@@ -1,6 +1,5 @@
 -- The circles of a state are those of the state with all bits exchanged, where all crossings are turned by one slot.
 use Rattle.std.proofs.Common.{IsTrue, [], ap, arith, inl, inr, length, subst, suc, sym, zero, ℕ, ◌%◌, ◌*◌, ◌+◌, ◌-◌, ◌/◌, ◌<◌, ◌^◌, ◌∙◌, ◌≡◌, ◌⊎◌}
-use Rattle.std.proofs.lemmas.Bool.Decides.{nat_tests}
 use Rattle.std.specs.Prelude.{slice_index_or}
 use Rattle.kh_types.proofs.CircleCycles.{circles-across, smoothings-below}
 use Rattle.kh_types.proofs.ClassLemmas.{classes-finest}

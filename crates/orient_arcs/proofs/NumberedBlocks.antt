@@ -67,17 +67,21 @@ pub number-second : (a b : ℕ) → a ≢ b → number_in (b ∷ a ∷ []) a ≡
 number-second a b apart =
     ap₂ (λ s t. cond (not s) (1 + cond (not t) 1 0) 0 + 1) (ne_eqb a b apart) (eq-eqb a a refl)
 
+-- names that are turned are both over, and the second enters the first listed crossing
+pub turned-test : (label : ℕ → ℤ) (a b : ℕ) → a ≢ b → turned_names label (a ∷ b ∷ []) ≡ b ∷ a ∷ []
+    → ((is_over (label a) && is_over (label b)) && int_lt (label b) (label a)) ≡ true
+turned-test label a b apart is = by ((is_over (label a) && is_over (label b)) && int_lt (label b) (label a)) refl is
+  where
+    by : (t : Bool) → ((is_over (label a) && is_over (label b)) && int_lt (label b) (label a)) ≡ t
+        → (if t then b ∷ a ∷ [] else a ∷ b ∷ []) ≡ b ∷ a ∷ [] → t ≡ true
+    by true test same = refl
+    by false test same = absurd (apart (ap (λ xs. get_or xs 0 0) same))
+
 pub turned-over : (label : ℕ → ℤ) (a b : ℕ) → a ≢ b → turned_names label (a ∷ b ∷ []) ≡ b ∷ a ∷ []
     → (is_over (label a) ≡ true) × (is_over (label b) ≡ true)
 turned-over label a b apart is =
-    by ((is_over (label a) && is_over (label b)) && int_lt (label b) (label a)) refl is
-  where
-    by : (t : Bool) → ((is_over (label a) && is_over (label b)) && int_lt (label b) (label a)) ≡ t
-        → (if t then b ∷ a ∷ [] else a ∷ b ∷ []) ≡ b ∷ a ∷ [] → (is_over (label a) ≡ true) × (is_over (label b) ≡ true)
-    by true test same =
-        and_parts (is_over (label a)) (is_over (label b))
-        (and_parts (is_over (label a) && is_over (label b)) (int_lt (label b) (label a)) test).0
-    by false test same = absurd (apart (ap (λ xs. get_or xs 0 0) same))
+    and_parts (is_over (label a)) (is_over (label b))
+    (and_parts (is_over (label a) && is_over (label b)) (int_lt (label b) (label a)) (turned-test label a b apart is)).0
 
 -- names that go over the component of a least arc, and begin with it
 pub record GoesOver (crossings : List (List ℕ)) (first : ℕ) (names : List ℕ) : Type 0 where
