@@ -12,7 +12,7 @@ use Rattle.kh_types.proofs.Ranges.{range-append}
 use Rattle.kh_types.specs.Acceptance.{accepted}
 use Rattle.kh_types.specs.Code.{Code, IsArc, IsCrossing, arc_count, arc_in, place_of, slots_of}
 use Rattle.kh_types.specs.Components.{arcs_in, component_of, components_of, next}
-use Rattle.kh_types.specs.Directions.{first_over, first_under, is_positive_by_next, is_positive_by_order, is_positive_by_under, is_positive_in, is_positive_of_two, passes_over, passes_under, plus_count}
+use Rattle.kh_types.specs.Directions.{first_over, first_under, is_positive_by_next, is_positive_by_order, is_positive_by_under, is_positive_in, is_positive_of_two, passes_under, plus_count}
 use Rattle.kh_types.proofs.LabelDegrees.{sum_by-later}
 use Rattle.kh_types.proofs.Lists.{find-none}
 use Rattle.link_algebra.proofs.UnitedComponents.{IsPart, IsPart-first, IsPart-second, component-is, component-past}
@@ -105,49 +105,41 @@ pub record IsAlone (before : ℕ) (part whole : List (List ℕ)) : Type 0 where
       → (crossing ≤ before) ⊎ (before + length part < crossing)
       → component_of (components_of whole) (arc_in (slots_of whole crossing) slot) ≢ name + 2 * before
 
+same_test : (x y by : ℕ) → nat_eq (x + by) (y + by) ≡ nat_eq x y
+same_test x y by = grind (arith, nat_tests)
+
+-- a search for a crossing with the arc at a slot in a component finds the same in the part and in the whole
+slot-part : (slot before : ℕ) (part whole : List (List ℕ)) (name : ℕ) → slot < 4 → IsPart before part whole → IsAlone before part whole
+    → IsArc part name
+    → find (λ k. nat_eq (component_of (components_of whole) (arc_in (slots_of whole k) slot)) (name + 2 * before))
+    (range_with_len 1 (length whole))
+    ≡ option_map (λ k. before + k)
+    (find (λ k. nat_eq (component_of (components_of part) (arc_in (slots_of part k) slot)) name) (range_with_len 1 (length part)))
+slot-part slot before part whole name slot_below is alone is_name =
+    find-part (λ k. nat_eq (component_of (components_of whole) (arc_in (slots_of whole k) slot)) (name + 2 * before))
+    (λ k. nat_eq (component_of (components_of part) (arc_in (slots_of part k) slot)) name) before (length part) (length whole) is.fits
+    (λ k from within.
+    let is_crossing : IsCrossing part k = record { positive = from; within = within } in
+    let arc = part-arc before part whole k slot is is_crossing slot_below in
+    ap (λ x. nat_eq x (name + 2 * before))
+    (ap (component_of (components_of whole)) (is.arcs k slot is_crossing slot_below) ∙ is.component (arc_in (slots_of part k) slot) arc)
+    ∙ same_test (component_of (components_of part) (arc_in (slots_of part k) slot)) name (2 * before))
+    (λ k from within.
+    ne_eqb (component_of (components_of whole) (arc_in (slots_of whole k) slot)) (name + 2 * before)
+    (alone.other k slot name (record { positive = from; within = omega (arith, within, is.fits) }) slot_below is_name (inl within)))
+    (λ k from within.
+    ne_eqb (component_of (components_of whole) (arc_in (slots_of whole k) slot)) (name + 2 * before)
+    (alone.other k slot name (record { positive = omega (arith, from); within = within }) slot_below is_name (inr from)))
+
 under-part : (before : ℕ) (part whole : List (List ℕ)) (name : ℕ) → IsPart before part whole → IsAlone before part whole → IsArc part name
     → first_under whole (components_of whole) (name + 2 * before)
     ≡ option_map (λ k. before + k) (first_under part (components_of part) name)
-under-part before part whole name is alone is_name =
-    find-part (passes_under whole (components_of whole) (name + 2 * before)) (passes_under part (components_of part) name) before
-    (length part) (length whole) is.fits
-    (λ k from within.
-    let is_crossing : IsCrossing part k = record { positive = from; within = within } in
-    let arc = part-arc before part whole k 0 is is_crossing (omega arith) in
-    ap (λ x. nat_eq x (name + 2 * before))
-    (ap (component_of (components_of whole)) (is.arcs k 0 is_crossing (omega arith)) ∙ is.component (arc_in (slots_of part k) 0) arc)
-    ∙ same_test (component_of (components_of part) (arc_in (slots_of part k) 0)) name (2 * before))
-    (λ k from within.
-    ne_eqb (component_of (components_of whole) (arc_in (slots_of whole k) 0)) (name + 2 * before)
-    (alone.other k 0 name (record { positive = from; within = omega (arith, within, is.fits) }) (omega arith) is_name (inl within)))
-    (λ k from within.
-    ne_eqb (component_of (components_of whole) (arc_in (slots_of whole k) 0)) (name + 2 * before)
-    (alone.other k 0 name (record { positive = omega (arith, from); within = within }) (omega arith) is_name (inr from)))
-  where
-    same_test : (x y by : ℕ) → nat_eq (x + by) (y + by) ≡ nat_eq x y
-    same_test x y by = grind (arith, nat_tests)
+under-part before part whole name = slot-part 0 before part whole name (omega arith)
 
 over-part : (before : ℕ) (part whole : List (List ℕ)) (name : ℕ) → IsPart before part whole → IsAlone before part whole → IsArc part name
     → first_over whole (components_of whole) (name + 2 * before)
     ≡ option_map (λ k. before + k) (first_over part (components_of part) name)
-over-part before part whole name is alone is_name =
-    find-part (passes_over whole (components_of whole) (name + 2 * before)) (passes_over part (components_of part) name) before
-    (length part) (length whole) is.fits
-    (λ k from within.
-    let is_crossing : IsCrossing part k = record { positive = from; within = within } in
-    let arc = part-arc before part whole k 1 is is_crossing (omega arith) in
-    ap (λ x. nat_eq x (name + 2 * before))
-    (ap (component_of (components_of whole)) (is.arcs k 1 is_crossing (omega arith)) ∙ is.component (arc_in (slots_of part k) 1) arc)
-    ∙ same_test (component_of (components_of part) (arc_in (slots_of part k) 1)) name (2 * before))
-    (λ k from within.
-    ne_eqb (component_of (components_of whole) (arc_in (slots_of whole k) 1)) (name + 2 * before)
-    (alone.other k 1 name (record { positive = from; within = omega (arith, within, is.fits) }) (omega arith) is_name (inl within)))
-    (λ k from within.
-    ne_eqb (component_of (components_of whole) (arc_in (slots_of whole k) 1)) (name + 2 * before)
-    (alone.other k 1 name (record { positive = omega (arith, from); within = within }) (omega arith) is_name (inr from)))
-  where
-    same_test : (x y by : ℕ) → nat_eq (x + by) (y + by) ≡ nat_eq x y
-    same_test x y by = grind (arith, nat_tests)
+over-part before part whole name = slot-part 1 before part whole name (omega arith)
 
 find-within : (p : ℕ → Bool) (a n k : ℕ) → find p (range_with_len a n) ≡ Some k → (a ≤ k) × (k < a + n)
 find-within p a zero k is = absurd (none_some k is)
@@ -160,9 +152,6 @@ find-within p a (suc n) k is = by (p a) is (λ found. find-within p (a + 1) n k 
         → (find p (range_with_len (a + 1) n) ≡ Some k → (a + 1 ≤ k) × (k < a + 1 + n)) → (a ≤ k) × (k < a + suc n)
     by true is later = let e : a ≡ k = cc in (omega (arith, e), omega (arith, e))
     by false is later = (omega (arith, (later is).0), omega (arith, (later is).1))
-
-same_test : (x y by : ℕ) → nat_eq (x + by) (y + by) ≡ nat_eq x y
-same_test x y by = grind (arith, nat_tests)
 
 same_order : (x y by : ℕ) → nat_lt (x + by) (y + by) ≡ nat_lt x y
 same_order x y by = grind (arith, nat_tests)
