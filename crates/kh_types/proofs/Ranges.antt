@@ -173,7 +173,13 @@ map-range_agree {X} f g a (suc n) same =
     ap (λ (x : X). x ∷ map f (range_with_len (a + 1) n)) (same a (omega arith) (omega arith))
     ∙ ap (λ (xs : List X). g a ∷ xs) (map-range_agree f g (a + 1) n (λ x from below. same x (omega arith) (omega arith)))
 
--- the numbers below 4, as slots are
+-- the numbers below 2, as labels are, and below 4, as slots are
+
+pub below_two : (P : ℕ → Type 0) → P 0 → P 1 → (n : ℕ) → n < 2 → P n
+below_two P at_0 at_1 zero below = at_0
+below_two P at_0 at_1 (suc zero) below = at_1
+below_two P at_0 at_1 (suc (suc n)) below = absurd (omega (arith, below))
+
 pub below_four : (P : ℕ → Type 0) → P 0 → P 1 → P 2 → P 3 → (n : ℕ) → n < 4 → P n
 below_four P at_0 at_1 at_2 at_3 zero below = at_0
 below_four P at_0 at_1 at_2 at_3 (suc zero) below = at_1
