@@ -1,10 +1,7 @@
 -- The exchange of two neighbouring crossings keeps the dimensions of the cube.
-use Rattle.std.proofs.Common.{◌≡◌, ◌≢◌, ℕ, inl, inr, zero, suc, ◌+◌, ◌-◌, ◌*◌, ◌%◌, ◌^◌, ◌<◌, ◌∙◌, ℤ, pos, ◌+ℤ◌, ◌-ℤ◌, List, length, refl, sym, subst, ap, ap₂, arith, Bool, true, false, cond}
-use Rattle.std.specs.Prelude.{nat_eq, if◌then◌else◌}
+use Rattle.std.proofs.Common.{◌≡◌, ◌≢◌, ℕ, inl, inr, ◌+◌, ◌-◌, ◌*◌, ◌^◌, ◌<◌, ◌∙◌, ℤ, pos, ◌+ℤ◌, ◌-ℤ◌, List, length, sym, subst, ap, ap₂, arith, Bool, true, false, cond}
 use Rattle.std.specs.List.{Contains, range_with_len, sum_by}
 use Rattle.std.proofs.lemmas.Bool.{cases_eq}
-use Rattle.std.proofs.lemmas.Bool.Decides.{nat_tests}
-use Rattle.std.proofs.lemmas.List.FromFn.{get_or-range_with_len, length-range_with_len}
 use Rattle.kh_types.specs.Bits.{bit, ones}
 use Rattle.kh_types.specs.Circles.{circle_count}
 use Rattle.kh_types.specs.Code.{Code, place_of}
@@ -13,7 +10,7 @@ use Rattle.kh_types.specs.Generators.{Generator, generator_of, generators, gener
 use Rattle.kh_types.specs.Residues.{HasInverses, Same}
 use Rattle.kh_types.proofs.Lists.{Contains-flat_map, Contains-map, Contains-range}
 use Rattle.kh_types.proofs.ListSums.{sum_by-alike, sum_by-flat_map, sum_by-map, sum_by-some}
-use Rattle.kh_types.proofs.Residues.{same-equal, same-multiple, same-scaled}
+use Rattle.kh_types.proofs.Residues.{same-equal, same-scaled}
 use Rattle.cube_squares.proofs.Degrees.{coefficient-below}
 use Rattle.cube_squares.proofs.Pairs.{coefficient-one, edge_or_zero}
 use Rattle.cube_squares.proofs.Signs.{power_sign, same_parity, signs-product}

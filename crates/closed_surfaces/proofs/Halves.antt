@@ -14,7 +14,8 @@ use Rattle.tangle_surfaces.specs.Orbits.{is_in, count_in}
 use Rattle.tangle_surfaces.specs.Surfaces.{Lead, is_disc}
 use Rattle.tangle_surfaces.proofs.Counts.{count_by-either, count_by-matched}
 use Rattle.tangle_surfaces.proofs.DiscCounts.{all_three, both_pass, end_by, counted-same}
-use Rattle.tangle_surfaces.proofs.LeadLemmas.{AreApart, AreApart-turned, either, either-other}
+use Rattle.tangle_surfaces.proofs.LeadLemmas.{AreApart, AreApart-turned, either}
+use Rattle.tangle_surfaces.proofs.Paths.{or_else}
 
 module _ (n : ℕ) (ends starts : ℕ → Bool) (pairs : List (ℕ × ℕ)) (all : List ℕ) (name : ℕ) (apart : AreApart n ends starts)
     (lead : Lead n ends starts pairs) (respects : Respects (λ x. slice_index all x) pairs) where
@@ -77,7 +78,7 @@ module _ (n : ℕ) (ends starts : ℕ → Bool) (pairs : List (ℕ × ℕ)) (all
         subst (λ (e : ℕ). IsEndOf x e) (ap (λ b. cond b x (lead.back x)) (sym end))
         record { below = below; is = end; same = λ g keeps. refl }
     | inr other ↦
-        let start = either-other (ends x) (starts x) is other in
+        let start = or_else (ends x) (starts x) is other in
         let from = lead.back_from x below start in
         let from_below = lead.back_below x below start in
         subst (λ (e : ℕ). IsEndOf x e) (ap (λ b. cond b x (lead.back x)) (sym other))

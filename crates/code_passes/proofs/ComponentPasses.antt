@@ -1,5 +1,9 @@
 -- The passes of components: each component has the numbers from its first arc on as its arcs, and each of them is entered once and
 -- left once.
+--
+-- All facts go by recursion over the components: the passes of the first have the arcs from a first one on, those of the others the arcs
+-- behind. So a function of arcs is defined by the same recursion (the first arc of its component, the arc that follows, the label entered),
+-- and each pass of the whole list is shown to agree with it, first in one component then behind it.
 use Rattle.std.proofs.Common.{◌≡◌, ◌≢◌, ℕ, zero, suc, inl, inr, ◌⊎◌, ◌+◌, ◌-◌, ◌<◌, ◌≤◌, ◌∙◌, List, [], ◌∷◌, length, map, refl, sym, ap, arith, Bool, true, false, ℤ, pos, min}
 use Rattle.std.specs.Prelude.{nat_eq, nat_lt, int_lt, ◌&&◌, if◌then◌else◌}
 use Rattle.std.specs.List.{sum_by, range_with_len, AllByRecursion}

@@ -1,4 +1,8 @@
 -- The components of a directed code are intervals that follow one another.
+--
+-- The least arc of a component is followed by the others of it, and the number behind its last arc is the least of the next, if it is an
+-- arc at all. So the least arcs cut the numbers 1 to 2n into intervals (`IsFirst-next`), and a list of first arcs with their sizes, read as
+-- such a cut, is the list of the components.
 use Rattle.std.proofs.Common.{◌≡◌, ℕ, zero, suc, inl, inr, ◌+◌, ◌-◌, ◌<◌, ◌≤◌, ◌∙◌, List, [], ◌∷◌, ◌++◌, refl, sym, ap, subst, arith, Bool, true, false, cond}
 use Rattle.std.specs.Prelude.{nat_eq}
 use Rattle.std.specs.List.{filter, range_with_len}

@@ -1,4 +1,8 @@
 -- The code of components where no label is bad is a directed code.
+--
+-- Each rule of a directed code is read off the passes: a crossing has two, whose four ends are its slots (LabelCounts), so that the arcs of
+-- its slots stand twice, once entered and once left (ArcCounts); and a pass goes from an arc to the next of its component
+-- (ComponentPasses). No two under passes enter on one arc, as the arc tells the label and the label the crossing.
 use Rattle.std.proofs.Common.{◌≡◌, ◌≢◌, ℕ, suc, inl, inr, ◌⊎◌, ◌+◌, ◌-◌, ◌<◌, ◌∙◌, List, [], length, sym, ap, arith, ℤ, nat_abs}
 use Rattle.std.specs.Prelude.{None, nat_eq, slice_index_or}
 use Rattle.std.specs.List.{sum_by, range_with_len, AllByRecursion}

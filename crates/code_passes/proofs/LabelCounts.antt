@@ -1,4 +1,8 @@
 -- Where no label of a body is bad, each crossing has one over pass and one under pass.
+--
+-- A label that is not bad names a crossing and is new. So among the labels of a body no label stands twice, each names one of n crossings
+-- with one of its two passes, and there are 2n of them: summed over the crossings, each of the 2n names of passes counts at most 1, and
+-- together they count 2n, so each stands exactly once.
 use Rattle.std.proofs.Common.{◌≡◌, ℕ, zero, suc, inl, inr, ◌+◌, ◌*◌, ◌/◌, ◌<◌, ◌≤◌, ◌∙◌, List, [], ◌∷◌, length, take, sym, ap, arith, Bool, true, false, true≢false, cond, ℤ, pos, negsuc, neg_ℤ, nat_abs}
 use Rattle.std.specs.Prelude.{nat_eq, nat_lt, ◌||◌, Option, Some, None}
 use Rattle.std.specs.List.{find, list_any, sum_by, count_by, range_with_len, AllByRecursion}

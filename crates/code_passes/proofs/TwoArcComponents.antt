@@ -1,5 +1,9 @@
 -- The least arc of a component of two arcs that is over at both its crossings enters the first listed of them, so that such a
 -- component begins with its lesser label.
+--
+-- In a component of two arcs that passes under nowhere the direction is a rule: its first over pass in the order of crossings goes from the
+-- lesser arc to the greater. If the least arc entered the second listed of its crossings, the second arc would enter the first, and the
+-- pass there would go down, against the rule (`turned_labels-component`).
 use Rattle.std.proofs.Common.{◌≡◌, ◌⊎◌, inl, inr, ℕ, zero, suc, ◌+◌, ◌<◌, ◌≤◌, ◌∙◌, ℤ, pos, neg_ℤ, List, [], ◌∷◌, map, refl, sym, ap, arith, Bool, true, false, ◌&&◌}
 use Rattle.std.specs.Prelude.{None, Some, int_lt, nat_eq, nat_lt, if◌then◌else◌}
 use Rattle.std.specs.List.{range_with_len}

@@ -1,4 +1,8 @@
 -- The tests of an edge coefficient say what a merge or a split does to labels.
+--
+-- The coefficient of the definition compares labels by lists of circles that the crossing touches, before and after. On a merge two circles
+-- are touched before and one after (EdgeNames), so that the lists have two and one entries, and the tables of labels decide; on a split the
+-- other way round. All circles that are not touched keep name and label.
 use Rattle.std.proofs.Common.{◌≡◌, ◌≢◌, ℕ, zero, suc, ◌+◌, ◌<◌, ◌≤◌, ◌∙◌, ◌⊎◌, inl, inr, List, [], ◌∷◌, map, sym, ap, ap₂, subst, arith, Bool, true, false, ◌&&◌, ◌||◌, IsTrue}
 use Rattle.std.specs.Prelude.{nat_eq, min, max}
 use Rattle.std.specs.Bool.{Decides}

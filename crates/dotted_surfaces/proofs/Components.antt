@@ -1,10 +1,8 @@
 -- Places, tests of places, and sums over what lies at places.
-use Rattle.std.proofs.Common.{◌≡◌, ℕ, ◌+◌, ◌<◌, ◌∙◌, List, [], ◌∷◌, refl, sym, ap, ap₂, arith, Bool, true, false, ◌||◌}
-use Rattle.std.specs.List.{list_any, sum_by, AllByRecursion, Contains}
+use Rattle.std.proofs.Common.{◌≡◌, ℕ, ◌<◌, ◌∙◌, List, [], ◌∷◌, refl, ap, ap₂, arith, Bool, true, false, ◌||◌}
+use Rattle.std.specs.List.{list_any, AllByRecursion, Contains}
 use Rattle.std.proofs.Math.Path.{fun_ext}
-use Rattle.std.proofs.lemmas.List.Sums.{sum_by-cons}
 use Rattle.std.proofs.lemmas.List.Folds.{list_any_at, Any-from_list_any}
-use Rattle.std.proofs.lemmas.List.Elements.{All-contains, All-from_recursion}
 use Rattle.kh_types.specs.Classes.{AreBelow}
 use Rattle.kh_types.proofs.JoinedClasses.{IsNamed-classes_of}
 use Rattle.dotted_surfaces.specs.Surfaces.{Surface, component_of}

@@ -5,8 +5,8 @@ use Rattle.std.specs.List.{sum_by, Contains}
 use Rattle.std.proofs.lemmas.Bool.{cases_eq, cases_lt}
 use Rattle.std.proofs.lemmas.Bool.Decides.{nat_tests}
 use Rattle.std.proofs.lemmas.List.Sums.{sum_by-cons}
-use Rattle.kh_types.specs.Classes.{AreBelow, merged}
-use Rattle.kh_types.proofs.ClassLemmas.{merged-first, merged-others}
+use Rattle.kh_types.specs.Classes.{AreBelow}
+use Rattle.kh_types.proofs.ClassLemmas.{merged-others}
 use Rattle.kh_types.proofs.JoinedClasses.{merged-same}
 use Rattle.kh_types.proofs.EdgeNames.{becomes_least}
 use Rattle.dotted_surfaces.specs.Surfaces.{Surface, component_of, is_component, faces_on, marks_on, lowers_on, raises_on, HasGenus, IsClosed, weight, factor, value, product_below}
@@ -14,7 +14,7 @@ use Rattle.dotted_surfaces.specs.Cuts.{with_faces}
 use Rattle.dotted_surfaces.proofs.Products.{without, rest_of, product_below-without, product_below-two, rest_of-alike, without-alike}
 use Rattle.dotted_surfaces.proofs.Components.{list_any-contained, component-below}
 use Rattle.dotted_surfaces.proofs.Factors.{AreAlike, HaveOneCount-each, factor-alike, genus-alike, factor-at, factor-none, weight-apart, weight-together}
-use Rattle.dotted_surfaces.proofs.JoinedCounts.{tied, component_of-tied, amount_at, sum_at-others, sum_at-same, sum_at-lesser, is_component-others, is_component-lesser, is_component-greater, merged-second}
+use Rattle.dotted_surfaces.proofs.JoinedCounts.{tied, component_of-tied, amount_at, sum_at-others, sum_at-same, sum_at-lesser, is_component-others, is_component-lesser, is_component-greater}
 
 -- how the counts are sums over places
 abbrev pub place_of_face : ℕ × ℕ → ℕ
@@ -294,8 +294,6 @@ value-tied surface a b below a_below b_below has_a has_b closed =
     ]
 
 -- and it stays closed
-
-]
 
 pub at_place : (surface : Surface) (c d genus : ℕ) → c ≡ d → HasGenus surface d genus → HasGenus surface c genus
 at_place surface c d genus same has = rw same has

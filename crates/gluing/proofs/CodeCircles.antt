@@ -1,4 +1,12 @@
 -- The circles of a code's state by its darts, and the bits of states with one crossing more.
+--
+-- A code is glued to another along arcs, and Glued compares classes of pairs of any numbers under names. To use it on a state of a code,
+-- the circles of the state have to be such classes. So the smoothings of a state are said of darts: there they are pairs of the numbers 0
+-- to 4n - 1, which depend on the state and on n alone, and not on the code (`dart_smoothings`). The arc of each dart is then its name, and
+-- the smoothings of the code are those pairs under that name (`smoothings_of-darts`); names are below the number of arcs and loops, and 0
+-- is none of them, so that its class is one that is no circle. Two codes of as many crossings have the same pairs of darts, and differ in
+-- names alone: that is what renumberings, kinks, fingers and slides compare. The last part is for codes of one crossing more: its smoothing
+-- is the last pair of pairs, and its bit the highest of the state, so that sums over states split into two halves.
 use Rattle.std.proofs.Common.{◌≡◌, ℕ, zero, suc, ◌+◌, ◌*◌, ◌/◌, ◌%◌, ◌^◌, ◌<◌, ◌≤◌, ◌∙◌, List, [], ◌∷◌, ◌++◌, sym, refl, length, ap, ap₂, arith, Bool, true, false, cond}
 use Rattle.std.specs.Prelude.{slice_index, slice_index_or, nat_eq}
 use Rattle.std.specs.List.{filter, flat_map, enumerate_from, range_with_len}

@@ -1,4 +1,8 @@
 -- The circles of a diagram round a triangle: those closed inside, and those of the rest with the ends joined.
+--
+-- Two diagrams are compared, the one round a triangle and the one in which its six ends are joined as a state joins them. A value is given
+-- to each class of the first: of a class with an end the class of the second, of a class closed inside one of its own. What both join alike
+-- stays alike when the rest is joined (Glued), so the first has the classes of the second and those that are closed inside.
 use Rattle.std.proofs.Common.{◌≡◌, ◌≢◌, ℕ, zero, suc, ◌⊎◌, inl, inr, ◌+◌, ◌-◌, ◌<◌, ◌≤◌, ◌∙◌, List, [], ◌∷◌, ◌++◌, sym, length, ap, ap₂, arith, cond}
 use Rattle.std.specs.Prelude.{slice_index, nat_eq, nat_lt}
 use Rattle.std.specs.List.{range_with_len, filter}

@@ -1,4 +1,8 @@
 -- A third Reidemeister move keeps the state sum of a code.
+--
+-- A code with a triangle is its other crossings, whose smoothings stay, and three that are moved. Their smoothings in a state of the whole
+-- are those of a state of the triangle between its six ends, so that the circles are those of InsideCircles; and these depend on the other
+-- crossings only by how their ends are joined, which a slide leaves.
 use Rattle.std.proofs.Common.{◌≡◌, ◌≢◌, subst, ℕ, zero, suc, ◌⊎◌, inl, inr, ◌+◌, ◌<◌, ◌∙◌, List, [], ◌∷◌, ◌++◌, sym, refl, length, get_or, ap, ap₂, arith, Bool, true, false, cond}
 use Rattle.std.specs.Prelude.{nat_eq}
 use Rattle.std.specs.List.{flat_map, enumerate_from, AllByRecursion}

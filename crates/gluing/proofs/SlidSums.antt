@@ -1,4 +1,9 @@
 -- A third Reidemeister move keeps the state sum of a code.
+--
+-- All states are taken in eights, by the bits of the three crossings (SplitStates), while the others stay. In an eight each term is told by
+-- the state of the triangle, by the circles that it closes and by how it joins the ends: the eight terms are a sum over the table of the
+-- triangle (SlideTerms). Before and after the slide these tables have one sum for each way of joining (SlideTable), so the state sums are
+-- the same.
 use Rattle.std.proofs.Common.{◌≡◌, ◌≢◌, ℕ, inl, inr, ◌+◌, ◌-◌, ◌^◌, ◌<◌, ◌∙◌, List, [], ◌∷◌, ℤ, pos, negsuc, suc, ◌*◌, ◌+ℤ◌, ◌-ℤ◌, sym, refl, length, map, get_or, ap, ap₂, arith, true, cond}
 use Rattle.std.specs.Prelude.{slice_index_or, nat_eq}
 use Rattle.std.specs.List.{range_with_len}

@@ -1,4 +1,8 @@
 -- A triangle with its ends at stubs: new numbers, each joined with the arc that it stands for.
+--
+-- Sides may stand for one arc, or end at each other. So each of the nine numbers of a triangle gets a number of its own behind all others,
+-- a stub, which a pair joins with the arc that it stands for. Stubs add no class, and pairs on stubs have as many classes as the pairs on
+-- the arcs themselves. So the triangle can be glued as if all its ends were different.
 use Rattle.std.proofs.Common.{◌≡◌, ℕ, zero, suc, ◌⊎◌, inl, inr, ◌+◌, ◌-◌, ◌<◌, ◌≤◌, ◌∙◌, List, [], ◌∷◌, ◌++◌, sym, refl, ap, ap₂, arith, cond}
 use Rattle.std.specs.Prelude.{slice_index, nat_eq, nat_lt}
 use Rattle.std.specs.List.{range_with_len}

@@ -1,4 +1,8 @@
 -- Crossings that are alike have the same partners, faces, pieces, checkerboards and circles.
+--
+-- Crossings are alike where two darts have one name in the one list exactly where they have one in the other. All that acceptance looks at
+-- is said by darts: the partner of a dart is the other one with its name, faces and pieces go by partners, an equation of the checkerboard
+-- is one of a dart and its partner, circles are classes of darts under smoothings. So all of these agree.
 use Rattle.std.proofs.Common.{◌≡◌, ℕ, zero, suc, inl, inr, ◌+◌, ◌-◌, ◌*◌, ◌/◌, ◌%◌, ◌^◌, ◌<◌, ◌≤◌, ◌∙◌, List, [], ◌∷◌, length, map, get_or, refl, sym, ap, ap₂, subst, arith, Bool, true, cond, not, ◌&&◌, ℤ}
 use Rattle.std.specs.Prelude.{nat_eq, unwrap_or, Some, slice_index}
 use Rattle.std.specs.List.{find, list_all, range_with_len}

@@ -1,4 +1,8 @@
 -- The components of paired passes: each goes round, in each each name stands once, and they stand in the order of their least names.
+--
+-- The order goes over the names below a bound, and walks from each that is in no component so far. What is known of the components found is
+-- one record: each goes round, they have no name twice, they ascend by first names, and all names below the bound are in one. A walk from a
+-- new name goes round and meets none of the old ones, since each name is the next of one only; so one step more keeps the record.
 use Rattle.std.proofs.Common.{◌≡◌, ℕ, zero, suc, inl, inr, ◌+◌, ◌<◌, ◌≤◌, ◌∙◌, List, [], ◌∷◌, ◌++◌, length, map, refl, sym, ap, subst, arith, Bool, true, false, not, ◌&&◌}
 use Rattle.std.specs.Prelude.{if◌then◌else◌, slice_index}
 use Rattle.std.specs.List.{fold, range_with_len, AllByRecursion}

@@ -1,4 +1,9 @@
 -- The renumbered code is the code of the labels of its components.
+--
+-- Here two descriptions meet: renumbered parts, by names and their order, and a code as components of labels (code_passes). The components
+-- of the parts have labels (Labels); their passes are those of the names, under new numbers, so that the renumbered crossings are the
+-- crossings of these labels with the signs of the parts. What code_passes says of such codes then holds: they are directed, with these
+-- signs.
 use Rattle.std.proofs.Common.{◌≡◌, ◌≢◌, ℕ, zero, suc, inl, inr, ◌+◌, ◌-◌, ◌*◌, ◌<◌, ◌∙◌, List, [], ◌∷◌, length, map, get_or, refl, sym, ap, ap₂, subst, arith, Bool, true, false}
 use Rattle.std.specs.Prelude.{if◌then◌else◌, None, slice_index_or, ℤ, pos, neg_ℤ, MatchBool}
 use Rattle.std.specs.List.{range_with_len, AllByRecursion}

@@ -1,4 +1,8 @@
 -- One component more in the order of names.
+--
+-- The code of renumbering pushes one component after the other, and turns one of two names that are both over by beginning its walk with
+-- the second. The specification makes all components and turns them at the end. One step of the one is one step of the other: a name that
+-- is new adds its walk, turned or not (`order-turned`), any other adds nothing (`order-same`).
 use Rattle.std.proofs.Common.{◌≡◌, ◌≢◌, ℕ, zero, suc, inl, inr, ◌+◌, ◌*◌, ◌≤◌, ◌∙◌, List, [], ◌∷◌, ◌++◌, length, map, refl, sym, ap, ap₂, subst, arith, Bool, true, false, not, ◌&&◌, ℤ, length-append}
 use Rattle.std.specs.Prelude.{nat_eq, int_lt, if◌then◌else◌}
 use Rattle.std.specs.List.{flat_map, fold, range_with_len, AllByRecursion}

@@ -1,4 +1,9 @@
 -- A code under other names, which keep the order of its components, has its own numbers when it is renumbered.
+--
+-- The names are f of the arcs, where f keeps the order of components. The order of the parts goes over names, that of the code over arcs:
+-- each walk from f of a least arc is f of the walk from the arc. As f sends later components to greater names, the new names come in the
+-- order of the arcs, and what the order has is f of the first numbers (IsUpTo). A circle over all of two arcs may begin with either;
+-- `ascending` decides.
 use Rattle.std.proofs.Common.{◌≡◌, ◌≢◌, ℕ, zero, suc, inl, inr, ◌+◌, ◌-◌, ◌*◌, ◌<◌, ◌≤◌, ◌∙◌, List, [], ◌∷◌, ◌++◌, length, map, get_or, refl, sym, ap, ap₂, subst, arith, Bool, true, false, not, ◌&&◌}
 use Rattle.std.specs.Prelude.{nat_eq, if◌then◌else◌, MatchBool, int_lt}
 use Rattle.std.specs.List.{position_or_len, range_with_len, AllByRecursion}

@@ -1,4 +1,8 @@
 -- The components of paired passes, by the labels of their names, and the passes of these labels.
+--
+-- A component of names has labels, those of the passes that enter on them. Turned names have turned labels, so the list of labels stands
+-- for the components in order, and the place of a name in the order is its new number. A pass of these labels enters on such a number and
+-- leaves on the next in its component (`all-numbered`). The labels name crossings, each pass once, so that none is bad.
 use Rattle.std.proofs.Common.{◌≡◌, ℕ, zero, suc, ◌⊎◌, inl, inr, ◌+◌, ◌/◌, ◌<◌, ◌≤◌, ◌∙◌, List, [], ◌∷◌, ◌++◌, length, map, take, get_or, refl, sym, ap, subst, arith, Bool, true, false, ◌&&◌, ◌||◌}
 use Rattle.std.specs.Prelude.{nat_eq, nat_lt, if◌then◌else◌, None, ℤ, nat_abs, int_lt}
 use Rattle.std.specs.List.{flat_map, list_any, position_or_len, range_with_len, AllByRecursion}

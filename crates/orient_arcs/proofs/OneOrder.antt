@@ -1,4 +1,8 @@
 -- Names have one order: components in order are one list.
+--
+-- Components that go round, have no name twice and stand in the order of their least names can be listed in one way only: the first of both
+-- lists begins with the least name of all, and goes on from name to next name until it is back; so they agree, and so do the rest, over the
+-- other names.
 use Rattle.std.proofs.Common.{◌≡◌, ℕ, zero, suc, ◌⊎◌, inl, inr, ◌+◌, ◌-◌, ◌<◌, ◌≤◌, ◌∙◌, List, [], ◌∷◌, ◌++◌, length, refl, sym, ap, ap₂, arith, cond}
 use Rattle.std.specs.Prelude.{nat_eq, slice_index, slice_index_or}
 use Rattle.std.specs.List.{count_by, flat_map, position_or_len}

@@ -1,4 +1,8 @@
 -- Parts that are those of a code under other names are paired where the code is.
+--
+-- Parts are those of a code under other names. A name of the parts is that of some arc, and slots hold it exactly where they hold the arc;
+-- so it is as often a head as the arc is, and as often a tail. The arcs of a code are so once each, hence the names are; other numbers are
+-- so never.
 use Rattle.std.proofs.Common.{◌≡◌, ℕ, zero, suc, inl, inr, ◌+◌, ◌-◌, ◌*◌, ◌/◌, ◌%◌, ◌<◌, ◌≤◌, ◌∙◌, List, [], length, refl, sym, ap, ap₂, arith, Bool, true, false, cond}
 use Rattle.std.specs.Prelude.{nat_eq, if◌then◌else◌, slice_index_or}
 use Rattle.std.specs.List.{count_by, flat_map, list_any, range_with_len}

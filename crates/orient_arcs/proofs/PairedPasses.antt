@@ -1,4 +1,8 @@
 -- What paired passes are: each name has one pass that enters on it, and one that leaves on it.
+--
+-- In paired parts each number stands at most once among those on which passes enter, and once among those on which they leave where it does
+-- so. So the search for the pass that enters on a name finds the one there is, each fact of all passes is one of the pass found, and the
+-- passes are told apart by names and by labels. Two passes a crossing make twice as many names as crossings.
 use Rattle.std.proofs.Common.{◌≡◌, ◌≢◌, ℕ, zero, suc, inl, inr, ◌+◌, ◌*◌, ◌<◌, ◌≤◌, ◌∙◌, List, [], ◌∷◌, length, map, refl, sym, ap, subst, arith, cond}
 use Rattle.std.specs.Prelude.{nat_eq, unwrap_or, Some, ℤ, pos, negsuc, nat_abs}
 use Rattle.std.specs.List.{find, count_by, flat_map, range_with_len, AllByRecursion}

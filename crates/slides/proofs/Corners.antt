@@ -1,9 +1,8 @@
 -- Darts at the three corners of a triangle, and functions of darts that are given corner by corner.
-use Rattle.std.proofs.Common.{◌≡◌, ◌≢◌, ℕ, zero, suc, inl, inr, ◌+◌, ◌*◌, ◌/◌, ◌%◌, ◌<◌, ◌∙◌, List, sym, refl, ap, subst, arith, true, false, cond, eq-eqb}
+use Rattle.std.proofs.Common.{◌≡◌, ◌≢◌, ℕ, inl, inr, ◌+◌, ◌*◌, ◌/◌, ◌%◌, ◌<◌, ◌∙◌, List, sym, refl, ap, subst, arith, cond, eq-eqb}
 use Rattle.std.specs.Prelude.{nat_eq, slice_index}
 use Rattle.std.proofs.Math.Path.{fun_ext}
 use Rattle.std.proofs.lemmas.Bool.{cases_eq, eq-eqb, ne_eqb}
-use Rattle.std.proofs.lemmas.Bool.Decides.{nat_tests}
 use Rattle.kh_types.proofs.Ranges.{below_four}
 use Rattle.slides.specs.Slid.{on, steps_from, corner, source}
 pub use Rattle.kh_types.proofs.Ranges.{below_four as four}

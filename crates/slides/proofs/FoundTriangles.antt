@@ -1,5 +1,5 @@
 -- The slot of a slide is that of a triangle.
-use Rattle.std.proofs.Common.{◌≡◌, ◌≢◌, ◌↔◌, ℕ, ◌⊎◌, inl, inr, ◌+◌, ◌-◌, ◌/◌, ◌<◌, ◌≤◌, ◌∙◌, List, refl, sym, ap, arith, zero, suc, Bool, true, false, not, ◌&&◌, cond}
+use Rattle.std.proofs.Common.{◌≡◌, ◌≢◌, ◌↔◌, ℕ, inl, inr, ◌+◌, ◌-◌, ◌/◌, ◌<◌, ◌≤◌, ◌∙◌, List, refl, sym, ap, arith, zero, suc, Bool, true, false, not, ◌&&◌, cond}
 use Rattle.std.specs.Prelude.{nat_eq, ◌||◌, Some, None}
 use Rattle.std.specs.List.{find, range_with_len}
 use Rattle.std.proofs.lemmas.Bool.{and_parts, cases_Bool, cases_eq, eqb-true, eqb-false, eq-eqb, ne_eqb, or_cases, not-true, and_from, or_left, or_right}

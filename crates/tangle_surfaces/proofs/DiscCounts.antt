@@ -14,7 +14,7 @@ use Rattle.tangle_surfaces.proofs.Counts.{count_by-matched}
 use Rattle.tangle_surfaces.proofs.PartCounts.{AreFiner}
 use Rattle.tangle_surfaces.proofs.OrbitLemmas.{Keeps, AreFiner-cycles, IsPermutation-between, Keeps-between}
 use Rattle.tangle_surfaces.proofs.Leading.{led-inside, led-outside, IsPermutation-led, Keeps-led, first_next, first_back, second_next, second_back, components-below}
-use Rattle.tangle_surfaces.proofs.LeadLemmas.{either-other}
+use Rattle.tangle_surfaces.proofs.Paths.{or_else}
 
 -- tests that pass together
 pub all_three : (s t u : Bool) → (s && (t && u)) ≡ true → (s ≡ true) × (t ≡ true) × (u ≡ true)
@@ -211,7 +211,7 @@ AreDiscs-surface n ends starts m k w is =
     → (ends x ≡ true) ⊎ ((ends x ≡ false) × (starts x ≡ true)) =
     λ x below open_x. elim (cases_Bool (ends x)) [
       | inl end ↦ inl end
-      | inr other ↦ inr (other, either-other (ends x) (starts x) open_x other)
+      | inr other ↦ inr (other, or_else (ends x) (starts x) open_x other)
     ] in
     let disc_below : (x : ℕ) → x < n → disc x < n = λ x below. omega (arith, discs_named.least x below, below) in
     let cycle_below : (x : ℕ) → x < n → cycle x < n = λ x below. omega (arith, cycles_named.least x below, below) in

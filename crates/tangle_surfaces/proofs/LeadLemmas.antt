@@ -8,7 +8,7 @@ use Rattle.tangle_surfaces.specs.Surfaces.{Lead, other_than, IsSurface}
 use Rattle.tangle_surfaces.specs.Pairings.{JoinOpen, seek, joins_of}
 use Rattle.tangle_surfaces.proofs.OrbitLemmas.{Respects-steps, Keeps-steps, steps-below}
 use Rattle.tangle_surfaces.proofs.Leading.{led, led-inside, led-outside}
-use Rattle.tangle_surfaces.proofs.Paths.{false_true, IsSought, IsSought-seek}
+use Rattle.tangle_surfaces.proofs.Paths.{false_true, IsSought, IsSought-seek, or_else}
 
 -- no point is of both kinds
 abbrev pub AreApart : ℕ → (ℕ → Bool) → (ℕ → Bool) → Type 0
@@ -23,9 +23,6 @@ AreApart-turned n kind other apart x below is = elim (cases_Bool (kind x)) [
 -- of one kind or of another
 abbrev pub either : (ℕ → Bool) → (ℕ → Bool) → ℕ → Bool
 either kind other x = kind x || other x
-
-pub either-other : (b c : Bool) → (b || c) ≡ true → b ≡ false → c ≡ true
-either-other b c is none = sym (ap (λ d. d || c) none) ∙ is
 
 -- pairs that lead from one kind to another close what they lead: at the other points they lead back, or nowhere
 pub Lead-closing : (n : ℕ) (from to : ℕ → Bool) (pairs : List (ℕ × ℕ)) → AreApart n from to → Lead n from to pairs
@@ -106,28 +103,28 @@ Lead-append n from to from_too to_too xs ys from_apart to_apart first second =
       next_below = λ x below is. elim (cases_Bool (from x)) [
         | inl here ↦ subst (λ (z : ℕ). z < n) (sym (inside x here)) (first.next_below x below here)
         | inr there ↦
-            subst (λ (z : ℕ). z < n) (sym (outside x there)) (second.next_below x below (either-other (from x) (from_too x) is there))
+            subst (λ (z : ℕ). z < n) (sym (outside x there)) (second.next_below x below (or_else (from x) (from_too x) is there))
       ];
       next_to = λ x below is. elim (cases_Bool (from x)) [
         | inl here ↦
             ap (either to to_too) (inside x here)
             ∙ or_left (to (first.next x)) (to_too (first.next x)) (first.next_to x below here)
         | inr there ↦
-            let is_too = either-other (from x) (from_too x) is there in
+            let is_too = or_else (from x) (from_too x) is there in
             ap (either to to_too) (outside x there)
             ∙ or_right (to (second.next x)) (to_too (second.next x)) (second.next_to x below is_too)
       ];
       back_below = λ x below is. elim (cases_Bool (to x)) [
         | inl here ↦ subst (λ (z : ℕ). z < n) (sym (back_inside x here)) (first.back_below x below here)
         | inr there ↦
-            subst (λ (z : ℕ). z < n) (sym (back_outside x there)) (second.back_below x below (either-other (to x) (to_too x) is there))
+            subst (λ (z : ℕ). z < n) (sym (back_outside x there)) (second.back_below x below (or_else (to x) (to_too x) is there))
       ];
       back_from = λ x below is. elim (cases_Bool (to x)) [
         | inl here ↦
             ap (either from from_too) (back_inside x here)
             ∙ or_left (from (first.back x)) (from_too (first.back x)) (first.back_from x below here)
         | inr there ↦
-            let is_too = either-other (to x) (to_too x) is there in
+            let is_too = or_else (to x) (to_too x) is there in
             ap (either from from_too) (back_outside x there)
             ∙ or_right (from (second.back x)) (from_too (second.back x)) (second.back_from x below is_too)
       ];
@@ -136,7 +133,7 @@ Lead-append n from to from_too to_too xs ys from_apart to_apart first second =
             ap (led to first.back second.back) (inside x here) ∙ back_inside (first.next x) (first.next_to x below here)
             ∙ first.back_next x below here
         | inr there ↦
-            let is_too = either-other (from x) (from_too x) is there in
+            let is_too = or_else (from x) (from_too x) is there in
             ap (led to first.back second.back) (outside x there)
             ∙ back_outside (second.next x) (to_other (second.next x) (second.next_below x below is_too) (second.next_to x below is_too))
             ∙ second.back_next x below is_too
@@ -146,7 +143,7 @@ Lead-append n from to from_too to_too xs ys from_apart to_apart first second =
             ap (led from first.next second.next) (back_inside x here) ∙ inside (first.back x) (first.back_from x below here)
             ∙ first.next_back x below here
         | inr there ↦
-            let is_too = either-other (to x) (to_too x) is there in
+            let is_too = or_else (to x) (to_too x) is there in
             ap (led from first.next second.next) (back_outside x there)
             ∙ outside (second.back x) (from_other (second.back x) (second.back_below x below is_too) (second.back_from x below is_too))
             ∙ second.next_back x below is_too
@@ -154,7 +151,7 @@ Lead-append n from to from_too to_too xs ys from_apart to_apart first second =
       joins = λ g respects x below is. elim (cases_Bool (from x)) [
         | inl here ↦ first.joins g (Respects-first g xs ys respects) x below here ∙ ap g (sym (inside x here))
         | inr there ↦
-            second.joins g (Respects-second g xs ys respects) x below (either-other (from x) (from_too x) is there)
+            second.joins g (Respects-second g xs ys respects) x below (or_else (from x) (from_too x) is there)
             ∙ ap g (sym (outside x there))
       ];
       only = λ g keeps.

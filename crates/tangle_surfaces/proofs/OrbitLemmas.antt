@@ -109,8 +109,6 @@ IsExchange-exchanged n g x y x_below y_below apart = record {
   others = λ z below not_x not_y. chosen-third x y z (g y) (g x) (g z) not_x not_y;
 }
 
-}
-
 IsExchange-between : (n : ℕ) (f_back g other : ℕ → ℕ) (x y : ℕ) → IsExchange n g other x y
     → IsExchange n (between f_back g) (between f_back other) x y
 IsExchange-between n f_back g other x y exchange = record {

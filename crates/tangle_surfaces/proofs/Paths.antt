@@ -1,6 +1,6 @@
 -- Where pairs lead from ends to starts, the classes are paths and circles: a class has at most one point whose end is free, and then
 -- one whose start is free. One more pair of a free end and a free start keeps that.
-use Rattle.std.proofs.Common.{◌≡◌, ◌≢◌, ℕ, ◌⊎◌, inl, inr, ◌<◌, ◌∙◌, List, refl, sym, ap, subst, length, arith, Bool, true, false, not, ◌&&◌, cond, eq-eqb}
+use Rattle.std.proofs.Common.{◌≡◌, ◌≢◌, ℕ, ◌⊎◌, inl, inr, ◌<◌, ◌∙◌, List, refl, sym, ap, subst, length, arith, Bool, true, false, not, ◌&&◌, cond, eq-eqb, ◌}
 use Rattle.std.specs.Prelude.{nat_eq, slice_index, unwrap_or}
 use Rattle.std.proofs.lemmas.Bool.{cases_Bool, cases_eq, eqb-true, false_from_ne_true, or_left, or_right, not-true, and_parts, and_from}
 use Rattle.kh_types.specs.Classes.{merged, joined, classes_of, Respects}
@@ -9,7 +9,6 @@ use Rattle.kh_types.proofs.Exchanges.{merged-same}
 use Rattle.kh_types.proofs.RangeCounts.{but, count_by-but, found-counted}
 use Rattle.tangle_surfaces.specs.Surfaces.{Lead, other_than, is_open}
 use Rattle.tangle_surfaces.specs.Pairings.{JoinOpen, seek}
-use Rattle.tangle_surfaces.proofs.LeadLemmas.{either-other}
 
 -- a class has at most one point of a free kind, and then it has one of the other free kind
 pub record ArePaths (n : ℕ) (classes : List ℕ) (free other : ℕ → Bool) : Type 0 where
@@ -121,6 +120,9 @@ ArePaths-lead n from to pairs lead from_to to_from =
       ];
     }
 
+pub or_else : (b c : Bool) → (b || c) ≡ true → b ≡ false → c ≡ true
+or_else b c is none = sym (ap (λ d. d || c) none) ∙ is
+
 pub record IsSought (n : ℕ) (classes : List ℕ) (kind : ℕ → Bool) (x y : ℕ) : Type 0 where
   pub below : y < n
   pub is : kind y ≡ true
@@ -189,7 +191,7 @@ Lead-paths n classes free other pairs paths back_paths join =
     λ x y x_below y_below x_is y_is.
     paths.one x y x_below y_below (only_one-free free other x x_is) (only_one-free free other y y_is) in
     let kinds : (x : ℕ) → is_open ends starts x ≡ true → (ends x ≡ true) ⊎ (starts x ≡ true) =
-    λ x is. elim (cases_Bool (ends x)) [ inl end ↦ inl end | inr no_end ↦ inr (either-other (ends x) (starts x) is no_end) ] in
+    λ x is. elim (cases_Bool (ends x)) [ inl end ↦ inl end | inr no_end ↦ inr (or_else (ends x) (starts x) is no_end) ] in
     record {
       next = seek n classes starts;
       back = seek n classes ends;
