@@ -1,5 +1,5 @@
 -- The pairing behind a crossing joins the open arcs of each class, and nothing else.
-use Rattle.std.proofs.Common.{◌≡◌, ℕ, inl, inr, ◌⊎◌, ◌+◌, ◌<◌, List, [], ◌∷◌, refl, sym, ap, ap₂, arith, true, ◌&&◌}
+use Rattle.std.proofs.Common.{◌≡◌, ℕ, inl, inr, ◌⊎◌, ◌+◌, ◌<◌, List, [], ◌∷◌, refl, sym, ap, ap₂, arith, ◌&&◌}
 use Rattle.std.specs.Prelude.{nat_eq, nat_lt, slice_index}
 use Rattle.std.specs.List.{filter, flat_map, AllByRecursion, Contains}
 use Rattle.std.proofs.lemmas.Bool.{and_parts, eq-eqb, eqb-true, ltb-true, lt-ltb}

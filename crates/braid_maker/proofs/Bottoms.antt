@@ -1,4 +1,8 @@
 -- Components of a closed braid begin at the least bottoms that they pass.
+--
+-- A component begins at its least name. A name is low where it is that of an arc through the bottom, and these have the numbers of their
+-- positions, less than all others. A pass that enters on a name that is not low leaves on a low one or on a greater one; so going round, a
+-- component comes to a low name, and its least name is the least of them.
 use Rattle.std.proofs.Common.{◌≡◌, ℕ, zero, suc, ◌⊎◌, inl, inr, ◌+◌, ◌-◌, ◌*◌, ◌<◌, ◌≤◌, ◌∙◌, ℤ, List, [], ◌∷◌, length, refl, sym, ap, subst, arith, Bool, true, false, not, ◌&&◌, ◌||◌, cond, eq-eqb, eqb-true}
 use Rattle.std.specs.Prelude.{nat_eq, slice_index, slice_index_or, Option, Some, None, unwrap_or, if◌then◌else◌}
 use Rattle.std.specs.List.{find, list_any, range_with_len, AllByRecursion}

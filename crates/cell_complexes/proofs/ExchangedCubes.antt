@@ -1,4 +1,8 @@
 -- The exchange of two neighbouring crossings keeps the dimensions of the cube.
+--
+-- The exchange of two neighbouring crossings exchanges two bits of each state. Circles stay, as smoothings are the same in another order.
+-- The sign along an edge counts the ones before its crossing, which changes only where both bits are ones: so a generator gets the sign -1
+-- where both are, and the cube of the one order is that of the other up to names and signs (AlikeCells).
 use Rattle.std.proofs.Common.{◌≡◌, ◌≢◌, ℕ, inl, inr, ◌+◌, ◌-◌, ◌*◌, ◌^◌, ◌<◌, ◌∙◌, ℤ, pos, ◌+ℤ◌, ◌-ℤ◌, List, length, sym, subst, ap, ap₂, arith, Bool, true, false, cond}
 use Rattle.std.specs.List.{Contains, range_with_len, sum_by}
 use Rattle.std.proofs.lemmas.Bool.{cases_eq}

@@ -1,4 +1,8 @@
 -- The elimination of an entry between objects is that of all its pairs of cells.
+--
+-- A scan has objects, each with a cell for each state and label of the crossings to come. An entry between objects that is a number times
+-- the identity is one pivot for each pair of their cells. These pivots do not meet one another, so that they can be eliminated together,
+-- and what they leave is what the elimination makes of entries between objects.
 use Rattle.std.proofs.Common.{◌≡◌, ◌≢◌, ℕ, inl, inr, ◌%◌, ◌*◌, ◌+◌, ◌-◌, ◌<◌, ◌∙◌, ℤ, List, ◌∷◌, ◌++◌, map, refl, sym, subst, ap, ap₂, arith, Bool}
 use Rattle.std.specs.Prelude.{nat_eq, if◌then◌else◌}
 use Rattle.std.specs.List.{Contains, flat_map, range_with_len, sum_by}

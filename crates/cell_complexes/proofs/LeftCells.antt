@@ -1,4 +1,8 @@
 -- The elimination of pivots leaves a complex, and keeps the dimensions.
+--
+-- Pivots that do not meet one another are eliminated one after another. One elimination takes away two cells of neighbouring degrees and a
+-- rank of one between them, and leaves a matrix of the same ranks less that one; so dimensions stay. It leaves the other pivots as they
+-- are, as their rows and columns have no entry in its own.
 use Rattle.std.proofs.Common.{◌≡◌, ◌≢◌, ℕ, inl, inr, suc, ◌+◌, ◌*◌, ◌<◌, ◌∙◌, ℤ, pos, ◌+ℤ◌, List, [], ◌∷◌, length, refl, sym, subst, ap, ap₂, arith, Bool, true, false, cond}
 use Rattle.std.specs.List.{Contains, filter, sum_by}
 use Rattle.std.specs.Ordering.{int_eq}

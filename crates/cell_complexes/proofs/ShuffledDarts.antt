@@ -1,4 +1,7 @@
 -- Darts and the checkerboard of codes whose crossings are those of another in another order.
+--
+-- Darts go to darts, by the place of their crossing. An arc stands as often as before, as a sum over places does not know their order. A
+-- choice of bits goes with the crossings, and each arc has an equation between the bits of its two crossings, which may change sides.
 use Rattle.std.proofs.Common.{◌≡◌, ◌≢◌, ℕ, ◌⊎◌, inl, inr, ◌+◌, ◌-◌, ◌*◌, ◌/◌, ◌%◌, ◌^◌, ◌<◌, ◌≤◌, ◌∙◌, List, [], length, get_or, sym, ap, ap₂, subst, arith, cond}
 use Rattle.std.specs.Prelude.{nat_eq}
 use Rattle.std.specs.List.{range_with_len, sum_by}

@@ -1,4 +1,8 @@
 -- Sums over pivots, and what the elimination of pivots makes of coefficients.
+--
+-- The way through a pivot goes from a cell to the pivot's head, back to its tail, and on. The elimination takes from each entry the sum of
+-- its ways through all pivots. Where pivots do not meet, the entry of a head or of a tail becomes 0, as its one way is the entry itself,
+-- and what is left of two steps is the product less ways that cancel.
 use Rattle.std.proofs.Common.{◌≡◌, ◌≢◌, ℕ, ◌⊎◌, inl, inr, ◌+◌, ◌*◌, ◌<◌, ◌∙◌, List, [], ◌∷◌, ◌++◌, map, refl, sym, ap, ap₂, arith}
 use Rattle.std.specs.List.{Contains, sum_by}
 use Rattle.std.proofs.lemmas.List.Elements.{Contains-append_cases, Contains-append_left, Contains-append_right}

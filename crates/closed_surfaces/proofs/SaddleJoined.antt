@@ -1,6 +1,6 @@
 -- The two smoothings of a crossing, with whatever leads back from their starts to their ends: two classes become one, one way or the
 -- other.
-use Rattle.std.proofs.Common.{◌≡◌, ◌≢◌, ℕ, ◌⊎◌, inl, inr, ◌<◌, List, ◌++◌, sym, subst}
+use Rattle.std.proofs.Common.{◌≢◌, ℕ, ◌⊎◌, inl, inr, ◌<◌, List, ◌++◌, sym, subst}
 use Rattle.std.specs.Prelude.{slice_index}
 use Rattle.std.proofs.lemmas.Bool.{cases_eq}
 use Rattle.kh_types.specs.Classes.{classes_of, AreBelow}

@@ -1,4 +1,8 @@
 -- A surface cut along one circle.
+--
+-- A surface is cut along one circle where a join of two faces is left out and a disc, with a label, is put on either side. Either the two
+-- sides are apart after the cut, or still one component, of one genus less. In both cases the value is the sum over the two labels of the
+-- values of the cut surface: a table of weights (Tables) that is checked case by case.
 use Rattle.std.proofs.Common.{◌≡◌, ◌≢◌, ℕ, ◌⊎◌, inl, inr, ◌+◌, ◌*◌, ◌<◌, ◌∙◌, List, [], ◌∷◌, refl, sym, ap, ap₂, arith, true, cond, eq-eqb}
 use Rattle.std.specs.Prelude.{nat_eq, min, max}
 use Rattle.std.specs.List.{sum_by, Contains}

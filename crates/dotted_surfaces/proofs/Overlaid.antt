@@ -1,4 +1,8 @@
 -- Two surfaces glued along the circles where they meet are the one surface that has all of both.
+--
+-- Two surfaces that meet in circles are glued along each: the joins of both and the joins at the circles. Discs that stand in both stand
+-- once in the surface that has all of both. The components correspond, with as many faces, marks and joins on each, so that both have one
+-- genus and one value.
 use Rattle.std.proofs.Common.{◌≡◌, ℕ, inl, inr, ◌+◌, ◌-◌, ◌<◌, ◌∙◌, List, [], ◌∷◌, ◌++◌, map, refl, sym, ap, ap₂, arith, Bool, true, false, cond, eq-eqb}
 use Rattle.std.specs.Prelude.{nat_eq, nat_lt}
 use Rattle.std.specs.List.{list_any, AllByRecursion, Contains}

@@ -1,4 +1,8 @@
 -- Surfaces with the same components under other names have one number.
+--
+-- If a map of places takes the components of one surface to those of another one to one, and each list of the one (faces, marks, joins that
+-- count) to that of the other up to order, then each component has the same counts, so the same genus and factor, and the product over
+-- components is the same.
 use Rattle.std.proofs.Common.{◌≡◌, ℕ, inl, inr, ◌<◌, ◌∙◌, List, map, refl, sym, ap, ap₂, arith, Bool, true, false, cond, ◌&&◌, eq-eqb}
 use Rattle.std.specs.Prelude.{nat_eq}
 use Rattle.std.specs.List.{list_any, AllByRecursion, Contains}

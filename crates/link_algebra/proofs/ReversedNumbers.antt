@@ -1,4 +1,8 @@
 -- The reversal goes over each component from its least arc on, the other way; so the reversal of the reversal is the code.
+--
+-- The reversal's passes go from next arc to arc, so the walk from a least arc goes to the last arc of its component and then down. The
+-- blocks of the order are thus the components again (NumberedBlocks), each turned round behind its first arc. So the numbers keep
+-- components, the reversal of the reversal is the code under these numbers, and KeptOrder says that it then has its own.
 use Rattle.std.proofs.Common.{◌≡◌, ◌≢◌, ℕ, zero, suc, inl, inr, ◌+◌, ◌-◌, ◌*◌, ◌%◌, ◌<◌, ◌≤◌, ◌∙◌, List, [], ◌∷◌, length, refl, sym, ap, subst, arith, Bool, true, false, not, cond, IsTrue}
 use Rattle.std.specs.Prelude.{nat_eq, if◌then◌else◌, MatchBool, slice_index_or}
 use Rattle.std.specs.List.{AllByRecursion, position_or_len}

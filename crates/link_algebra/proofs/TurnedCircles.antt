@@ -1,4 +1,8 @@
 -- The circles of a state are those of the state with all bits exchanged, where all crossings are turned by one slot.
+--
+-- A smoothing joins a slot with the one before or behind it. After a turn by one slot the other smoothing joins the turned slots. So a
+-- state of the one code and the state with all bits exchanged of the other join corresponding darts, hence arcs under their names, and
+-- their circles correspond; turning back gives the other direction.
 use Rattle.std.proofs.Common.{IsTrue, [], ap, arith, inl, inr, length, subst, suc, sym, zero, ℕ, ◌%◌, ◌*◌, ◌+◌, ◌-◌, ◌/◌, ◌<◌, ◌^◌, ◌∙◌, ◌≡◌, ◌⊎◌}
 use Rattle.std.specs.Prelude.{slice_index_or}
 use Rattle.kh_types.proofs.CircleCycles.{circles-across, smoothings-below}

@@ -1,4 +1,8 @@
 -- The circles of a disjoint union are those of both codes.
+--
+-- A state of the union is one of either code: its low bits and its high bits. The smoothings of the second code join numbers behind those
+-- of the first; each less one, without the number 0, they are two parts side by side (ClassParts). So the numbers of circles add up, and
+-- loops with them.
 use Rattle.std.proofs.Common.{Bool, IsTrue, List, [], ap, ap₂, arith, cond, false, length, map, refl, subst, suc, sym, true, zero, ℕ, ◌*◌, ◌++◌, ◌+◌, ◌-◌, ◌<◌, ◌^◌, ◌∙◌, ◌∷◌, ◌≡◌, ◌≤◌}
 use Rattle.std.proofs.lemmas.List.{append_assoc, length-append, length-map, map-append}
 use Rattle.std.proofs.lemmas.List.Sums.{sum_by-append}

@@ -1,4 +1,7 @@
 -- The disjoint union of directed codes is directed.
+--
+-- Each crossing and each arc of the union is one of a code's, raised (`IsPart`). Every rule of a directed code is about one crossing, or
+-- about one component and the crossings that it passes, which are of the same part. So each is read off the part, and holds there.
 use Rattle.std.proofs.Common.{IsTrue, List, ap, ap₂, arith, cond, inl, inr, length, subst, sym, ℕ, ◌%◌, ◌*◌, ◌+◌, ◌-◌, ◌/◌, ◌<◌, ◌∙◌, ◌≡◌, ◌≢◌, ◌≤◌, ◌⊎◌}
 use Rattle.std.proofs.lemmas.Bool.{cases_lt, ne_eqb}
 use Rattle.std.proofs.lemmas.Bool.Decides.{nat_tests}

@@ -1,4 +1,8 @@
 -- The next arcs and the signs of a part of a code are those that it has alone.
+--
+-- The sign of a crossing is read off its component, and where that has two arcs, off the first crossing that it passes. A search over all
+-- crossings of the union finds nothing before the part and behind it (`IsAlone`), and within it what the search in the part finds, moved
+-- (`slot-part`).
 use Rattle.std.proofs.Common.{Bool, IsTrue, List, None, Option, Some, ap, ap₂, arith, cond, false, inl, inr, length, refl, subst, suc, sym, true, zero, ℕ, ◌*◌, ◌+◌, ◌-◌, ◌<◌, ◌∙◌, ◌≡◌, ◌≢◌, ◌≤◌, ◌⊎◌}
 use Rattle.std.proofs.lemmas.Bool.{ne_eqb}
 use Rattle.std.proofs.lemmas.Bool.Decides.{nat_tests}

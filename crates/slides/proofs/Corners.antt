@@ -1,4 +1,8 @@
 -- Darts at the three corners of a triangle, and functions of darts that are given corner by corner.
+--
+-- A slide permutes what stands at the twelve darts of three crossings. Darts are places 4k + slot, so a dart of a triangle is `on` a corner
+-- with a slot, and a function given at the four slots of each corner and elsewhere is one on all darts. All that follows on darts is by
+-- these cases.
 use Rattle.std.proofs.Common.{◌≡◌, ◌≢◌, ℕ, inl, inr, ◌+◌, ◌*◌, ◌/◌, ◌%◌, ◌<◌, ◌∙◌, List, sym, refl, ap, subst, arith, cond, eq-eqb}
 use Rattle.std.specs.Prelude.{nat_eq, slice_index}
 use Rattle.std.proofs.Math.Path.{fun_ext}

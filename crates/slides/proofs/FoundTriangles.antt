@@ -1,4 +1,7 @@
 -- The slot of a slide is that of a triangle.
+--
+-- The test of a slot holds exactly where there is a triangle. What a search finds passes, is in the range and is the first, so the least
+-- slot is taken; and no slide can be made exactly where each triangle's slots have one parity.
 use Rattle.std.proofs.Common.{◌≡◌, ◌≢◌, ◌↔◌, ℕ, inl, inr, ◌+◌, ◌-◌, ◌/◌, ◌<◌, ◌≤◌, ◌∙◌, List, refl, sym, ap, arith, zero, suc, Bool, true, false, not, ◌&&◌, cond}
 use Rattle.std.specs.Prelude.{nat_eq, ◌||◌, Some, None}
 use Rattle.std.specs.List.{find, range_with_len}

@@ -1,4 +1,7 @@
 -- The arcs of a code after a slide.
+--
+-- After a slide the arc at a dart is the one that stood at its source. Sources are one to one on the darts of the triangle, and other darts
+-- keep their arcs. So each arc stands at two darts again, and the partner of a dart is the one whose source was the partner of its source.
 use Rattle.std.proofs.Common.{◌≡◌, ◌≢◌, ℕ, zero, suc, ◌⊎◌, inl, inr, ◌+◌, ◌-◌, ◌*◌, ◌/◌, ◌%◌, ◌<◌, ◌≤◌, ◌∙◌, List, [], length, refl, sym, ap, subst, arith, Bool, true, false, not, ◌&&◌}
 use Rattle.std.specs.Prelude.{nat_eq, slice_index_or}
 use Rattle.std.specs.List.{count_by, range_with_len}

@@ -1,4 +1,8 @@
 -- A slide of the triangle across leads back; so both numbers, of faces and of pieces, are kept.
+--
+-- A slide maps the darts so that faces and pieces of the first code meet all those of the second (SlidFaces): there are no more after than
+-- before. The slid code has a triangle across, whose slide leads back, so there are no fewer either. Both numbers stay, and with them the
+-- sphere.
 use Rattle.std.proofs.Common.{◌≡◌, ℕ, ◌+◌, ◌*◌, ◌/◌, ◌<◌, ◌≤◌, ◌∙◌, List, length, map, refl, sym, ap, ap₂, subst, arith}
 use Rattle.std.specs.Prelude.{slice_index, IsTrue}
 use Rattle.std.specs.List.{range_with_len}

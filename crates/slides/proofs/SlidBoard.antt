@@ -1,4 +1,7 @@
 -- A slide keeps a checkerboard: the three crossings change their bits.
+--
+-- At the three crossings all bits change, and with them all colours. A dart there has the arc of its source, and where that arc was, it had
+-- the colour that the dart has now; elsewhere nothing changes. So each arc has one dart of either colour again.
 use Rattle.std.proofs.Common.{◌≡◌, ◌≢◌, ℕ, inl, inr, ◌+◌, ◌-◌, ◌*◌, ◌/◌, ◌%◌, ◌^◌, ◌<◌, ◌≤◌, ◌∙◌, List, length, refl, sym, ap, ap₂, subst, arith}
 use Rattle.std.specs.Prelude.{IsTrue}
 use Rattle.std.proofs.lemmas.Bool.{cases_eq, cases_lt, eq-eqb}

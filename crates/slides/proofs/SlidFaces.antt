@@ -1,4 +1,8 @@
 -- A slide keeps the numbers of faces and of pieces.
+--
+-- For each dart after the slide a dart before it is given whose face it has. An end of the triangle keeps its arc, and so its face; a side
+-- has the triangle on the one side and the face of an end on the other. The map takes the next dart of a face to the same face, and meets
+-- each face, so there are no fewer before than after (Onto); pieces likewise. The slide back gives the rest (SlidBack).
 use Rattle.std.proofs.Common.{◌≡◌, ◌≢◌, ℕ, ◌*◌, ◌/◌, ◌<◌, ◌≤◌, ◌∙◌, List, [], ◌∷◌, map, refl, sym, ap, subst, arith}
 use Rattle.std.specs.Prelude.{slice_index}
 use Rattle.std.specs.List.{range_with_len}

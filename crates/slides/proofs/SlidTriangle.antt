@@ -1,4 +1,8 @@
 -- A slide is one of the codes that the gluing law speaks of.
+--
+-- gluing speaks of codes with a triangle whose crossings show their slots in some order (`triangle_before`, `triangle_after`). Here the
+-- three crossings of the code are those, with their arcs inside and the six ends, and the slid crossings are those after: so that the sum
+-- of the whole is that of the law.
 use Rattle.std.proofs.Common.{◌≡◌, ◌≢◌, ℕ, zero, suc, ◌⊎◌, inl, inr, ◌+◌, ◌-◌, ◌*◌, ◌/◌, ◌%◌, ◌<◌, ◌≤◌, ◌∙◌, List, [], ◌∷◌, length, refl, sym, ap, ap₂, subst, arith, true, ℤ}
 use Rattle.std.specs.Prelude.{slice_index, slice_index_or, IsTrue}
 use Rattle.std.proofs.lemmas.Bool.{cases_eq, cases_lt}

@@ -1,5 +1,9 @@
 -- One crossing more: a pairing of the open points and what a smoothing of the crossing joins make a pairing of the new open points.
-use Rattle.std.proofs.Common.{◌≡◌, ◌≢◌, ℕ, zero, suc, ◌⊎◌, inl, inr, ◌+◌, ◌*◌, ◌/◌, ◌%◌, ◌^◌, ◌<◌, ◌≤◌, ◌∙◌, List, [], ◌++◌, refl, sym, ap, ap₂, subst, length, arith, Bool, true, false, not, ◌&&◌, ◌||◌, cond, eq-eqb}
+--
+-- The pairing of the open points leads from starts to ends. A smoothing of the next crossing closes some of these points and opens others,
+-- and what it joins leads the same way (CutTests counts the cases). Paths of both that go from new open point to new open point are a
+-- pairing again (Paths), and the circles that are left are closed.
+use Rattle.std.proofs.Common.{◌≡◌, ◌≢◌, ℕ, zero, suc, ◌⊎◌, inl, inr, ◌+◌, ◌*◌, ◌/◌, ◌%◌, ◌<◌, ◌≤◌, ◌∙◌, List, [], ◌++◌, refl, sym, ap, ap₂, subst, length, arith, Bool, true, false, not, ◌&&◌, ◌||◌, cond, eq-eqb}
 use Rattle.std.specs.Prelude.{nat_eq, slice_index_or}
 use Rattle.std.specs.List.{fold, range_with_len}
 use Rattle.std.proofs.Math.Path.{fun_ext}

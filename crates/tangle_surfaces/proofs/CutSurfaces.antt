@@ -1,4 +1,8 @@
 -- What a smoothing of one crossing and a pairing of what is open behind it join leads back from starts to ends.
+--
+-- A pairing inside leads from starts to ends, what is outside from ends to starts. One crossing is two pairs of the latter kind. Put
+-- together, they lead from all ends to all starts, as each point is at the crossing, or open, or neither. So the discs between two pairings
+-- with a crossing between are a surface (IsSurface) whose components Leading describes.
 use Rattle.std.proofs.Common.{◌≡◌, ◌≢◌, ℕ, inl, inr, ◌+◌, ◌*◌, ◌%◌, ◌<◌, ◌≤◌, ◌∙◌, List, [], ◌∷◌, ◌++◌, sym, ap, ap₂, subst, length, arith, IsTrue, Bool, true, false, not, ◌&&◌, ◌||◌, cond}
 use Rattle.std.specs.Prelude.{nat_eq, slice_index_or}
 use Rattle.std.proofs.Math.Path.{fun_ext}

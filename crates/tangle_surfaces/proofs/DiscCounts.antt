@@ -1,5 +1,9 @@
 -- The discs of two pairings are the cycles of the one and the other's way back, at ends.
-use Rattle.std.proofs.Common.{◌≡◌, ℕ, ◌⊎◌, inl, inr, ◌<◌, ◌∙◌, List, ◌++◌, refl, sym, ap, ap₂, subst, arith, Bool, true, false, ◌&&◌, ◌||◌, cond, eq-eqb}
+--
+-- Two pairings with what leads back give two permutations of points. Where the one leads from an end to a start and the other leads back to
+-- an end, their composition goes from end to end, and the disc of the two is its cycle. So discs are counted by cycles of one permutation
+-- and the way back of the other, which is what Euler's formula counts (OrbitGenus).
+use Rattle.std.proofs.Common.{◌≡◌, ℕ, ◌⊎◌, inl, inr, ◌<◌, ◌∙◌, List, ◌++◌, refl, sym, ap, ap₂, subst, arith, Bool, true, false, ◌&&◌, cond, eq-eqb}
 use Rattle.std.specs.Prelude.{nat_eq, slice_index}
 use Rattle.std.proofs.lemmas.Bool.{cases_Bool, eqb-true, or_left, or_right}
 use Rattle.kh_types.specs.Classes.{classes_of, is_least, Respects, IsNamed}
@@ -10,7 +14,7 @@ use Rattle.kh_types.proofs.Cycles.{AreCycles-cycles_of, IsNamed-cycles_of}
 use Rattle.kh_types.proofs.RangeCounts.{counted}
 use Rattle.tangle_surfaces.specs.Orbits.{is_in, count_in, between}
 use Rattle.tangle_surfaces.specs.Surfaces.{IsSurface, components, is_open, is_disc}
-use Rattle.tangle_surfaces.proofs.Counts.{count_by-matched}
+use Rattle.tangle_surfaces.proofs.Counts.{count_by-matched, counted-same}
 use Rattle.tangle_surfaces.proofs.PartCounts.{AreFiner}
 use Rattle.tangle_surfaces.proofs.OrbitLemmas.{Keeps, AreFiner-cycles, IsPermutation-between, Keeps-between}
 use Rattle.tangle_surfaces.proofs.Leading.{led-inside, led-outside, IsPermutation-led, Keeps-led, first_next, first_back, second_next, second_back, components-below}
@@ -37,12 +41,6 @@ not_both b is other = false_true (sym other ∙ is)
   where
     false_true : false ≡ true → ⊥
     false_true same = cc same
-
-counted-same : (b c : Bool) → counted b ≡ counted c → b ≡ c
-counted-same true true same = refl
-counted-same false false same = refl
-counted-same true false same = absurd (omega (arith, same))
-counted-same false true same = absurd (omega (arith, same))
 
 -- a start is no end
 start_no_end : (n : ℕ) (ends starts : ℕ → Bool) (m k w : List (ℕ × ℕ)) → IsSurface n ends starts m k w

@@ -1,4 +1,8 @@
 -- One exchange of images: where two classes become one, or one stays one, its parts still have a genus.
+--
+-- The classes of two numbers become one, or were one. Their parts of one kind become one too, and those of the other kind become one or
+-- part in two. The faces, the parts of both kinds and the classes are counted before and after: in each case the sums of Euler's formula
+-- change by an even number that the genus takes up.
 use Rattle.std.proofs.Common.{◌≡◌, ◌≢◌, ℕ, ◌⊎◌, inl, inr, ◌+◌, ◌*◌, ◌<◌, ◌∙◌, List, sym, ap, subst, arith, Bool, true, eq-eqb}
 use Rattle.std.specs.Prelude.{slice_index, min, max}
 use Rattle.std.proofs.lemmas.Bool.{cases_eq, false_from_ne_true, eqb-true}
@@ -6,7 +10,7 @@ use Rattle.std.proofs.lemmas.Bool.Decides.{nat_tests}
 use Rattle.kh_types.specs.Classes.{merged, joined, is_least, IsNamed}
 use Rattle.kh_types.specs.Permutations.{AreJoined}
 use Rattle.kh_types.proofs.ClassLemmas.{slice_index-joined, merged-both, merged-first}
-use Rattle.kh_types.proofs.JoinedClasses.{joined-together, max-cases, max-fixed}
+use Rattle.kh_types.proofs.JoinedClasses.{joined-together, max-fixed}
 use Rattle.kh_types.proofs.RangeCounts.{counted}
 use Rattle.tangle_surfaces.specs.Orbits.{is_in, count_in, parts_in, size_in, HasGenus}
 use Rattle.tangle_surfaces.proofs.PartCounts.{AreFiner, parts_in-joined, count_in-one, count_in-other}

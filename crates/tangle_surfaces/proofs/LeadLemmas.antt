@@ -1,4 +1,8 @@
 -- Pairs that lead from points of a kind to points of another, put together.
+--
+-- `Lead n from to pairs`: the pairs join each point of one kind with one point of the other, one to one, and whatever respects the pairs
+-- agrees on both. Two such lists for kinds that have no point in common make one for both kinds (`Lead-append`), and the other kinds close
+-- what is led.
 use Rattle.std.proofs.Common.{◌≡◌, ℕ, inl, inr, ◌<◌, ◌∙◌, List, [], ◌∷◌, ◌++◌, refl, sym, ap, subst, Bool, true, false, not, ◌&&◌, ◌||◌, eq-eqb}
 use Rattle.std.specs.Prelude.{nat_eq, slice_index, unwrap_or}
 use Rattle.std.specs.List.{find, range_with_len}

@@ -1,5 +1,8 @@
 -- What leads from ends to starts, with what leads back outside, is a permutation, and its cycles are the classes of the pairs.
-use Rattle.std.proofs.Common.{◌≡◌, ℕ, inl, inr, ◌<◌, ◌∙◌, List, ◌++◌, refl, sym, ap, subst, Bool, true, false, not, cond}
+--
+-- What leads from ends to starts inside, and back from starts to ends outside, is a function that takes each end to a start and each other
+-- point on, one to one: a permutation. Respecting the pairs of both is being kept by each of its steps, so that the classes are its cycles.
+use Rattle.std.proofs.Common.{◌≡◌, ℕ, inl, inr, ◌<◌, ◌∙◌, List, ◌++◌, sym, ap, subst, Bool, true, false, not, cond}
 use Rattle.std.proofs.lemmas.Bool.{cases_Bool, not-true}
 use Rattle.kh_types.specs.Classes.{classes_of, Respects, AreBelow}
 use Rattle.kh_types.specs.Permutations.{IsPermutation, cycles_of}

@@ -1,11 +1,14 @@
 -- The orbits of two permutations, and two images exchanged.
+--
+-- Orbits of two permutations are classes under the steps of both, so whatever both keep is one on an orbit. An exchange of two images
+-- changes the cycles of the one permutation by joining two or parting one, and orbits likewise; and a step of the exchanged permutation
+-- stays in the classes that hold the two numbers together.
 use Rattle.std.proofs.Common.{◌≡◌, ◌≢◌, ℕ, inl, inr, ◌<◌, ◌∙◌, List, [], ◌∷◌, ◌++◌, refl, sym, ap, subst, arith, cond}
 use Rattle.std.specs.Prelude.{nat_eq, slice_index}
 use Rattle.std.proofs.lemmas.Bool.{cases_eq}
 use Rattle.std.proofs.lemmas.Bool.Decides.{nat_tests}
 use Rattle.kh_types.specs.Classes.{joined, Respects, AreBelow, IsNamed}
 use Rattle.kh_types.specs.Permutations.{IsPermutation, IsExchange, step_pair, cycles_of}
-use Rattle.kh_types.proofs.Lists.{AllByRecursion-append, AllByRecursion-first, AllByRecursion-second}
 use Rattle.kh_types.proofs.ClassLemmas.{classes-together, Respects-append, Respects-first, Respects-second, AreBelow-append}
 use Rattle.kh_types.proofs.JoinedClasses.{IsNamed-classes_of, classes_of-same, classes_of-more}
 use Rattle.kh_types.proofs.RangeImages.{all-map_range, map_range-at}

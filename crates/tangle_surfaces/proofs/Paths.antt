@@ -1,6 +1,6 @@
 -- Where pairs lead from ends to starts, the classes are paths and circles: a class has at most one point whose end is free, and then
 -- one whose start is free. One more pair of a free end and a free start keeps that.
-use Rattle.std.proofs.Common.{◌≡◌, ◌≢◌, ℕ, ◌⊎◌, inl, inr, ◌<◌, ◌∙◌, List, refl, sym, ap, subst, length, arith, Bool, true, false, not, ◌&&◌, cond, eq-eqb, ◌}
+use Rattle.std.proofs.Common.{◌≡◌, ◌≢◌, ℕ, ◌⊎◌, inl, inr, ◌<◌, ◌∙◌, List, refl, sym, ap, subst, length, arith, Bool, true, false, not, ◌&&◌, cond, eq-eqb, ◌||◌}
 use Rattle.std.specs.Prelude.{nat_eq, slice_index, unwrap_or}
 use Rattle.std.proofs.lemmas.Bool.{cases_Bool, cases_eq, eqb-true, false_from_ne_true, or_left, or_right, not-true, and_parts, and_from}
 use Rattle.kh_types.specs.Classes.{merged, joined, classes_of, Respects}

@@ -1,4 +1,8 @@
 -- The saddle at a crossing of a code: the closed circles of its two smoothings with a pairing, and the discs of the new pairings.
+--
+-- The two smoothings of a crossing of an accepted code join its four slots in two ways, from the same starts to the two ends exchanged:
+-- this is the exchange of SaddleCounts. So with a pairing the closed circles and the discs of the two new pairings differ by one, on the
+-- component of the crossing, and the saddle between them has no genus.
 use Rattle.std.proofs.Common.{◌≡◌, ℕ, inl, inr, ◌+◌, ◌*◌, ◌%◌, ◌<◌, ◌∙◌, List, [], ◌∷◌, ◌++◌, sym, ap, ap₂, subst, length, arith, Bool, true, false, not, ◌&&◌, ◌||◌}
 use Rattle.std.specs.Prelude.{nat_eq, slice_index, slice_index_or}
 use Rattle.std.proofs.Math.Path.{fun_ext}

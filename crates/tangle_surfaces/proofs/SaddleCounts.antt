@@ -1,21 +1,15 @@
 -- The two smoothings of a crossing, with whatever leads back from their starts to their ends: on each component they have three circles
 -- together, or two where the crossing is not.
-use Rattle.std.proofs.Common.{◌≡◌, ◌≢◌, ℕ, ◌+◌, ◌<◌, ◌∙◌, List, [], ◌∷◌, ◌++◌, refl, sym, ap, ap₂, subst, Bool, true, false, not, ◌||◌, eq-eqb}
-use Rattle.std.specs.Prelude.{nat_eq, slice_index}
-use Rattle.std.proofs.lemmas.Bool.{false_from_ne_true, eqb-true, not-true, or_right}
-use Rattle.kh_types.specs.Classes.{classes_of, Respects, AreBelow}
-use Rattle.kh_types.specs.Permutations.{cycles_of}
+use Rattle.std.proofs.Common.{◌≡◌, ◌≢◌, ℕ, ◌+◌, ◌<◌, ◌∙◌, List, ◌++◌, sym, ap, ap₂, subst}
+use Rattle.std.specs.Prelude.{slice_index}
+use Rattle.kh_types.specs.Classes.{classes_of, AreBelow}
 use Rattle.kh_types.proofs.JoinedClasses.{classes_of-same}
 use Rattle.kh_types.proofs.ClassLemmas.{Respects-append, Respects-first, Respects-second, AreBelow-append}
-use Rattle.kh_types.proofs.ExchangedCycles.{exchange_back}
 use Rattle.tangle_surfaces.specs.Orbits.{is_in, parts_in, steps_of, orbits_of, one_if}
 use Rattle.tangle_surfaces.specs.Surfaces.{Lead, other_than}
 use Rattle.tangle_surfaces.specs.Saddles.{JoinTwo}
-use Rattle.tangle_surfaces.proofs.OrbitLemmas.{Keeps, Respects-steps, Keeps-steps, steps-below, orbit_steps-below, each, exchanged, IsExchange-exchanged, IsPermutation-exchanged}
-use Rattle.tangle_surfaces.proofs.Leading.{led, led-inside, led-outside, IsPermutation-led, Keeps-led, Respects-outer}
-use Rattle.tangle_surfaces.proofs.Paths.{false_true}
-use Rattle.tangle_surfaces.proofs.LeadLemmas.{either, is_one, Lead-append, Lead-one}
-use Rattle.tangle_surfaces.proofs.CutSurfaces.{are_apart}
+use Rattle.tangle_surfaces.proofs.OrbitLemmas.{Respects-steps, Keeps-steps, orbit_steps-below}
+use Rattle.tangle_surfaces.proofs.LeadLemmas.{either, is_one}
 use Rattle.tangle_surfaces.proofs.ExchangeCounts.{exchange-counted}
 use Rattle.tangle_surfaces.proofs.SaddleExchanges.{saddle-exchanged}
 

@@ -4,18 +4,18 @@
 -- From a start the first smoothing leads to one end and the second to another; at all other numbers both go on as what leads back does. So
 -- the classes with the first smoothing are the cycles of one permutation, those with the second the cycles of the other
 -- (`saddle-exchanged`), and what is known of exchanges, how orbits and cycles then change, holds of the two smoothings.
-use Rattle.std.proofs.Common.{◌≡◌, ◌≢◌, ℕ, ◌+◌, ◌<◌, ◌∙◌, List, [], ◌∷◌, ◌++◌, refl, sym, ap, ap₂, subst, Bool, true, false, not, ◌||◌, eq-eqb}
-use Rattle.std.specs.Prelude.{nat_eq, slice_index}
+use Rattle.std.proofs.Common.{◌≡◌, ◌≢◌, ℕ, ◌<◌, ◌∙◌, List, [], ◌∷◌, ◌++◌, refl, sym, ap, ap₂, true, false, not, ◌||◌, eq-eqb}
+use Rattle.std.specs.Prelude.{nat_eq}
 use Rattle.std.proofs.lemmas.Bool.{false_from_ne_true, eqb-true, not-true, or_right}
 use Rattle.kh_types.specs.Classes.{classes_of, Respects, AreBelow}
 use Rattle.kh_types.specs.Permutations.{IsExchange, IsPermutation, cycles_of}
 use Rattle.kh_types.proofs.JoinedClasses.{classes_of-same}
 use Rattle.kh_types.proofs.ClassLemmas.{Respects-append, Respects-first, Respects-second, AreBelow-append}
 use Rattle.kh_types.proofs.ExchangedCycles.{exchange_back}
-use Rattle.tangle_surfaces.specs.Orbits.{is_in, parts_in, steps_of, orbits_of, one_if}
+use Rattle.tangle_surfaces.specs.Orbits.{steps_of}
 use Rattle.tangle_surfaces.specs.Surfaces.{Lead, other_than}
 use Rattle.tangle_surfaces.specs.Saddles.{JoinTwo}
-use Rattle.tangle_surfaces.proofs.OrbitLemmas.{Keeps, Respects-steps, Keeps-steps, steps-below, orbit_steps-below, each, exchanged, IsExchange-exchanged, IsPermutation-exchanged}
+use Rattle.tangle_surfaces.proofs.OrbitLemmas.{Keeps, Respects-steps, Keeps-steps, steps-below, each, exchanged, IsExchange-exchanged, IsPermutation-exchanged}
 use Rattle.tangle_surfaces.proofs.Leading.{led, led-inside, led-outside, IsPermutation-led, Keeps-led, Respects-outer}
 use Rattle.tangle_surfaces.proofs.Paths.{false_true}
 use Rattle.tangle_surfaces.proofs.LeadLemmas.{either, is_one, Lead-append, Lead-one}

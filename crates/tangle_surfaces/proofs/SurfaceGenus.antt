@@ -1,4 +1,8 @@
 -- Each component of a surface has a genus, and its open points are twice its strips.
+--
+-- A surface of discs has a component for each orbit of two permutations. Its strips are the open points with an end, and each strip has an
+-- end and a start, so that open points are twice the strips. Discs are cycles (DiscCounts), so Euler's formula for orbits (OrbitGenus)
+-- gives each component a genus.
 use Rattle.std.proofs.Common.{◌≡◌, ◌≢◌, ℕ, inl, inr, ◌+◌, ◌*◌, ◌<◌, ◌∙◌, List, ◌++◌, refl, sym, ap, ap₂, subst, arith, Bool, true, false, not, ◌&&◌, ◌||◌, eq-eqb}
 use Rattle.std.specs.Prelude.{nat_eq, slice_index}
 use Rattle.std.proofs.lemmas.Bool.{cases_Bool, cases_eq, and_parts}
@@ -10,7 +14,7 @@ use Rattle.kh_types.proofs.Cycles.{AreCycles-cycles_of, IsNamed-cycles_of}
 use Rattle.kh_types.proofs.RangeCounts.{count_by-alike, counted}
 use Rattle.tangle_surfaces.specs.Orbits.{is_in, count_in, parts_in, size_in, between, HasGenus}
 use Rattle.tangle_surfaces.specs.Surfaces.{IsSurface, components, is_open, is_disc, faces_in, strips_in}
-use Rattle.tangle_surfaces.proofs.Counts.{count_by-matched, count_by-either}
+use Rattle.tangle_surfaces.proofs.Counts.{count_by-matched, count_by-either, counted-split}
 use Rattle.tangle_surfaces.proofs.OrbitLemmas.{IsPermutation-between}
 use Rattle.tangle_surfaces.proofs.Leading.{led-outside, IsPermutation-led, circles-led, components-orbits, first_next, first_back, second_next, second_back, components-below}
 use Rattle.tangle_surfaces.proofs.DiscCounts.{discs-cycles}
@@ -150,15 +154,9 @@ open-counted n ends starts m k w is name =
     let sum : count_in n all name (is_open ends starts) ≡ count_in n all name ends + count_in n all name starts =
     count_by-either (λ x. is_in all name x && ends x) (λ x. is_in all name x && starts x)
     (λ x. is_in all name x && (ends x || starts x)) n
-    (λ x below. either (is_in all name x) (ends x) (starts x) (is.apart x below)) in
+    (λ x below. counted-split (is_in all name x) (ends x) (starts x) (is.apart x below)) in
     twice (count_in n all name (is_open ends starts)) (count_in n all name ends) (count_in n all name starts) sum
     (starts-counted n ends starts m k w is name)
   where
-    either : (s e t : Bool) → (e ≡ true → t ≡ false) → counted (s && (e || t)) ≡ counted (s && e) + counted (s && t)
-    either false e t apart = refl
-    either true false false apart = refl
-    either true false true apart = refl
-    either true true t apart = ap (λ b. 1 + counted b) (sym (apart refl))
-
     twice : (o e s : ℕ) → o ≡ e + s → e ≡ s → o ≡ 2 * e
     twice o e s sum same = omega (arith, sum, same)
