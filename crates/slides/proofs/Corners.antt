@@ -3,7 +3,7 @@
 -- A slide permutes what stands at the twelve darts of three crossings. Darts are places 4k + slot, so a dart of a triangle is `on` a corner
 -- with a slot, and a function given at the four slots of each corner and elsewhere is one on all darts. All that follows on darts is by
 -- these cases.
-use Rattle.std.proofs.Common.{◌≡◌, ◌≢◌, ℕ, inl, inr, ◌+◌, ◌*◌, ◌/◌, ◌%◌, ◌<◌, ◌∙◌, List, sym, refl, ap, subst, arith, cond, eq-eqb}
+use Rattle.std.proofs.Common.{◌≡◌, ◌≢◌, ℕ, inl, inr, ◌+◌, ◌*◌, ◌/◌, ◌%◌, ◌<◌, ◌∙◌, List, sym, ap, subst, arith, cond, eq-eqb}
 use Rattle.std.specs.Prelude.{nat_eq, slice_index}
 use Rattle.std.proofs.Math.Path.{fun_ext}
 use Rattle.std.proofs.lemmas.Bool.{cases_eq, eq-eqb, ne_eqb}
@@ -156,9 +156,6 @@ by_corner-rotated xs ys zs x y z apart =
     (record { not_x = outside.not_y; not_y = outside.not_z; not_z = outside.not_x }))))
 
 -- where the arcs come from
-
-pub source-is : (x y z place : ℕ) → source x y z place ≡ by_corner (corner y z) (corner z x) (corner x y) x y z place
-source-is x y z place = refl
 
 pub source-x : (x y z j : ℕ) → j < 4 → source x y z (on x j) ≡ slice_index (corner y z) j
 source-x x y z j below = by_corner-x (corner y z) (corner z x) (corner x y) x y z j below

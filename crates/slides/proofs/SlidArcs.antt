@@ -53,10 +53,6 @@ count-none q a n none = count_by-alike q (λ k. false) a n none ∙ count-false 
     count-false a zero = refl
     count-false a (suc n) = count-false (a + 1) n
 
-but-fails : (b : Bool) (m k : ℕ) → (b ≡ true → k ≡ m) → (b && not (nat_eq k m)) ≡ false
-but-fails true m k only = grind (arith, nat_tests, only refl)
-but-fails false m k only = refl
-
 pub count-two : (q : ℕ → Bool) (n m other : ℕ) → m < n → other < n → other ≢ m → q m ≡ true → q other ≡ true
     → ((k : ℕ) → k < n → q k ≡ true → (k ≡ m) ⊎ (k ≡ other)) → count_by q (range_with_len 0 n) ≡ 2
 count-two q n m other m_below other_below apart m_passes other_passes only =

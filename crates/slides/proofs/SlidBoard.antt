@@ -155,9 +155,6 @@ odd-turned a b odd = omega (arith, odd)
 odd-even : (a b c : ℕ) → (b + a) % 2 ≡ 1 → (c + b) % 2 ≡ 0 → (c + a) % 2 ≡ 1
 odd-even a b c odd even = omega (arith, odd, even)
 
-even-odd : (a b c : ℕ) → (b + a) % 2 ≡ 0 → (c + b) % 2 ≡ 1 → (c + a) % 2 ≡ 1
-even-odd a b c even odd = omega (arith, odd, even)
-
 moved-tints_x : (n : ℕ) (partner tints : ℕ → ℕ) (x y z : ℕ) → IsTinted n partner tints → HasSides n partner x y z → (j : ℕ) → j < 4
     → (tints (source x y z (on x j)) + tints (on x j)) % 2 ≡ 1
 moved-tints_x n partner tints x y z tinted sides =
