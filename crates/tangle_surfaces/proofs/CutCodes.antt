@@ -1,9 +1,9 @@
 -- Behind the first k crossings of an accepted code, the smoothings of a state lead from arcs that do not end there to arcs that do not
 -- start there.
 --
--- Cut the diagram behind some of its crossings. Each arc then has its end inside, at the crossings before, or outside, and so has its
--- start: an arc with one of them inside is open. A smoothing at an outer crossing leads from arcs that end at the crossing to arcs that
--- start there, or on a circle of two colours: so outside pairs lead from arcs that do not end outside to arcs that do not start there.
+-- Each arc has a dart of either colour, its end and its start. Cut behind the first k crossings, each of them is inside or outside, and an
+-- arc with one inside alone is open. A smoothing joins darts of different colours, so at an outer crossing it leads from arcs that end at
+-- the crossing to arcs that start there; all outer smoothings together lead from the arcs that end outside to those that start outside.
 use Rattle.std.proofs.Common.{◌≡◌, ◌≢◌, ℕ, inl, inr, ◌+◌, ◌*◌, ◌/◌, ◌%◌, ◌<◌, ◌≤◌, ◌∙◌, List, drop, refl, sym, ap, ap₂, subst, length, arith, IsTrue, Bool, true, false, not, ◌&&◌, cond, eq-eqb}
 use Rattle.std.specs.Prelude.{nat_eq}
 use Rattle.std.proofs.lemmas.Bool.{cases_Bool, cases_eq, eqb-true, and_parts, cases_lt}
