@@ -10,10 +10,11 @@ use Rattle.std.specs.Prelude.{nat_eq}
 use Rattle.std.specs.List.{list_any, Contains}
 use Rattle.std.proofs.lemmas.Bool.{cases_Bool, not-true}
 use Rattle.kh_types.specs.Classes.{classes_of, Respects}
-use Rattle.kh_types.proofs.ClassLemmas.{classes-together, classes-finest}
+use Rattle.kh_types.proofs.ClassLemmas.{classes-together, classes-finest, Respects-append, Respects-first, Respects-second}
+use Rattle.kh_types.proofs.Lists.{AllByRecursion-both}
 use Rattle.added_crossings.specs.Steps.{Step, after, is_near, near, is_none_in}
 use Rattle.added_crossings.proofs.Members.{those-are, are-those}
-use Rattle.added_crossings.proofs.Classes.{both-weaker, Respects-alike, Respects-first, Respects-second, Respects-append}
+use Rattle.added_crossings.proofs.Classes.{Respects-alike}
 use Rattle.added_crossings.proofs.Picked.{pick, HaveOneValue, pick-has, pick-none}
 use Rattle.added_crossings.proofs.CutJoins.{IsCut, near_class, outer_class, whole_class, both-open, near-joins, outside-joins, whole-joins}
 
@@ -72,7 +73,7 @@ retracted-respects : (step : Step) (joins pairs outer : List (ℕ × ℕ)) → I
 retracted-respects step joins pairs outer cut =
     let n = step.count + 1 in
     Respects-append (retracted step joins pairs outer) joins outer
-    (both-weaker (λ pair. Contains (near step) pair.0 × Contains (near step) pair.1)
+    (AllByRecursion-both (λ pair. Contains (near step) pair.0 × Contains (near step) pair.1)
     (λ pair. near_class step joins pair.0 ≡ near_class step joins pair.1)
     (λ pair. retracted step joins pairs outer pair.0 ≡ retracted step joins pairs outer pair.1) joins
     (λ pair has same.

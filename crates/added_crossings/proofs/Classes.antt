@@ -1,27 +1,22 @@
 -- Classes of joins among given points.
-use Rattle.std.proofs.Common.{◌≡◌, ℕ, ◌+◌, ◌<◌, ◌≤◌, ◌∙◌, List, [], ◌∷◌, ◌++◌, refl, sym, ap₂, arith, Bool, true, false, ◌&&◌}
+use Rattle.std.proofs.Common.{◌≡◌, ℕ, ◌+◌, ◌<◌, ◌≤◌, ◌∙◌, List, ◌++◌, refl, sym, ap₂, arith, Bool, true, false, ◌&&◌}
 use Rattle.std.specs.Prelude.{nat_lt, slice_index}
-use Rattle.std.specs.List.{AllByRecursion, Contains}
+use Rattle.std.specs.List.{Contains}
 use Rattle.std.proofs.lemmas.Bool.{and_parts}
 use Rattle.std.proofs.lemmas.Bool.Decides.{nat_tests}
 use Rattle.kh_types.specs.Bits.{one_if}
 use Rattle.kh_types.specs.Classes.{classes_of, Respects, AreBelow}
 use Rattle.kh_types.proofs.ClassLemmas.{classes-finest}
 use Rattle.kh_types.proofs.JoinedClasses.{IsNamed-classes_of}
-use Rattle.kh_types.proofs.Lists.{AllByRecursion-append, AllByRecursion-first, AllByRecursion-second}
-use Rattle.dotted_surfaces.proofs.Components.{AllByRecursion-weaker}
+use Rattle.kh_types.proofs.Lists.{AllByRecursion-append, AllByRecursion-weaker, AllByRecursion-both}
 use Rattle.dotted_surfaces.specs.Points.{AreAmong}
 use Rattle.added_crossings.specs.Steps.{those}
 use Rattle.added_crossings.proofs.Members.{IsOneOf, those-are}
+pub use Rattle.kh_types.proofs.ClassLemmas.{Respects-second}
 
 -- the class of a number
 abbrev pub class_in : ℕ → List (ℕ × ℕ) → ℕ → ℕ
 class_in n joins x = slice_index (classes_of n joins) x
-
-pub both-weaker : {X : Type 0} (P Q R : X → Type 0) (xs : List X) → ((x : X) → P x → Q x → R x) → AllByRecursion P xs
-    → AllByRecursion Q xs → AllByRecursion R xs
-both-weaker P Q R [] weaker all other = tt
-both-weaker P Q R (x ∷ xs) weaker all other = (weaker x all.0 other.0, both-weaker P Q R xs weaker all.1 other.1)
 
 -- joins among other points
 pub AreAmong-wider : (points others : List ℕ) (joins : List (ℕ × ℕ)) → ((x : ℕ) → Contains points x → Contains others x)
@@ -49,18 +44,8 @@ AreAmong-below count test joins among =
 pub Respects-alike : (f g : ℕ → ℕ) (points : List ℕ) (joins : List (ℕ × ℕ)) → ((x : ℕ) → Contains points x → g x ≡ f x)
     → AreAmong points joins → Respects f joins → Respects g joins
 Respects-alike f g points joins alike =
-    both-weaker (λ pair. Contains points pair.0 × Contains points pair.1) (λ pair. f pair.0 ≡ f pair.1) (λ pair. g pair.0 ≡ g pair.1)
+    AllByRecursion-both (λ pair. Contains points pair.0 × Contains points pair.1) (λ pair. f pair.0 ≡ f pair.1) (λ pair. g pair.0 ≡ g pair.1)
     joins (λ pair has same. alike pair.0 has.0 ∙ same ∙ sym (alike pair.1 has.1))
-
-pub Respects-first : (f : ℕ → ℕ) (joins others : List (ℕ × ℕ)) → Respects f (joins ++ others) → Respects f joins
-Respects-first f = AllByRecursion-first (λ pair. f pair.0 ≡ f pair.1)
-
-pub Respects-second : (f : ℕ → ℕ) (joins others : List (ℕ × ℕ)) → Respects f (joins ++ others) → Respects f others
-Respects-second f = AllByRecursion-second (λ pair. f pair.0 ≡ f pair.1)
-
-pub Respects-append : (f : ℕ → ℕ) (joins others : List (ℕ × ℕ)) → Respects f joins → Respects f others
-    → Respects f (joins ++ others)
-Respects-append f = AllByRecursion-append (λ pair. f pair.0 ≡ f pair.1)
 
 -- the class of a point is one of the points
 abbrev mark : (ℕ → Bool) → ℕ → ℕ

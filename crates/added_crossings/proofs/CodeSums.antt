@@ -10,15 +10,16 @@ use Rattle.kh_types.specs.Bits.{bit}
 use Rattle.kh_types.specs.Code.{Code, arc_count}
 use Rattle.kh_types.specs.Classes.{classes_of, is_least, Respects}
 use Rattle.kh_types.specs.Darts.{HasArcsTwice}
+use Rattle.kh_types.proofs.Lists.{AllByRecursion-weaker}
+use Rattle.kh_types.proofs.ClassLemmas.{Respects-append, Respects-first, Respects-second}
 use Rattle.dotted_surfaces.specs.Surfaces.{Surface, IsClosed, value}
-use Rattle.dotted_surfaces.proofs.Components.{AllByRecursion-weaker}
 use Rattle.dotted_surfaces.proofs.TwoSides.{AllByRecursion-map}
 use Rattle.dotted_surfaces.specs.Points.{AreAmong, least_points, discs}
 use Rattle.added_crossings.specs.Pairings.{marked_by}
 use Rattle.added_crossings.specs.Steps.{is_near, near}
 use Rattle.added_crossings.specs.Codes.{is_open, points_at, step_at, smoothing_at, outer_smoothings, pairing_behind, sheet_at, outside_at, added_at, disc_of, saddle_strips, saddle_sheet, saddle_added, AreLabelled, IsLabelled, discs_behind, AreClosed, sum_over_dots}
 use Rattle.added_crossings.proofs.Members.{filter-kept, those-are, are-those, All-contained}
-use Rattle.added_crossings.proofs.Classes.{AreAmong-wider, AreAmong-append, Respects-first, Respects-second, Respects-append}
+use Rattle.added_crossings.proofs.Classes.{AreAmong-wider, AreAmong-append}
 use Rattle.added_crossings.proofs.CutJoins.{IsCut, near-has, next-has}
 use Rattle.added_crossings.proofs.Overlay.{IsLaid, LiesNear, all_of, marked-among}
 use Rattle.added_crossings.proofs.Whole.{sum-added, IsClosed-added}

@@ -1,19 +1,20 @@
 -- Products of numbers that are 0 or 1, and the weights of cylinders and of pairs of pants.
-use Rattle.std.proofs.Common.{◌≡◌, ◌≢◌, ℕ, zero, suc, inl, inr, ◌⊎◌, ◌+◌, ◌-◌, ◌*◌, ◌<◌, ◌∙◌, List, [], ◌∷◌, refl, sym, ap, ap₂, arith, Bool, true, false, cond, ◌&&◌, ◌||◌}
+use Rattle.std.proofs.Common.{◌≡◌, ◌≢◌, ℕ, inl, inr, ◌⊎◌, ◌+◌, ◌-◌, ◌*◌, ◌<◌, ◌∙◌, List, [], ◌∷◌, refl, sym, ap, ap₂, arith, Bool, true, false, cond, ◌&&◌, ◌||◌}
 use Rattle.std.specs.Prelude.{nat_eq}
 use Rattle.std.specs.List.{list_all, Contains}
 use Rattle.std.proofs.lemmas.Bool.{cases_Bool, cases_eq, and_parts, or_parts}
 use Rattle.kh_types.specs.Bits.{one_if}
 use Rattle.kh_types.specs.Differential.{is_merge, is_split}
+use Rattle.kh_types.proofs.Lists.{Contains-later, Contains-cases}
 use Rattle.dotted_surfaces.specs.Surfaces.{weight, product_below}
 use Rattle.dotted_surfaces.proofs.Products.{product_below-ones, product_below-without, without}
-use Rattle.added_crossings.proofs.Members.{Contains-next, Contains-cons_cases}
+use Rattle.dotted_surfaces.proofs.Tables.{two_labels, three_labels}
 
 all-true : (p : ℕ → Bool) (xs : List ℕ) (x : ℕ) → list_all p xs ≡ true → Contains xs x → p x ≡ true
 all-true p [] x all (i, below, is) = absurd (omega (arith, below))
 all-true p (y ∷ ys) x all has =
     let parts = and_parts (p y) (list_all p ys) all in
-    elim (Contains-cons_cases y x ys has) [ inl is ↦ ap p (sym is) ∙ parts.0 | inr later ↦ all-true p ys x parts.1 later ]
+    elim (Contains-cases y x ys has) [ inl is ↦ ap p (sym is) ∙ parts.0 | inr later ↦ all-true p ys x parts.1 later ]
 
 -- one of them fails
 record Fails (p : ℕ → Bool) (xs : List ℕ) : Type 0 where
@@ -27,7 +28,7 @@ all-false p (y ∷ ys) all = elim (cases_Bool (p y)) [
   | inr fails ↦ record { at = y; has = (0, omega arith, refl); fails = fails }
   | inl passes ↦
       let later = all-false p ys (ap (λ b. b && list_all p ys) (sym passes) ∙ all) in
-      record { at = later.at; has = Contains-next y later.at ys later.has; fails = later.fails }
+      record { at = later.at; has = Contains-later y later.at ys later.has; fails = later.fails }
 ]
 
 product-zero : (n k : ℕ) (f : ℕ → ℕ) → k < n → f k ≡ 0 → product_below n f ≡ 0
@@ -88,48 +89,19 @@ value-edge n f names circles touched agree changes kept is =
 -- weights of spheres with two or three faces
 
 pub cylinder-weight : (x y : ℕ) → x < 2 → y < 2 → weight 0 (x + (1 - y)) ≡ cond (nat_eq x y) 1 0
-cylinder-weight zero zero a b = refl
-cylinder-weight zero (suc zero) a b = refl
-cylinder-weight (suc zero) zero a b = refl
-cylinder-weight (suc zero) (suc zero) a b = refl
-cylinder-weight zero (suc (suc y)) a b = absurd (omega (arith, b))
-cylinder-weight (suc zero) (suc (suc y)) a b = absurd (omega (arith, b))
-cylinder-weight (suc (suc x)) y a b = absurd (omega (arith, a))
+cylinder-weight = two_labels (λ x y. weight 0 (x + (1 - y)) ≡ cond (nat_eq x y) 1 0) refl refl refl refl
 
 pub merge-weight : (x y z : ℕ) → x < 2 → y < 2 → z < 2
     → weight 0 ((x + y) + (1 - z))
     ≡ cond (is_merge (x ∷ y ∷ []) (z ∷ []) || is_split (x ∷ y ∷ []) (z ∷ [])) 1 0
-merge-weight zero zero zero a b c = refl
-merge-weight zero zero (suc zero) a b c = refl
-merge-weight zero (suc zero) zero a b c = refl
-merge-weight zero (suc zero) (suc zero) a b c = refl
-merge-weight (suc zero) zero zero a b c = refl
-merge-weight (suc zero) zero (suc zero) a b c = refl
-merge-weight (suc zero) (suc zero) zero a b c = refl
-merge-weight (suc zero) (suc zero) (suc zero) a b c = refl
-merge-weight zero zero (suc (suc z)) a b c = absurd (omega (arith, c))
-merge-weight zero (suc zero) (suc (suc z)) a b c = absurd (omega (arith, c))
-merge-weight (suc zero) zero (suc (suc z)) a b c = absurd (omega (arith, c))
-merge-weight (suc zero) (suc zero) (suc (suc z)) a b c = absurd (omega (arith, c))
-merge-weight zero (suc (suc y)) z a b c = absurd (omega (arith, b))
-merge-weight (suc zero) (suc (suc y)) z a b c = absurd (omega (arith, b))
-merge-weight (suc (suc x)) y z a b c = absurd (omega (arith, a))
+merge-weight =
+    three_labels (λ x y z. weight 0 ((x + y) + (1 - z)) ≡ cond (is_merge (x ∷ y ∷ []) (z ∷ []) || is_split (x ∷ y ∷ []) (z ∷ [])) 1 0)
+    refl refl refl refl refl refl refl refl
 
 pub split-weight : (x y z : ℕ) → x < 2 → y < 2 → z < 2
     → weight 0 (((1 - y) + (1 - z)) + x)
     ≡ cond (is_merge (x ∷ []) (y ∷ z ∷ []) || is_split (x ∷ []) (y ∷ z ∷ [])) 1 0
-split-weight zero zero zero a b c = refl
-split-weight zero zero (suc zero) a b c = refl
-split-weight zero (suc zero) zero a b c = refl
-split-weight zero (suc zero) (suc zero) a b c = refl
-split-weight (suc zero) zero zero a b c = refl
-split-weight (suc zero) zero (suc zero) a b c = refl
-split-weight (suc zero) (suc zero) zero a b c = refl
-split-weight (suc zero) (suc zero) (suc zero) a b c = refl
-split-weight zero zero (suc (suc z)) a b c = absurd (omega (arith, c))
-split-weight zero (suc zero) (suc (suc z)) a b c = absurd (omega (arith, c))
-split-weight (suc zero) zero (suc (suc z)) a b c = absurd (omega (arith, c))
-split-weight (suc zero) (suc zero) (suc (suc z)) a b c = absurd (omega (arith, c))
-split-weight zero (suc (suc y)) z a b c = absurd (omega (arith, b))
-split-weight (suc zero) (suc (suc y)) z a b c = absurd (omega (arith, b))
-split-weight (suc (suc x)) y z a b c = absurd (omega (arith, a))
+split-weight =
+    three_labels
+    (λ x y z. weight 0 (((1 - y) + (1 - z)) + x) ≡ cond (is_merge (x ∷ []) (y ∷ z ∷ []) || is_split (x ∷ []) (y ∷ z ∷ [])) 1 0)
+    refl refl refl refl refl refl refl refl

@@ -12,14 +12,14 @@ use Rattle.kh_types.specs.Bits.{bit}
 use Rattle.kh_types.specs.Classes.{classes_of, is_least, Respects}
 use Rattle.kh_types.proofs.ClassLemmas.{classes-together}
 use Rattle.kh_types.proofs.FilteredRanges.{filter-filter}
-use Rattle.dotted_surfaces.proofs.Components.{AllByRecursion-weaker}
+use Rattle.kh_types.proofs.Lists.{AllByRecursion-weaker, Contains-later}
 use Rattle.dotted_surfaces.specs.Points.{AreAmong, least_points}
 use Rattle.added_crossings.specs.Pairings.{marked_by}
 use Rattle.added_crossings.specs.Steps.{those, pair_with}
 use Rattle.added_crossings.specs.Saddles.{opposite}
 use Rattle.dotted_surfaces.specs.Sheets.{marked, marked_else}
 use Rattle.added_crossings.specs.Labels.{label_at, number_of}
-use Rattle.added_crossings.proofs.Members.{filter-kept, range-within, Contains-next}
+use Rattle.added_crossings.proofs.Members.{filter-kept, range-within}
 use Rattle.added_crossings.proofs.Classes.{AreAmong-below}
 
 pub bit-below : (number place : ℕ) → bit number place < 2
@@ -53,7 +53,7 @@ apart-names count test joins =
 pub map-on : {X : Type 0} (f g : ℕ → X) (xs : List ℕ) → ((x : ℕ) → Contains xs x → f x ≡ g x) → map f xs ≡ map g xs
 map-on f g [] alike = refl
 map-on {X} f g (x ∷ xs) alike =
-    ap₂ (λ (y : X) (ys : List X). y ∷ ys) (alike x (0, omega arith, refl)) (map-on f g xs (λ y has. alike y (Contains-next x y xs has)))
+    ap₂ (λ (y : X) (ys : List X). y ∷ ys) (alike x (0, omega arith, refl)) (map-on f g xs (λ y has. alike y (Contains-later x y xs has)))
 
 -- what stands at the places of elements, by the elements
 abbrev at_place : (ℕ → ℕ) → ℕ × ℕ → ℕ × ℕ

@@ -1,17 +1,12 @@
 -- Members of ranges and of the lists that tests keep of them, and the places of joins.
-use Rattle.std.proofs.Common.{◌≡◌, ℕ, zero, suc, inl, inr, ◌⊎◌, ◌+◌, ◌-◌, ◌<◌, ◌≤◌, ◌∙◌, List, [], ◌∷◌, refl, sym, ap, subst, arith, Bool, true, cond}
+use Rattle.std.proofs.Common.{◌≡◌, ℕ, inl, inr, ◌+◌, ◌-◌, ◌<◌, ◌≤◌, ◌∙◌, List, [], ◌∷◌, refl, sym, ap, subst, arith, Bool, true, cond}
 use Rattle.std.specs.List.{filter, range_with_len, AllByRecursion, Contains}
 use Rattle.std.proofs.lemmas.Bool.{cases_Bool}
 use Rattle.std.proofs.lemmas.List.FromFn.{length-range_with_len, get_or-range_with_len}
-use Rattle.kh_types.proofs.Lists.{Contains-filter}
+use Rattle.kh_types.proofs.Lists.{Contains-filter, Contains-later, Contains-cases}
 use Rattle.added_crossings.specs.Steps.{those}
-
-pub Contains-next : {X : Type 0} (x y : X) (xs : List X) → Contains xs y → Contains (x ∷ xs) y
-Contains-next x y xs (k, below, is) = (suc k, omega (arith, below), is)
-
-pub Contains-cons_cases : {X : Type 0} (x y : X) (xs : List X) → Contains (x ∷ xs) y → (x ≡ y) ⊎ Contains xs y
-Contains-cons_cases x y xs (zero, below, is) = inl is
-Contains-cons_cases x y xs (suc k, below, is) = inr (k, omega (arith, below), is)
+pub use Rattle.kh_types.proofs.Lists.{Contains-cases as Contains-cons_cases}
+pub use Rattle.kh_types.proofs.Lists.{Contains-later as Contains-next}
 
 -- an element that a test keeps is one, and passes
 pub record IsKept {X : Type 0} (p : X → Bool) (xs : List X) (x : X) : Type 0 where
@@ -19,14 +14,14 @@ pub record IsKept {X : Type 0} (p : X → Bool) (xs : List X) (x : X) : Type 0 w
   pub passes : p x ≡ true
 
 IsKept-next : {X : Type 0} (p : X → Bool) (x y : X) (xs : List X) → IsKept p xs y → IsKept p (x ∷ xs) y
-IsKept-next p x y xs kept = record { has = Contains-next x y xs kept.has; passes = kept.passes }
+IsKept-next p x y xs kept = record { has = Contains-later x y xs kept.has; passes = kept.passes }
 
 pub filter-kept : {X : Type 0} (p : X → Bool) (xs : List X) (x : X) → Contains (filter p xs) x → IsKept p xs x
 filter-kept p [] x (k, below, is) = absurd (omega (arith, below))
 filter-kept {X} p (y ∷ ys) x has = elim (cases_Bool (p y)) [
   | inl passes ↦
       let has_now : Contains (y ∷ filter p ys) x = subst (λ b. Contains (cond b (y ∷ filter p ys) (filter p ys)) x) passes has in
-      elim (Contains-cons_cases y x (filter p ys) has_now) [
+      elim (Contains-cases y x (filter p ys) has_now) [
         | inl is ↦ record { has = (0, omega arith, is); passes = ap p (sym is) ∙ passes }
         | inr later ↦ IsKept-next p y x ys (filter-kept p ys x later)
       ]
@@ -71,4 +66,4 @@ are-those count test x above below passes =
 pub All-contained : {X : Type 0} (P : X → Type 0) (xs : List X) → ((x : X) → Contains xs x → P x) → AllByRecursion P xs
 All-contained P [] each = tt
 All-contained P (x ∷ xs) each =
-    (each x (0, omega arith, refl), All-contained P xs (λ y has. each y (Contains-next x y xs has)))
+    (each x (0, omega arith, refl), All-contained P xs (λ y has. each y (Contains-later x y xs has)))

@@ -1,17 +1,16 @@
 -- The pairing behind a crossing joins the open arcs of each class, and nothing else.
-use Rattle.std.proofs.Common.{◌≡◌, ℕ, inl, inr, ◌⊎◌, ◌+◌, ◌<◌, List, [], ◌∷◌, refl, sym, ap, ap₂, arith, true, ◌&&◌}
+use Rattle.std.proofs.Common.{◌≡◌, ℕ, inl, inr, ◌⊎◌, ◌+◌, ◌<◌, List, [], ◌∷◌, refl, sym, ap, ap₂, arith, ◌&&◌}
 use Rattle.std.specs.Prelude.{nat_eq, nat_lt, slice_index}
 use Rattle.std.specs.List.{filter, flat_map, AllByRecursion, Contains}
-use Rattle.std.proofs.lemmas.Bool.{and_parts, eq-eqb, eqb-true}
+use Rattle.std.proofs.lemmas.Bool.{and_parts, eq-eqb, eqb-true, ltb-true, lt-ltb}
 use Rattle.std.proofs.lemmas.Bool.Decides.{nat_tests}
 use Rattle.kh_types.specs.Classes.{classes_of}
 use Rattle.kh_types.proofs.ClassLemmas.{classes-finest}
-use Rattle.kh_types.proofs.Lists.{AllByRecursion-append, Contains-filter, Contains-map, Contains-flat_map}
-use Rattle.dotted_surfaces.proofs.Components.{AllByRecursion-at, AllByRecursion-weaker}
+use Rattle.kh_types.proofs.Lists.{AllByRecursion-append, Contains-filter, Contains-map, Contains-flat_map, AllByRecursion-at, AllByRecursion-weaker, Contains-later}
 use Rattle.dotted_surfaces.proofs.TwoSides.{AllByRecursion-map}
 use Rattle.dotted_surfaces.specs.Points.{AreAmong}
 use Rattle.added_crossings.specs.Steps.{Step, after, is_near, near, is_mate, pair_with, pairs_at, pairs_among, new_pairing, IsNewPairing}
-use Rattle.added_crossings.proofs.Members.{filter-kept, those-are, All-contained, Contains-next}
+use Rattle.added_crossings.proofs.Members.{filter-kept, those-are, All-contained}
 use Rattle.added_crossings.proofs.Classes.{AreAmong-below}
 use Rattle.added_crossings.proofs.CutJoins.{IsStep}
 
@@ -20,7 +19,7 @@ AllByRecursion-flat_map : {X Y : Type 0} (P : Y → Type 0) (f : X → List Y) (
 AllByRecursion-flat_map P f [] each = tt
 AllByRecursion-flat_map P f (x ∷ xs) each =
     AllByRecursion-append P (f x) (flat_map f xs) (each x (0, omega arith, refl))
-    (AllByRecursion-flat_map P f xs (λ y has. each y (Contains-next x y xs has)))
+    (AllByRecursion-flat_map P f xs (λ y has. each y (Contains-later x y xs has)))
 
 -- a pair has two of the points, the greater one second, in one class
 pub record IsPair (points classes : List ℕ) (pair : ℕ × ℕ) : Type 0 where
@@ -28,9 +27,6 @@ pub record IsPair (points classes : List ℕ) (pair : ℕ × ℕ) : Type 0 where
   pub second : Contains points pair.1
   pub rises : pair.0 < pair.1
   pub same : slice_index classes pair.0 ≡ slice_index classes pair.1
-
-less : (x y : ℕ) → nat_lt x y ≡ true → x < y
-less x y is = grind (arith, nat_tests)
 
 pub pairs-are : (points classes : List ℕ) → AllByRecursion (IsPair points classes) (pairs_among points classes)
 pairs-are points classes =
@@ -44,12 +40,9 @@ pairs-are points classes =
     record {
       first = has;
       second = kept.has;
-      rises = less x y parts.0;
+      rises = ltb-true x y parts.0;
       same = eqb-true (slice_index classes x) (slice_index classes y) parts.1;
     })))
-
-less-true : (x y : ℕ) → x < y → nat_lt x y ≡ true
-less-true x y is = grind (arith, nat_tests)
 
 -- and each such pair is one
 has-pair : (points classes : List ℕ) (x y : ℕ) → Contains points x → Contains points y → x < y
@@ -58,7 +51,7 @@ has-pair points classes x y has y_has rises same =
     Contains-flat_map (pairs_at points classes) points x (x, y) has
     (Contains-map (pair_with x) (filter (is_mate classes x) points) y
     (Contains-filter (is_mate classes x) points y
-    (ap₂ (λ a b. a && b) (less-true x y rises) (eq-eqb (slice_index classes x) (slice_index classes y) same)) y_has))
+    (ap₂ (λ a b. a && b) (lt-ltb x y rises) (eq-eqb (slice_index classes x) (slice_index classes y) same)) y_has))
 
 three_ways : (x y : ℕ) → (x < y) ⊎ ((x ≡ y) ⊎ (y < x))
 three_ways x y = grind (arith, nat_tests)

@@ -7,7 +7,7 @@ use Rattle.std.proofs.Common.{ℕ, ◌+◌, ◌<◌, List, [], ◌++◌, refl, s
 use Rattle.std.specs.List.{AllByRecursion, Contains}
 use Rattle.std.proofs.lemmas.Bool.{eq-eqb}
 use Rattle.kh_types.specs.Classes.{classes_of, is_least, Respects}
-use Rattle.kh_types.proofs.ClassLemmas.{classes-together, classes-finest}
+use Rattle.kh_types.proofs.ClassLemmas.{classes-together, classes-finest, Respects-append, Respects-first, Respects-second}
 use Rattle.kh_types.proofs.Lists.{Contains-filter, AllByRecursion-append}
 use Rattle.dotted_surfaces.specs.Surfaces.{Surface, component_of, IsPlaced}
 use Rattle.dotted_surfaces.specs.Overlays.{MeetAlong}
@@ -16,7 +16,7 @@ use Rattle.dotted_surfaces.specs.Points.{AreAmong, least_points, discs}
 use Rattle.added_crossings.specs.Pairings.{face_with, marked_by, circle_faces}
 use Rattle.added_crossings.specs.Steps.{Step, those, before, after, is_near, near, closed_circles, added, outside}
 use Rattle.added_crossings.proofs.Members.{IsOneOf, filter-kept, those-are, are-those, All-contained}
-use Rattle.added_crossings.proofs.Classes.{class_in, AreAmong-wider, AreAmong-append, AreAmong-below, Respects-first, Respects-second, Respects-append, class-own, class-is}
+use Rattle.added_crossings.proofs.Classes.{class_in, AreAmong-wider, AreAmong-append, AreAmong-below, class-own, class-is}
 use Rattle.added_crossings.proofs.CutJoins.{IsCut, both-open, open-alive, open-near, outside-among}
 
 -- two pairings before and after, with joins near the crossing on either side, and with faces and strips near it

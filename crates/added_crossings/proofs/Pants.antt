@@ -12,10 +12,10 @@ use Rattle.std.proofs.lemmas.List.Sums.{sum_by-cons, sum_by-append}
 use Rattle.kh_types.specs.Classes.{classes_of, is_least, Respects}
 use Rattle.kh_types.specs.Edges.{is_other}
 use Rattle.kh_types.proofs.FilteredRanges.{filter-filter}
-use Rattle.kh_types.proofs.Lists.{Contains-filter}
-use Rattle.kh_types.proofs.ListSums.{sum_by-map, sum_by-plus, sum_by-times, sum_by-turned, sum_by-zeros, sum_by-alike}
+use Rattle.kh_types.proofs.Lists.{Contains-filter, AllByRecursion-weaker}
+use Rattle.kh_types.proofs.ListSums.{sum_by-map, sum_by-plus, sum_by-times, sum_by-turned, sum_by-zeros, sum_by-alike, sum_by-on}
 use Rattle.dotted_surfaces.specs.Surfaces.{Surface, component_of, is_component, faces_on, marks_on, lowers_on, HasGenus, weight, factor}
-use Rattle.dotted_surfaces.proofs.Components.{sum_by-on, list_any-contained, list_any-some, AllByRecursion-weaker}
+use Rattle.dotted_surfaces.proofs.Components.{list_any-contained, list_any-some}
 use Rattle.dotted_surfaces.proofs.Factors.{factor-at, factor-none}
 use Rattle.dotted_surfaces.proofs.JoinedCounts.{amount_at, sum_at}
 use Rattle.dotted_surfaces.proofs.OneCut.{place_of_face, marks_of_face, one_face}

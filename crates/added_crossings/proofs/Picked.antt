@@ -3,7 +3,7 @@ use Rattle.std.proofs.Common.{◌≡◌, ℕ, inl, inr, ◌+◌, ◌∙◌, List
 use Rattle.std.specs.Prelude.{nat_eq}
 use Rattle.std.specs.List.{list_any, Contains}
 use Rattle.std.proofs.lemmas.Bool.{cases_Bool, both_ways, or_parts, eq-eqb, eqb-true}
-use Rattle.added_crossings.proofs.Members.{Contains-next, Contains-cons_cases}
+use Rattle.kh_types.proofs.Lists.{Contains-later, Contains-cases}
 
 abbrev pub pick : (ℕ → ℕ) → (ℕ → ℕ) → ℕ → List ℕ → ℕ → ℕ
 pick key value none [] k = none + k
@@ -22,11 +22,11 @@ pick-has key value none (y ∷ ys) k x alike has is_key = elim (cases_Bool (nat_
       ∙ alike y x (0, omega arith, refl) has (eqb-true (key y) k same ∙ sym is_key)
   | inr other ↦
       ap (λ b. cond b (value y) (pick key value none ys k)) other
-      ∙ (elim (Contains-cons_cases y x ys has) [
+      ∙ (elim (Contains-cases y x ys has) [
         | inl is ↦ absurd (both_ways (nat_eq (key y) k) other (eq-eqb (key y) k (ap key is ∙ is_key)))
         | inr later ↦
             pick-has key value none ys k x
-            (λ a b a_has b_has. alike a b (Contains-next y a ys a_has) (Contains-next y b ys b_has)) later is_key
+            (λ a b a_has b_has. alike a b (Contains-later y a ys a_has) (Contains-later y b ys b_has)) later is_key
       ])
 ]
 

@@ -13,9 +13,9 @@ use Rattle.kh_types.specs.Bits.{one_if}
 use Rattle.kh_types.specs.Code.{Code, arc_in}
 use Rattle.kh_types.specs.Classes.{classes_of, is_least, Respects}
 use Rattle.kh_types.specs.Differential.{is_merge, is_split}
-use Rattle.kh_types.proofs.ClassLemmas.{classes-together, classes-finest}
+use Rattle.kh_types.proofs.ClassLemmas.{classes-together, classes-finest, Respects-append, Respects-first, Respects-second}
 use Rattle.kh_types.proofs.JoinedClasses.{classes_of-same}
-use Rattle.kh_types.proofs.Lists.{Contains-filter}
+use Rattle.kh_types.proofs.Lists.{Contains-filter, AllByRecursion-both, Contains-cases}
 use Rattle.dotted_surfaces.specs.Surfaces.{Surface, value, weight, factor}
 use Rattle.dotted_surfaces.proofs.Components.{list_any-contained}
 use Rattle.dotted_surfaces.proofs.Renamed.{value-reordered}
@@ -24,8 +24,8 @@ use Rattle.added_crossings.specs.Pairings.{marked_by}
 use Rattle.added_crossings.specs.Steps.{those, near}
 use Rattle.added_crossings.specs.Codes.{is_open, is_alive, points_at, step_at, smoothing_at, outer_smoothings, circles_before, circle_before, arc_there, disc_of, saddle_strips, saddle_sheet}
 use Rattle.added_crossings.specs.Saddles.{is_touched_at, touched_at, changes_labels_at, edge_at, TwoBecomeOneAt, MergesOrSplitsAt, IsPairedAt, AreBits, opposite}
-use Rattle.added_crossings.proofs.Members.{filter-kept, those-are, are-those, Contains-cons_cases}
-use Rattle.added_crossings.proofs.Classes.{class_in, both-weaker, AreAmong-below, Respects-first, Respects-second, Respects-append, class-own, class-is}
+use Rattle.added_crossings.proofs.Members.{filter-kept, those-are, are-those}
+use Rattle.added_crossings.proofs.Classes.{class_in, AreAmong-below, class-own, class-is}
 use Rattle.added_crossings.proofs.CutJoins.{near-has}
 use Rattle.added_crossings.proofs.CodeSteps.{IsStep-at, slot-near, smoothing-among, count_of}
 use Rattle.added_crossings.proofs.CodeSums.{IsLaid-saddle}
@@ -106,7 +106,7 @@ smoothing-respects code k state m first second kept gone f at becomes respects =
     let below : (x : ℕ) → Contains (points_at code k).alive x → x < n =
     λ x has. omega (arith, (those-are (count_of code) (is_alive code k) x has).below) in
     let class : ℕ → ℕ = circle_before code k first state m in
-    both-weaker (λ pair. Contains (near (step_at code k)) pair.0 × Contains (near (step_at code k)) pair.1)
+    AllByRecursion-both (λ pair. Contains (near (step_at code k)) pair.0 × Contains (near (step_at code k)) pair.1)
     (λ pair. class pair.0 ≡ class pair.1) (λ pair. f pair.0 ≡ f pair.1) s
     (λ pair has same.
     let x_has = alive pair.0 has.0 in
@@ -137,15 +137,15 @@ in-two x y xs is =
     subst (λ (zs : List ℕ). Contains zs x × Contains zs y) (sym is) ((0, omega arith, refl), (1, omega arith, refl))
 
 only-in-one : (x y : ℕ) (xs : List ℕ) → xs ≡ x ∷ [] → Contains xs y → y ≡ x
-only-in-one x y xs is has = elim (Contains-cons_cases x y [] (subst (λ (zs : List ℕ). Contains zs y) is has)) [
+only-in-one x y xs is has = elim (Contains-cases x y [] (subst (λ (zs : List ℕ). Contains zs y) is has)) [
   | inl same ↦ sym same
   | inr later ↦ absurd (omega (arith, later.1))
 ]
 
 only-in-two : (x y z : ℕ) (xs : List ℕ) → xs ≡ x ∷ y ∷ [] → Contains xs z → z ≢ x → z ≢ y → ⊥
-only-in-two x y z xs is has not_x not_y = elim (Contains-cons_cases x z (y ∷ []) (subst (λ (zs : List ℕ). Contains zs z) is has)) [
+only-in-two x y z xs is has not_x not_y = elim (Contains-cases x z (y ∷ []) (subst (λ (zs : List ℕ). Contains zs z) is has)) [
   | inl same ↦ not_x (sym same)
-  | inr later ↦ elim (Contains-cons_cases y z [] later) [ inl same ↦ not_y (sym same) | inr none ↦ absurd (omega (arith, none.1)) ]
+  | inr later ↦ elim (Contains-cases y z [] later) [ inl same ↦ not_y (sym same) | inr none ↦ absurd (omega (arith, none.1)) ]
 ]
 
 circle-name : (code : Code) (k state smoothing : ℕ) (m : List (ℕ × ℕ)) (x : ℕ) → IsPairedAt code k m

@@ -9,13 +9,13 @@ use Rattle.std.proofs.lemmas.List.FromFn.{get_or-enumerate_from, length-enumerat
 use Rattle.kh_types.specs.Bits.{bit}
 use Rattle.kh_types.specs.Code.{Code, arc_count}
 use Rattle.kh_types.specs.Darts.{HasArcsTwice}
+use Rattle.kh_types.proofs.Lists.{Contains-cases}
 use Rattle.dotted_surfaces.specs.Points.{AreAmong}
 use Rattle.added_crossings.specs.Pairings.{face_with}
 use Rattle.added_crossings.specs.Codes.{is_alive, points_at, step_at, smoothing_at, outer_smoothings, pairing_behind, circles_before, circles_behind, closed_at}
 use Rattle.dotted_surfaces.specs.Sheets.{marked}
 use Rattle.added_crossings.specs.Labels.{number_of}
 use Rattle.added_crossings.specs.Entries.{label_before, closed_label, label_behind}
-use Rattle.added_crossings.proofs.Members.{Contains-cons_cases}
 use Rattle.added_crossings.proofs.KeptCircles.{circle-met}
 use Rattle.added_crossings.proofs.CodeSums.{IsCut-at}
 use Rattle.added_crossings.proofs.Labels.{bit-below, marked-labels, map-on}
@@ -43,7 +43,7 @@ rest x y r s x_below y_below same = omega (arith, x_below, y_below, same)
 same-number_of : (f g : ℕ → ℕ) (xs : List ℕ) (x : ℕ) → ((y : ℕ) → f y < 2) → ((y : ℕ) → g y < 2) → number_of f xs ≡ number_of g xs
     → Contains xs x → f x ≡ g x
 same-number_of f g [] x f_bits g_bits same (i, below, is) = absurd (omega (arith, below))
-same-number_of f g (y ∷ ys) x f_bits g_bits same has = elim (Contains-cons_cases y x ys has) [
+same-number_of f g (y ∷ ys) x f_bits g_bits same has = elim (Contains-cases y x ys has) [
   | inl is ↦ ap f (sym is) ∙ first (f y) (g y) (number_of f ys) (number_of g ys) (f_bits y) (g_bits y) same ∙ ap g is
   | inr later ↦
       same-number_of f g ys x f_bits g_bits (rest (f y) (g y) (number_of f ys) (number_of g ys) (f_bits y) (g_bits y) same) later

@@ -17,7 +17,7 @@ use Rattle.kh_types.specs.Classes.{merged, classes_of, Respects}
 use Rattle.kh_types.specs.Darts.{HasArcsTwice}
 use Rattle.kh_types.specs.Permutations.{AreJoined}
 use Rattle.kh_types.proofs.AcceptedLemmas.{HasArcsTwice-accepted}
-use Rattle.kh_types.proofs.ClassLemmas.{classes-together, slice_index-joined, merged-both}
+use Rattle.kh_types.proofs.ClassLemmas.{classes-together, slice_index-joined, merged-both, Respects-first, Respects-second}
 use Rattle.kh_types.proofs.EdgeBits.{bit-set_there, bit-set_other}
 use Rattle.kh_types.proofs.EdgeCircles.{joins_or_parts}
 use Rattle.kh_types.proofs.JoinedClasses.{IsNamed-classes_of}
@@ -25,7 +25,7 @@ use Rattle.added_crossings.specs.Pairings.{IsPaired}
 use Rattle.added_crossings.specs.Codes.{is_open, is_alive, points_at, step_at, smoothing_at, outer_smoothings, pairing_behind, circle_before}
 use Rattle.added_crossings.specs.Saddles.{TwoBecomeOneAt, MergesOrSplitsAt, IsPairedAt, pairing_of, circle_with}
 use Rattle.added_crossings.proofs.Members.{IsOneOf, those-are, are-those}
-use Rattle.added_crossings.proofs.Classes.{class_in, AreAmong-below, Respects-first, Respects-second, class-own, class-is}
+use Rattle.added_crossings.proofs.Classes.{class_in, AreAmong-below, class-own, class-is}
 use Rattle.added_crossings.proofs.CutJoins.{near-has, next-has}
 use Rattle.added_crossings.proofs.KeptCircles.{together-outside}
 use Rattle.added_crossings.proofs.CodeSteps.{IsStep-at, slot-near, outer-among, outer-split, count_of}

@@ -12,9 +12,9 @@ use Rattle.std.specs.Cmp.{both_ways}
 use Rattle.std.proofs.lemmas.List.Sums.{sum_by-append}
 use Rattle.std.proofs.lemmas.List.Elements.{Contains-append_cases, Contains-append_left, Contains-append_right}
 use Rattle.kh_types.specs.Classes.{classes_of, Respects, AreBelow}
-use Rattle.kh_types.proofs.ClassLemmas.{classes-together}
+use Rattle.kh_types.proofs.ClassLemmas.{classes-together, Respects-append, Respects-first, Respects-second}
 use Rattle.kh_types.proofs.JoinedClasses.{classes_of-same}
-use Rattle.kh_types.proofs.Lists.{AllByRecursion-append}
+use Rattle.kh_types.proofs.Lists.{AllByRecursion-append, AllByRecursion-both}
 use Rattle.kh_types.proofs.ListSums.{sum_by-alike, sum_by-map}
 use Rattle.dotted_surfaces.specs.Surfaces.{Surface, component_of, is_component, faces_on, marks_on, lowers_on, raises_on, IsClosed, factor, value}
 use Rattle.dotted_surfaces.specs.Cuts.{with_faces, first_caps, second_caps, sum_of_products}
@@ -29,7 +29,7 @@ use Rattle.dotted_surfaces.specs.Points.{discs, circles}
 use Rattle.added_crossings.specs.Pairings.{face_with, marked_by, circle_faces}
 use Rattle.added_crossings.specs.Steps.{Step, before, after, is_near, near, closed_circles, added, outside}
 use Rattle.added_crossings.proofs.Members.{those-are, are-those}
-use Rattle.added_crossings.proofs.Classes.{AreAmong-below, both-weaker, Respects-first, Respects-second, Respects-append}
+use Rattle.added_crossings.proofs.Classes.{AreAmong-below}
 use Rattle.added_crossings.proofs.CutJoins.{IsCut, near-has, next-has, IsStep}
 use Rattle.added_crossings.proofs.KeptCircles.{sum-circles}
 use Rattle.added_crossings.proofs.Overlay.{IsLaid, LiesNear, all_of, IsPlaced-outside, IsPlaced-added, MeetAlong-discs}
@@ -91,7 +91,7 @@ face-respects : (surface : Surface) (k : ℕ) (label : ℕ → ℕ) (amount : �
     → ((x y : ℕ) → label x ≡ label y → amount (x, label x) ≡ amount (y, label y)) → Respects (component_of surface) joins
     → Respects label joins → Respects (λ x. amount_at surface k place_of_face amount (face_with label x)) joins
 face-respects surface k label amount joins alike =
-    both-weaker (λ pair. component_of surface pair.0 ≡ component_of surface pair.1) (λ pair. label pair.0 ≡ label pair.1)
+    AllByRecursion-both (λ pair. component_of surface pair.0 ≡ component_of surface pair.1) (λ pair. label pair.0 ≡ label pair.1)
     (λ pair. amount_at surface k place_of_face amount (face_with label pair.0)
     ≡ amount_at surface k place_of_face amount (face_with label pair.1)) joins
     (λ pair component same.

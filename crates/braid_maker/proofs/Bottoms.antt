@@ -1,9 +1,13 @@
 -- Components of a closed braid begin at the least bottoms that they pass.
+--
+-- A component begins at its least name. A name is low where it is that of an arc through the bottom, and these have the numbers of their
+-- positions, less than all others. A pass that enters on a name that is not low leaves on a low one or on a greater one; so going round, a
+-- component comes to a low name, and its least name is the least of them.
 use Rattle.std.proofs.Common.{◌≡◌, ℕ, zero, suc, ◌⊎◌, inl, inr, ◌+◌, ◌-◌, ◌*◌, ◌<◌, ◌≤◌, ◌∙◌, ℤ, List, [], ◌∷◌, length, refl, sym, ap, subst, arith, Bool, true, false, not, ◌&&◌, ◌||◌, cond, eq-eqb, eqb-true}
 use Rattle.std.specs.Prelude.{nat_eq, slice_index, slice_index_or, Option, Some, None, unwrap_or, if◌then◌else◌}
 use Rattle.std.specs.List.{find, list_any, range_with_len, AllByRecursion}
 use Rattle.std.specs.Option.{option_or}
-use Rattle.std.proofs.lemmas.Bool.{both_ways, cases_Bool, and_parts}
+use Rattle.std.proofs.lemmas.Bool.{both_ways, cases_Bool, and_parts, not-false}
 use Rattle.std.proofs.lemmas.Bool.Decides.{nat_tests}
 use Rattle.std.proofs.lemmas.List.{get_or-map, length-map}
 use Rattle.std.proofs.lemmas.List.FromFn.{get_or-map-range_with_len, length-map-range_with_len}
@@ -234,11 +238,7 @@ component-in (names ∷ more) (suc at) place below place_below =
 pub bottom_name-is : (strands : ℕ) (letters : List ℤ) (q : ℕ) → HasBottom strands letters q → bottom_name strands letters q ≡ q
 bottom_name-is strands letters q has =
     bottom-named (length letters) (left_of letters) strands q has.positive has.within
-    (not_false (list_any (touches (left_of letters) q) (range_with_len 0 (length letters))) has.crossed)
-  where
-    not_false : (b : Bool) → not b ≡ false → b ≡ true
-    not_false true is = refl
-    not_false false is = sym is
+    (not-false (list_any (touches (left_of letters) q) (range_with_len 0 (length letters))) has.crossed)
 
 pub least-bottom : (strands : ℕ) (letters : List ℤ) (at : ℕ) → AreLetters strands letters
     → at < length (named_components (passes_through (closure_parts strands letters)))

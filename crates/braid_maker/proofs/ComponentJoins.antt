@@ -1,4 +1,8 @@
 -- A closed braid has at most as many components as strands: each component comes up through the last crossing of some position.
+--
+-- A pass joins opposite corners of its crossing. So what respects the passes can be followed upwards, from corner to corner, until it comes
+-- up through the last crossing of some position: each class of names has one there. Positions without a crossing are loops, so that
+-- components and loops together are at most as many as strands.
 use Rattle.std.proofs.Common.{◌≡◌, ℕ, zero, suc, inl, inr, ◌+◌, ◌-◌, ◌*◌, ◌%◌, ◌<◌, ◌≤◌, ◌∙◌, List, [], ◌∷◌, length, get_or, sym, ap, subst, arith, Bool, true, false, cond}
 use Rattle.std.specs.Prelude.{slice_index, unwrap_or}
 use Rattle.std.specs.List.{flat_map}

@@ -1,4 +1,7 @@
 -- The faces of a closed braid are as many as on the sphere.
+--
+-- A region of the drawing lies between two crossings of one position that follow one another, or outside; a dart is named for each. What
+-- has one value on the darts of a face tells regions apart, so there are at least as many faces as regions; and the sphere allows no more.
 use Rattle.std.proofs.Common.{◌≡◌, ℕ, inl, inr, ◌+◌, ◌-◌, ◌*◌, ◌<◌, ◌≤◌, ◌∙◌, length, sym, ap, arith, Bool, true, false, cond}
 use Rattle.std.specs.Prelude.{nat_lt, not, slice_index}
 use Rattle.std.specs.List.{count_by, list_any, range_with_len}

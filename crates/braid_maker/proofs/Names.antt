@@ -10,6 +10,7 @@ use Rattle.kh_types.proofs.DartPairs.{IsDart-at}
 use Rattle.gluing.specs.Alike.{AreAlike}
 use Rattle.braid_maker.specs.Words.{closed_crossings, touches}
 use Rattle.orient_arcs.specs.Renumbered.{renamed_crossing}
+use Rattle.orient_arcs.proofs.Bridge.{renamed-slot}
 use Rattle.braid_maker.specs.Closures.{bottom_arc, is_bottom, arc_name, named_parts}
 use Rattle.braid_maker.proofs.Partners.{HasArcsTwice-braid}
 
@@ -58,14 +59,6 @@ name-apart n left strands arc other positive other_positive same = elim (Named-i
     | greater is' ↦ omega (arith, is, is', same)
   ]
 ]
-
--- a slot of a crossing under new names
-renamed-slot : (f : ℕ → ℕ) (slots : List ℕ) (slot : ℕ) → slot < 4 → arc_in (renamed_crossing f slots) slot ≡ f (arc_in slots slot)
-renamed-slot f slots zero below = refl
-renamed-slot f slots (suc zero) below = refl
-renamed-slot f slots (suc (suc zero)) below = refl
-renamed-slot f slots (suc (suc (suc zero))) below = refl
-renamed-slot f slots (suc (suc (suc (suc k)))) below = absurd (omega (arith, below))
 
 pub arc_of-renamed : (f : ℕ → ℕ) (crossings : List (List ℕ)) (dart : ℕ) → dart < 4 * length crossings
     → arc_of (map (renamed_crossing f) crossings) (dart_at dart) ≡ f (arc_of crossings (dart_at dart))

@@ -1,4 +1,8 @@
 -- The place that comes last before another, going round.
+--
+-- A closed braid goes round: behind the last crossing comes the first. The place last before k that passes a test is searched below k, and
+-- if there is none from the end on. It is found where any passes, and it is the only one with none between; and each place is the nearest
+-- before one other, the first that follows, which the same search from the other end finds.
 use Rattle.std.proofs.Common.{◌≡◌, ◌≢◌, ℕ, zero, suc, inl, inr, ◌+◌, ◌-◌, ◌<◌, ◌≤◌, ◌∙◌, refl, sym, ap, subst, arith, Bool, true, false, cond}
 use Rattle.std.specs.Prelude.{nat_lt, Some, None, unwrap_or}
 use Rattle.std.specs.Option.{option_or}

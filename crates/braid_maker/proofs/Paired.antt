@@ -1,14 +1,19 @@
 -- In the parts of a closed braid each name that stands at all stands once as a head and once as a tail.
+--
+-- Names are given to corners, two corners of a strand having one name. A pass enters at the lower corners of its crossing and leaves at the
+-- upper ones, whichever is over. So a name is a head as often as it stands at lower corners, once, and a tail as often as at upper ones,
+-- once.
 use Rattle.std.proofs.Common.{◌≡◌, ◌≢◌, ℕ, zero, suc, ◌⊎◌, inl, inr, ◌+◌, ◌*◌, ◌/◌, ◌%◌, ◌<◌, ◌≤◌, ◌∙◌, List, [], ◌∷◌, length, refl, sym, ap, ap₂, subst, arith, Bool, true, false, cond}
 use Rattle.std.specs.Prelude.{nat_eq, if◌then◌else◌}
-use Rattle.std.specs.List.{count_by, flat_map, range_with_len, sum_by}
+use Rattle.std.specs.List.{count_by, range_with_len, sum_by}
 use Rattle.std.proofs.lemmas.Bool.{cases_eq, eq-eqb, eqb-true, ne_eqb}
-use Rattle.std.proofs.lemmas.List.Sums.{sum_by-append, sum_by-cons}
+use Rattle.std.proofs.lemmas.List.Sums.{sum_by-cons}
 use Rattle.std.proofs.lemmas.List.FromFn.{get_or-map-range_with_len}
 use Rattle.kh_types.specs.Code.{arc_in}
 use Rattle.kh_types.proofs.Ranges.{sum_by-range_more}
+use Rattle.kh_types.proofs.ListSums.{sum_by-flat_map}
 use Rattle.code_passes.specs.Passes.{Pass}
-use Rattle.code_passes.specs.Parts.{ArePaired, Parts, head_count, is_positive_at, passes_at, over_pass, slots_in, tail_count, under_pass}
+use Rattle.code_passes.specs.Parts.{ArePaired, Parts, head_count, is_positive_at, passes_at, over_pass, slots_in, tail_count, under_pass, passes_through}
 use Rattle.braid_maker.specs.Closures.{named_parts}
 use Rattle.braid_maker.proofs.CircleJoins.{arc_at, arc_at-slot}
 use Rattle.braid_maker.proofs.Corners.{corner_of, corner_of-place, corner_place, corner_place-crossing, length-crossings}
@@ -21,12 +26,6 @@ use Rattle.braid_maker.proofs.Weights.{sum-alike}
 
 abbrev counted : Bool → ℕ
 counted passes = cond passes 1 0
-
-sum-flat_map : {X Y : Type 0} (f : Y → ℕ) (g : X → List Y) (xs : List X) → sum_by f (flat_map g xs) ≡ sum_by (λ x. sum_by f (g x)) xs
-sum-flat_map f g [] = refl
-sum-flat_map f g (x ∷ xs) =
-    sum_by-append f (g x) (flat_map g xs) ∙ ap (λ k. sum_by f (g x) + k) (sum-flat_map f g xs)
-    ∙ sym (sum_by-cons (λ y. sum_by f (g y)) x xs)
 
 sum-two : {X : Type 0} (f : X → ℕ) (x y : X) → sum_by f (x ∷ y ∷ []) ≡ f x + f y
 sum-two f x y = omega (arith, sum_by-cons f x (y ∷ []), sum_by-cons f y [])
@@ -95,64 +94,50 @@ left_again : (b : Bool) (name : ℕ) (at : ℕ → ℕ)
 left_again true name at = omega arith
 left_again false name at = refl
 
-heads-at : (strands n : ℕ) (left : ℕ → ℕ) (is_over : ℕ → Bool) (loops name place : ℕ) → place < n
-    → count_by (λ (pass : Pass). nat_eq pass.enters name) (passes_at (named_parts strands n left is_over loops) place)
-    ≡ counted (holds (named_parts strands n left is_over loops).crossings is_over name place 0)
-    + counted (holds (named_parts strands n left is_over loops).crossings is_over name place 1)
-heads-at strands n left is_over loops name place below =
+-- how often a name is one end of a pass, summed over the places, where the end is at two corners of each
+ends-sum : (f : Pass → ℕ) (under : ℕ) (over : Bool → ℕ) (first second : ℕ)
+    → ((slots : List ℕ) (place : ℕ) → f (under_pass slots place) ≡ arc_in slots under)
+    → ((slots : List ℕ) (b : Bool) (place : ℕ) → f (over_pass slots b place) ≡ arc_in slots (over b))
+    → ((b : Bool) (name : ℕ) (at : ℕ → ℕ) → counted (nat_eq (at under) name) + counted (nat_eq (at (over b)) name)
+    ≡ counted (nat_eq (at ((first + cond b 3 0) % 4)) name) + counted (nat_eq (at ((second + cond b 3 0) % 4)) name))
+    → (strands n : ℕ) (left : ℕ → ℕ) (is_over : ℕ → Bool) (loops name : ℕ)
+    → count_by (λ (pass : Pass). nat_eq (f pass) name) (passes_through (named_parts strands n left is_over loops))
+    ≡ sum_by (λ i. counted (holds (named_parts strands n left is_over loops).crossings is_over name i first)
+    + counted (holds (named_parts strands n left is_over loops).crossings is_over name i second)) (range_with_len 0 n)
+ends-sum f under over first second under_is over_is corners strands n left is_over loops name =
     let parts : Parts = named_parts strands n left is_over loops in
+    let size : length parts.crossings ≡ n = (AreAlike-named strands n left is_over loops).size ∙ length-crossings n left is_over in
+    sum_by-flat_map (λ (pass : Pass). counted (nat_eq (f pass) name)) (passes_at parts) (range_with_len 0 (length parts.crossings))
+    ∙ ap (λ k. sum_by (λ i. count_by (λ (pass : Pass). nat_eq (f pass) name) (passes_at parts i)) (range_with_len 0 k)) size
+    ∙ sum-alike (λ i. count_by (λ (pass : Pass). nat_eq (f pass) name) (passes_at parts i))
+    (λ i. counted (holds parts.crossings is_over name i first) + counted (holds parts.crossings is_over name i second)) n
+    (λ place below.
+    let slots = slots_in parts.crossings place in
     let at : ℕ → ℕ = λ s. arc_in (slots_in parts.crossings place) s in
     let slot : (c : ℕ) → at ((c + cond (is_over place) 3 0) % 4) ≡ arc_at parts.crossings (corner_place is_over place c) =
     λ c. sym (arc_at-slot parts.crossings place ((c + cond (is_over place) 3 0) % 4) (omega arith)) in
     let sign : is_positive_at parts.positive place ≡ is_over place = get_or-map-range_with_len is_over 0 n place place false below (omega arith) in
-    sum-two (λ (pass : Pass). counted (nat_eq pass.enters name)) (under_pass (slots_in parts.crossings place) place)
+    sum-two (λ (pass : Pass). counted (nat_eq (f pass) name)) (under_pass (slots_in parts.crossings place) place)
     (over_pass (slots_in parts.crossings place) (is_positive_at parts.positive place) place)
-    ∙ ap (λ b. counted (nat_eq (at 0) name) + counted (nat_eq (at (if b then 3 else 1)) name)) sign
-    ∙ entered (is_over place) name at
-    ∙ ap₂ (λ x y. counted (nat_eq x name) + counted (nat_eq y name)) (slot 0) (slot 1)
+    ∙ ap₂ (λ x y. counted (nat_eq x name) + counted (nat_eq y name)) (under_is slots place)
+    (over_is slots (is_positive_at parts.positive place) place)
+    ∙ ap (λ b. counted (nat_eq (at under) name) + counted (nat_eq (at (over b)) name)) sign
+    ∙ corners (is_over place) name at
+    ∙ ap₂ (λ x y. counted (nat_eq x name) + counted (nat_eq y name)) (slot first) (slot second))
 
-tails-at : (strands n : ℕ) (left : ℕ → ℕ) (is_over : ℕ → Bool) (loops name place : ℕ) → place < n
-    → count_by (λ (pass : Pass). nat_eq pass.leaves name) (passes_at (named_parts strands n left is_over loops) place)
-    ≡ counted (holds (named_parts strands n left is_over loops).crossings is_over name place 2)
-    + counted (holds (named_parts strands n left is_over loops).crossings is_over name place 3)
-tails-at strands n left is_over loops name place below =
-    let parts : Parts = named_parts strands n left is_over loops in
-    let at : ℕ → ℕ = λ s. arc_in (slots_in parts.crossings place) s in
-    let slot : (c : ℕ) → at ((c + cond (is_over place) 3 0) % 4) ≡ arc_at parts.crossings (corner_place is_over place c) =
-    λ c. sym (arc_at-slot parts.crossings place ((c + cond (is_over place) 3 0) % 4) (omega arith)) in
-    let sign : is_positive_at parts.positive place ≡ is_over place = get_or-map-range_with_len is_over 0 n place place false below (omega arith) in
-    sum-two (λ (pass : Pass). counted (nat_eq pass.leaves name)) (under_pass (slots_in parts.crossings place) place)
-    (over_pass (slots_in parts.crossings place) (is_positive_at parts.positive place) place)
-    ∙ ap (λ b. counted (nat_eq (at 2) name) + counted (nat_eq (at (if b then 1 else 3)) name)) sign
-    ∙ left_again (is_over place) name at
-    ∙ ap₂ (λ x y. counted (nat_eq x name) + counted (nat_eq y name)) (slot 2) (slot 3)
-
--- the counts are sums over the places
 heads-sum : (strands n : ℕ) (left : ℕ → ℕ) (is_over : ℕ → Bool) (loops name : ℕ)
     → head_count (named_parts strands n left is_over loops) name
     ≡ sum_by (λ i. counted (holds (named_parts strands n left is_over loops).crossings is_over name i 0)
     + counted (holds (named_parts strands n left is_over loops).crossings is_over name i 1)) (range_with_len 0 n)
-heads-sum strands n left is_over loops name =
-    let parts : Parts = named_parts strands n left is_over loops in
-    let size : length parts.crossings ≡ n = (AreAlike-named strands n left is_over loops).size ∙ length-crossings n left is_over in
-    sum-flat_map (λ (pass : Pass). counted (nat_eq pass.enters name)) (passes_at parts) (range_with_len 0 (length parts.crossings))
-    ∙ ap (λ k. sum_by (λ i. count_by (λ (pass : Pass). nat_eq pass.enters name) (passes_at parts i)) (range_with_len 0 k)) size
-    ∙ sum-alike (λ i. count_by (λ (pass : Pass). nat_eq pass.enters name) (passes_at parts i))
-    (λ i. counted (holds parts.crossings is_over name i 0) + counted (holds parts.crossings is_over name i 1)) n
-    (λ i below. heads-at strands n left is_over loops name i below)
+heads-sum =
+    ends-sum (λ (pass : Pass). pass.enters) 0 (λ b. if b then 3 else 1) 0 1 (λ slots place. refl) (λ slots b place. refl) entered
 
 tails-sum : (strands n : ℕ) (left : ℕ → ℕ) (is_over : ℕ → Bool) (loops name : ℕ)
     → tail_count (named_parts strands n left is_over loops) name
     ≡ sum_by (λ i. counted (holds (named_parts strands n left is_over loops).crossings is_over name i 2)
     + counted (holds (named_parts strands n left is_over loops).crossings is_over name i 3)) (range_with_len 0 n)
-tails-sum strands n left is_over loops name =
-    let parts : Parts = named_parts strands n left is_over loops in
-    let size : length parts.crossings ≡ n = (AreAlike-named strands n left is_over loops).size ∙ length-crossings n left is_over in
-    sum-flat_map (λ (pass : Pass). counted (nat_eq pass.leaves name)) (passes_at parts) (range_with_len 0 (length parts.crossings))
-    ∙ ap (λ k. sum_by (λ i. count_by (λ (pass : Pass). nat_eq pass.leaves name) (passes_at parts i)) (range_with_len 0 k)) size
-    ∙ sum-alike (λ i. count_by (λ (pass : Pass). nat_eq pass.leaves name) (passes_at parts i))
-    (λ i. counted (holds parts.crossings is_over name i 2) + counted (holds parts.crossings is_over name i 3)) n
-    (λ i below. tails-at strands n left is_over loops name i below)
+tails-sum =
+    ends-sum (λ (pass : Pass). pass.leaves) 2 (λ b. if b then 1 else 3) 2 3 (λ slots place. refl) (λ slots b place. refl) left_again
 
 -- a name stands at the two ends of one strand
 record IsName (strands n : ℕ) (left : ℕ → ℕ) (is_over : ℕ → Bool) (loops name q place from lower upper : ℕ) : Type 0 where
@@ -223,65 +208,60 @@ high_either others is_over place (suc (suc zero)) name two below same = inl same
 high_either others is_over place (suc (suc (suc zero))) name two below same = inr same
 high_either others is_over place (suc (suc (suc (suc c)))) name two below same = absurd (omega (arith, below))
 
+-- a name that stands at one place, at one of two corners, counts once
+name-once : (others : List (List ℕ)) (is_over : ℕ → Bool) (n name first second place corner : ℕ) → first ≢ second → place < n
+    → (arc_at others (corner_place is_over place first) ≡ name) ⊎ (arc_at others (corner_place is_over place second) ≡ name)
+    → ((i c : ℕ) → i < n → (c ≡ first) ⊎ (c ≡ second) → arc_at others (corner_place is_over i c) ≡ name → (i ≡ place) × (c ≡ corner))
+    → sum_by (λ i. counted (holds others is_over name i first) + counted (holds others is_over name i second)) (range_with_len 0 n) ≡ 1
+name-once others is_over n name first second place corner apart below either only =
+    sum-alike (λ i. counted (holds others is_over name i first) + counted (holds others is_over name i second)) (λ i. counted (nat_eq i place)) n
+    (λ i i_below. elim (cases_eq i place) [
+      | inl here ↦
+          two_cases (arc_at others (corner_place is_over i first)) (arc_at others (corner_place is_over i second)) name (counted (nat_eq i place))
+          (subst (λ (k : ℕ). (arc_at others (corner_place is_over k first) ≡ name) ⊎ (arc_at others (corner_place is_over k second) ≡ name))
+          (sym here) either)
+          (λ one other. apart ((only i first i_below (inl refl) one).1 ∙ sym (only i second i_below (inr refl) other).1))
+          (ap counted (eq-eqb i place here))
+      | inr elsewhere ↦
+          no_cases (arc_at others (corner_place is_over i first)) (arc_at others (corner_place is_over i second)) name (counted (nat_eq i place))
+          (λ one. elsewhere (only i first i_below (inl refl) one).0)
+          (λ other. elsewhere (only i second i_below (inr refl) other).0)
+          (ap counted (ne_eqb i place elsewhere))
+    ])
+    ∙ sum-once n place below
+
 heads-name : (strands n : ℕ) (left : ℕ → ℕ) (is_over : ℕ → Bool) (loops name q place from lower upper : ℕ)
     → IsName strands n left is_over loops name q place from lower upper → head_count (named_parts strands n left is_over loops) name ≡ 1
 heads-name strands n left is_over loops name q place from lower upper is =
     let others = (named_parts strands n left is_over loops).crossings in
     let strand = is.strand in
-    let at = name-at strands n left is_over loops name q place from lower upper in
-    let only : (i c : ℕ) → i < n → c < 2 → arc_at others (corner_place is_over i c) ≡ name → (i ≡ place) × (c ≡ lower) =
-    λ i c below small same. elim (at i c is below (omega (arith, small)) same) [
+    heads-sum strands n left is_over loops name
+    ∙ name-once others is_over n name 0 1 place lower (λ same. absurd (omega (arith, same))) strand.place_below
+    (low_either others is_over place lower name strand.lower_below is.same)
+    (λ i c below corner same.
+    let small : c < 2 = elim corner [ inl is ↦ omega (arith, is) | inr is ↦ omega (arith, is) ] in
+    elim (name-at strands n left is_over loops name q place from lower upper i c is below (omega (arith, small)) same) [
       | inl this ↦ this
       | inr other ↦ absurd (omega (arith, other.1, small, strand.upper_from))
-    ] in
-    heads-sum strands n left is_over loops name
-    ∙ sum-alike (λ i. counted (holds others is_over name i 0) + counted (holds others is_over name i 1)) (λ i. counted (nat_eq i place)) n
-    (λ i below. elim (cases_eq i place) [
-      | inl here ↦
-          two_cases (arc_at others (corner_place is_over i 0)) (arc_at others (corner_place is_over i 1)) name (counted (nat_eq i place))
-          (subst (λ (k : ℕ). (arc_at others (corner_place is_over k 0) ≡ name) ⊎ (arc_at others (corner_place is_over k 1) ≡ name)) (sym here)
-          (low_either others is_over place lower name strand.lower_below is.same))
-          (λ first second.
-          omega (arith, (only i 0 below (omega arith) first).1, (only i 1 below (omega arith) second).1))
-          (ap counted (eq-eqb i place here))
-      | inr apart ↦
-          no_cases (arc_at others (corner_place is_over i 0)) (arc_at others (corner_place is_over i 1)) name (counted (nat_eq i place))
-          (λ first. apart (only i 0 below (omega arith) first).0)
-          (λ second. apart (only i 1 below (omega arith) second).0)
-          (ap counted (ne_eqb i place apart))
     ])
-    ∙ sum-once n place strand.place_below
 
 tails-name : (strands n : ℕ) (left : ℕ → ℕ) (is_over : ℕ → Bool) (loops name q place from lower upper : ℕ)
     → IsName strands n left is_over loops name q place from lower upper → tail_count (named_parts strands n left is_over loops) name ≡ 1
 tails-name strands n left is_over loops name q place from lower upper is =
     let others = (named_parts strands n left is_over loops).crossings in
     let strand = is.strand in
-    let at = name-at strands n left is_over loops name q place from lower upper in
-    let only : (i c : ℕ) → i < n → 2 ≤ c → c < 4 → arc_at others (corner_place is_over i c) ≡ name → (i ≡ from) × (c ≡ upper) =
-    λ i c below two small same. elim (at i c is below small same) [
-      | inl other ↦ absurd (omega (arith, other.1, two, strand.lower_below))
-      | inr this ↦ this
-    ] in
     let top : arc_at others (corner_place is_over from upper) ≡ name =
     sym (ends-alike n left is_over others q place from lower upper (AreAlike-named strands n left is_over loops) strand) ∙ is.same in
     tails-sum strands n left is_over loops name
-    ∙ sum-alike (λ i. counted (holds others is_over name i 2) + counted (holds others is_over name i 3)) (λ i. counted (nat_eq i from)) n
-    (λ i below. elim (cases_eq i from) [
-      | inl here ↦
-          two_cases (arc_at others (corner_place is_over i 2)) (arc_at others (corner_place is_over i 3)) name (counted (nat_eq i from))
-          (subst (λ (k : ℕ). (arc_at others (corner_place is_over k 2) ≡ name) ⊎ (arc_at others (corner_place is_over k 3) ≡ name)) (sym here)
-          (high_either others is_over from upper name strand.upper_from strand.upper_below top))
-          (λ first second.
-          omega (arith, (only i 2 below (omega arith) (omega arith) first).1, (only i 3 below (omega arith) (omega arith) second).1))
-          (ap counted (eq-eqb i from here))
-      | inr apart ↦
-          no_cases (arc_at others (corner_place is_over i 2)) (arc_at others (corner_place is_over i 3)) name (counted (nat_eq i from))
-          (λ first. apart (only i 2 below (omega arith) (omega arith) first).0)
-          (λ second. apart (only i 3 below (omega arith) (omega arith) second).0)
-          (ap counted (ne_eqb i from apart))
+    ∙ name-once others is_over n name 2 3 from upper (λ same. absurd (omega (arith, same))) strand.from_below
+    (high_either others is_over from upper name strand.upper_from strand.upper_below top)
+    (λ i c below corner same.
+    let two : 2 ≤ c = elim corner [ inl is ↦ omega (arith, is) | inr is ↦ omega (arith, is) ] in
+    let small : c < 4 = elim corner [ inl is ↦ omega (arith, is) | inr is ↦ omega (arith, is) ] in
+    elim (name-at strands n left is_over loops name q place from lower upper i c is below small same) [
+      | inl other ↦ absurd (omega (arith, other.1, two, strand.lower_below))
+      | inr this ↦ this
     ])
-    ∙ sum-once n from strand.from_below
 
 pub ArePaired-named : (strands n : ℕ) (left : ℕ → ℕ) (is_over : ℕ → Bool) (loops : ℕ) → ArePaired (named_parts strands n left is_over loops)
 ArePaired-named strands n left is_over loops =

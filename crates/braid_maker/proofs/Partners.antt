@@ -1,4 +1,8 @@
 -- The two darts of each strand: each arc of a closed braid stands twice, and the ends of a strand are partners.
+--
+-- A strand goes from the upper corner of a crossing to a lower corner of the next crossing that touches its position. So each corner is the
+-- end of one strand, upper or lower, the two ends hold the same name, and no other corner does: they are partners, and each arc stands
+-- twice.
 use Rattle.std.proofs.Common.{◌≡◌, ◌≢◌, ℕ, ◌⊎◌, inl, inr, ◌+◌, ◌-◌, ◌*◌, ◌/◌, ◌%◌, ◌<◌, ◌≤◌, ◌∙◌, length, sym, ap, subst, arith, Bool, true}
 use Rattle.std.specs.Prelude.{nat_eq, not}
 use Rattle.std.specs.List.{count_by, range_with_len}

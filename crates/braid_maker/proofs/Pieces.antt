@@ -1,4 +1,8 @@
 -- The pieces of a closed braid: each has a rightmost position and a leftmost one.
+--
+-- A strand joins two crossings, so all crossings that a position has are in one piece. From each crossing the piece goes on to the right,
+-- as long as a position has crossings on its right, up to an end. So there are at most as many pieces as ends on the right, and as ends on
+-- the left.
 use Rattle.std.proofs.Common.{◌≡◌, ℕ, zero, suc, inl, inr, ◌+◌, ◌*◌, ◌/◌, ◌<◌, ◌≤◌, ◌∙◌, length, refl, sym, ap, subst, map, arith, Bool, true}
 use Rattle.std.specs.Prelude.{not, ◌&&◌, slice_index, unwrap_or}
 use Rattle.std.specs.List.{count_by, list_any, range_with_len}

@@ -1,4 +1,8 @@
 -- The strands between the crossings of a braid, which are its arcs.
+--
+-- A strand is told by its position and the crossing at which it arrives. The crossing from which it comes is the last before that touches
+-- the position (Nearest), and its corner there is left or right as the position is. So strands are as many as lower corners, twice the
+-- crossings.
 use Rattle.std.proofs.Common.{◌≡◌, ℕ, zero, suc, ◌⊎◌, inl, inr, ◌+◌, ◌-◌, ◌*◌, ◌<◌, ◌≤◌, ◌∙◌, refl, sym, ap, subst, arith, true, cond}
 use Rattle.std.specs.Prelude.{nat_eq, ◌||◌}
 use Rattle.std.proofs.lemmas.Bool.{cases_eq, eq-eqb, ne_eqb}

@@ -1,4 +1,8 @@
 -- Cells that are one another's up to order, names and signs have the same dimensions.
+--
+-- Cells under other names, with a sign for each, have the same coefficients up to the signs of both ends. Dimensions are counts of cells
+-- less ranks of matrices between listed cells. Another order of a list exchanges rows or columns, and signs multiply them by numbers that
+-- have inverses: neither changes a rank.
 use Rattle.std.proofs.Common.{◌≡◌, ℕ, ◌⊎◌, inl, inr, ◌-◌, ◌*◌, ◌<◌, ◌≤◌, ◌∙◌, ℤ, pos, ◌+ℤ◌, ◌-ℤ◌, List, length, refl, sym, ap, ap₂, arith, cond, ◌&&◌}
 use Rattle.std.specs.List.{Contains}
 use Rattle.std.specs.Ordering.{int_eq}

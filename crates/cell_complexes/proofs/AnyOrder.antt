@@ -1,5 +1,5 @@
 -- A code with its crossings in another order is accepted where the code is, and so the scan counts in any order.
-use Rattle.std.proofs.Common.{ℕ, ◌+◌, ◌≤◌, ◌∙◌, List, [], ◌∷◌, ◌++◌, sym, subst, append_assoc, length, IsTrue}
+use Rattle.std.proofs.Common.{ℕ, ◌+◌, ◌≤◌, ◌∙◌, List, [], ◌∷◌, ◌++◌, sym, subst, length, IsTrue}
 use Rattle.kh_types.specs.Acceptance.{accepted}
 use Rattle.kh_types.specs.Accepted.{IsAccepted, IsDirected}
 use Rattle.kh_types.specs.Code.{Code}
@@ -9,27 +9,8 @@ use Rattle.cell_complexes.specs.Cubes.{IsReordered}
 use Rattle.cell_complexes.proofs.ExchangedBits.{exchanged, moved}
 use Rattle.cell_complexes.proofs.Shuffled.{IsShuffled, IsShuffled-exchanged, component_count-shuffled, intervals-shuffled, over-shuffled, two_arcs-shuffled, under-shuffled}
 use Rattle.cell_complexes.proofs.ShuffledDarts.{HasArcsTwice-shuffled, IsCheckerboard-shuffled}
+use Rattle.cell_complexes.proofs.Orders.{reordered}
 use Rattle.cell_complexes.proofs.ShuffledFaces.{face_count-shuffled, planar-shuffled}
-
--- what holds of a list, and of each list with two neighbours exchanged of which it holds, holds of it in any order
-module _ {A : Type 0} (Q : List A → Type 0)
-    (exchange : (front back : List A) (a b : A) → Q (front ++ a ∷ b ∷ back) → Q (front ++ b ∷ a ∷ back)) where
-  -- an element is brought to the front of some
-  brought : (front before after : List A) (y : A) → Q (front ++ (before ++ (y ∷ after))) → Q (front ++ (y ∷ (before ++ after)))
-  brought front [] after y holds = holds
-  brought front (b ∷ before) after y holds =
-      exchange front (before ++ after) b y
-      (subst Q (append_assoc front (b ∷ []) (y ∷ (before ++ after)))
-      (brought (front ++ b ∷ []) before after y
-      (subst Q (sym (append_assoc front (b ∷ []) (before ++ (y ∷ after)))) holds)))
-
-  reordered : (front xs ys : List A) → IsReordered xs ys → Q (front ++ xs) → Q (front ++ ys)
-  reordered front xs [] is holds = subst (λ zs. Q (front ++ zs)) is holds
-  reordered front xs (y ∷ ys) (before, after, is, rest) holds =
-      subst Q (append_assoc front (y ∷ []) ys)
-      (reordered (front ++ y ∷ []) (before ++ after) ys rest
-      (subst Q (sym (append_assoc front (y ∷ []) (before ++ after)))
-      (brought front before after y (subst (λ zs. Q (front ++ zs)) is holds))))
 
 IsDirected-shuffled : (old new : List (List ℕ)) (to choices : ℕ → ℕ) → IsShuffled old new to choices → IsDirected old → IsDirected new
 IsDirected-shuffled old new to choices is directed =

@@ -2,7 +2,6 @@
 use Rattle.std.proofs.Common.{◌≡◌, ℕ, ◌+◌, ◌-◌, ◌*◌, ◌/◌, ◌%◌, ◌<◌, ◌∙◌, List, [], ◌∷◌, ◌++◌, length, map, get_or, refl, sym, subst, ap, ap₂, arith, Bool, ◌&&◌, ◌||◌}
 use Rattle.std.specs.Prelude.{nat_eq}
 use Rattle.std.specs.List.{filter, list_all, list_any, position_or_len, range_with_len}
-use Rattle.std.proofs.lemmas.Bool.Decides.{nat_tests}
 use Rattle.std.proofs.lemmas.List.{length-append}
 use Rattle.kh_types.specs.Bits.{bit}
 use Rattle.kh_types.specs.CircleSteps.{arc_at, joined_slot}
@@ -11,7 +10,7 @@ use Rattle.kh_types.specs.Classes.{Respects, classes_of, is_least}
 use Rattle.kh_types.specs.Code.{Code, arc_count, arc_in, arcs_and_loops, slots_of}
 use Rattle.kh_types.specs.Differential.{is_merge, is_split}
 use Rattle.kh_types.specs.Generators.{Generator, generator_of}
-use Rattle.kh_types.proofs.JoinedSlots.{across-respects, across-slot, arc_at-slot, respects-across}
+use Rattle.kh_types.proofs.JoinedSlots.{across-respects, across-slot, arc_at-slot, respects-across, joined_slot-below}
 use Rattle.cube_squares.proofs.TouchedCircles.{fits}
 use Rattle.cell_complexes.proofs.ClampedClasses.{classes_of-any}
 use Rattle.cell_complexes.proofs.ExchangedBits.{bit-exchanged, element-moved, exchanged, exchanged-twice, moved, moved-below}
@@ -44,9 +43,6 @@ pub fits-by : (code : Code) (tail head : Generator) (crossing : ℕ)
     tail.label head.label
 fits-by code tail head crossing = refl
 
-joined-below : (b slot : ℕ) → slot < 4 → joined_slot b slot < 4
-joined-below b slot below = grind (arith, nat_tests)
-
 module _ (front back : List (List ℕ)) (loops : ℕ) where
   abbrev n : ℕ
   n = length front + (2 + length back)
@@ -70,7 +66,7 @@ module _ (front back : List (List ℕ)) (loops : ℕ) where
       let m = moved k l in
       let j = joined_slot (bit s l) u in
       let u_below : u < 4 = omega arith in
-      let j_below : j < 4 = joined-below (bit s l) u u_below in
+      let j_below : j < 4 = joined_slot-below (bit s l) u u_below in
       let l_below : l < length front + (2 + length back) = omega (arith, within, length-with a b) in
       let m_below : m < length front + (2 + length back) =
       moved-below k l (length front + (2 + length back)) (omega arith) l_below in

@@ -1,21 +1,23 @@
 -- The exchange of two neighbouring crossings keeps the dimensions of the cube.
-use Rattle.std.proofs.Common.{◌≡◌, ◌≢◌, ℕ, inl, inr, zero, suc, ◌+◌, ◌-◌, ◌*◌, ◌%◌, ◌^◌, ◌<◌, ◌∙◌, ℤ, pos, ◌+ℤ◌, ◌-ℤ◌, List, length, refl, sym, subst, ap, ap₂, arith, Bool, true, false, cond}
-use Rattle.std.specs.Prelude.{nat_eq, if◌then◌else◌}
+--
+-- The exchange of two neighbouring crossings exchanges two bits of each state. Circles stay, as smoothings are the same in another order.
+-- The sign along an edge counts the ones before its crossing, which changes only where both bits are ones: so a generator gets the sign -1
+-- where both are, and the cube of the one order is that of the other up to names and signs (AlikeCells).
+use Rattle.std.proofs.Common.{◌≡◌, ◌≢◌, ℕ, inl, inr, ◌+◌, ◌-◌, ◌*◌, ◌^◌, ◌<◌, ◌∙◌, ℤ, pos, ◌+ℤ◌, ◌-ℤ◌, List, length, sym, subst, ap, ap₂, arith, Bool, true, false, cond}
 use Rattle.std.specs.List.{Contains, range_with_len, sum_by}
 use Rattle.std.proofs.lemmas.Bool.{cases_eq}
-use Rattle.std.proofs.lemmas.Bool.Decides.{nat_tests}
-use Rattle.std.proofs.lemmas.List.FromFn.{get_or-range_with_len, length-range_with_len}
 use Rattle.kh_types.specs.Bits.{bit, ones}
 use Rattle.kh_types.specs.Circles.{circle_count}
 use Rattle.kh_types.specs.Code.{Code, place_of}
 use Rattle.kh_types.specs.Differential.{coefficient, coefficient_at}
 use Rattle.kh_types.specs.Generators.{Generator, generator_of, generators, generators_of, one_count, states}
 use Rattle.kh_types.specs.Residues.{HasInverses, Same}
-use Rattle.kh_types.proofs.Lists.{Contains-flat_map, Contains-map}
+use Rattle.kh_types.proofs.Lists.{Contains-flat_map, Contains-map, Contains-range}
 use Rattle.kh_types.proofs.ListSums.{sum_by-alike, sum_by-flat_map, sum_by-map, sum_by-some}
-use Rattle.kh_types.proofs.Residues.{same-equal, same-multiple, same-scaled}
+use Rattle.kh_types.proofs.Residues.{same-equal, same-scaled}
 use Rattle.cube_squares.proofs.Degrees.{coefficient-below}
 use Rattle.cube_squares.proofs.Pairs.{coefficient-one, edge_or_zero}
+use Rattle.cube_squares.proofs.Signs.{power_sign, same_parity, signs-product}
 use Rattle.cube_squares.proofs.TouchedCircles.{fits}
 use Rattle.cell_complexes.specs.Alike.{AreAlike}
 use Rattle.cell_complexes.specs.Cells.{AreComplex, dimension_at}
@@ -26,14 +28,7 @@ use Rattle.cell_complexes.proofs.ExchangedBits.{bit-exchanged, both_ones, exchan
 use Rattle.cell_complexes.proofs.ExchangedCodes.{circle_count-exchanged, code_with, fits-exchanged, length-with}
 use Rattle.cell_complexes.proofs.Matched.{sum_by-paired}
 use Rattle.cell_complexes.proofs.Members.{Contains-flattened, Contains-made}
-
-Contains-range : (n k : ℕ) → k < n → Contains (range_with_len 0 n) k
-Contains-range n k below = (k, omega (arith, below, length-range_with_len 0 n), get_or-range_with_len 0 n k k below ∙ omega arith)
-
-pub range-contains : (n k : ℕ) → Contains (range_with_len 0 n) k → k < n
-range-contains n k has =
-    let within : has.0 < n = omega (arith, has.1, length-range_with_len 0 n) in
-    omega (arith, within, sym has.2 ∙ get_or-range_with_len 0 n has.0 k within)
+pub use Rattle.kh_types.proofs.Lists.{range-contains}
 
 record IsMember (code : Code) (x : Generator) : Type 0 where
   state : x.state < 2 ^ length code.crossings
@@ -54,49 +49,6 @@ member-of code x is =
     Contains-flat_map (generators_of code) (states code) x.state x (Contains-range (2 ^ length code.crossings) x.state is.state)
     (Contains-map (generator_of x.state) (range_with_len 0 (2 ^ circle_count code x.state)) x.label
     (Contains-range (2 ^ circle_count code x.state) x.label is.label))
-
--- signs multiply
-abbrev power_sign : ℕ → ℕ → ℕ
-power_sign p n = if nat_eq (n % 2) 0 then 1 else p - 1
-
-same_parity : (p a b : ℕ) → a % 2 ≡ b % 2 → power_sign p a ≡ power_sign p b
-same_parity p a b same = ap (λ r. if nat_eq r 0 then 1 else p - 1) same
-
-signs-product : (p a b : ℕ) → 0 < p → Same p (power_sign p a * power_sign p b) (power_sign p (a + b))
-signs-product p a b positive = by (a % 2) (b % 2) refl refl
-  where
-    even : (n : ℕ) → n % 2 ≡ 0 → power_sign p n ≡ 1
-    even n is = grind (arith, nat_tests)
-
-    odd : (n : ℕ) → n % 2 ≡ 1 → power_sign p n ≡ p - 1
-    odd n is = grind (arith, nat_tests)
-
-    ring : (m : ℕ) → m * m + (m + 1) * 1 ≡ 1 + (m + 1) * m
-    ring m = omega arith
-
-    square_of : (m q : ℕ) → q ≡ m + 1 → m * m + q * 1 ≡ 1 + q * m
-    square_of m q is = ap (λ x. m * m + x * 1) is ∙ ring m ∙ ap (λ x. 1 + x * m) (sym is)
-
-    square : (q : ℕ) → 0 < q → (q - 1) * (q - 1) + q * 1 ≡ 1 + q * (q - 1)
-    square q positive = square_of (q - 1) q (omega (arith, positive))
-
-    by : (x y : ℕ) → a % 2 ≡ x → b % 2 ≡ y → Same p (power_sign p a * power_sign p b) (power_sign p (a + b))
-    by zero zero is_a is_b =
-        same-equal p (power_sign p a * power_sign p b) (power_sign p (a + b))
-        (ap₂ (λ x y. x * y) (even a is_a) (even b is_b) ∙ sym (even (a + b) (omega (arith, is_a, is_b))))
-    by zero (suc zero) is_a is_b =
-        same-equal p (power_sign p a * power_sign p b) (power_sign p (a + b))
-        (ap₂ (λ x y. x * y) (even a is_a) (odd b is_b) ∙ omega (arith, odd (a + b) (omega (arith, is_a, is_b))))
-    by (suc zero) zero is_a is_b =
-        same-equal p (power_sign p a * power_sign p b) (power_sign p (a + b))
-        (ap₂ (λ x y. x * y) (odd a is_a) (even b is_b) ∙ omega (arith, odd (a + b) (omega (arith, is_a, is_b))))
-    by (suc zero) (suc zero) is_a is_b =
-        same-equal p (power_sign p a * power_sign p b) ((p - 1) * (p - 1)) (ap₂ (λ x y. x * y) (odd a is_a) (odd b is_b))
-        ∙ sym (same-multiple p ((p - 1) * (p - 1)) 1) ∙ same-equal p ((p - 1) * (p - 1) + p * 1) (1 + p * (p - 1)) (square p positive)
-        ∙ same-multiple p 1 (p - 1) ∙ same-equal p 1 (power_sign p (a + b)) (sym (even (a + b) (omega (arith, is_a, is_b))))
-    by zero (suc (suc y)) is_a is_b = absurd (omega (arith, is_b))
-    by (suc zero) (suc (suc y)) is_a is_b = absurd (omega (arith, is_b))
-    by (suc (suc x)) y is_a is_b = absurd (omega (arith, is_a))
 
 -- steps, by their places
 record IsStepAt (code : Code) (s t place : ℕ) : Type 0 where

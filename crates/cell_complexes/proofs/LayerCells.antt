@@ -1,25 +1,30 @@
 -- The elimination of an entry between objects is that of all its pairs of cells.
+--
+-- A scan has objects, each with a cell for each state and label of the crossings to come. An entry between objects that is a number times
+-- the identity is one pivot for each pair of their cells. These pivots do not meet one another, so that they can be eliminated together,
+-- and what they leave is what the elimination makes of entries between objects.
 use Rattle.std.proofs.Common.{◌≡◌, ◌≢◌, ℕ, inl, inr, ◌%◌, ◌*◌, ◌+◌, ◌-◌, ◌<◌, ◌∙◌, ℤ, List, ◌∷◌, ◌++◌, map, refl, sym, subst, ap, ap₂, arith, Bool}
 use Rattle.std.specs.Prelude.{nat_eq, if◌then◌else◌}
 use Rattle.std.specs.List.{Contains, flat_map, range_with_len, sum_by}
 use Rattle.std.proofs.lemmas.Bool.{cases_eq, eq-eqb, ne_eqb}
 use Rattle.std.proofs.Math.Nat.{mod-eq_of_lt}
 use Rattle.std.proofs.lemmas.Nat.{mod_below}
+use Rattle.std.proofs.lemmas.Simd.{map-map}
 use Rattle.kh_types.specs.Rank.{inverse, minus_mod}
 use Rattle.kh_types.specs.Residues.{HasInverses}
 use Rattle.kh_types.proofs.ListSums.{sum_by-flat_map, sum_by-map, sum_by-range_alike, sum_by-single, sum_by-zeros}
 use Rattle.kh_types.proofs.Reduced.{minus_mod-added}
 use Rattle.kh_types.proofs.Residues.{same-equal}
+use Rattle.kh_types.proofs.Lists.{range-contains}
 use Rattle.cell_complexes.specs.Alike.{AreAlike, AreListed, HasNoDoubles}
 use Rattle.cell_complexes.specs.Cells.{AreComplex, dimension_at}
 use Rattle.cell_complexes.specs.Elimination.{ArePivots, all_of, cells_left, eliminated, way_back}
 use Rattle.cell_complexes.specs.Layers.{IsTimesIdentity, Layer, Layers, cells_of, layer_coefficient, layer_of, layers_left, object_cells}
 use Rattle.cell_complexes.proofs.AlikeCells.{dimension-alike}
 use Rattle.cell_complexes.proofs.AlikeComplexes.{complex-alike, complex-left_any, dimension-left_any}
-use Rattle.cell_complexes.proofs.ExchangedCubes.{range-contains}
 use Rattle.cell_complexes.proofs.Listings.{listed-flat, listed-same, pivots-without_doubles}
 use Rattle.cell_complexes.proofs.Members.{Contains-flattened, Contains-made}
-use Rattle.cell_complexes.proofs.NoDoubles.{flat_map-range, map-flat_map, map-map, once-flat, once-map, once-range}
+use Rattle.cell_complexes.proofs.NoDoubles.{flat_map-range, map-flat_map, once-flat, once-map, once-range}
 
 minus-nothing : (p x : ℕ) → x < p → minus_mod p x 0 ≡ x
 minus-nothing p x below =

@@ -1,4 +1,8 @@
 -- The elimination of pivots leaves a complex, and keeps the dimensions.
+--
+-- Pivots that do not meet one another are eliminated one after another. One elimination takes away two cells of neighbouring degrees and a
+-- rank of one between them, and leaves a matrix of the same ranks less that one; so dimensions stay. It leaves the other pivots as they
+-- are, as their rows and columns have no entry in its own.
 use Rattle.std.proofs.Common.{◌≡◌, ◌≢◌, ℕ, inl, inr, suc, ◌+◌, ◌*◌, ◌<◌, ◌∙◌, ℤ, pos, ◌+ℤ◌, List, [], ◌∷◌, length, refl, sym, subst, ap, ap₂, arith, Bool, true, false, cond}
 use Rattle.std.specs.List.{Contains, filter, sum_by}
 use Rattle.std.specs.Ordering.{int_eq}
@@ -10,14 +14,14 @@ use Rattle.kh_types.specs.Complex.{entry_in}
 use Rattle.kh_types.specs.MatrixRanks.{HasRank, Leaves}
 use Rattle.kh_types.specs.Rank.{inverse}
 use Rattle.kh_types.specs.Residues.{HasInverses, Same}
-use Rattle.kh_types.proofs.Lists.{Contains-filter}
+use Rattle.kh_types.proofs.Lists.{Contains-filter, Contains-first, Contains-later, AllByRecursion-at}
 use Rattle.kh_types.proofs.PivotLemmas.{rank-pivot, rank-same}
 use Rattle.kh_types.proofs.PlainRank.{other-below}
 use Rattle.kh_types.proofs.Reduced.{minus_mod-added}
 use Rattle.kh_types.proofs.Residues.{same-add, same-cancel, same-equal, same-inverse, same-mul, same-rest, same-scaled}
 use Rattle.cell_complexes.specs.Cells.{AreComplex, Cells, cells_at, has_both, table_of}
 use Rattle.cell_complexes.specs.Elimination.{ArePivots, eliminated, way_back}
-use Rattle.cell_complexes.proofs.Members.{Contains-first, Contains-kept, Contains-later, all-at, sum_by-nothing}
+use Rattle.cell_complexes.proofs.Members.{Contains-kept, sum_by-nothing}
 use Rattle.cell_complexes.proofs.Tables.{entry-at, entry-past_heads, entry-past_tails, entry-stands, stands_or_past}
 
 -- the degrees of a cell, by their test
@@ -132,10 +136,10 @@ module _ {A : Type 0} (p : ℕ) (cells : Cells A) (field : HasInverses p) (compl
         let inv = inverse p (c pair.0 pair.1) in
         let from_tail = λ (y : A). as_before pairs pair.0 y (λ other has.
         zero_times (c pair.0 other.1) (inverse p (c other.0 other.1) * c other.0 y)
-        (all-at (λ q. (c pair.0 q.1 ≡ 0) × (c q.0 pair.1 ≡ 0)) pairs other are.1 has).0) in
+        (AllByRecursion-at (λ q. (c pair.0 q.1 ≡ 0) × (c q.0 pair.1 ≡ 0)) pairs other are.1 has).0) in
         let to_head = λ (x : A). as_before pairs x pair.1 (λ other has.
         times_zero (c x other.1) (c other.0 pair.1) (inverse p (c other.0 other.1))
-        (all-at (λ q. (c pair.0 q.1 ≡ 0) × (c q.0 pair.1 ≡ 0)) pairs other are.1 has).1) in
+        (AllByRecursion-at (λ q. (c pair.0 q.1 ≡ 0) × (c q.0 pair.1 ≡ 0)) pairs other are.1 has).1) in
         let unit : Same p (c pair.0 pair.1 * inv) 1 =
         same-inverse p (c pair.0 pair.1) field (other-below p (c pair.0 pair.1) (complex.below pair.0 pair.1) are.0) in
         record {

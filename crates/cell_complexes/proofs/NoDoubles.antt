@@ -4,8 +4,10 @@ use Rattle.std.specs.List.{Contains, flat_map, range_with_len}
 use Rattle.std.proofs.lemmas.List.{get_or_default, get_or-map, length-map, map-append}
 use Rattle.std.proofs.lemmas.List.Elements.{Contains-append_cases}
 use Rattle.std.proofs.lemmas.List.FromFn.{get_or-range_with_len, length-range_with_len}
+use Rattle.kh_types.proofs.Lists.{Contains-first, Contains-later}
 use Rattle.cell_complexes.specs.Alike.{HasNoDoubles}
-use Rattle.cell_complexes.proofs.Members.{Contains-first, Contains-flattened, Contains-later}
+use Rattle.cell_complexes.proofs.Members.{Contains-flattened}
+pub use Rattle.std.proofs.lemmas.Simd.{map-map}
 
 stands : {A : Type 0} (xs : List A) (k : ℕ) (d : A) → k < length xs → Contains xs (get_or xs k d)
 stands xs k d within = (k, within, get_or_default xs k (get_or xs k d) d within)
@@ -63,10 +65,6 @@ once-flat f (x ∷ xs) once each apart =
 pub map-flat_map : {A B C : Type 0} (g : B → C) (f : A → List B) (xs : List A) → map g (flat_map f xs) ≡ flat_map (λ x. map g (f x)) xs
 map-flat_map g f [] = refl
 map-flat_map g f (x ∷ xs) = map-append g (f x) (flat_map f xs) ∙ ap (λ zs. map g (f x) ++ zs) (map-flat_map g f xs)
-
-pub map-map : {A B C : Type 0} (g : B → C) (f : A → B) (xs : List A) → map g (map f xs) ≡ map (λ x. g (f x)) xs
-map-map g f [] = refl
-map-map g f (x ∷ xs) = ap (λ zs. g (f x) ∷ zs) (map-map g f xs)
 
 pub flat_map-range : {B : Type 0} (f g : ℕ → List B) (a n : ℕ) → ((t : ℕ) → t < a + n → f t ≡ g t)
     → flat_map f (range_with_len a n) ≡ flat_map g (range_with_len a n)

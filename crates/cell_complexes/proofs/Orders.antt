@@ -28,7 +28,7 @@ module _ {A : Type 0} (Q : List A → Type 0)
       (brought (front ++ b ∷ []) before after y
       (subst Q (sym (append_assoc front (b ∷ []) (before ++ (y ∷ after)))) holds)))
 
-  reordered : (front xs ys : List A) → IsReordered xs ys → Q (front ++ xs) → Q (front ++ ys)
+  pub reordered : (front xs ys : List A) → IsReordered xs ys → Q (front ++ xs) → Q (front ++ ys)
   reordered front xs [] is holds = subst (λ zs. Q (front ++ zs)) is holds
   reordered front xs (y ∷ ys) (before, after, is, rest) holds =
       subst Q (append_assoc front (y ∷ []) ys)

@@ -1,4 +1,8 @@
 -- What the elimination of pivots leaves: a complex with the same dimensions.
+--
+-- What is left of a coefficient is the coefficient less its ways back through the pivots (WaysBack). Nothing is left to a pivot's head, nor
+-- from its tail; as a head, a pivot's tail is a combination of the heads that are left, and as a tail its head one of the tails. So in each
+-- pair of degrees all cells have the rank of those that are left and of the pivots there, and the dimensions are the same.
 use Rattle.std.proofs.Common.{◌≡◌, ◌≢◌, ℕ, ◌⊎◌, inl, inr, ◌+◌, ◌-◌, ◌*◌, ◌%◌, ◌<◌, ◌∙◌, ℤ, pos, ◌+ℤ◌, ◌-ℤ◌, List, length, refl, sym, subst, ap, ap₂, arith, Bool, true, false, cond}
 use Rattle.std.specs.List.{Contains, filter, sum_by}
 use Rattle.std.proofs.lemmas.Bool.{cases_eq}

@@ -1,4 +1,8 @@
 -- Codes whose crossings are those of another in another order: what is said of each crossing and of components.
+--
+-- Each crossing of the one list stands in the other, at another place, with the same arcs. So the passes are the same pairs in another
+-- order, and the classes under them the same list. What a rule says of a crossing is said of the same one, whatever its place, and a rule
+-- of two crossings is one of the same two.
 use Rattle.std.proofs.Common.{◌≡◌, ◌≢◌, ℕ, zero, suc, ◌⊎◌, inl, inr, ◌+◌, ◌-◌, ◌*◌, ◌^◌, ◌<◌, ◌∙◌, List, [], ◌∷◌, ◌++◌, length, get_or, sym, ap, ap₂, subst, arith}
 use Rattle.std.specs.List.{flat_map, filter, range_with_len}
 use Rattle.std.proofs.lemmas.Bool.{cases_lt}

@@ -1,4 +1,7 @@
 -- Darts and the checkerboard of codes whose crossings are those of another in another order.
+--
+-- Darts go to darts, by the place of their crossing. An arc stands as often as before, as a sum over places does not know their order. A
+-- choice of bits goes with the crossings, and each arc has an equation between the bits of its two crossings, which may change sides.
 use Rattle.std.proofs.Common.{◌≡◌, ◌≢◌, ℕ, ◌⊎◌, inl, inr, ◌+◌, ◌-◌, ◌*◌, ◌/◌, ◌%◌, ◌^◌, ◌<◌, ◌≤◌, ◌∙◌, List, [], length, get_or, sym, ap, ap₂, subst, arith, cond}
 use Rattle.std.specs.Prelude.{nat_eq}
 use Rattle.std.specs.List.{range_with_len, sum_by}
@@ -13,7 +16,7 @@ use Rattle.kh_types.proofs.DartColours.{IsColoured-checkerboard}
 use Rattle.kh_types.proofs.DartPairs.{IsDartOf-first_dart, IsOtherDart-partner, IsOtherPlace-partner_at, partner_at-only}
 use Rattle.kh_types.proofs.ListSums.{sum_by-range_alike}
 use Rattle.kh_types.proofs.Lists.{count_by-map}
-use Rattle.kh_types.proofs.Ranges.{list_all-range_each}
+use Rattle.kh_types.proofs.RangeCounts.{list_all-each}
 use Rattle.cell_complexes.proofs.Matched.{sum_by-paired}
 use Rattle.cell_complexes.proofs.Shuffled.{IsArc-new, IsCrossing-at, IsShuffled, IsShuffled-back, slots-at}
 
@@ -149,7 +152,7 @@ module _ (old new : List (List ℕ)) (to choices : ℕ → ℕ) (is : IsShuffled
       record {
         choice = choices choice;
         below = subst (λ (n : ℕ). choices choice < 2 ^ n) (sym is.size) (is.choices_below choice board.below);
-        solves = list_all-range_each (solves_at new (choices choice)) 1 (arc_count new)
+        solves = list_all-each (solves_at new (choices choice)) 1 (arc_count new)
             (λ arc from below.
             let first = first_dart new arc in
             let second = partner new first in

@@ -5,7 +5,8 @@ use Rattle.kh_types.specs.Classes.{AreBelow, Respects, class_count, classes_of}
 use Rattle.kh_types.specs.Darts.{HasArcsTwice, partner_at, turned}
 use Rattle.kh_types.specs.Faces.{face_count, face_pair, piece_count, piece_pair, planar_face_count}
 use Rattle.kh_types.proofs.DartPairs.{IsOtherPlace-partner_at}
-use Rattle.cell_complexes.proofs.ClassNumbers.{at-respects, below-range, class_count-renamed, respects-at}
+use Rattle.kh_types.proofs.CountedClasses.{at-respects, below-range, respects-at}
+use Rattle.cell_complexes.proofs.ClassNumbers.{class_count-renamed}
 use Rattle.cell_complexes.proofs.Shuffled.{IsShuffled, IsShuffled-back}
 use Rattle.cell_complexes.proofs.ShuffledDarts.{HasArcsTwice-shuffled, carried, carried-below, carried-twice, partner-carried}
 
@@ -29,7 +30,7 @@ turned-below q n below = omega (arith, below)
 faces-below : (crossings : List (List ℕ)) → HasArcsTwice crossings → AreBelow (4 * length crossings) (faces crossings (4 * length crossings))
 faces-below crossings twice =
     let n = length crossings in
-    below-range (4 * n) (face_pair (partner_at crossings)) 0 (4 * n)
+    below-range (face_pair (partner_at crossings)) (4 * n) 0 (4 * n)
     (λ q from below. (
       omega (arith, below),
       turned-below (partner_at crossings q) n (IsOtherPlace-partner_at crossings q twice (omega (arith, below))).below,
@@ -38,7 +39,7 @@ faces-below crossings twice =
 pieces-below : (crossings : List (List ℕ)) → HasArcsTwice crossings → AreBelow (length crossings) (pieces crossings (4 * length crossings))
 pieces-below crossings twice =
     let n = length crossings in
-    below-range n (piece_pair (partner_at crossings)) 0 (4 * n)
+    below-range (piece_pair (partner_at crossings)) n 0 (4 * n)
     (λ q from below.
     (omega (arith, below), omega (arith, (IsOtherPlace-partner_at crossings q twice (omega (arith, below))).below)))
 

@@ -1,4 +1,8 @@
 -- The entries of tables, and factors of them by those of others.
+--
+-- Tables are matrices over lists of things, with 0 outside. If each entry of a table is a sum of products of entries of two others, the
+-- first has at most the rank of either; and if two tables are such of one another, they have one rank. This is how matrices of other orders
+-- and signs, and matrices with pivots taken out, are compared.
 use Rattle.std.proofs.Common.{◌≡◌, ℕ, ◌⊎◌, inl, inr, ◌+◌, ◌*◌, ◌<◌, ◌≤◌, ◌∙◌, List, [], ◌∷◌, length, map, get_or, refl, sym, ap, ap₂, arith}
 use Rattle.std.specs.List.{Contains, sum_by}
 use Rattle.std.proofs.lemmas.Bool.{cases_lt}

@@ -1,17 +1,21 @@
 -- Sums over pivots, and what the elimination of pivots makes of coefficients.
+--
+-- The way through a pivot goes from a cell to the pivot's head, back to its tail, and on. The elimination takes from each entry the sum of
+-- its ways through all pivots. Where pivots do not meet, the entry of a head or of a tail becomes 0, as its one way is the entry itself,
+-- and what is left of two steps is the product less ways that cancel.
 use Rattle.std.proofs.Common.{◌≡◌, ◌≢◌, ℕ, ◌⊎◌, inl, inr, ◌+◌, ◌*◌, ◌<◌, ◌∙◌, List, [], ◌∷◌, ◌++◌, map, refl, sym, ap, ap₂, arith}
 use Rattle.std.specs.List.{Contains, sum_by}
 use Rattle.std.proofs.lemmas.List.Elements.{Contains-append_cases, Contains-append_left, Contains-append_right}
 use Rattle.std.proofs.lemmas.List.Sums.{sum_by-append, sum_by-cons}
 use Rattle.kh_types.specs.Rank.{inverse}
 use Rattle.kh_types.specs.Residues.{HasInverses, Same}
-use Rattle.kh_types.proofs.Lists.{Contains-map}
+use Rattle.kh_types.proofs.Lists.{Contains-map, Contains-cases, AllByRecursion-at}
 use Rattle.kh_types.proofs.ListSums.{sum_by-alike, sum_by-map, sum_by-plus, sum_by-times, sum_by-turned}
 use Rattle.kh_types.proofs.PlainRank.{other-below}
 use Rattle.kh_types.proofs.Reduced.{minus_mod-added}
 use Rattle.kh_types.proofs.Residues.{same-add, same-cancel, same-equal, same-inverse, same-mul, same-rest, same-scaled, same-unit_left, same-unit_right}
 use Rattle.cell_complexes.specs.Elimination.{ArePivots, all_of, eliminated, way_back}
-use Rattle.cell_complexes.proofs.Members.{Contains-cases, Contains-made, all-at, sum_by-members, sum_by-nothing, sum_by-same}
+use Rattle.cell_complexes.proofs.Members.{Contains-made, sum_by-members, sum_by-nothing, sum_by-same}
 
 -- an element of all: a tail, a head, or another
 abbrev pub IsOneOf : {A : Type 0} → List (A × A) → List A → A → Type 0
@@ -88,13 +92,13 @@ module _ {A : Type 0} (c : A → A → ℕ) where
         ∙ ap (λ n. g q * c q.0 pair.1 + n)
         (sum_by-members (λ r. g r * c r.0 pair.1) (λ r. 0) qs
         (λ r has. ap (λ (h : A × A). g r * c r.0 h.1) (sym is)
-        ∙ times_zero (g r) (c r.0 q.1) (all-at (AreApart q) qs r are.1 has).1)
+        ∙ times_zero (g r) (c r.0 q.1) (AllByRecursion-at (AreApart q) qs r are.1 has).1)
         ∙ sum_by-zero_terms qs)
         ∙ plus_zero (g q * c q.0 pair.1)
         ∙ ap (λ (r : A × A). g r * c r.0 pair.1) is
     | inr later ↦
         sum_by-cons (λ r. g r * c r.0 pair.1) q qs
-        ∙ ap₂ (λ m n. m + n) (times_zero (g q) (c q.0 pair.1) (all-at (AreApart q) qs pair are.1 later).0)
+        ∙ ap₂ (λ m n. m + n) (times_zero (g q) (c q.0 pair.1) (AllByRecursion-at (AreApart q) qs pair are.1 later).0)
         (sum-to_head qs pair g are.2 later)
         ∙ zero_plus (g pair * c pair.0 pair.1)
   ]
@@ -109,13 +113,13 @@ module _ {A : Type 0} (c : A → A → ℕ) where
         ∙ ap (λ n. c pair.0 q.1 * g q + n)
         (sum_by-members (λ r. c pair.0 r.1 * g r) (λ r. 0) qs
         (λ r has. ap (λ (h : A × A). c h.0 r.1 * g r) (sym is)
-        ∙ zero_times (c q.0 r.1) (g r) (all-at (AreApart q) qs r are.1 has).0)
+        ∙ zero_times (c q.0 r.1) (g r) (AllByRecursion-at (AreApart q) qs r are.1 has).0)
         ∙ sum_by-zero_terms qs)
         ∙ plus_zero (c pair.0 q.1 * g q)
         ∙ ap (λ (r : A × A). c pair.0 r.1 * g r) is
     | inr later ↦
         sum_by-cons (λ r. c pair.0 r.1 * g r) q qs
-        ∙ ap₂ (λ m n. m + n) (zero_times (c pair.0 q.1) (g q) (all-at (AreApart q) qs pair are.1 later).1)
+        ∙ ap₂ (λ m n. m + n) (zero_times (c pair.0 q.1) (g q) (AllByRecursion-at (AreApart q) qs pair are.1 later).1)
         (sum-from_tail qs pair g are.2 later)
         ∙ zero_plus (c pair.0 pair.1 * g pair)
   ]

@@ -8,7 +8,7 @@ use Rattle.kh_types.specs.Classes.{classes_of, is_least, AreBelow}
 use Rattle.kh_types.proofs.FilteredRanges.{filter-filter}
 use Rattle.kh_types.proofs.JoinedClasses.{IsNamed-classes_of}
 use Rattle.kh_types.proofs.ListSums.{sum_by-filter, sum_by-map, sum_by-range_alike}
-use Rattle.kh_types.proofs.RangeCounts.{list_any-at, list_any-one}
+use Rattle.kh_types.proofs.RangeCounts.{list_any-at, list_any-one, counted}
 use Rattle.dotted_surfaces.specs.Surfaces.{Surface, faces_on}
 use Rattle.dotted_surfaces.proofs.Components.{list_any-contained, list_any-some}
 use Rattle.dotted_surfaces.proofs.OneCut.{place_of_face}
@@ -18,7 +18,6 @@ use Rattle.added_crossings.proofs.Members.{those-are, are-those}
 use Rattle.added_crossings.proofs.Pairs.{range-first}
 use Rattle.tangle_surfaces.specs.Orbits.{is_in, count_in}
 use Rattle.tangle_surfaces.specs.Pairings.{has_open, is_closed}
-use Rattle.tangle_surfaces.proofs.Counts.{counted}
 
 abbrev pub on : List ℕ → ℕ → ℕ → ℕ
 on all name x = counted (is_in all name x)

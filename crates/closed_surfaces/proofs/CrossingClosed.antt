@@ -7,11 +7,12 @@
 use Rattle.std.proofs.Common.{◌≡◌, ℕ, ◌+◌, ◌*◌, ◌<◌, ◌∙◌, List, ◌++◌, length, map, sym, ap, arith, Bool, true, ◌&&◌, append_assoc}
 use Rattle.std.specs.Prelude.{slice_index}
 use Rattle.std.specs.List.{sum_by}
+use Rattle.std.proofs.lemmas.Bool.{or_left, or_right}
 use Rattle.kh_types.specs.Code.{Code}
 use Rattle.kh_types.specs.Classes.{classes_of, is_least, Respects, AreBelow}
 use Rattle.kh_types.specs.Colours.{IsColoured}
 use Rattle.kh_types.specs.Darts.{HasArcsTwice}
-use Rattle.kh_types.proofs.ClassLemmas.{classes-together, classes-finest}
+use Rattle.kh_types.proofs.ClassLemmas.{classes-together, classes-finest, Respects-append, Respects-first, Respects-second, AreBelow-append}
 use Rattle.kh_types.proofs.JoinedClasses.{classes_of-same, IsNamed-classes_of}
 use Rattle.dotted_surfaces.specs.Surfaces.{IsClosed}
 use Rattle.dotted_surfaces.proofs.OneCut.{place_of_face}
@@ -28,8 +29,7 @@ use Rattle.tangle_surfaces.specs.Pairings.{JoinOpen, JoinOpenAlone, is_closed}
 use Rattle.tangle_surfaces.proofs.CutCodes.{ends-starts}
 use Rattle.tangle_surfaces.proofs.CutSurfaces.{IsSurface-through}
 use Rattle.tangle_surfaces.proofs.GluedCircles.{circles-glued}
-use Rattle.tangle_surfaces.proofs.LeadLemmas.{either, either-first, either-second}
-use Rattle.tangle_surfaces.proofs.OrbitLemmas.{Respects-append, Respects-first, Respects-second, AreBelow-append}
+use Rattle.tangle_surfaces.proofs.LeadLemmas.{either}
 use Rattle.tangle_surfaces.proofs.PartCounts.{AreFiner}
 use Rattle.tangle_surfaces.proofs.SurfaceGenus.{HasGenus-surface, open-counted}
 use Rattle.closed_surfaces.specs.Led.{IsLedAt}
@@ -45,8 +45,8 @@ alone-lead : (n : ℕ) (ends starts : ℕ → Bool) (pairs : List (ℕ × ℕ)) 
 alone-lead n ends starts pairs lead g same =
     lead.only g (λ x below end.
     let next = lead.next x in
-    same x next below (lead.next_below x below end) (either-first (ends x) (starts x) end)
-    (either-second (ends next) (starts next) (lead.next_to x below end))
+    same x next below (lead.next_below x below end) (or_left (ends x) (starts x) end)
+    (or_right (ends next) (starts next) (lead.next_to x below end))
     (lead.joins (λ z. slice_index (classes_of n pairs) z) (classes-together n pairs lead.below) x below end))
 
 -- what respects the joins of classes respects the pairs of their open points

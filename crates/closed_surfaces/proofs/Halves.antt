@@ -3,24 +3,19 @@
 -- Leading is one to one and stays in the class, so there are as many starts as ends, and half the open points are ends (`open-twice`). The
 -- discs of the pairs with themselves have two points each, an end and the start to which it leads: so they are as many as the ends
 -- (`discs-half`).
-use Rattle.std.proofs.Common.{◌≡◌, ℕ, inl, inr, ◌+◌, ◌*◌, ◌<◌, ◌∙◌, List, ◌++◌, refl, sym, ap, ap₂, subst, arith, Bool, true, false, ◌&&◌, ◌||◌, cond, eq-eqb}
+use Rattle.std.proofs.Common.{◌≡◌, ℕ, inl, inr, ◌+◌, ◌*◌, ◌<◌, ◌∙◌, List, ◌++◌, refl, sym, ap, ap₂, subst, arith, Bool, true, ◌&&◌, ◌||◌, cond, eq-eqb}
 use Rattle.std.specs.Prelude.{nat_eq, slice_index}
-use Rattle.std.proofs.lemmas.Bool.{cases_Bool, and_parts, eqb-true}
+use Rattle.std.proofs.lemmas.Bool.{cases_Bool, and_parts, eqb-true, or_left, or_right}
 use Rattle.kh_types.specs.Classes.{classes_of, is_least, Respects}
-use Rattle.kh_types.proofs.ClassLemmas.{classes-together, classes-finest}
+use Rattle.kh_types.proofs.ClassLemmas.{classes-together, classes-finest, Respects-append, Respects-first, AreBelow-append}
 use Rattle.kh_types.proofs.JoinedClasses.{IsNamed-classes_of}
+use Rattle.kh_types.proofs.RangeCounts.{counted}
 use Rattle.tangle_surfaces.specs.Orbits.{is_in, count_in}
 use Rattle.tangle_surfaces.specs.Surfaces.{Lead, is_disc}
-use Rattle.tangle_surfaces.proofs.Counts.{counted, count_by-either, count_by-matched}
-use Rattle.tangle_surfaces.proofs.DiscCounts.{all_three, both_pass, or_else, or_first, or_second, end_by}
+use Rattle.tangle_surfaces.proofs.Counts.{count_by-either, count_by-matched, counted-split, counted-same}
+use Rattle.tangle_surfaces.proofs.DiscCounts.{all_three, both_pass, end_by}
 use Rattle.tangle_surfaces.proofs.LeadLemmas.{AreApart, AreApart-turned, either}
-use Rattle.tangle_surfaces.proofs.OrbitLemmas.{Respects-append, Respects-first, AreBelow-append}
-
-counted-same : (b c : Bool) → counted b ≡ counted c → b ≡ c
-counted-same true true same = refl
-counted-same false false same = refl
-counted-same true false same = absurd (omega (arith, same))
-counted-same false true same = absurd (omega (arith, same))
+use Rattle.tangle_surfaces.proofs.Paths.{or_else}
 
 module _ (n : ℕ) (ends starts : ℕ → Bool) (pairs : List (ℕ × ℕ)) (all : List ℕ) (name : ℕ) (apart : AreApart n ends starts)
     (lead : Lead n ends starts pairs) (respects : Respects (λ x. slice_index all x) pairs) where
@@ -54,12 +49,6 @@ module _ (n : ℕ) (ends starts : ℕ → Bool) (pairs : List (ℕ × ℕ)) (all
       sym (lead.next_back x x_below (and_parts (is_in all name x) (starts x) x_holds).1) ∙ ap lead.next same
       ∙ lead.next_back y y_below (and_parts (is_in all name y) (starts y) y_holds).1)
 
-  split : (s e t : Bool) → (e ≡ true → t ≡ false) → counted (s && (e || t)) ≡ counted (s && e) + counted (s && t)
-  split false e t out = refl
-  split true false true out = refl
-  split true false false out = refl
-  split true true t out = ap (λ b. 1 + counted b) (sym (out refl))
-
   twice : (o e s : ℕ) → o ≡ e + s → e ≡ s → o ≡ 2 * e
   twice o e s sum same = omega (arith, sum, same)
 
@@ -68,7 +57,7 @@ module _ (n : ℕ) (ends starts : ℕ → Bool) (pairs : List (ℕ × ℕ)) (all
       twice (count_in n all name (either ends starts)) (count_in n all name ends) (count_in n all name starts)
       (count_by-either (λ x. is_in all name x && ends x) (λ x. is_in all name x && starts x)
       (λ x. is_in all name x && (ends x || starts x)) n
-      (λ x below. split (is_in all name x) (ends x) (starts x) (apart x below)))
+      (λ x below. counted-split (is_in all name x) (ends x) (starts x) (apart x below)))
       starts-counted
 
   -- the end of an open point
@@ -110,7 +99,7 @@ module _ (n : ℕ) (ends starts : ℕ → Bool) (pairs : List (ℕ × ℕ)) (all
       lead.only (λ z. counted (either ends starts z))
       (λ x below end.
       let next = lead.next x in
-      ap counted (or_first (ends x) (starts x) end ∙ sym (or_second (ends next) (starts next) (lead.next_to x below end))))
+      ap counted (or_left (ends x) (starts x) end ∙ sym (or_right (ends next) (starts next) (lead.next_to x below end))))
 
   pub discs-half : count_in n all name (is_disc ends starts (classes_of n (pairs ++ pairs))) ≡ count_in n all name ends
   discs-half =
@@ -146,7 +135,7 @@ module _ (n : ℕ) (ends starts : ℕ → Bool) (pairs : List (ℕ × ℕ)) (all
             (ap (λ c. nat_eq c name) (one_value (λ z. slice_index all z) respects (disc x) x (disc_below x x_below) x_below own) ∙ has.0)
             (counted-same (either ends starts (disc x)) (either ends starts x)
             (one_value (λ z. counted (either ends starts z)) open-respects (disc x) x (disc_below x x_below) x_below own)
-            ∙ or_first (ends x) (starts x) has.1)
+            ∙ or_left (ends x) (starts x) has.1)
             (eq-eqb (disc (disc x)) (disc x) own),
       ))
       (λ x y x_below y_below x_holds y_holds same.

@@ -16,15 +16,16 @@ use Rattle.kh_types.proofs.AcceptedLemmas.{HasArcsTwice-accepted}
 use Rattle.kh_types.proofs.JoinedClasses.{classes_of-same, IsNamed-classes_of}
 use Rattle.kh_types.proofs.Lists.{AllByRecursion-second}
 use Rattle.kh_types.proofs.JoinedSlots.{arc_at-slot}
+use Rattle.kh_types.proofs.ClassLemmas.{Respects-append, Respects-first, Respects-second, AreBelow-append}
+use Rattle.kh_types.proofs.BitLemmas.{bit-cases}
 use Rattle.added_crossings.specs.Codes.{is_alive, smoothing_at, outer_smoothings}
 use Rattle.added_crossings.specs.Saddles.{MergesOrSplitsAt, IsPairedAt}
-use Rattle.added_crossings.proofs.Classes.{AreAmong-below, Respects-first, Respects-second, Respects-append}
+use Rattle.added_crossings.proofs.Classes.{AreAmong-below}
 use Rattle.added_crossings.proofs.Members.{IsOneOf}
 use Rattle.added_crossings.proofs.StatePairings.{are-merged, named-with, slot-alive, smoothing-joined, slots-zero, slots-one, become-one}
 use Rattle.added_crossings.proofs.TwoCircles.{AreMerged, IsEither, kept_of, gone_of}
 use Rattle.tangle_surfaces.specs.Saddles.{JoinTwo}
-use Rattle.tangle_surfaces.proofs.CutSteps.{IsNext, IsPairAt, IsPairAt-turned, IsPairAt-slots, pair-below, pair-apart, bit-cases}
-use Rattle.tangle_surfaces.proofs.OrbitLemmas.{AreBelow-append}
+use Rattle.tangle_surfaces.proofs.CutSteps.{IsNext, IsPairAt, IsPairAt-turned, IsPairAt-slots, pair-below, pair-apart}
 use Rattle.added_crossings.proofs.CodeSteps.{count_of}
 use Rattle.added_crossings.proofs.CodeJoins.{joins_with, classes_with, arc_of_slot, joins-alive}
 use Rattle.closed_surfaces.specs.Led.{IsLedAt}

@@ -5,7 +5,7 @@ use Rattle.kh_types.specs.Code.{Code}
 use Rattle.kh_types.specs.Classes.{classes_of}
 use Rattle.kh_types.specs.Colours.{IsColoured}
 use Rattle.kh_types.specs.Darts.{HasArcsTwice}
-use Rattle.dotted_surfaces.proofs.Components.{AllByRecursion-weaker}
+use Rattle.kh_types.proofs.Lists.{AllByRecursion-weaker}
 use Rattle.added_crossings.specs.Codes.{is_open, points_at, step_at, smoothing_at, pairing_behind}
 use Rattle.dotted_surfaces.specs.Points.{AreAmong}
 use Rattle.added_crossings.specs.Steps.{after}

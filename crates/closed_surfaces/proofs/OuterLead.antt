@@ -14,18 +14,19 @@ use Rattle.kh_types.specs.Code.{Code}
 use Rattle.kh_types.specs.Classes.{Respects}
 use Rattle.kh_types.specs.Colours.{IsColoured}
 use Rattle.kh_types.proofs.AcceptedLemmas.{HasArcsTwice-accepted}
-use Rattle.dotted_surfaces.proofs.Components.{AllByRecursion-weaker}
+use Rattle.kh_types.proofs.Lists.{AllByRecursion-weaker}
+use Rattle.kh_types.proofs.RangeCounts.{counted}
 use Rattle.added_crossings.specs.Codes.{ends_before, is_alive, points_at, outer_smoothings}
 use Rattle.added_crossings.proofs.CodeSteps.{outer-among, count_of}
 use Rattle.added_crossings.proofs.Members.{those-are}
 use Rattle.tangle_surfaces.specs.CutCodes.{is_inside, ends_there, starts_there}
 use Rattle.tangle_surfaces.specs.Surfaces.{Lead, other_than}
-use Rattle.tangle_surfaces.proofs.Counts.{counted}
 use Rattle.tangle_surfaces.proofs.CutCodes.{Lead-outside}
 use Rattle.tangle_surfaces.proofs.CutSteps.{IsNext, IsPairAt, inside-more, new-outside}
 use Rattle.tangle_surfaces.proofs.CutSurfaces.{is_either}
 use Rattle.tangle_surfaces.proofs.LeadLemmas.{AreApart, either, Lead-append, Lead-none}
 use Rattle.tangle_surfaces.proofs.Paths.{false_true}
+use Rattle.tangle_surfaces.proofs.Counts.{counted-one}
 use Rattle.closed_surfaces.specs.Led.{IsLedAt}
 use Rattle.closed_surfaces.proofs.OpenTests.{ends-counted}
 
@@ -119,11 +120,7 @@ inside-alone code choice k state x y is coloured enough end start same =
     let respects : Respects mark w =
     AllByRecursion-weaker (λ pair. Contains alive pair.0 × Contains alive pair.1) (λ pair. mark pair.0 ≡ mark pair.1) w
     (λ pair has. other pair.0 has.0 ∙ sym (other pair.1 has.1)) (outer-among code state k (HasArcsTwice-accepted code is)) in
-    eqb-true y x (one-true (nat_eq y x) (sym (same mark respects) ∙ ap counted (eq-eqb x x refl)))
-  where
-    one-true : (b : Bool) → counted b ≡ 1 → b ≡ true
-    one-true true one = refl
-    one-true false one = absurd (omega (arith, one))
+    eqb-true y x (counted-one (nat_eq y x) (sym (same mark respects) ∙ ap counted (eq-eqb x x refl)))
 
 Lead-outer : (code : Code) (choice k state : ℕ) → IsTrue (accepted code) → IsColoured code.crossings choice
     → k ≤ length code.crossings

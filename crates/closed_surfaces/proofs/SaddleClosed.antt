@@ -13,12 +13,13 @@ use Rattle.kh_types.specs.Classes.{classes_of, is_least, Respects}
 use Rattle.kh_types.specs.Colours.{IsColoured}
 use Rattle.kh_types.specs.Darts.{HasArcsTwice}
 use Rattle.kh_types.proofs.AcceptedLemmas.{HasArcsTwice-accepted}
-use Rattle.kh_types.proofs.ClassLemmas.{classes-together}
+use Rattle.kh_types.proofs.ClassLemmas.{classes-together, Respects-append, Respects-first, Respects-second, AreBelow-append}
 use Rattle.kh_types.proofs.JoinedClasses.{classes_of-same}
+use Rattle.kh_types.proofs.Lists.{AllByRecursion-weaker}
+use Rattle.kh_types.proofs.RangeCounts.{counted}
 use Rattle.dotted_surfaces.specs.Surfaces.{IsClosed}
 use Rattle.dotted_surfaces.specs.Cuts.{second_caps}
 use Rattle.dotted_surfaces.specs.Overlays.{at_places}
-use Rattle.dotted_surfaces.proofs.Components.{AllByRecursion-weaker}
 use Rattle.dotted_surfaces.proofs.OneCut.{place_of_face}
 use Rattle.dotted_maps.proofs.Sheets.{places-marked, places-marked_else}
 use Rattle.added_crossings.specs.Pairings.{marked_by}
@@ -29,9 +30,7 @@ use Rattle.added_crossings.proofs.Pants.{sum-paired}
 use Rattle.tangle_surfaces.specs.Orbits.{count_in}
 use Rattle.tangle_surfaces.specs.CutCodes.{ends_there, starts_there}
 use Rattle.tangle_surfaces.specs.Pairings.{is_closed}
-use Rattle.tangle_surfaces.proofs.Counts.{counted}
 use Rattle.tangle_surfaces.proofs.CutCodes.{ends-starts}
-use Rattle.tangle_surfaces.proofs.OrbitLemmas.{Respects-append, Respects-first, Respects-second, AreBelow-append}
 use Rattle.tangle_surfaces.proofs.SaddleCodes.{saddle-code}
 use Rattle.added_crossings.proofs.CodeSteps.{count_of}
 use Rattle.closed_surfaces.specs.Led.{IsLedAt}

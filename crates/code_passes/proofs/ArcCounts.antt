@@ -1,4 +1,8 @@
 -- Each arc of some components is entered by one pass and left by one pass, and the labels of the passes are those of the components.
+--
+-- A component of n labels has the n numbers from its first on as arcs, and its passes enter on them in turn and leave on the next, the last
+-- on the first. So within one component each arc is entered once and left once, and no other number is. Components follow one another
+-- without gaps: summed over all of them, each arc up to the last counts 1.
 use Rattle.std.proofs.Common.{◌≡◌, ℕ, inl, inr, ◌⊎◌, ◌+◌, ◌-◌, ◌<◌, ◌≤◌, ◌∙◌, List, [], ◌∷◌, length, map, refl, sym, ap, arith, ℤ, pos}
 use Rattle.std.specs.Prelude.{nat_eq, if◌then◌else◌}
 use Rattle.std.specs.List.{sum_by, range_with_len}

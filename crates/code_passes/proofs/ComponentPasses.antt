@@ -1,5 +1,9 @@
 -- The passes of components: each component has the numbers from its first arc on as its arcs, and each of them is entered once and
 -- left once.
+--
+-- All facts go by recursion over the components: the passes of the first have the arcs from a first one on, those of the others the arcs
+-- behind. So a function of arcs is defined by the same recursion (the first arc of its component, the arc that follows, the label entered),
+-- and each pass of the whole list is shown to agree with it, first in one component then behind it.
 use Rattle.std.proofs.Common.{◌≡◌, ◌≢◌, ℕ, zero, suc, inl, inr, ◌⊎◌, ◌+◌, ◌-◌, ◌<◌, ◌≤◌, ◌∙◌, List, [], ◌∷◌, length, map, refl, sym, ap, arith, Bool, true, false, ℤ, pos, min}
 use Rattle.std.specs.Prelude.{nat_eq, nat_lt, int_lt, ◌&&◌, if◌then◌else◌}
 use Rattle.std.specs.List.{sum_by, range_with_len, AllByRecursion}
@@ -7,7 +11,7 @@ use Rattle.std.proofs.lemmas.Bool.{cases_eq, cases_lt}
 use Rattle.std.proofs.lemmas.Bool.Decides.{nat_tests}
 use Rattle.std.proofs.lemmas.List.{length-append}
 use Rattle.std.proofs.lemmas.List.Elements.{All-from_recursion, All-get_or}
-use Rattle.kh_types.proofs.Lists.{AllByRecursion-append, AllByRecursion-first, AllByRecursion-second}
+use Rattle.kh_types.proofs.Lists.{AllByRecursion-append, AllByRecursion-first, AllByRecursion-second, AllByRecursion-weaker}
 use Rattle.code_passes.specs.Labels.{listed_number}
 use Rattle.code_passes.specs.Passes.{Pass, is_over, turned_labels, pass_at, passes_from, all_passes, all_labels}
 
@@ -157,10 +161,10 @@ start-past first (labels ∷ more) arc past =
 
 -- the passes of the first component
 
-leaves-last : (first at size : ℕ) → at + 1 ≡ size → (if nat_eq (at + 1) size then first else first + at + 1) ≡ first
+pub leaves-last : (first at size : ℕ) → at + 1 ≡ size → (if nat_eq (at + 1) size then first else first + at + 1) ≡ first
 leaves-last first at size last = grind (arith, nat_tests)
 
-leaves-inside : (first at size : ℕ) → at + 1 ≢ size → (if nat_eq (at + 1) size then first else first + at + 1) ≡ first + at + 1
+pub leaves-inside : (first at size : ℕ) → at + 1 ≢ size → (if nat_eq (at + 1) size then first else first + at + 1) ≡ first + at + 1
 leaves-inside first at size inside = grind (arith, nat_tests)
 
 pub after_arc-inside : (arc start start_of_next : ℕ) → start_of_next ≡ start → after_arc arc start start_of_next ≡ arc + 1
@@ -249,17 +253,13 @@ All-map_range P f a (suc n) each = (
   All-map_range P f (a + 1) n (λ k from below. each k (omega (arith, from)) (omega (arith, below))),
 )
 
-pub All-weaker : {X : Type 0} (P Q : X → Type 0) (xs : List X) → ((x : X) → P x → Q x) → AllByRecursion P xs → AllByRecursion Q xs
-All-weaker P Q [] onward all = tt
-All-weaker P Q (x ∷ xs) onward all = (onward x all.0, All-weaker P Q xs onward all.1)
-
 pub IsPassOf-all : (first : ℕ) (groups : List (List ℤ)) → 1 ≤ first → AllByRecursion (IsPassOf first groups) (all_passes first groups)
 IsPassOf-all first [] positive = tt
 IsPassOf-all first (labels ∷ more) positive =
     AllByRecursion-append (IsPassOf first (labels ∷ more)) (passes_from first (turned_labels labels)) (all_passes (first + length labels) more)
     (All-map_range (IsPassOf first (labels ∷ more)) (pass_at first (turned_labels labels)) 0 (length (turned_labels labels))
     (λ at from below. pass-here first labels more at positive (omega (arith, below, length-turned_labels labels))))
-    (All-weaker (IsPassOf (first + length labels) more) (IsPassOf first (labels ∷ more)) (all_passes (first + length labels) more)
+    (AllByRecursion-weaker (IsPassOf (first + length labels) more) (IsPassOf first (labels ∷ more)) (all_passes (first + length labels) more)
     (pass-later first labels more)
     (IsPassOf-all (first + length labels) more (omega (arith, positive))))
 

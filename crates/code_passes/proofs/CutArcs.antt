@@ -1,4 +1,8 @@
 -- The components of a directed code are intervals that follow one another.
+--
+-- The least arc of a component is followed by the others of it, and the number behind its last arc is the least of the next, if it is an
+-- arc at all. So the least arcs cut the numbers 1 to 2n into intervals (`IsFirst-next`), and a list of first arcs with their sizes, read as
+-- such a cut, is the list of the components.
 use Rattle.std.proofs.Common.{◌≡◌, ℕ, zero, suc, inl, inr, ◌+◌, ◌-◌, ◌<◌, ◌≤◌, ◌∙◌, List, [], ◌∷◌, ◌++◌, refl, sym, ap, subst, arith, Bool, true, false, cond}
 use Rattle.std.specs.Prelude.{nat_eq}
 use Rattle.std.specs.List.{filter, range_with_len}
@@ -12,6 +16,7 @@ use Rattle.kh_types.specs.Components.{components_of, arcs_in, first_arcs}
 use Rattle.kh_types.specs.Accepted.{IsDirected}
 use Rattle.kh_types.proofs.Ranges.{range-append}
 use Rattle.kh_types.proofs.NextArcs.{component, HasPlace-directed, IsNamed-components_of, component-inside}
+use Rattle.kh_types.proofs.FilteredRanges.{filter-none}
 use Rattle.code_passes.proofs.LeastArcs.{IsFirstOf-directed, components_size}
 
 -- how many arcs the component has that an arc is the first of
@@ -92,14 +97,6 @@ abbrev pub Cut : List (List ℕ) → ℕ → List ℕ → ℕ → Type 0
 Cut crossings a [] n = n ≡ 0
 Cut crossings a (first ∷ firsts) n =
     (first ≡ a) × IsFirst crossings a × (size crossings a ≤ n) × Cut crossings (a + size crossings a) firsts (n - size crossings a)
-
--- no number of a range passes
-filter-none : (p : ℕ → Bool) (a n : ℕ) → ((k : ℕ) → a ≤ k → k < a + n → p k ≡ false) → filter p (range_with_len a n) ≡ []
-filter-none p a zero fails = refl
-filter-none p a (suc n) fails =
-    let rest = filter p (range_with_len (a + 1) n) in
-    ap (λ b. cond b (a ∷ rest) rest) (fails a (omega arith) (omega arith))
-    ∙ filter-none p (a + 1) n (λ k from below. fails k (omega (arith, from)) (omega (arith, below)))
 
 -- one number passes, and then none of the k - 1 behind it
 filter-first : (p : ℕ → Bool) (a n k : ℕ) → 1 ≤ k → k ≤ n → p a ≡ true → ((j : ℕ) → a < j → j < a + k → p j ≡ false)

@@ -1,5 +1,9 @@
 -- The code of components where no label is bad is a directed code.
-use Rattle.std.proofs.Common.{◌≡◌, ◌≢◌, ℕ, zero, suc, inl, inr, ◌⊎◌, ◌+◌, ◌-◌, ◌<◌, ◌∙◌, List, [], length, sym, ap, arith, ℤ, nat_abs}
+--
+-- Each rule of a directed code is read off the passes: a crossing has two, whose four ends are its slots (LabelCounts), so that the arcs of
+-- its slots stand twice, once entered and once left (ArcCounts); and a pass goes from an arc to the next of its component
+-- (ComponentPasses). No two under passes enter on one arc, as the arc tells the label and the label the crossing.
+use Rattle.std.proofs.Common.{◌≡◌, ◌≢◌, ℕ, suc, inl, inr, ◌⊎◌, ◌+◌, ◌-◌, ◌<◌, ◌∙◌, List, [], length, sym, ap, arith, ℤ, nat_abs}
 use Rattle.std.specs.Prelude.{None, nat_eq, slice_index_or}
 use Rattle.std.specs.List.{sum_by, range_with_len, AllByRecursion}
 use Rattle.kh_types.specs.declared.dart.Dart.{Dart}
@@ -11,6 +15,7 @@ use Rattle.code_passes.specs.Labels.{bad_label}
 use Rattle.code_passes.specs.Passes.{Pass, all_passes, all_labels, crossings_in, crossings_of}
 use Rattle.code_passes.proofs.Sums.{value_if}
 use Rattle.kh_types.proofs.ListSums.{sum_by-range_alike, sum_by-plus}
+use Rattle.kh_types.proofs.Ranges.{below_four}
 use Rattle.code_passes.proofs.LabelCounts.{under_at, under_at-is}
 use Rattle.code_passes.proofs.ComponentPasses.{label_from, IsPassOf, IsPassOf-all}
 use Rattle.code_passes.proofs.ArcCounts.{enters_on, leaves_on, sum-enters, sum-leaves}
@@ -38,14 +43,6 @@ times_in-passes under over slots arc has =
       | inr onward ↦
           omega (arith, first, third, at (arc_in slots 1) over.enters onward.0, at (arc_in slots 3) over.leaves onward.1)
     ]
-
--- a slot is one of four
-slot_cases : (P : ℕ → Type 0) → P 0 → P 1 → P 2 → P 3 → (slot : ℕ) → slot < 4 → P slot
-slot_cases P zero_slot one two three zero below = zero_slot
-slot_cases P zero_slot one two three (suc zero) below = one
-slot_cases P zero_slot one two three (suc (suc zero)) below = two
-slot_cases P zero_slot one two three (suc (suc (suc zero))) below = three
-slot_cases P zero_slot one two three (suc (suc (suc (suc slot)))) below = absurd (omega (arith, below))
 
 module _ (groups : List (List ℤ)) (signs : List ℤ) (none : bad_label (all_labels groups) ≡ None) where
   abbrev crossings : List (List ℕ)
@@ -81,7 +78,7 @@ module _ (groups : List (List ℤ)) (signs : List ℤ) (none : bad_label (all_la
       let over = over_pass groups place in
       let is_under = under-holds groups none (IsPassOf 1 groups) place below all-passes in
       let is_over = over-holds groups none (IsPassOf 1 groups) place below all-passes in
-      slot_cases (λ slot. IsArc crossings (arc_in slots slot))
+      below_four (λ slot. IsArc crossings (arc_in slots slot))
       (IsArc-enters under is_under (arc_in slots 0) has.under_from)
       (elim has.over_arcs [
         | inl back ↦ IsArc-leaves over is_over (arc_in slots 1) back.0

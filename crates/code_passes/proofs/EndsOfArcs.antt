@@ -1,5 +1,9 @@
 -- Each arc of a directed code that is not its own next has one head and one tail, whatever the other components are: two heads of one arc
 -- are heads of an arc that is its own next, and across from two tails there are two heads of the arc before, which then is its own next too.
+--
+-- This is the theorem of kh_types on heads (Heads) for one arc, where other components may have single arcs: two heads of one arc make its
+-- component the arc and its next, and what the rules then leave is that the arc is its own next. So the search for the head and that for
+-- the tail of an arc that is not its own next find one dart each.
 use Rattle.std.proofs.Common.{◌≡◌, ◌≢◌, ℕ, inl, inr, ◌*◌, ◌∙◌, List, sym, ap, subst, length, arith, Bool, true, false, not, ◌&&◌}
 use Rattle.std.specs.Prelude.{nat_eq, unwrap_or}
 use Rattle.std.specs.List.{find, range_with_len}

@@ -1,4 +1,8 @@
 -- Where no label of a body is bad, each crossing has one over pass and one under pass.
+--
+-- A label that is not bad names a crossing and is new. So among the labels of a body no label stands twice, each names one of n crossings
+-- with one of its two passes, and there are 2n of them: summed over the crossings, each of the 2n names of passes counts at most 1, and
+-- together they count 2n, so each stands exactly once.
 use Rattle.std.proofs.Common.{◌≡◌, ℕ, zero, suc, inl, inr, ◌+◌, ◌*◌, ◌/◌, ◌<◌, ◌≤◌, ◌∙◌, List, [], ◌∷◌, length, take, sym, ap, arith, Bool, true, false, true≢false, cond, ℤ, pos, negsuc, neg_ℤ, nat_abs}
 use Rattle.std.specs.Prelude.{nat_eq, nat_lt, ◌||◌, Option, Some, None}
 use Rattle.std.specs.List.{find, list_any, sum_by, count_by, range_with_len, AllByRecursion}
@@ -10,8 +14,8 @@ use Rattle.std.proofs.lemmas.List.{take_all}
 use Rattle.std.proofs.lemmas.List.Elements.{All-from_get_or, recursion_from_All}
 use Rattle.std.proofs.lemmas.List.Sums.{sum_by_more}
 use Rattle.code_passes.specs.Labels.{listed_number, is_bad_label, bad_label}
-use Rattle.code_passes.proofs.Sums.{value_if, only_at, sum-only, sum_by-alike, sum_by-ones, sum-at_most_two, each-two, count_by-none}
-use Rattle.kh_types.proofs.ListSums.{sum_by-range_alike, sum_by-plus, sum_by-turned}
+use Rattle.code_passes.proofs.Sums.{value_if, only_at, sum-only, sum_by-ones, sum-at_most_two, each-two, count_by-none}
+use Rattle.kh_types.proofs.ListSums.{sum_by-range_alike, sum_by-plus, sum_by-turned, sum_by-on}
 use Rattle.kh_types.proofs.Integers.{int_eq-other, int_eq-same}
 
 -- a label names one of some crossings
@@ -66,7 +70,7 @@ pub sum-by_crossings : {X : Type 0} (entering_label : X → ℤ) (f : X → ℕ)
     → sum_by (λ place. sum_by (λ x. at_crossing (f x) (entering_label x) place) xs) (range_with_len 0 crossings) ≡ sum_by f xs
 sum-by_crossings {X} entering_label f crossings xs names =
     sum_by-turned (λ place x. at_crossing (f x) (entering_label x) place) (range_with_len 0 crossings) xs
-    ∙ sum_by-alike (λ x. sum_by (λ place. at_crossing (f x) (entering_label x) place) (range_with_len 0 crossings)) f xs (each xs names)
+    ∙ sum_by-on (λ x. sum_by (λ place. at_crossing (f x) (entering_label x) place) (range_with_len 0 crossings)) f xs (each xs names)
   where
     each : (ys : List X) → AllByRecursion (λ x. Names crossings (entering_label x)) ys
         → AllByRecursion (λ x. sum_by (λ place. at_crossing (f x) (entering_label x) place) (range_with_len 0 crossings) ≡ f x) ys

@@ -9,10 +9,10 @@ use Rattle.kh_types.specs.Directions.{first_under, passes_under, is_positive_by_
 use Rattle.kh_types.specs.Accepted.{IsDirected}
 use Rattle.kh_types.proofs.NextArcs.{component, size_at, HasPlace-directed, component-next, next-twice}
 use Rattle.kh_types.proofs.PassPairs.{IsArc-at}
-use Rattle.kh_types.proofs.DirectedPasses.{is_positive-under}
+use Rattle.kh_types.proofs.DirectedPasses.{is_positive-under, by_size}
 use Rattle.code_passes.specs.Labels.{listed_number, bad_label}
 use Rattle.code_passes.specs.Passes.{Pass, all_labels, crossings_in, crossings_of}
-use Rattle.code_passes.proofs.SignRules.{Goes, Goes-between, large-rule, by_next, by_under, other_arc, not_back, find-first, under-over}
+use Rattle.code_passes.proofs.SignRules.{Goes, Goes-between, by_next, by_under, other_arc, not_back, find-first, under-over}
 use Rattle.code_passes.proofs.LabelCounts.{over_at}
 use Rattle.code_passes.proofs.ComponentPasses.{label_from, IsPassOf, IsPassOf-all}
 use Rattle.code_passes.proofs.CrossingPasses.{under_pass, over_pass, over-holds, label-over}
@@ -81,7 +81,7 @@ module _ (text : GoodText) where
       let one = arc_in slots 1 in
       let same = component-slot listed one (arc_in slots 3) from to on goes in
       let size : size_at crossings one ≡ size_at crossings from = ap (arcs_in components) same in
-      let rule = large-rule (size_at crossings one) (is_positive_by_next components slots)
+      let rule = by_size (size_at crossings one) (is_positive_by_next components slots)
       (is_positive_of_two crossings components crossing) (omega (arith, size, large)) in
       let place = HasPlace-directed crossings directed from on.from_is in
       let to_place = HasPlace-directed crossings directed to on.to_is in

@@ -1,14 +1,9 @@
 -- Searches and tests, in general.
 use Rattle.std.proofs.Common.{◌≡◌, ◌≢◌, ℕ, zero, suc, inl, inr, ◌+◌, ◌<◌, ◌≤◌, ◌∙◌, ℤ, List, [], ◌∷◌, map, refl, ap, arith, Bool, true, false, ◌||◌}
-use Rattle.std.specs.Prelude.{Some, cond, nat_eq, MatchBool}
+use Rattle.std.specs.Prelude.{Some, cond, MatchBool}
 use Rattle.std.specs.List.{find, list_any, range_with_len}
-use Rattle.std.proofs.lemmas.Bool.{cases_Bool}
-use Rattle.std.proofs.lemmas.Bool.Decides.{nat_tests}
+use Rattle.std.proofs.lemmas.Bool.{cases_Bool, both_ways}
 use Rattle.kh_types.proofs.RangeCounts.{list_any-one}
-
--- whether two numbers are one
-pub test_fails : (x y : ℕ) → (x ≡ y → ⊥) → nat_eq x y ≡ false
-test_fails x y differ = grind (arith, nat_tests)
 
 -- one of two facts, by a test
 pub matched_true : (b : Bool) (P Q : Type 0) → MatchBool b P Q → b ≡ true → P
@@ -28,15 +23,12 @@ find-first p a (suc n) k from below passes fails = elim (cases_Bool (p a)) [
       let same : a ≡ k = only a k (p a) here from (λ before. fails a (omega arith) before) in
       ap (λ b. cond b (Some a) (find p (range_with_len (a + 1) n))) here ∙ ap Some same
   | inr not_here ↦
-      let differ : a ≢ k = λ same. apart (p a) not_here (ap p same ∙ passes) in
+      let differ : a ≢ k = λ same. both_ways (p a) not_here (ap p same ∙ passes) in
       ap (λ b. cond b (Some a) (find p (range_with_len (a + 1) n))) not_here
       ∙ find-first p (a + 1) n k (omega (arith, from, differ)) (omega (arith, below)) passes
       (λ j j_from before. fails j (omega (arith, j_from)) before)
 ]
   where
-    apart : (b : Bool) → b ≡ false → b ≡ true → ⊥
-    apart b fail pass = cc
-
     only : (x y : ℕ) (b : Bool) → b ≡ true → x ≤ y → (x < y → b ≡ false) → x ≡ y
     only x y true pass from fail = grind arith
     only x y false pass from fail = absurd (cc)
@@ -51,8 +43,5 @@ list_any-none p a n fails = elim (cases_Bool (list_any p (range_with_len a n))) 
   | inr none ↦ none
   | inl some ↦
       let one = list_any-one p a n some in
-      absurd (apart (p one.0) (fails one.0 one.1 one.2) one.3)
+      absurd (both_ways (p one.0) (fails one.0 one.1 one.2) one.3)
 ]
-  where
-    apart : (b : Bool) → b ≡ false → b ≡ true → ⊥
-    apart b fail pass = cc

@@ -1,6 +1,6 @@
 -- The rules by which a crossing is positive, over plain numbers, and the first number that a search finds.
 use Rattle.std.proofs.Common.{◌≡◌, ◌≢◌, ℕ, zero, suc, inl, inr, ◌⊎◌, ◌+◌, ◌<◌, ◌≤◌, ◌∙◌, List, [], ◌∷◌, refl, sym, ap, arith, Bool, true, false, cond, ℤ, pos, negsuc, nat_abs, unwrap_or}
-use Rattle.std.specs.Prelude.{Option, Some, None, nat_eq, nat_lt, nat_le, if◌then◌else◌}
+use Rattle.std.specs.Prelude.{Option, Some, None, nat_eq, nat_lt, if◌then◌else◌}
 use Rattle.std.specs.List.{find, range_with_len}
 use Rattle.std.specs.Ordering.{int_eq}
 use Rattle.std.proofs.lemmas.Bool.{both_ways, cases_Bool, cases_eq}
@@ -27,9 +27,6 @@ Goes-between under over sign = by (int_eq sign (pos 1))
     by false = inr (refl, refl, refl)
 
 -- the three rules by which a crossing is positive
-
-pub large-rule : (m : ℕ) (large small : Bool) → 2 < m → (if nat_le 3 m then large else small) ≡ large
-large-rule m large small above = grind (arith, nat_tests)
 
 pub by_next : (positive listed : Bool) (one three from to next_of_three next_of_to : ℕ) → positive ≡ nat_eq one next_of_three
     → (three ≡ from → next_of_three ≡ to) → (three ≡ to → next_of_three ≡ next_of_to) → next_of_to ≢ from

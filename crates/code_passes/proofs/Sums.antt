@@ -1,15 +1,9 @@
 -- Sums over lists, and of a function that is 0 but at one number of a range.
-use Rattle.std.proofs.Common.{◌≡◌, ◌≢◌, ℕ, zero, suc, inl, inr, ◌+◌, ◌*◌, ◌<◌, ◌≤◌, ◌∙◌, List, [], ◌∷◌, length, refl, sym, ap, arith, Bool, true, false, cond}
-use Rattle.std.specs.Prelude.{nat_eq, ◌||◌}
-use Rattle.std.specs.List.{sum_by, count_by, list_any, range_with_len, AllByRecursion}
-use Rattle.std.proofs.lemmas.Bool.{cases_eq, eq-eqb, ne_eqb}
+use Rattle.std.proofs.Common.{◌≡◌, ◌≢◌, ℕ, zero, suc, inl, inr, ◌+◌, ◌*◌, ◌<◌, ◌≤◌, ◌∙◌, List, [], ◌∷◌, length, refl, sym, ap, arith, Bool, false, cond}
+use Rattle.std.specs.Prelude.{nat_eq}
+use Rattle.std.specs.List.{sum_by, count_by, list_any, range_with_len}
+use Rattle.std.proofs.lemmas.Bool.{cases_eq, eq-eqb, ne_eqb, or_parts}
 use Rattle.std.proofs.lemmas.List.Sums.{sum_by-cons}
-
--- functions that are alike on each element have one sum
-pub sum_by-alike : {X : Type 0} (f g : X → ℕ) (xs : List X) → AllByRecursion (λ x. f x ≡ g x) xs → sum_by f xs ≡ sum_by g xs
-sum_by-alike f g [] alike = refl
-sum_by-alike f g (x ∷ xs) alike =
-    omega (arith, alike.0, sum_by-cons f x xs, sum_by-cons g x xs, sum_by-alike f g xs alike.1)
 
 pub sum_by-none : {X : Type 0} (xs : List X) → sum_by (λ x. 0) xs ≡ 0
 sum_by-none [] = refl
@@ -89,10 +83,6 @@ each-two f a (suc n) most all k from below =
 pub count_by-none : {X : Type 0} (p : X → Bool) (xs : List X) → list_any p xs ≡ false → count_by p xs ≡ 0
 count_by-none p [] none = refl
 count_by-none p (x ∷ xs) none =
-    let both = neither (p x) (list_any p xs) none in
+    let both = or_parts (p x) (list_any p xs) none in
     let here : value_if 1 (p x) ≡ 0 = ap (value_if 1) both.0 in
     omega (arith, here, sum_by-cons (λ y. cond (p y) 1 0) x xs, count_by-none p xs both.1)
-  where
-    neither : (b d : Bool) → (b || d) ≡ false → (b ≡ false) × (d ≡ false)
-    neither true d none = absurd (cc)
-    neither false d none = (refl, none)

@@ -9,9 +9,10 @@ use Rattle.kh_types.specs.Classes.{Respects, AreBelow, IsNamed}
 use Rattle.kh_types.specs.Components.{passes_of, components_of, component_of, next}
 use Rattle.kh_types.proofs.ClassLemmas.{classes-together, classes-finest}
 use Rattle.kh_types.proofs.JoinedClasses.{IsNamed-classes_of}
+use Rattle.kh_types.proofs.Lists.{AllByRecursion-weaker}
 use Rattle.code_passes.specs.Labels.{bad_label}
 use Rattle.code_passes.specs.Passes.{Pass, all_passes, all_labels, crossings_of}
-use Rattle.code_passes.proofs.ComponentPasses.{after_arc, after_arc-inside, start_from, start-le, start-past, IsStart-arc, IsPassOf, IsPassOf-all, All-weaker}
+use Rattle.code_passes.proofs.ComponentPasses.{after_arc, after_arc-inside, start_from, start-le, start-past, IsStart-arc, IsPassOf, IsPassOf-all}
 use Rattle.code_passes.proofs.CrossingPasses.{entering, enters-entering, entering-holds}
 use Rattle.code_passes.proofs.TextCrossings.{arc_count-crossings, pairs-of_passes, passes-of_pairs}
 
@@ -32,7 +33,7 @@ module _ (groups : List (List ℤ)) (signs : List ℤ) (none : bad_label (all_la
       let size = arc_count-crossings groups signs none in
       pairs-of_passes (λ x y. (x < arc_count (crossings_of groups signs) + 1) × (y < arc_count (crossings_of groups signs) + 1))
       (λ x y both. (both.1, both.0)) groups signs none
-      (All-weaker (IsPassOf 1 groups)
+      (AllByRecursion-weaker (IsPassOf 1 groups)
       (λ (pass : Pass).
       (pass.enters < arc_count (crossings_of groups signs) + 1) × (pass.leaves < arc_count (crossings_of groups signs) + 1))
       (all_passes 1 groups)
@@ -42,7 +43,7 @@ module _ (groups : List (List ℤ)) (signs : List ℤ) (none : bad_label (all_la
   start-respects : Respects (start_of groups) pairs
   start-respects =
       pairs-of_passes (λ x y. start_of groups x ≡ start_of groups y) (λ x y same. sym same) groups signs none
-      (All-weaker (IsPassOf 1 groups) (λ (pass : Pass). start_of groups pass.enters ≡ start_of groups pass.leaves) (all_passes 1 groups)
+      (AllByRecursion-weaker (IsPassOf 1 groups) (λ (pass : Pass). start_of groups pass.enters ≡ start_of groups pass.leaves) (all_passes 1 groups)
       (λ pass is. sym is.start) (IsPassOf-all 1 groups (omega arith)))
 
   abbrev component : ℕ → ℕ
@@ -128,5 +129,5 @@ module _ (groups : List (List ℤ)) (signs : List ℤ) (none : bad_label (all_la
   -- a pass leaves on the arc that follows the one on which it enters
   pub next-passes : AllByRecursion (λ (pass : Pass). pass.leaves ≡ next (crossings_of groups signs) pass.enters) (all_passes 1 groups)
   next-passes =
-      All-weaker (IsPassOf 1 groups) (λ (pass : Pass). pass.leaves ≡ next (crossings_of groups signs) pass.enters) (all_passes 1 groups)
+      AllByRecursion-weaker (IsPassOf 1 groups) (λ (pass : Pass). pass.leaves ≡ next (crossings_of groups signs) pass.enters) (all_passes 1 groups)
       (λ pass is. is.next ∙ sym (next-is pass.enters)) (IsPassOf-all 1 groups (omega arith))

@@ -1,4 +1,8 @@
 -- Where no component has a single arc, each crossing of the code of a text has the sign that the text lists.
+--
+-- The sign is read off in three ways, by the size of the component of the over pass. Three arcs or more: the over pass was laid by the
+-- listed sign, from slot 3 to slot 1 or back. Fewer, and an under pass: it tells the direction. Fewer, and none: the component begins with
+-- its lesser label, so the first listed of its over passes goes up, as the rule has it; and what is listed is what is read off.
 use Rattle.kh_types.specs.Directions.{HasNoSingleArcs}
 use Rattle.code_passes.specs.Labels.{bad_label}
 use Rattle.std.proofs.Common.{ℤ}

@@ -1,9 +1,13 @@
 -- The least arc of a component of two arcs that is over at both its crossings enters the first listed of them, so that such a
 -- component begins with its lesser label.
+--
+-- In a component of two arcs that passes under nowhere the direction is a rule: its first over pass in the order of crossings goes from the
+-- lesser arc to the greater. If the least arc entered the second listed of its crossings, the second arc would enter the first, and the
+-- pass there would go down, against the rule (`turned_labels-component`).
 use Rattle.std.proofs.Common.{◌≡◌, ◌⊎◌, inl, inr, ℕ, zero, suc, ◌+◌, ◌<◌, ◌≤◌, ◌∙◌, ℤ, pos, neg_ℤ, List, [], ◌∷◌, map, refl, sym, ap, arith, Bool, true, false, ◌&&◌}
 use Rattle.std.specs.Prelude.{None, Some, int_lt, nat_eq, nat_lt, if◌then◌else◌}
 use Rattle.std.specs.List.{range_with_len}
-use Rattle.std.proofs.lemmas.Bool.{and_parts, cases_Bool, eq-eqb}
+use Rattle.std.proofs.lemmas.Bool.{and_parts, cases_Bool, eq-eqb, ne_eqb}
 use Rattle.std.proofs.lemmas.Bool.Decides.{nat_tests}
 use Rattle.std.proofs.lemmas.Int.{ints}
 use Rattle.kh_types.specs.declared.dart.Dart.{Dart}
@@ -19,7 +23,7 @@ use Rattle.code_passes.specs.Passes.{is_over, turned_labels}
 use Rattle.code_passes.specs.ComponentLabels.{component_labels, entering_label}
 use Rattle.code_passes.proofs.ArcLabels.{HasEnds-arc, IsOriented}
 use Rattle.code_passes.proofs.CutArcs.{IsFirst, component-in, end-within, size}
-use Rattle.code_passes.proofs.Searches.{find-first, matched_false, matched_true, test_fails}
+use Rattle.code_passes.proofs.Searches.{find-first, matched_false, matched_true}
 
 -- a component of two arcs that is over at both, by the heads of its two arcs
 record IsOverBoth (crossings : List (List ℕ)) (first : ℕ) : Type 0 where
@@ -66,7 +70,7 @@ no_under crossings first both =
     (λ crossing from below.
     let is : IsCrossing crossings crossing = record { positive = from; within = omega (arith, below) } in
     let arc = arc_in (slots_of crossings crossing) 0 in
-    test_fails (component crossings arc) first
+    ne_eqb (component crossings arc) first
     (λ same.
     let at = head_of_two crossings first crossing 0 both arc (IsArc-at crossings crossing 0 oriented.directed is (omega arith)) same
     (IsPass-under crossings oriented.directed oriented.moves crossing is).head in
@@ -113,7 +117,7 @@ first_over_is crossings first both same =
     find-first (passes_over crossings (components_of crossings) first) 1 _ crossing is.positive (omega (arith, is.within))
     (eq-eqb (component crossings (arc_in (slots_of crossings crossing) 1)) first same)
     (λ earlier from before.
-    test_fails (component crossings (arc_in (slots_of crossings earlier) 1)) first
+    ne_eqb (component crossings (arc_in (slots_of crossings earlier) 1)) first
     (λ other.
     omega (
       arith,

@@ -1,4 +1,8 @@
 -- The degrees of a block are neighbouring integers, and all degrees that have generators are among them.
+--
+-- The homological degrees of a block are the part of all degrees from the first to the last that has generators, so they are neighbours,
+-- and a degree outside has none. At a degree inside the block is the cube's by definition; at one outside both are empty. So facts of the
+-- cube's degrees are facts of the block's.
 use Rattle.std.proofs.Common.{◌≡◌, ℕ, ◌+◌, ◌-◌, ◌*◌, ◌<◌, ◌≤◌, ◌∙◌, ◌⊎◌, inl, inr, ℤ, pos, negsuc, ◌+ℤ◌, ◌-ℤ◌, List, [], ◌∷◌, length, get_or, map, take, refl, sym, ap, arith, Bool, true, false, not}
 use Rattle.std.specs.Prelude.{reverse}
 use Rattle.std.specs.List.{position_or_len, suffix_len}

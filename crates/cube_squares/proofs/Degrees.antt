@@ -1,4 +1,8 @@
 -- A coefficient other than 0 leads from the degrees i and j to i + 1 and j, and is less than p.
+--
+-- An edge raises one bit, so i rises by 1; a merge or a split lowers by 1 the number of labels v+ less that of labels v-, and j counts the
+-- bit against it. So a coefficient other than 0 goes from the degrees i and j to i + 1 and j, and the sum over all middle generators of a
+-- product is that over those of the degrees between.
 use Rattle.std.proofs.Common.{◌≡◌, ◌≢◌, ℕ, zero, suc, ◌+◌, ◌-◌, ◌*◌, ◌%◌, ◌<◌, ◌≤◌, ◌∙◌, ◌⊎◌, inl, inr, ℤ, pos, ◌+ℤ◌, ◌-ℤ◌, length, sym, ap, subst, arith, Bool, true, false, cond, IsTrue}
 use Rattle.std.specs.Prelude.{nat_eq}
 use Rattle.std.specs.List.{sum_by, range_with_len}

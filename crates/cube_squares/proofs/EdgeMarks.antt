@@ -1,4 +1,8 @@
 -- Labels before and after an edge, by marked arcs: a merge keeps the marks, a split marks one arc more, in one of two ways.
+--
+-- Labels are told by marks: a list of arcs, one on each circle with the label v-, and two marks on one circle are none. In these words a
+-- merge keeps the list, as the circles that it joins add up their marks; and a split adds a mark at one of the two arcs of its crossing, in
+-- two ways. So an edge coefficient counts lists of marks, and the order of two edges is that of two additions.
 use Rattle.std.proofs.Common.{◌≡◌, ◌≢◌, ℕ, ◌+◌, ◌≤◌, ◌∙◌, ◌⊎◌, inl, inr, List, [], ◌∷◌, refl, sym, ap, ap₂, arith, Bool, true, false}
 use Rattle.std.specs.Prelude.{nat_eq}
 use Rattle.std.specs.Bool.{Decides}

@@ -1,4 +1,8 @@
 -- The numbers below 2 to the number of circles are the labels of circles, each once.
+--
+-- A label is a number whose bits are the labels of the circles, in the order of their names. Each circle has a place there, so two numbers
+-- with the same bits on all circles are one, and any choice of 0 or 1 for each circle is a number. So a sum over labels that picks one
+-- choice has one term.
 use Rattle.std.proofs.Common.{◌≡◌, ◌≢◌, ℕ, zero, suc, ◌+◌, ◌*◌, ◌/◌, ◌^◌, ◌<◌, ◌≤◌, ◌∙◌, List, [], ◌∷◌, length, get_or, map, sym, ap, subst, refl, arith, Bool, true, false, cond, not, IsTrue}
 use Rattle.std.specs.Prelude.{nat_eq}
 use Rattle.std.specs.List.{All, filter, range_with_len, position_or_len, sum_by}

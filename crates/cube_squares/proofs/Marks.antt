@@ -1,6 +1,6 @@
 -- Marked arcs: how many are on the circle of an arc, and how an edge changes this. A list of arcs stands for the product of one
 -- variable for each of them, in a ring where the arcs of one circle have one variable, whose square is 0.
-use Rattle.std.proofs.Common.{◌≡◌, ◌≢◌, ℕ, ◌+◌, ◌∙◌, ◌⊎◌, inl, inr, List, ◌∷◌, sym, ap, refl, arith, Bool, cond}
+use Rattle.std.proofs.Common.{◌≡◌, ◌≢◌, ℕ, ◌+◌, ◌∙◌, ◌⊎◌, inl, inr, List, ◌∷◌, sym, ap, refl, arith, Bool}
 use Rattle.std.specs.Prelude.{nat_eq}
 use Rattle.std.specs.List.{count_by, sum_by}
 use Rattle.std.proofs.Math.Path.{fun_ext}

@@ -1,8 +1,7 @@
 -- Two circles become one: which arcs come together, and which stay apart.
-use Rattle.std.proofs.Common.{◌≡◌, ◌≢◌, ℕ, inl, inr, ◌∙◌, sym, arith, Bool, true, false, IsTrue}
+use Rattle.std.proofs.Common.{◌≡◌, ℕ, inl, inr, ◌∙◌, sym, arith, Bool, true, false, IsTrue}
 use Rattle.std.specs.Prelude.{min, max, slice_index}
 use Rattle.std.proofs.lemmas.Bool.{cases_eq}
-use Rattle.std.proofs.lemmas.Bool.Decides.{nat_tests}
 use Rattle.kh_types.specs.Acceptance.{accepted}
 use Rattle.kh_types.specs.Bits.{bit}
 use Rattle.kh_types.specs.Classes.{merged}
@@ -12,6 +11,7 @@ use Rattle.kh_types.specs.CircleNumbers.{IsName}
 use Rattle.kh_types.specs.Edges.{TwoBecomeOne, arc_at_slot, state_behind}
 use Rattle.kh_types.proofs.EdgeNames.{IsArc-slot, IsJoin, IsJoin-edge}
 use Rattle.kh_types.proofs.CircleNumbers.{IsName-arc}
+use Rattle.kh_types.proofs.ClassLemmas.{merged-greatest, merged-kept}
 use Rattle.cube_squares.specs.Squares.{Merges, circle_at_slot}
 
 -- the circle of an arc or a loop in a state
@@ -44,17 +44,11 @@ IsMerge-join code before after crossing is is_crossing join =
       third = IsName-arc code (arc_at_slot code crossing 2) (IsArc-slot code crossing 2 is is_crossing (omega arith));
       join = join.join;
       one = λ arc. elim (cases_eq (circle_in code before arc) (max p q)) [
-        | inl gone ↦ join.circles.one arc gone ∙ sym (goes p q (circle_in code before arc) gone)
-        | inr other ↦ join.circles.others arc other ∙ sym (stays p q (circle_in code before arc) other)
+        | inl gone ↦ join.circles.one arc gone ∙ sym (merged-greatest p q (circle_in code before arc) gone)
+        | inr other ↦ join.circles.others arc other ∙ sym (merged-kept p q (circle_in code before arc) other)
       ];
       circles = join.circles;
     }
-  where
-    goes : (p q c : ℕ) → c ≡ max p q → merged p q c ≡ min p q
-    goes p q c gone = grind (arith, nat_tests)
-
-    stays : (p q c : ℕ) → c ≢ max p q → merged p q c ≡ c
-    stays p q c other = grind (arith, nat_tests)
 
 -- each edge of an accepted code merges or splits
 pub switch-edge : (code : Code) (state crossing : ℕ) → IsTrue (accepted code) → IsCrossing code.crossings crossing

@@ -1,4 +1,8 @@
 -- The sum over the middle generators along one crossing and then another, and with the two exchanged.
+--
+-- The product of the differential with itself is a sum over middle generators and over pairs of crossings. Two states differ by one
+-- crossing only at an edge, so at most two crossings add to an entry, a before b and b before a. Each way is its signs times the number of
+-- labels between (Paths); the signs are opposite (Signs), the numbers are the same. So the two ways cancel, for each pair of crossings.
 use Rattle.std.proofs.Common.{◌≡◌, ◌≢◌, ℕ, ◌+◌, ◌*◌, ◌%◌, ◌^◌, ◌<◌, ◌≤◌, ◌∙◌, ◌⊎◌, inl, inr, length, refl, sym, ap, ap₂, arith, Bool, true, false, cond, ◌&&◌, IsTrue}
 use Rattle.std.specs.Prelude.{nat_eq}
 use Rattle.std.specs.Bool.{Decides}

@@ -1,5 +1,9 @@
 -- How many labels of a middle state lie between two generators, along one crossing and then another: by marks, and as many in the
 -- other order.
+--
+-- The labels of a middle state that lie between two generators are counted by lists of marks (EdgeMarks): first those behind the first
+-- edge, then those that the second makes of them. In the other order the two additions change places. A mark may move along its circle, so
+-- both orders lead to the same lists on the circles of the last state, in every kind of square (SquareKinds).
 use Rattle.std.proofs.Common.{◌≡◌, ℕ, ◌*◌, ◌^◌, ◌≤◌, ◌∙◌, ◌⊎◌, inl, inr, List, ◌∷◌, sym, ap, ap₂, subst, arith, Bool, true, false, IsTrue}
 use Rattle.std.specs.List.{sum_by, range_with_len}
 use Rattle.std.proofs.lemmas.Bool.{cases_Bool}

@@ -1,5 +1,5 @@
--- The two ways round a square of the cube have opposite signs.
-use Rattle.std.proofs.Common.{◌≡◌, ℕ, zero, suc, ◌+◌, ◌-◌, ◌*◌, ◌%◌, ◌^◌, ◌<◌, ◌≤◌, ◌∙◌, inl, inr, ap, ap₂, arith}
+-- Signs that are powers of -1, modulo p: they multiply as powers do, and the two ways round a square of the cube have opposite signs.
+use Rattle.std.proofs.Common.{◌≡◌, ℕ, zero, suc, ◌+◌, ◌-◌, ◌*◌, ◌%◌, ◌^◌, ◌<◌, ◌≤◌, ◌∙◌, inl, inr, ap, ap₂, refl, sym, arith}
 use Rattle.std.specs.Prelude.{nat_eq, if◌then◌else◌}
 use Rattle.std.proofs.lemmas.Bool.{cases_lt}
 use Rattle.std.proofs.lemmas.Bool.Decides.{nat_tests}
@@ -7,6 +7,8 @@ use Rattle.std.proofs.Math.Nat.{mul-mod_left}
 use Rattle.kh_types.specs.Bits.{bit, ones}
 use Rattle.kh_types.specs.Code.{place_of}
 use Rattle.kh_types.specs.Differential.{edge_sign}
+use Rattle.kh_types.specs.Residues.{Same}
+use Rattle.kh_types.proofs.Residues.{same-equal, same-multiple}
 use Rattle.kh_types.proofs.BitLemmas.{ones-more}
 use Rattle.kh_types.specs.Edges.{state_behind}
 use Rattle.kh_types.proofs.EdgeBits.{bit-set_other, bit-set_there}
@@ -47,8 +49,48 @@ ones-set_below state place (suc count) zero_bit below =
     ]
 
 -- -1 to a power, modulo p
-abbrev power_sign : ℕ → ℕ → ℕ
+abbrev pub power_sign : ℕ → ℕ → ℕ
 power_sign p n = if nat_eq (n % 2) 0 then 1 else p - 1
+
+pub same_parity : (p a b : ℕ) → a % 2 ≡ b % 2 → power_sign p a ≡ power_sign p b
+same_parity p a b same = ap (λ r. if nat_eq r 0 then 1 else p - 1) same
+
+-- signs multiply
+pub signs-product : (p a b : ℕ) → 0 < p → Same p (power_sign p a * power_sign p b) (power_sign p (a + b))
+signs-product p a b positive = by (a % 2) (b % 2) refl refl
+  where
+    even : (n : ℕ) → n % 2 ≡ 0 → power_sign p n ≡ 1
+    even n is = grind (arith, nat_tests)
+
+    odd : (n : ℕ) → n % 2 ≡ 1 → power_sign p n ≡ p - 1
+    odd n is = grind (arith, nat_tests)
+
+    ring : (m : ℕ) → m * m + (m + 1) * 1 ≡ 1 + (m + 1) * m
+    ring m = omega arith
+
+    square_of : (m q : ℕ) → q ≡ m + 1 → m * m + q * 1 ≡ 1 + q * m
+    square_of m q is = ap (λ x. m * m + x * 1) is ∙ ring m ∙ ap (λ x. 1 + x * m) (sym is)
+
+    square : (q : ℕ) → 0 < q → (q - 1) * (q - 1) + q * 1 ≡ 1 + q * (q - 1)
+    square q positive = square_of (q - 1) q (omega (arith, positive))
+
+    by : (x y : ℕ) → a % 2 ≡ x → b % 2 ≡ y → Same p (power_sign p a * power_sign p b) (power_sign p (a + b))
+    by zero zero is_a is_b =
+        same-equal p (power_sign p a * power_sign p b) (power_sign p (a + b))
+        (ap₂ (λ x y. x * y) (even a is_a) (even b is_b) ∙ sym (even (a + b) (omega (arith, is_a, is_b))))
+    by zero (suc zero) is_a is_b =
+        same-equal p (power_sign p a * power_sign p b) (power_sign p (a + b))
+        (ap₂ (λ x y. x * y) (even a is_a) (odd b is_b) ∙ omega (arith, odd (a + b) (omega (arith, is_a, is_b))))
+    by (suc zero) zero is_a is_b =
+        same-equal p (power_sign p a * power_sign p b) (power_sign p (a + b))
+        (ap₂ (λ x y. x * y) (odd a is_a) (even b is_b) ∙ omega (arith, odd (a + b) (omega (arith, is_a, is_b))))
+    by (suc zero) (suc zero) is_a is_b =
+        same-equal p (power_sign p a * power_sign p b) ((p - 1) * (p - 1)) (ap₂ (λ x y. x * y) (odd a is_a) (odd b is_b))
+        ∙ sym (same-multiple p ((p - 1) * (p - 1)) 1) ∙ same-equal p ((p - 1) * (p - 1) + p * 1) (1 + p * (p - 1)) (square p positive)
+        ∙ same-multiple p 1 (p - 1) ∙ same-equal p 1 (power_sign p (a + b)) (sym (even (a + b) (omega (arith, is_a, is_b))))
+    by zero (suc (suc y)) is_a is_b = absurd (omega (arith, is_b))
+    by (suc zero) (suc (suc y)) is_a is_b = absurd (omega (arith, is_b))
+    by (suc (suc x)) y is_a is_b = absurd (omega (arith, is_a))
 
 signs-sum : (p n : ℕ) → 0 < p → power_sign p (n + 1) + power_sign p n ≡ p
 signs-sum p n positive = grind (arith, nat_tests)

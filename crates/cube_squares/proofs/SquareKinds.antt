@@ -1,4 +1,8 @@
 -- The kinds of squares: which of the four edges merge, and where the under passes end.
+--
+-- Of the four edges of a square each merges or splits. The number of circles at the last corner is the same both ways round, so both ways
+-- have as many merges. That leaves few kinds: both orders alike, or one crossing that merges where it is first and splits where it is
+-- second; and in the latter all four arcs lie on one circle, before or after.
 use Rattle.std.proofs.Common.{◌≡◌, ◌≢◌, ℕ, ◌⊎◌, inl, inr, ◌+◌, ◌∙◌, refl, sym, ap, subst, arith, Bool, true, false, cond, IsTrue}
 use Rattle.std.proofs.lemmas.Bool.Decides.{nat_tests}
 use Rattle.kh_types.specs.Acceptance.{accepted}

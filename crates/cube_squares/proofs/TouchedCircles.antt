@@ -1,4 +1,8 @@
 -- The tests of an edge coefficient say what a merge or a split does to labels.
+--
+-- The coefficient of the definition compares labels by lists of circles that the crossing touches, before and after. On a merge two circles
+-- are touched before and one after (EdgeNames), so that the lists have two and one entries, and the tables of labels decide; on a split the
+-- other way round. All circles that are not touched keep name and label.
 use Rattle.std.proofs.Common.{◌≡◌, ◌≢◌, ℕ, zero, suc, ◌+◌, ◌<◌, ◌≤◌, ◌∙◌, ◌⊎◌, inl, inr, List, [], ◌∷◌, map, sym, ap, ap₂, subst, arith, Bool, true, false, ◌&&◌, ◌||◌, IsTrue}
 use Rattle.std.specs.Prelude.{nat_eq, min, max}
 use Rattle.std.specs.Bool.{Decides}
@@ -20,6 +24,7 @@ use Rattle.kh_types.proofs.RangeCounts.{list_any-at}
 use Rattle.kh_types.specs.CircleNumbers.{IsName, number_of}
 use Rattle.kh_types.specs.Edges.{arc_at_slot}
 use Rattle.kh_types.proofs.CircleNumbers.{IsCircle, IsCircle-of, circle_names-number_of, number_of-below}
+use Rattle.kh_types.proofs.ClassLemmas.{merged-others}
 use Rattle.cube_squares.specs.Squares.{circle_at_slot}
 use Rattle.cube_squares.proofs.Merges.{IsMerge, IsSwitch, circle_in}
 use Rattle.cube_squares.proofs.SquareKinds.{IsOn, circle-on}
@@ -73,9 +78,6 @@ not_least p q c not_p not_q = grind arith
 not_greatest : (p q c : ℕ) → c ≢ p → c ≢ q → c ≢ max p q
 not_greatest p q c not_p not_q = grind arith
 
-off_stays : (p q c : ℕ) → c ≢ p → c ≢ q → merged p q c ≡ c
-off_stays p q c not_p not_q = grind (arith, nat_tests)
-
 -- all others are not touched, and stay
 touched-off : (code : Code) (before after crossing arc : ℕ) → IsTrue (accepted code) → IsMerge code before after crossing
     → IsName code arc → IsOff code before crossing arc → is_touched code before crossing (circle_in code before arc) ≡ false
@@ -94,7 +96,7 @@ circle-off : (code : Code) (before after crossing arc : ℕ) → IsMerge code be
     → circle_in code after arc ≡ circle_in code before arc
 circle-off code before after crossing arc merge off =
     merge.one arc
-    ∙ off_stays (circle_at_slot code before crossing 0) (circle_at_slot code before crossing 2) (circle_in code before arc)
+    ∙ merged-others (circle_at_slot code before crossing 0) (circle_at_slot code before crossing 2) (circle_in code before arc)
     off.first off.third
 
 touched-off_after : (code : Code) (before after crossing arc : ℕ) → IsTrue (accepted code) → IsMerge code before after crossing

@@ -1,13 +1,13 @@
 -- Places, tests of places, and sums over what lies at places.
-use Rattle.std.proofs.Common.{◌≡◌, ℕ, ◌+◌, ◌<◌, ◌∙◌, List, [], ◌∷◌, refl, sym, ap, ap₂, arith, Bool, true, false, ◌||◌}
-use Rattle.std.specs.List.{list_any, sum_by, AllByRecursion, Contains}
+use Rattle.std.proofs.Common.{◌≡◌, ℕ, ◌<◌, ◌∙◌, List, [], ◌∷◌, refl, ap, ap₂, arith, Bool, true, false, ◌||◌}
+use Rattle.std.specs.List.{list_any, AllByRecursion, Contains}
 use Rattle.std.proofs.Math.Path.{fun_ext}
-use Rattle.std.proofs.lemmas.List.Sums.{sum_by-cons}
 use Rattle.std.proofs.lemmas.List.Folds.{list_any_at, Any-from_list_any}
-use Rattle.std.proofs.lemmas.List.Elements.{All-contains, All-from_recursion}
 use Rattle.kh_types.specs.Classes.{AreBelow}
 use Rattle.kh_types.proofs.JoinedClasses.{IsNamed-classes_of}
 use Rattle.dotted_surfaces.specs.Surfaces.{Surface, component_of}
+pub use Rattle.kh_types.proofs.Lists.{AllByRecursion-weaker}
+pub use Rattle.kh_types.proofs.Lists.{AllByRecursion-at}
 
 pub list_any-contained : (p : ℕ → Bool) (xs : List ℕ) (x : ℕ) → Contains xs x → p x ≡ true → list_any p xs ≡ true
 list_any-contained p xs x (k, below, is) passes = list_any_at p xs k x below (ap p is ∙ passes)
@@ -24,23 +24,9 @@ list_any-never p (x ∷ xs) never = ap₂ (λ b d. b || d) (never x) (list_any-n
 pub list_any-alike : (p q : ℕ → Bool) (xs : List ℕ) → ((x : ℕ) → p x ≡ q x) → list_any p xs ≡ list_any q xs
 list_any-alike p q xs alike = ap (λ (h : ℕ → Bool). list_any h xs) (fun_ext alike)
 
--- what holds at all elements holds at each, and whatever follows from it too
-pub AllByRecursion-at : {X : Type 0} (P : X → Type 0) (xs : List X) (x : X) → AllByRecursion P xs → Contains xs x → P x
-AllByRecursion-at P xs x all has = All-contains P xs x (All-from_recursion P xs all) has
-
-pub AllByRecursion-weaker : {X : Type 0} (P Q : X → Type 0) (xs : List X) → ((x : X) → P x → Q x) → AllByRecursion P xs
-    → AllByRecursion Q xs
-AllByRecursion-weaker P Q [] weaker all = tt
-AllByRecursion-weaker P Q (x ∷ xs) weaker all = (weaker x all.0, AllByRecursion-weaker P Q xs weaker all.1)
-
 pub list_any-on : (p q : ℕ → Bool) (xs : List ℕ) → AllByRecursion (λ x. p x ≡ q x) xs → list_any p xs ≡ list_any q xs
 list_any-on p q [] alike = refl
 list_any-on p q (x ∷ xs) alike = ap₂ (λ b d. b || d) alike.0 (list_any-on p q xs alike.1)
-
-pub sum_by-on : {X : Type 0} (f g : X → ℕ) (xs : List X) → AllByRecursion (λ x. f x ≡ g x) xs → sum_by f xs ≡ sum_by g xs
-sum_by-on f g [] alike = refl
-sum_by-on f g (x ∷ xs) alike =
-    sum_by-cons f x xs ∙ ap₂ (λ m n. m + n) alike.0 (sum_by-on f g xs alike.1) ∙ sym (sum_by-cons g x xs)
 
 -- a component is a number below the size
 pub component-below : (surface : Surface) (place : ℕ) → AreBelow surface.size surface.joins → place < surface.size

@@ -7,10 +7,9 @@ use Rattle.kh_types.specs.Classes.{AreBelow}
 use Rattle.kh_types.specs.Products.{sum_below}
 use Rattle.kh_types.proofs.Sums.{sum_below-equal}
 use Rattle.kh_types.proofs.ListSums.{sum_by-map}
-use Rattle.kh_types.proofs.Lists.{AllByRecursion-append}
+use Rattle.kh_types.proofs.Lists.{AllByRecursion-append, AllByRecursion-at}
 use Rattle.dotted_surfaces.specs.Surfaces.{Surface, component_of, faces_on, lowers_on, raises_on, IsClosed, value, IsPlaced}
 use Rattle.dotted_surfaces.specs.Cuts.{with_faces, caps, capped, glued, sum_over_labels, AreOn}
-use Rattle.dotted_surfaces.proofs.Components.{AllByRecursion-at}
 use Rattle.dotted_surfaces.proofs.JoinedCounts.{tied, amount_at}
 use Rattle.dotted_surfaces.proofs.OneCut.{place_of_face, one_face, itself, one_place, opened, value-tied, IsClosed-tied}
 use Rattle.dotted_surfaces.proofs.Labels.{sum_below-twice, caps-even, caps-odd, places-caps}

@@ -6,7 +6,7 @@ use Rattle.std.proofs.lemmas.Bool.{cases_lt}
 use Rattle.std.proofs.lemmas.Bool.Decides.{nat_tests}
 use Rattle.std.proofs.lemmas.List.{get_or_past}
 use Rattle.kh_types.specs.Classes.{merged, joined, classes_of}
-use Rattle.kh_types.proofs.ClassLemmas.{slice_index-joined, length-joined}
+use Rattle.kh_types.proofs.ClassLemmas.{slice_index-joined, length-joined, merged-first}
 use Rattle.kh_types.proofs.JoinedClasses.{classes_of-more}
 use Rattle.kh_types.proofs.ListSums.{sum_by-alike, sum_by-plus}
 use Rattle.dotted_surfaces.specs.Surfaces.{Surface, component_of, is_component}
@@ -55,17 +55,8 @@ term-lesser : (u v z w : ℕ) → u ≢ v
     → cond (nat_eq (merged u v z) (min u v)) w 0 ≡ cond (nat_eq z u) w 0 + cond (nat_eq z v) w 0
 term-lesser u v z w apart = grind (arith, nat_tests)
 
-pub merged-first : (u v : ℕ) → merged u v u ≡ min u v
-merged-first u v = grind (arith, nat_tests)
-
 pub merged-second : (u v : ℕ) → merged u v v ≡ min u v
 merged-second u v = grind (arith, nat_tests)
-
-pub merged-others : (u v z : ℕ) → z ≢ u → z ≢ v → merged u v z ≡ z
-merged-others u v z not_u not_v = grind (arith, nat_tests)
-
-pub merged-same : (u v z : ℕ) → u ≡ v → merged u v z ≡ z
-merged-same u v z same = grind (arith, nat_tests)
 
 -- the sum of some amounts over what lies on a component
 abbrev pub amount_at : {X : Type 0} → Surface → ℕ → (X → ℕ) → (X → ℕ) → X → ℕ

@@ -1,17 +1,24 @@
 -- A surface cut along one circle.
+--
+-- A surface is cut along one circle where a join of two faces is left out and a disc, with a label, is put on either side. Either the two
+-- sides are apart after the cut, or still one component, of one genus less. In both cases the value is the sum over the two labels of the
+-- values of the cut surface: a table of weights (Tables) that is checked case by case.
 use Rattle.std.proofs.Common.{◌≡◌, ◌≢◌, ℕ, ◌⊎◌, inl, inr, ◌+◌, ◌*◌, ◌<◌, ◌∙◌, List, [], ◌∷◌, refl, sym, ap, ap₂, arith, true, cond, eq-eqb}
 use Rattle.std.specs.Prelude.{nat_eq, min, max}
 use Rattle.std.specs.List.{sum_by, Contains}
 use Rattle.std.proofs.lemmas.Bool.{cases_eq, cases_lt}
 use Rattle.std.proofs.lemmas.Bool.Decides.{nat_tests}
 use Rattle.std.proofs.lemmas.List.Sums.{sum_by-cons}
-use Rattle.kh_types.specs.Classes.{AreBelow, merged}
+use Rattle.kh_types.specs.Classes.{AreBelow}
+use Rattle.kh_types.proofs.ClassLemmas.{merged-others}
+use Rattle.kh_types.proofs.JoinedClasses.{merged-same}
+use Rattle.kh_types.proofs.EdgeNames.{becomes_least}
 use Rattle.dotted_surfaces.specs.Surfaces.{Surface, component_of, is_component, faces_on, marks_on, lowers_on, raises_on, HasGenus, IsClosed, weight, factor, value, product_below}
 use Rattle.dotted_surfaces.specs.Cuts.{with_faces}
 use Rattle.dotted_surfaces.proofs.Products.{without, rest_of, product_below-without, product_below-two, rest_of-alike, without-alike}
 use Rattle.dotted_surfaces.proofs.Components.{list_any-contained, component-below}
 use Rattle.dotted_surfaces.proofs.Factors.{AreAlike, HaveOneCount-each, factor-alike, genus-alike, factor-at, factor-none, weight-apart, weight-together}
-use Rattle.dotted_surfaces.proofs.JoinedCounts.{tied, component_of-tied, amount_at, sum_at-others, sum_at-same, sum_at-lesser, is_component-others, is_component-lesser, is_component-greater, merged-first, merged-second, merged-others, merged-same}
+use Rattle.dotted_surfaces.proofs.JoinedCounts.{tied, component_of-tied, amount_at, sum_at-others, sum_at-same, sum_at-lesser, is_component-others, is_component-lesser, is_component-greater}
 
 -- how the counts are sums over places
 abbrev pub place_of_face : ℕ × ℕ → ℕ
@@ -292,12 +299,6 @@ value-tied surface a b below a_below b_below has_a has_b closed =
 
 -- and it stays closed
 
-both-merged : (u v z : ℕ) → (z ≡ u) ⊎ (z ≡ v) → merged u v z ≡ min u v
-both-merged u v z either = elim either [
-  | inl is ↦ ap (λ k. merged u v k) is ∙ merged-first u v
-  | inr is ↦ ap (λ k. merged u v k) is ∙ merged-second u v
-]
-
 pub at_place : (surface : Surface) (c d genus : ℕ) → c ≡ d → HasGenus surface d genus → HasGenus surface c genus
 at_place surface c d genus same has = rw same has
 
@@ -310,7 +311,7 @@ closed-apart surface a i b j g h apart has_g has_h place either =
     let v = component_of surface b in (
       g + h,
       at_place (tied surface a b) (component_of (tied surface a b) place) (min u v) (g + h)
-          (component_of-tied surface a b place ∙ both-merged u v (component_of surface place) either)
+          (component_of-tied surface a b place ∙ becomes_least u v (component_of surface place) either)
           (genus-apart surface a i b j g h apart has_g has_h),
     )
 

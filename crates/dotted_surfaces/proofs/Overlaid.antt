@@ -1,4 +1,8 @@
 -- Two surfaces glued along the circles where they meet are the one surface that has all of both.
+--
+-- Two surfaces that meet in circles are glued along each: the joins of both and the joins at the circles. Discs that stand in both stand
+-- once in the surface that has all of both. The components correspond, with as many faces, marks and joins on each, so that both have one
+-- genus and one value.
 use Rattle.std.proofs.Common.{◌≡◌, ℕ, inl, inr, ◌+◌, ◌-◌, ◌<◌, ◌∙◌, List, [], ◌∷◌, ◌++◌, map, refl, sym, ap, ap₂, arith, Bool, true, false, cond, eq-eqb}
 use Rattle.std.specs.Prelude.{nat_eq, nat_lt}
 use Rattle.std.specs.List.{list_any, AllByRecursion, Contains}
@@ -11,12 +15,12 @@ use Rattle.std.proofs.lemmas.List.Sorted.{IsPermutation-refl}
 use Rattle.kh_types.specs.Classes.{Respects}
 use Rattle.kh_types.proofs.ClassCounts.{AreBelow-wider}
 use Rattle.kh_types.proofs.ClassLemmas.{classes-together, classes-finest}
-use Rattle.kh_types.proofs.Lists.{AllByRecursion-append, AllByRecursion-first, AllByRecursion-second, Contains-map}
+use Rattle.kh_types.proofs.Lists.{AllByRecursion-append, AllByRecursion-first, AllByRecursion-second, Contains-map, AllByRecursion-at, AllByRecursion-weaker, AllByRecursion-both}
 use Rattle.dotted_surfaces.specs.Surfaces.{Surface, component_of, IsPlaced, IsClosed, value}
 use Rattle.dotted_surfaces.specs.Cuts.{with_faces, first_caps, second_caps, glued, union, AreOn, AreBetween, glued_two, sum_of_products}
 use Rattle.dotted_surfaces.specs.Projections.{LeadsBack, Projects, Corresponds}
 use Rattle.dotted_surfaces.specs.Overlays.{overlaid, at_places, MeetAlong}
-use Rattle.dotted_surfaces.proofs.Components.{list_any-contained, list_any-some, AllByRecursion-at, AllByRecursion-weaker}
+use Rattle.dotted_surfaces.proofs.Components.{list_any-contained, list_any-some}
 use Rattle.dotted_surfaces.proofs.Unions.{up, pair_up, face_up, place-below, component_of-first, component_of-second}
 use Rattle.dotted_surfaces.proofs.Projected.{Corresponds-projected, IsClosed-moved, value-moved}
 use Rattle.dotted_surfaces.proofs.Renamed.{KeepsComponents-led}
@@ -207,11 +211,6 @@ down-second first second circles x laid has = elim (cases_Bool (is_first first x
   | inr not ↦ ap (λ z. down first.size z) (back-false first x not) ∙ down-up first.size x
 ]
 
-both-weaker : {X : Type 0} (P Q R : X → Type 0) (xs : List X) → ((x : X) → P x → Q x → R x) → AllByRecursion P xs
-    → AllByRecursion Q xs → AllByRecursion R xs
-both-weaker P Q R [] weaker all other = tt
-both-weaker P Q R (x ∷ xs) weaker all other = (weaker x all.0 other.0, both-weaker P Q R xs weaker all.1 other.1)
-
 AllByRecursion-unmap : {X Y : Type 0} (P : Y → Type 0) (f : X → Y) (xs : List X) → AllByRecursion P (map f xs)
     → AllByRecursion (λ x. P (f x)) xs
 AllByRecursion-unmap P f [] all = tt
@@ -239,7 +238,7 @@ whole-onto first second circles laid =
     let Before : ℕ × ℕ → Type 0 = λ pair. component_of (overlaid first second) pair.0 ≡ component_of (overlaid first second) pair.1 in
     let respects = overlay-respects first second circles laid in
     let lows : AllByRecursion Ties first.joins =
-    both-weaker Before (λ pair. (pair.0 < n) × (pair.1 < n)) Ties first.joins
+    AllByRecursion-both Before (λ pair. (pair.0 < n) × (pair.1 < n)) Ties first.joins
     (λ pair same below.
     ap (λ z. component_of (overlaid first second) z) (down-low n pair.0 below.0) ∙ same
     ∙ ap (λ z. component_of (overlaid first second) z) (sym (down-low n pair.1 below.1)))
@@ -273,13 +272,13 @@ overlay-back first second circles laid =
     let Before : ℕ × ℕ → Type 0 = λ pair. component_of whole pair.0 ≡ component_of whole pair.1 in
     let respects = parts-respected first second circles laid in
     let lows : AllByRecursion Ties first.joins =
-    both-weaker Before (λ pair. Contains first.places pair.0 × Contains first.places pair.1) Ties first.joins
+    AllByRecursion-both Before (λ pair. Contains first.places pair.0 × Contains first.places pair.1) Ties first.joins
     (λ pair same has.
     ap (λ z. component_of whole z) (back-first first pair.0 has.0) ∙ same
     ∙ ap (λ z. component_of whole z) (sym (back-first first pair.1 has.1)))
     (AllByRecursion-first Before first.joins (map (pair_up n) second.joins) respects) laid.along.joins in
     let highs : AllByRecursion Ties second.joins =
-    both-weaker (λ pair. Before (pair_up n pair)) (λ pair. Contains second.places pair.0 × Contains second.places pair.1) Ties
+    AllByRecursion-both (λ pair. Before (pair_up n pair)) (λ pair. Contains second.places pair.0 × Contains second.places pair.1) Ties
     second.joins
     (λ pair same has.
     back-second first second circles pair.0 laid has.0 ∙ same ∙ sym (back-second first second circles pair.1 laid has.1))

@@ -1,16 +1,22 @@
 -- Surfaces with the same components under other names have one number.
-use Rattle.std.proofs.Common.{◌≡◌, ℕ, inl, inr, ◌<◌, ◌∙◌, List, [], ◌∷◌, map, refl, sym, ap, ap₂, arith, Bool, true, false, cond, ◌&&◌, eq-eqb}
+--
+-- If a map of places takes the components of one surface to those of another one to one, and each list of the one (faces, marks, joins that
+-- count) to that of the other up to order, then each component has the same counts, so the same genus and factor, and the product over
+-- components is the same.
+use Rattle.std.proofs.Common.{◌≡◌, ℕ, inl, inr, ◌<◌, ◌∙◌, List, map, refl, sym, ap, ap₂, arith, Bool, true, false, cond, ◌&&◌, eq-eqb}
 use Rattle.std.specs.Prelude.{nat_eq}
 use Rattle.std.specs.List.{list_any, AllByRecursion, Contains}
 use Rattle.std.specs.List.Sorted.{IsPermutation}
 use Rattle.std.proofs.lemmas.Bool.{cases_Bool, eqb-true, and_from, and_parts, false_from_ne_true, both_ways}
 use Rattle.std.proofs.lemmas.Bool.Decides.{nat_tests}
 use Rattle.std.proofs.lemmas.List.Sorted.{sum_by-IsPermutation, IsPermutation-map}
-use Rattle.kh_types.proofs.ListSums.{sum_by-map, sum_by-alike}
+use Rattle.std.proofs.lemmas.Simd.{map-map}
+use Rattle.kh_types.proofs.ListSums.{sum_by-map, sum_by-alike, sum_by-on}
+use Rattle.kh_types.proofs.Lists.{AllByRecursion-at, AllByRecursion-weaker}
 use Rattle.dotted_surfaces.specs.Surfaces.{Surface, component_of, is_component, IsClosed, factor, value, product_below, IsPlaced}
 use Rattle.dotted_surfaces.specs.Projections.{KeepsComponents, Corresponds, face_at, LieAlike, Projects}
 use Rattle.dotted_surfaces.proofs.Products.{product_below-ones, product_below-single, product_below-table}
-use Rattle.dotted_surfaces.proofs.Components.{list_any-contained, list_any-some, AllByRecursion-weaker, AllByRecursion-at, sum_by-on, component-below}
+use Rattle.dotted_surfaces.proofs.Components.{list_any-contained, list_any-some, component-below}
 use Rattle.dotted_surfaces.proofs.Factors.{AreAlike, HaveOneCount-each, AreAlike-sym, factor-alike, factor-none, genus-alike}
 use Rattle.dotted_surfaces.proofs.JoinedCounts.{amount_at, sum_at}
 use Rattle.dotted_surfaces.proofs.OneCut.{place_of_face, marks_of_face, one_face, itself, one_place, is_component-of, at_place}
@@ -67,14 +73,9 @@ Corresponds-alike f old new placed keeps alike =
           p keeps has (λ x. refl) (λ x. refl) (λ x. refl) (λ x. refl) placed.raises alike.raises);
     }
 
--- the same places give the same components
-map-both : {X Y Z : Type 0} (g : Y → Z) (h : X → Y) (xs : List X) → map g (map h xs) ≡ map (λ x. g (h x)) xs
-map-both g h [] = refl
-map-both {X} {Y} {Z} g h (x ∷ xs) = ap (λ (zs : List Z). g (h x) ∷ zs) (map-both g h xs)
-
 moved-along : {X Y : Type 0} (g : X → Y) (h : X → X) (xs ys : List X) → IsPermutation (map h xs) ys
     → IsPermutation (map (λ x. g (h x)) xs) (map g ys)
-moved-along g h xs ys moved = rw (sym (map-both g h xs)) (IsPermutation-map g (map h xs) ys moved)
+moved-along g h xs ys moved = rw (sym (map-map g h xs)) (IsPermutation-map g (map h xs) ys moved)
 
 pub LieAlike-projected : (f : ℕ → ℕ) (old new : Surface) → Projects f old new → LieAlike f old new
 LieAlike-projected f old new projects =

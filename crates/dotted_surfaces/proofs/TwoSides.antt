@@ -1,4 +1,8 @@
 -- Two surfaces glued along circles between them.
+--
+-- Circles between two surfaces are cut one after another (OneCut). Each cut puts a disc with a label on the one side and one with the other
+-- label on the other side; behind the last cut the two surfaces are apart. So the value is the sum over all labels of the products of both
+-- values.
 use Rattle.std.proofs.Common.{◌≡◌, ℕ, inl, inr, ◌+◌, ◌-◌, ◌*◌, ◌^◌, ◌<◌, ◌∙◌, List, [], ◌∷◌, ◌++◌, map, length, get_or, refl, sym, ap, append_assoc, arith}
 use Rattle.std.specs.List.{flat_map, enumerate_from, AllByRecursion, Contains}
 use Rattle.std.specs.List.Sorted.{IsPermutation}
@@ -8,12 +12,12 @@ use Rattle.std.proofs.lemmas.List.Sorted.{IsPermutation-refl, IsPermutation-tran
 use Rattle.kh_types.specs.Bits.{bit}
 use Rattle.kh_types.specs.Products.{sum_below}
 use Rattle.kh_types.proofs.ClassCounts.{AreBelow-wider}
-use Rattle.kh_types.proofs.Lists.{AllByRecursion-append, Contains-map}
+use Rattle.kh_types.proofs.Lists.{AllByRecursion-append, Contains-map, AllByRecursion-weaker}
 use Rattle.kh_types.proofs.Sums.{sum_below-equal}
 use Rattle.dotted_surfaces.specs.Surfaces.{Surface, component_of, IsClosed, value, IsPlaced}
 use Rattle.dotted_surfaces.specs.Cuts.{with_faces, caps_at, caps, capped, AreOn, union, first_caps, second_caps, AreBetween, glued_two, sum_of_products}
 use Rattle.dotted_surfaces.specs.Projections.{IsReordered}
-use Rattle.dotted_surfaces.proofs.Components.{AllByRecursion-weaker, component-below}
+use Rattle.dotted_surfaces.proofs.Components.{component-below}
 use Rattle.dotted_surfaces.proofs.Factors.{AreAlike-sym, genus-alike}
 use Rattle.dotted_surfaces.proofs.OneCut.{at_place}
 use Rattle.dotted_surfaces.proofs.Cut.{IsCuttable-placed, value-glued, IsClosed-glued}

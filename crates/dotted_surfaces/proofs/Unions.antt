@@ -1,4 +1,7 @@
 -- Two surfaces as one.
+--
+-- The places of the second surface are raised behind those of the first, so joins stay within either. Components are those of both (as
+-- classes of two parts are), each with its counts, so that genera stay and the value is the product of both.
 use Rattle.std.proofs.Common.{◌≡◌, ℕ, zero, suc, ◌+◌, ◌*◌, ◌<◌, ◌∙◌, List, [], ◌∷◌, ◌++◌, length, map, refl, sym, ap, ap₂, arith, Bool, false, cond, ◌||◌}
 use Rattle.std.specs.Prelude.{nat_eq, slice_index}
 use Rattle.std.specs.List.{sum_by, list_any, fold, range_with_len, AllByRecursion, Contains}
@@ -12,13 +15,15 @@ use Rattle.std.proofs.lemmas.List.Sums.{sum_by-append, fold-append}
 use Rattle.kh_types.specs.Classes.{merged, joined, classes_of, AreBelow, IsNamed}
 use Rattle.kh_types.proofs.ClassCounts.{merged-other}
 use Rattle.kh_types.proofs.JoinedClasses.{IsNamed-range, IsNamed-joined, IsNamed-classes_of}
-use Rattle.kh_types.proofs.ListSums.{sum_by-map, sum_by-zeros}
+use Rattle.kh_types.proofs.ListSums.{sum_by-map, sum_by-zeros, sum_by-on}
 use Rattle.kh_types.proofs.MappedLists.{list_any-map}
 use Rattle.kh_types.proofs.Ranges.{range-append}
+use Rattle.kh_types.proofs.Lists.{AllByRecursion-at, AllByRecursion-weaker}
+use Rattle.kh_types.proofs.ClassLemmas.{merged-low, merged-moved}
 use Rattle.dotted_surfaces.specs.Surfaces.{Surface, component_of, is_component, factor, value, IsPlaced}
 use Rattle.dotted_surfaces.specs.Cuts.{union}
 use Rattle.dotted_surfaces.proofs.Products.{product_below-append, product_below-alike}
-use Rattle.dotted_surfaces.proofs.Components.{AllByRecursion-weaker, AllByRecursion-at, sum_by-on, list_any-on, component-below}
+use Rattle.dotted_surfaces.proofs.Components.{list_any-on, component-below}
 use Rattle.dotted_surfaces.proofs.Factors.{AreAlike, HaveOneCount-each, factor-alike}
 use Rattle.dotted_surfaces.proofs.JoinedCounts.{amount_at, sum_at}
 use Rattle.dotted_surfaces.proofs.OneCut.{place_of_face, marks_of_face, one_face, itself, one_place}
@@ -71,17 +76,10 @@ fold-left n xs ys (pair ∷ pairs) named below =
     ap (λ zs. fold joined zs pairs) (joined-left n xs ys pair named below.0.0 below.0.1)
     ∙ fold-left n (joined xs pair) ys pairs (IsNamed-joined n xs pair below.0.0 below.0.1 named) below.1
 
--- pairs of the second part change nothing in the first
-merged-low : (n u v x : ℕ) → x < n → merged (n + u) (n + v) x ≡ x
-merged-low n u v x below = grind (arith, nat_tests)
-
 merged-lows : (n u v : ℕ) (xs : List ℕ) → AllByRecursion (λ x. x < n) xs → map (merged (n + u) (n + v)) xs ≡ xs
 merged-lows n u v [] below = refl
 merged-lows n u v (x ∷ xs) below =
     ap₂ (λ (z : ℕ) (zs : List ℕ). z ∷ zs) (merged-low n u v x below.0) (merged-lows n u v xs below.1)
-
-merged-moved : (n u v y : ℕ) → merged (n + u) (n + v) (n + y) ≡ n + merged u v y
-merged-moved n u v y = grind (arith, nat_tests)
 
 merged-ups : (n u v : ℕ) (ys : List ℕ) → map (merged (n + u) (n + v)) (up n ys) ≡ up n (map (merged u v) ys)
 merged-ups n u v [] = refl

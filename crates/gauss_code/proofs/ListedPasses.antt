@@ -1,4 +1,8 @@
 -- The passes that the listing of a code stands for: one for each arc, that on which the arc enters a crossing.
+--
+-- What is printed lists for each component, from its least arc on, the label of the dart at which each arc enters. Read back, these labels
+-- make the passes again: the pass at a place enters on the arc of that place and leaves on the next, as the components are intervals. So
+-- the crossings that the passes make are those of the diagram.
 use Rattle.std.proofs.Common.{◌≡◌, ℕ, zero, suc, ◌+◌, ◌-◌, ◌<◌, ◌≤◌, ◌∙◌, ℤ, List, [], ◌∷◌, ◌++◌, get_or, length, map, pos, refl, sym, ap, arith}
 use Rattle.std.specs.Prelude.{nat_eq, replicate, if◌then◌else◌, unwrap_or}
 use Rattle.std.specs.List.{AllByRecursion, flat_map, range_with_len}

@@ -1,23 +1,13 @@
 -- How loops compute labels, passes and crossings.
-use Rattle.std.proofs.Common.{◌≡◌, ℕ, ◌+◌, ◌<◌, ◌&&◌, Bool, true, false, cond, List, [], ◌∷◌, ◌++◌, length, map, drop, get_or, ap, refl, sym, ◌∙◌, arith, append_assoc, length-append, ℤ, int_lt}
+use Rattle.std.proofs.Common.{◌≡◌, ℕ, ◌+◌, ◌<◌, List, [], ◌∷◌, ◌++◌, length, map, drop, get_or, ap, sym, ◌∙◌, arith, append_assoc, length-append, ℤ}
 use Rattle.std.specs.Global.{Vec}
 use Rattle.std.specs.List.{range_with_len}
 use Rattle.std.proofs.lemmas.List.{at_drop_more}
 use Rattle.std.proofs.lemmas.List.FromFn.{length-map-range_with_len}
 use Rattle.kh_types.proofs.Ranges.{map_from_zero, range_steps}
 use Rattle.gauss_code.specs.Held.{labels_held, numbers_of}
-use Rattle.code_passes.specs.Passes.{Pass, all_passes, is_over, pass_at, passes_from, turned_labels}
-
--- turning keeps the number of labels
-pub length-turned_labels : (labels : List ℤ) → length (turned_labels labels) ≡ length labels
-length-turned_labels [] = refl
-length-turned_labels (first ∷ []) = refl
-length-turned_labels (first ∷ second ∷ []) = go ((is_over first && is_over second) && int_lt second first)
-  where
-    go : (turns : Bool) → length (cond turns (second ∷ first ∷ []) (first ∷ second ∷ [])) ≡ 2
-    go true = refl
-    go false = refl
-length-turned_labels (first ∷ second ∷ third ∷ labels) = refl
+use Rattle.code_passes.specs.Passes.{Pass, all_passes, pass_at, passes_from, turned_labels}
+use Rattle.code_passes.proofs.ComponentPasses.{length-turned_labels}
 
 pub ruleset one_more_pass = (length-turned_labels, range_steps)
 

@@ -1,5 +1,9 @@
 -- The text of a code reads as the code.
-use Rattle.std.proofs.Common.{◌≡◌, ℕ, zero, suc, inl, inr, ◌+◌, ◌-◌, ◌/◌, ◌<◌, ◌≤◌, ◌∙◌, ℤ, pos, neg_ℤ, Some, All, List, [], ◌∷◌, get_or, length, map, Ok, refl, sym, ap, subst, arith, Bool, true, false}
+--
+-- The text is spelled from the listing, and the listing is that of the diagram: its labels are not bad, its signs are those of the
+-- crossings, its components begin as they are turned. So it has no fault, and the code that it stands for has the diagram's crossings
+-- (ListedPasses) and loops.
+use Rattle.std.proofs.Common.{◌≡◌, ℕ, zero, suc, inl, inr, ◌+◌, ◌-◌, ◌/◌, ◌<◌, ◌≤◌, ◌∙◌, ℤ, pos, neg_ℤ, All, List, [], ◌∷◌, get_or, length, map, Ok, refl, sym, ap, subst, arith, Bool, true, false}
 use Rattle.std.specs.Prelude.{IsTrue, if◌then◌else◌}
 use Rattle.std.specs.List.{AllByRecursion, range_with_len}
 use Rattle.std.proofs.lemmas.Bool.{cases_Bool}

@@ -1,5 +1,5 @@
 -- The code that the body of a text and signs stand for (Knot Atlas, "Gauss Codes").
-use Rattle.std.specs.Prelude.{ℕ, List, map, ℤ}
+use Rattle.std.specs.Prelude.{List, map, ℤ}
 use Rattle.std.specs.List.{range_with_len}
 use Rattle.kh_types.specs.Code.{Code}
 use Rattle.code_passes.specs.Passes.{all_passes, slots_by_passes}

@@ -1,11 +1,9 @@
 -- The signed Gauss text of a code in print (Knot Atlas, "Gauss Codes"; the braces, the signs and the spaces are this project's rule).
-use Rattle.std.specs.Prelude.{ℕ, ◌&&◌, List, [], ◌∷◌, ◌++◌, map, replicate, length, nat_eq, if◌then◌else◌, codes, ℤ, pos, neg_ℤ, Some}
+use Rattle.std.specs.Prelude.{ℕ, ◌&&◌, List, [], ◌∷◌, ◌++◌, map, replicate, length, nat_eq, if◌then◌else◌, codes, ℤ, Some}
 use Rattle.std.specs.Fmt.{signed_decimal}
-use Rattle.std.specs.List.{flat_map, range_with_len}
+use Rattle.std.specs.List.{flat_map}
 use Rattle.kh_types.specs.Code.{Code, crossing_numbers}
-use Rattle.kh_types.specs.Components.{arcs_in, components_of, first_arcs}
-use Rattle.kh_types.specs.Directions.{head_of, sign_of}
-use Rattle.kh_types.specs.declared.dart.Dart.{Dart}
+use Rattle.kh_types.specs.Directions.{sign_of}
 use Rattle.gauss_code.specs.Listings.{Body, Listing}
 use Rattle.code_passes.specs.ComponentLabels.{labels_of_code}
 use Rattle.gauss_code.specs.Faults.{signs_of}

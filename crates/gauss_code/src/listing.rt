@@ -9,8 +9,9 @@ ghost use Rattle.gauss_code.specs.Held.{body_held, labels_held};
 ghost use Rattle.gauss_code.specs.Machine.{group_ended, with_group};
 ghost use Rattle.code_passes.specs.Passes.{all_passes};
 
-use crate::passes::{Pass, push_all_passes, push_passes};
+use crate::passes::{push_all_passes, push_passes};
 use arrayvec::ArrayVec;
+use code_passes::Pass;
 use kh_types::{ARCS, INPUT_BYTES};
 use std::alloc::{AllocFailed, Global};
 use std::marker::Model;

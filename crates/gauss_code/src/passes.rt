@@ -7,46 +7,13 @@ ghost use Rattle.kh_types.specs.declared.limits.TheConstants.{CROSSINGS};
 ghost use Rattle.gauss_code.specs.declared.listing.TheConstants.{LABELS};
 ghost use Rattle.gauss_code.specs.Held.{labels_held, numbers_of};
 ghost use Rattle.code_passes.specs.Labels.{listed_number};
-ghost use Rattle.code_passes.specs.Passes.{all_passes, no_pass, pass_at, pass_of, passes_from, slots_by_passes, slots_between, turned_labels};
+ghost use Rattle.code_passes.specs.Passes.{all_passes, pass_at, pass_of, passes_from, slots_by_passes, slots_between, turned_labels};
 
 use crate::labels::listed_number;
 use crate::listing::LABELS;
 use arrayvec::ArrayVec;
+use code_passes::Pass;
 use kh_types::{CROSSINGS, Crossing};
-use std::marker::Model;
-
-/// A pass of a component at a crossing: the number of the crossing where it passes over, and minus
-/// the number where it passes under; the arc on which it enters, and the one on which it leaves.
-/// Source: Knot Atlas, "Gauss Codes"; the numbers of arcs are this project's rule.
-#[derive(Clone, Copy)]
-pub struct Pass {
-    label: i32,
-    enters: u8,
-    leaves: u8,
-}
-
-impl Model for Pass {
-    ghost use Rattle.code_passes.specs.Passes.{Pass};
-
-    ghost Value = { Pass };
-
-    ghost view = { λ pass. record { label = pass.label; enters = pass.enters; leaves = pass.leaves } };
-
-    ghost inverse = { λ pass. record { label = pass.label; enters = pass.enters; leaves = pass.leaves } };
-}
-
-impl Default for Pass {
-    ghost is_default = { λ pass. pass ≡ no_pass };
-
-    /// No pass.
-    fn default() -> Pass {
-        Pass {
-            label: 0,
-            enters: 0,
-            leaves: 0,
-        }
-    }
-}
 
 /// Adds the passes of components, whose arcs follow those of the passes before, and for which
 /// there is room.

@@ -1,24 +1,33 @@
 -- The circles of a code's state by its darts, and the bits of states with one crossing more.
+--
+-- A code is glued to another along arcs, and Glued compares classes of pairs of any numbers under names. To use it on a state of a code,
+-- the circles of the state have to be such classes. So the smoothings of a state are said of darts: there they are pairs of the numbers 0
+-- to 4n - 1, which depend on the state and on n alone, and not on the code (`dart_smoothings`). The arc of each dart is then its name, and
+-- the smoothings of the code are those pairs under that name (`smoothings_of-darts`); names are below the number of arcs and loops, and 0
+-- is none of them, so that its class is one that is no circle. Two codes of as many crossings have the same pairs of darts, and differ in
+-- names alone: that is what renumberings, kinks, fingers and slides compare. The last part is for codes of one crossing more: its smoothing
+-- is the last pair of pairs, and its bit the highest of the state, so that sums over states split into two halves.
 use Rattle.std.proofs.Common.{◌≡◌, ℕ, zero, suc, ◌+◌, ◌*◌, ◌/◌, ◌%◌, ◌^◌, ◌<◌, ◌≤◌, ◌∙◌, List, [], ◌∷◌, ◌++◌, sym, refl, length, ap, ap₂, arith, Bool, true, false, cond}
 use Rattle.std.specs.Prelude.{slice_index, slice_index_or, nat_eq}
-use Rattle.std.specs.List.{filter, flat_map, enumerate_from, range_with_len, sum_by}
+use Rattle.std.specs.List.{filter, flat_map, enumerate_from, range_with_len}
 use Rattle.std.proofs.Math.Nat.{div-eq_of_lt}
-use Rattle.std.proofs.lemmas.List.{map-append}
-use Rattle.std.proofs.lemmas.List.Sums.{sum_by-cons}
+use Rattle.std.proofs.lemmas.List.{map-append, append-nil}
 use Rattle.std.proofs.lemmas.Grind.{flat_map-append}
-use Rattle.kh_types.specs.Bits.{bit, ones}
+use Rattle.std.proofs.lemmas.Bool.{eq-eqb}
+use Rattle.kh_types.specs.Bits.{bit}
 use Rattle.kh_types.specs.Code.{Code, arc_in}
 use Rattle.kh_types.specs.Classes.{is_least, class_count, AreBelow}
 use Rattle.kh_types.specs.Circles.{smoothing_of, smoothings_of, circles_of, circle_count}
-use Rattle.kh_types.proofs.Ranges.{sum_by-range_more}
 use Rattle.gluing.specs.Arcs.{arc_by_place}
 use Rattle.kh_types.proofs.JoinedClasses.{IsNamed-classes_of}
-use Rattle.gluing.proofs.OldLemmas.{own_passes}
 use Rattle.kh_types.proofs.EdgeBits.{bit-set_there, bit-set_other}
+use Rattle.kh_types.proofs.ClassLemmas.{AreBelow-append}
 use Rattle.gluing.specs.Glue.{renamed, Places}
 use Rattle.gluing.specs.Codes.{arc_of_dart, name_count, HoldsArcs}
 use Rattle.gluing.proofs.DartPairs.{darts_of, dart_smoothings}
-use Rattle.gluing.proofs.Renamed.{AreBelow-append}
+pub use Rattle.std.proofs.lemmas.List.{append-nil as append-nothing}
+pub use Rattle.kh_types.proofs.LabelDegrees.{ones-lower as ones-not_highest}
+pub use Rattle.kh_types.proofs.LabelDegrees.{ones-upper as ones-highest}
 
 -- smoothings, on any four names
 
@@ -113,7 +122,7 @@ class_count-circles code state below =
     let e : m + 1 ≡ suc m = omega arith in
     ap (λ k. length (filter (is_least classes) (range_with_len 0 k))) (named.size ∙ e)
     ∙ ap (λ b. length (cond b (0 ∷ filter (is_least classes) (range_with_len 1 m)) (filter (is_least classes) (range_with_len 1 m))))
-    (own_passes (slice_index classes 0) 0 zero_own)
+    (eq-eqb (slice_index classes 0) 0 zero_own)
     ∙ (let last : suc (circle_count code state) ≡ circle_count code state + 1 = omega arith in last)
 
 -- states of one crossing more: the new bit is the highest
@@ -130,28 +139,6 @@ pub bit-lower : (n state k : ℕ) → state < 2 ^ n → k < n → bit (2 ^ n + s
 bit-lower n state k below k_below =
     let turned : 2 ^ n + state ≡ state + 2 ^ n = omega arith in
     ap (λ s. bit s k) turned ∙ bit-set_other state n (bit-above n state below) k (λ same. absurd (omega arith))
-
-sum_by-range_same : (f g : ℕ → ℕ) (a n : ℕ) → ((k : ℕ) → a ≤ k → k < a + n → f k ≡ g k)
-    → sum_by f (range_with_len a n) ≡ sum_by g (range_with_len a n)
-sum_by-range_same f g a zero same = refl
-sum_by-range_same f g a (suc n) same =
-    sum_by-cons f a (range_with_len (a + 1) n)
-    ∙ ap₂ (λ x y. x + y) (same a (omega arith) (omega arith))
-    (sum_by-range_same f g (a + 1) n (λ k from below. same k (omega arith) (omega arith)))
-    ∙ sym (sum_by-cons g a (range_with_len (a + 1) n))
-
-pub ones-more : (n state : ℕ) → ones (n + 1) state ≡ ones n state + bit state n
-ones-more n state = sum_by-range_more (bit state) 0 n n (omega arith)
-
-pub ones-highest : (n state : ℕ) → state < 2 ^ n → ones (n + 1) (2 ^ n + state) ≡ ones n state + 1
-ones-highest n state below =
-    ones-more n (2 ^ n + state)
-    ∙ ap₂ (λ x y. x + y)
-    (sum_by-range_same (bit (2 ^ n + state)) (bit state) 0 n (λ k from k_below. bit-lower n state k below (omega arith)))
-    (bit-highest n state below)
-
-pub ones-not_highest : (n state : ℕ) → state < 2 ^ n → ones (n + 1) state ≡ ones n state
-ones-not_highest n state below = let none = bit-above n state below in ones-more n state ∙ omega (arith, none)
 
 pub dart_smoothings-same_from : (first second at count : ℕ) → ((k : ℕ) → at ≤ k → k < at + count → bit first k ≡ bit second k)
     → flat_map (λ place. smoothing_of (bit first place) (darts_of place)) (range_with_len at count)
@@ -175,10 +162,6 @@ enumerate_from-append at (x ∷ xs) ys =
     ap (λ ps. (let p : ℕ × List ℕ = (at, x) in p) ∷ ps)
     (enumerate_from-append (at + 1) xs ys ∙ ap (λ k. enumerate_from (at + 1) xs ++ enumerate_from k ys) e)
 
-pub append-nothing : (ps : List (ℕ × ℕ)) → ps ++ [] ≡ ps
-append-nothing [] = refl
-append-nothing (p ∷ ps) = ap (λ qs. p ∷ qs) (append-nothing ps)
-
 pub smoothings_of-more : (crossings : List (List ℕ)) (quadruple : List ℕ) (state : ℕ)
     → smoothings_of (crossings ++ quadruple ∷ []) state
     ≡ smoothings_of crossings state ++ smoothing_of (bit state (length crossings)) quadruple
@@ -188,5 +171,5 @@ smoothings_of-more crossings quadruple state =
     ap (λ cs. flat_map g cs) (enumerate_from-append 0 crossings (quadruple ∷ []))
     ∙ flat_map-append g (enumerate_from 0 crossings) (enumerate_from (0 + length crossings) (quadruple ∷ []))
     ∙ ap (λ ps. flat_map g (enumerate_from 0 crossings) ++ ps)
-    (append-nothing (smoothing_of (bit state (0 + length crossings)) quadruple)
+    (append-nil (smoothing_of (bit state (0 + length crossings)) quadruple)
     ∙ ap (λ k. smoothing_of (bit state k) quadruple) e)

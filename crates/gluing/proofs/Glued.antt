@@ -1,17 +1,15 @@
 -- The gluing law.
-use Rattle.std.proofs.Common.{◌≡◌, ◌≢◌, ℕ, ◌⊎◌, inl, inr, ◌+◌, ◌<◌, ◌∙◌, List, [], ◌∷◌, ◌++◌, sym, ap, arith}
+use Rattle.std.proofs.Common.{◌≡◌, ℕ, inl, inr, ◌+◌, ◌<◌, ◌∙◌, List, [], ◌∷◌, ◌++◌, sym, ap, arith}
 use Rattle.std.specs.Prelude.{slice_index}
 use Rattle.std.specs.List.{fold, range_with_len}
 use Rattle.std.proofs.lemmas.List.Sums.{fold-append}
 use Rattle.std.proofs.lemmas.Bool.Decides.{nat_tests}
+use Rattle.std.proofs.lemmas.Bool.{cases_eq}
 use Rattle.kh_types.specs.Classes.{merged, joined, classes_of, class_count, AreBelow}
 use Rattle.kh_types.specs.Classes.{IsNamed}
 use Rattle.kh_types.proofs.ClassLemmas.{slice_index-joined}
 use Rattle.kh_types.proofs.JoinedClasses.{joined-together, IsNamed-joined, IsNamed-classes_of, class_count-joined}
 use Rattle.gluing.specs.Glue.{renamed, Places, JoinAlike}
-
-pub same_or_other : (c d : ℕ) → (c ≡ d) ⊎ (c ≢ d)
-same_or_other c d = grind (arith, nat_tests)
 
 -- where two classes become one in both diagrams, two numbers that the one joins then, the other joins
 merged-alike : (a b u v c d w z : ℕ) → merged a b u ≡ merged a b v
@@ -71,7 +69,7 @@ class_count-glued m n k f g (pair ∷ outer) first second below first_named seco
     (IsNamed-joined k second in_second (g_places pair.0 p_below) (g_places pair.1 q_below) second_named)
     f_places g_places
     (JoinAlike-joined m n k f g pair first second first_named second_named f_places g_places p_below q_below alike) in
-    elim (same_or_other (slice_index first (f pair.0)) (slice_index first (f pair.1))) [
+    elim (cases_eq (slice_index first (f pair.0)) (slice_index first (f pair.1))) [
       | inl same ↦
           ap (λ c. class_count c + class_count (fold joined (joined second in_second) (renamed g outer)))
           (sym (joined-together first in_first same))

@@ -1,22 +1,26 @@
 -- The circles of a diagram round a triangle: those closed inside, and those of the rest with the ends joined.
+--
+-- Two diagrams are compared, the one round a triangle and the one in which its six ends are joined as a state joins them. A value is given
+-- to each class of the first: of a class with an end the class of the second, of a class closed inside one of its own. What both join alike
+-- stays alike when the rest is joined (Glued), so the first has the classes of the second and those that are closed inside.
 use Rattle.std.proofs.Common.{◌≡◌, ◌≢◌, ℕ, zero, suc, ◌⊎◌, inl, inr, ◌+◌, ◌-◌, ◌<◌, ◌≤◌, ◌∙◌, List, [], ◌∷◌, ◌++◌, sym, length, ap, ap₂, arith, cond}
 use Rattle.std.specs.Prelude.{slice_index, nat_eq, nat_lt}
 use Rattle.std.specs.List.{range_with_len, filter}
 use Rattle.std.proofs.lemmas.Bool.Decides.{nat_tests}
 use Rattle.std.proofs.lemmas.List.{map-append}
+use Rattle.std.proofs.lemmas.Bool.{eq-eqb, cases_order}
 use Rattle.kh_types.specs.Classes.{classes_of, is_least, class_count, Respects, AreBelow}
 use Rattle.kh_types.specs.Circles.{smoothings_of}
-use Rattle.kh_types.proofs.ClassLemmas.{classes-together, classes-finest}
+use Rattle.kh_types.proofs.ClassLemmas.{classes-together, classes-finest, AreBelow-append}
 use Rattle.kh_types.proofs.JoinedClasses.{IsNamed-classes_of}
-use Rattle.gluing.proofs.OldLemmas.{own_passes}
 use Rattle.gluing.specs.Glue.{renamed, Places, JoinAlike}
 use Rattle.gluing.specs.Slides.{ends_joined, closed_inside, IsPlacedTriangle, IsNoSide}
 use Rattle.gluing.proofs.OuterPairs.{TouchNoSide, stubs, at_stubs, rest_circles}
 use Rattle.gluing.proofs.Ties.{ties_of}
 use Rattle.gluing.proofs.Glued.{class_count-glued_parts}
-use Rattle.gluing.proofs.Renamed.{AreBelow-renamed, AreBelow-append, classes_of-turned, class_count-renamed}
+use Rattle.gluing.proofs.Renamed.{AreBelow-renamed, classes_of-turned, class_count-renamed}
 use Rattle.gluing.proofs.TiedTable.{IsTied}
-use Rattle.gluing.proofs.Stubs.{Respects-renamed, Respects-from_renamed, Respects-through, AreBelow-more, renamed-kept, renamed-below, renamed-twice, append-three, unstubbed, unstubbed-below, stubs-below, class_count-unstubbed, at_stubs-side, at_stubs-places, unstubbed-at_stubs, end-no_side, order_of, at_stubs-apart}
+use Rattle.gluing.proofs.Stubs.{Respects-renamed, Respects-from_renamed, Respects-through, AreBelow-more, renamed-kept, renamed-below, renamed-twice, append-three, unstubbed, unstubbed-below, stubs-below, class_count-unstubbed, at_stubs-side, at_stubs-places, unstubbed-at_stubs, end-no_side, at_stubs-apart}
 
 -- what lies outside sees of the triangle only how the ends are joined
 
@@ -134,11 +138,11 @@ seen_at : (ℕ → ℕ) → ℕ → ℕ
 seen_at arcs x = value_of (arcs 7) (arcs 8) (arcs 9) 0 0 0 (λ z. z) x
 
 no_side_or_zero : (arcs : ℕ → ℕ) (x : ℕ) → (IsNoSide arcs x) ⊎ ((x ≡ arcs 7) ⊎ ((x ≡ arcs 8) ⊎ (x ≡ arcs 9)))
-no_side_or_zero arcs x = elim (order_of x (arcs 7)) [
+no_side_or_zero arcs x = elim (cases_order x (arcs 7)) [
   | inl is ↦ inr (inl is)
-  | inr not_7 ↦ elim (order_of x (arcs 8)) [
+  | inr not_7 ↦ elim (cases_order x (arcs 8)) [
     | inl is ↦ inr (inr (inl is))
-    | inr not_8 ↦ elim (order_of x (arcs 9)) [
+    | inr not_8 ↦ elim (cases_order x (arcs 9)) [
       | inl is ↦ inr (inr (inr is))
       | inr not_9 ↦ inl (λ side from below same. elim (side_is side from below) [
         | inl is ↦ differ x (arcs 7) not_7 (same ∙ ap arcs is)
@@ -263,7 +267,7 @@ class_count-positive n pairs below some =
     let others = filter (is_least classes) (range_with_len 1 (n - 1)) in
     let count : class_count classes ≡ suc (length others) =
     ap (λ k. length (filter (is_least classes) (range_with_len 0 k))) (named.size ∙ e)
-    ∙ ap (λ b. length (cond b (0 ∷ others) others)) (own_passes (slice_index classes 0) 0 zero_own) in
+    ∙ ap (λ b. length (cond b (0 ∷ others) others)) (eq-eqb (slice_index classes 0) 0 zero_own) in
     omega (arith, count)
 
 pub rest_circles-positive : (n : ℕ) (arcs : ℕ → ℕ) (outer : List (ℕ × ℕ)) (joined : List ℕ) → IsPlacedTriangle n arcs → AreBelow n outer

@@ -1,5 +1,5 @@
 -- The two terms that a kink makes of each term of the state sum.
-use Rattle.std.proofs.Common.{◌≡◌, ℕ, zero, suc, ◌⊎◌, inl, inr, ◌+◌, ◌*◌, ◌%◌, ◌<◌, ◌∙◌, List, [], ◌∷◌, ◌++◌, ℤ, pos, neg_ℤ, ◌+ℤ◌, ◌-ℤ◌, sym, map, ap, ap₂, arith, Bool, true, false, cond}
+use Rattle.std.proofs.Common.{◌≡◌, ℕ, zero, suc, ◌⊎◌, inl, inr, ◌+◌, ◌*◌, ◌%◌, ◌<◌, ◌∙◌, ℤ, pos, neg_ℤ, ◌+ℤ◌, ◌-ℤ◌, sym, map, ap, ap₂, arith, Bool, true, false, cond}
 use Rattle.std.specs.Prelude.{nat_eq}
 use Rattle.std.specs.List.{range_with_len}
 use Rattle.std.proofs.lemmas.Bool.Decides.{nat_tests}
@@ -7,6 +7,7 @@ use Rattle.std.proofs.lemmas.Int.{ints}
 use Rattle.std.proofs.lemmas.List.{map-append}
 use Rattle.kh_types.specs.StateSum.{int_sum, circle_coefficient}
 use Rattle.kh_types.proofs.Ranges.{range-append}
+use Rattle.kh_types.proofs.IntSums.{int_sum-append}
 use Rattle.gluing.proofs.Terms.{term_at, signed_by_count}
 
 -- one circle more
@@ -105,12 +106,6 @@ term_of-negative_kink plus minus r circles exponent =
     ∙ two_terms_back (r + minus) x y z circles (omega (arith, ints)) (omega (arith, ints))
 
 -- sums over states
-
-pub int_sum-append : (xs ys : List ℤ) → int_sum (xs ++ ys) ≡ int_sum xs +ℤ int_sum ys
-int_sum-append [] ys = omega (arith, ints)
-int_sum-append (x ∷ xs) ys =
-    let later = int_sum-append xs ys in
-    ap (λ s. x +ℤ s) later ∙ omega (arith, ints)
 
 -- two ranges of one length, taken together
 int_sum-two_ranges : (old new : ℕ → ℤ) (a b n : ℕ) → ((k : ℕ) → k < n → new (a + k) +ℤ new (b + k) ≡ old (a + k))

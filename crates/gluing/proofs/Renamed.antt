@@ -4,12 +4,14 @@ use Rattle.std.specs.Prelude.{slice_index}
 use Rattle.std.specs.List.{filter, range_with_len}
 use Rattle.std.proofs.lemmas.List.FromFn.{length-range_with_len}
 use Rattle.std.proofs.lemmas.Bool.Decides.{nat_tests}
+use Rattle.std.proofs.lemmas.Bool.{eq-eqb}
 use Rattle.kh_types.specs.Classes.{merged, joined, classes_of, is_least, class_count, Respects, AreBelow}
-use Rattle.kh_types.proofs.ClassLemmas.{slice_index-joined}
+use Rattle.kh_types.proofs.ClassLemmas.{slice_index-joined, Respects-append, Respects-first, Respects-second}
 use Rattle.kh_types.proofs.JoinedClasses.{IsNamed-range, slice_index-range, classes_of-same, class_count-joined}
-use Rattle.gluing.proofs.OldLemmas.{filter-same, own_passes}
+use Rattle.gluing.proofs.OldLemmas.{filter-same}
 use Rattle.gluing.specs.Glue.{renamed, Places, JoinAlike}
 use Rattle.gluing.proofs.Glued.{class_count-glued_parts}
+pub use Rattle.kh_types.proofs.ClassLemmas.{AreBelow-append}
 
 -- n numbers that are all alone are n classes
 
@@ -21,7 +23,7 @@ pub class_count-range : (n : ℕ) → class_count (range_with_len 0 n) ≡ n
 class_count-range n =
     ap (λ k. length (filter (is_least (range_with_len 0 n)) (range_with_len 0 k))) (length-range_with_len 0 n)
     ∙ ap length (filter-same (λ x. true) (is_least (range_with_len 0 n)) 0 n
-    (λ x from below. own_passes (slice_index (range_with_len 0 n) x) x (slice_index-range n x (omega arith))))
+    (λ x from below. eq-eqb (slice_index (range_with_len 0 n) x) x (slice_index-range n x (omega arith))))
     ∙ length-filter_all 0 n
 
 -- pairs placed in two ways
@@ -35,26 +37,9 @@ AreBelow-renamed m n f [] places below = below
 AreBelow-renamed m n f (pair ∷ pairs) places below =
     ((places pair.0 below.0.0, places pair.1 below.0.1), AreBelow-renamed m n f pairs places below.1)
 
-pub AreBelow-append : (n : ℕ) (pairs more : List (ℕ × ℕ)) → AreBelow n pairs → AreBelow n more → AreBelow n (pairs ++ more)
-AreBelow-append n [] more below more_below = more_below
-AreBelow-append n (pair ∷ pairs) more below more_below = (below.0, AreBelow-append n pairs more below.1 more_below)
-
-pub Respects-append : (f : ℕ → ℕ) (pairs more : List (ℕ × ℕ)) → Respects f pairs → Respects f more → Respects f (pairs ++ more)
-Respects-append f [] more respects more_respects = more_respects
-Respects-append f (pair ∷ pairs) more respects more_respects =
-    (respects.0, Respects-append f pairs more respects.1 more_respects)
-
-pub Respects-front : (f : ℕ → ℕ) (pairs more : List (ℕ × ℕ)) → Respects f (pairs ++ more) → Respects f pairs
-Respects-front f [] more respects = tt
-Respects-front f (pair ∷ pairs) more respects = (respects.0, Respects-front f pairs more respects.1)
-
-pub Respects-back : (f : ℕ → ℕ) (pairs more : List (ℕ × ℕ)) → Respects f (pairs ++ more) → Respects f more
-Respects-back f [] more respects = respects
-Respects-back f (pair ∷ pairs) more respects = Respects-back f pairs more respects.1
-
 turned : (f : ℕ → ℕ) (pairs more : List (ℕ × ℕ)) → Respects f (pairs ++ more) → Respects f (more ++ pairs)
 turned f pairs more respects =
-    Respects-append f more pairs (Respects-back f pairs more respects) (Respects-front f pairs more respects)
+    Respects-append f more pairs (Respects-second f pairs more respects) (Respects-first f pairs more respects)
 
 -- it does not matter which of two parts comes first
 pub classes_of-turned : (n : ℕ) (pairs more : List (ℕ × ℕ)) → AreBelow n pairs → AreBelow n more

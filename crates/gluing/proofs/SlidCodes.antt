@@ -1,4 +1,8 @@
 -- A third Reidemeister move keeps the state sum of a code.
+--
+-- A code with a triangle is its other crossings, whose smoothings stay, and three that are moved. Their smoothings in a state of the whole
+-- are those of a state of the triangle between its six ends, so that the circles are those of InsideCircles; and these depend on the other
+-- crossings only by how their ends are joined, which a slide leaves.
 use Rattle.std.proofs.Common.{◌≡◌, ◌≢◌, subst, ℕ, zero, suc, ◌⊎◌, inl, inr, ◌+◌, ◌<◌, ◌∙◌, List, [], ◌∷◌, ◌++◌, sym, refl, length, get_or, ap, ap₂, arith, Bool, true, false, cond}
 use Rattle.std.specs.Prelude.{nat_eq}
 use Rattle.std.specs.List.{flat_map, enumerate_from, AllByRecursion}
@@ -9,35 +13,29 @@ use Rattle.kh_types.specs.Classes.{classes_of, Respects, AreBelow}
 use Rattle.kh_types.specs.Circles.{smoothing_of, smoothings_of, circles_of}
 use Rattle.gluing.specs.Arcs.{arc_by_place}
 use Rattle.kh_types.proofs.JoinedClasses.{classes_of-same}
+use Rattle.kh_types.proofs.ClassLemmas.{Respects-append, Respects-first, Respects-second, AreBelow-append}
+use Rattle.kh_types.proofs.Lists.{AllByRecursion-first, AllByRecursion-second}
 use Rattle.gluing.proofs.OldLemmas.{all_from}
 use Rattle.gluing.specs.Glue.{renamed}
 use Rattle.gluing.specs.Codes.{name_count, HoldsArcs}
 use Rattle.gluing.specs.SlidCodes.{Shows, HasTriangle}
 use Rattle.gluing.proofs.OutsidePairs.{is_one_of, outside_at, outside_of}
-use Rattle.gluing.proofs.Renamed.{AreBelow-renamed, AreBelow-append, Respects-append, Respects-front, Respects-back}
+use Rattle.gluing.proofs.Renamed.{AreBelow-renamed}
 use Rattle.gluing.proofs.CodeCircles.{smoothing_by, smoothing_by-renamed, smoothing_by-same, smoothing_by-below}
 use Rattle.gluing.proofs.Stubs.{Respects-renamed, Respects-from_renamed}
 
 -- pairs at each crossing
-
-all_front : (P : ℕ × ℕ → Type 0) (pairs more : List (ℕ × ℕ)) → AllByRecursion P (pairs ++ more) → AllByRecursion P pairs
-all_front P [] more holds = tt
-all_front P (pair ∷ pairs) more holds = (holds.0, all_front P pairs more holds.1)
-
-all_back : (P : ℕ × ℕ → Type 0) (pairs more : List (ℕ × ℕ)) → AllByRecursion P (pairs ++ more) → AllByRecursion P more
-all_back P [] more holds = holds
-all_back P (pair ∷ pairs) more holds = all_back P pairs more holds.1
 
 all_at : (P : ℕ × ℕ → Type 0) (g : ℕ × List ℕ → List (ℕ × ℕ)) (at : ℕ) (xs : List (List ℕ))
     → AllByRecursion P (flat_map g (enumerate_from at xs)) → (k : ℕ) → k < length xs → AllByRecursion P (g (at + k, get_or xs k []))
 all_at P g at [] holds k below = absurd (omega (arith, below))
 all_at P g at (x ∷ xs) holds zero below =
     let e : at ≡ at + 0 = omega arith in
-    subst (λ (n : ℕ). AllByRecursion P (g (n, x))) e (all_front P (g (at, x)) (flat_map g (enumerate_from (at + 1) xs)) holds)
+    subst (λ (n : ℕ). AllByRecursion P (g (n, x))) e (AllByRecursion-first P (g (at, x)) (flat_map g (enumerate_from (at + 1) xs)) holds)
 all_at P g at (x ∷ xs) holds (suc k) below =
     let e : at + 1 + k ≡ at + suc k = omega arith in
     subst (λ (n : ℕ). AllByRecursion P (g (n, get_or xs k []))) e
-    (all_at P g (at + 1) xs (all_back P (g (at, x)) (flat_map g (enumerate_from (at + 1) xs)) holds) k (omega arith))
+    (all_at P g (at + 1) xs (AllByRecursion-second P (g (at, x)) (flat_map g (enumerate_from (at + 1) xs)) holds) k (omega arith))
 
 pub flat_map-same : (g h : ℕ × List ℕ → List (ℕ × ℕ)) (at : ℕ) (xs ys : List (List ℕ)) → length xs ≡ length ys
     → ((k : ℕ) → k < length xs → g (at + k, get_or xs k []) ≡ h (at + k, get_or ys k []))
@@ -172,18 +170,18 @@ circles_at code t0 t1 t2 arcs n c d e base state inside has c_below d_below e_be
     (Respects-append (λ x. f (arcs x)) (smoothing_of (bit inside 2) t2) []
     (respects_shown f arcs (bit state e) (bit inside 2) (get_or crossings e []) t2 has.third at.at_e (there e e_below)) tt)))))
     (λ f respects.
-    let out = Respects-front f outside (renamed arcs inner) respects in
-    let first = Respects-from_renamed f arcs inner (Respects-back f outside (renamed arcs inner) respects) in
-    let second = Respects-back (λ x. f (arcs x)) (smoothing_of (bit inside 0) t0)
+    let out = Respects-first f outside (renamed arcs inner) respects in
+    let first = Respects-from_renamed f arcs inner (Respects-second f outside (renamed arcs inner) respects) in
+    let second = Respects-second (λ x. f (arcs x)) (smoothing_of (bit inside 0) t0)
     (smoothing_of (bit inside 1) t1 ++ (smoothing_of (bit inside 2) t2 ++ [])) first in
-    let third = Respects-back (λ x. f (arcs x)) (smoothing_of (bit inside 1) t1) (smoothing_of (bit inside 2) t2 ++ []) second in
+    let third = Respects-second (λ x. f (arcs x)) (smoothing_of (bit inside 1) t1) (smoothing_of (bit inside 2) t2 ++ []) second in
     let at_first = respects_showing f arcs (bit state c) (bit inside 0) (get_or crossings c []) t0 has.first at.at_c
-    (Respects-front (λ x. f (arcs x)) (smoothing_of (bit inside 0) t0)
+    (Respects-first (λ x. f (arcs x)) (smoothing_of (bit inside 0) t0)
     (smoothing_of (bit inside 1) t1 ++ (smoothing_of (bit inside 2) t2 ++ [])) first) in
     let at_second = respects_showing f arcs (bit state d) (bit inside 1) (get_or crossings d []) t1 has.second at.at_d
-    (Respects-front (λ x. f (arcs x)) (smoothing_of (bit inside 1) t1) (smoothing_of (bit inside 2) t2 ++ []) second) in
+    (Respects-first (λ x. f (arcs x)) (smoothing_of (bit inside 1) t1) (smoothing_of (bit inside 2) t2 ++ []) second) in
     let at_third = respects_showing f arcs (bit state e) (bit inside 2) (get_or crossings e []) t2 has.third at.at_e
-    (Respects-front (λ x. f (arcs x)) (smoothing_of (bit inside 2) t2) [] third) in
+    (Respects-first (λ x. f (arcs x)) (smoothing_of (bit inside 2) t2) [] third) in
     all_from (λ pair. f pair.0 ≡ f pair.1) (λ z. smoothing_of (bit state z.0) z.1) 0 crossings (λ k below.
     let moved : (j : ℕ) → 0 + k ≡ j → Respects f (smoothing_of (bit state j) (get_or crossings j []))
     → Respects f (smoothing_of (bit state (0 + k)) (get_or crossings k [])) =

@@ -1,5 +1,10 @@
 -- A third Reidemeister move keeps the state sum of a code.
-use Rattle.std.proofs.Common.{◌≡◌, ◌≢◌, ℕ, inl, inr, ◌+◌, ◌-◌, ◌^◌, ◌<◌, ◌∙◌, List, [], ◌∷◌, ℤ, pos, negsuc, neg_ℤ, suc, ◌*◌, ◌%◌, ◌+ℤ◌, ◌-ℤ◌, sym, refl, length, map, get_or, ap, ap₂, arith, true, cond}
+--
+-- All states are taken in eights, by the bits of the three crossings (SplitStates), while the others stay. In an eight each term is told by
+-- the state of the triangle, by the circles that it closes and by how it joins the ends: the eight terms are a sum over the table of the
+-- triangle (SlideTerms). Before and after the slide these tables have one sum for each way of joining (SlideTable), so the state sums are
+-- the same.
+use Rattle.std.proofs.Common.{◌≡◌, ◌≢◌, ℕ, inl, inr, ◌+◌, ◌-◌, ◌^◌, ◌<◌, ◌∙◌, List, [], ◌∷◌, ℤ, pos, negsuc, suc, ◌*◌, ◌+ℤ◌, ◌-ℤ◌, sym, refl, length, map, get_or, ap, ap₂, arith, true, cond}
 use Rattle.std.specs.Prelude.{slice_index_or, nat_eq}
 use Rattle.std.specs.List.{range_with_len}
 use Rattle.std.proofs.lemmas.Int.{ints}
@@ -11,6 +16,7 @@ use Rattle.kh_types.specs.Generators.{one_count}
 use Rattle.kh_types.specs.StateSum.{int_sum, signed_by_parity, circle_coefficient, term_with, sum_with}
 use Rattle.kh_types.specs.StateSum as kh
 use Rattle.kh_types.proofs.EdgeBits.{bit-set_there, bit-set_other}
+use Rattle.kh_types.proofs.AlternatingSums.{signed_by_parity-alike}
 use Rattle.gluing.proofs.Terms.{term_at, signed_by_count}
 use Rattle.gluing.specs.Codes.{name_count}
 use Rattle.gluing.specs.Slides.{triangle_before, triangle_after, ends_joined, closed_inside, IsNoSide}
@@ -158,16 +164,13 @@ eight-inside t u n c d e base c_below d_below e_below c_d c_e d_e at_c at_d at_e
 pub signed_by-difference : (r minus x : ℕ) → kh.signed_by (pos r -ℤ pos minus) x ≡ signed_by_count (r + minus) x
 signed_by-difference r minus x = by_parity (pos r -ℤ pos minus) r minus x refl
   where
-    same_parity : (i k x : ℕ) → i % 2 ≡ k % 2 → signed_by_parity i x ≡ signed_by_parity k x
-    same_parity i k x same = ap (λ p. cond (nat_eq p 0) (pos x) (neg_ℤ (pos x))) same
-
     by_parity : (z : ℤ) (r minus x : ℕ) → z ≡ pos r -ℤ pos minus → kh.signed_by z x ≡ signed_by_count (r + minus) x
     by_parity (pos i) r minus x is =
         let e : i + minus ≡ r = omega (arith, ints, is) in
-        same_parity i (r + minus) x (omega (arith, e))
+        signed_by_parity-alike i (r + minus) x (omega (arith, e))
     by_parity (negsuc i) r minus x is =
         let e : i + 1 + r ≡ minus = omega (arith, ints, is) in
-        same_parity (suc i) (r + minus) x (omega (arith, e))
+        signed_by_parity-alike (suc i) (r + minus) x (omega (arith, e))
 
 pub term_with-is : (plus minus : ℕ) (code : Code) (exponent : ℤ) (state : ℕ)
     → term_with plus minus code exponent state ≡ term_at plus minus exponent (one_count code state) (circle_count code state)

@@ -1,18 +1,19 @@
 -- Terms that cancel have the sum 0, whatever the rest of the diagram is worth.
-use Rattle.std.proofs.Common.{◌≡◌, ℕ, zero, suc, ◌+◌, ◌<◌, ◌⊎◌, inl, inr, Bool, true, false, not, refl, sym, ap, ap₂, ◌∙◌, List, [], ◌∷◌, ◌++◌, map, arith, cond, ℤ, pos, neg_ℤ, ◌+ℤ◌, ◌-ℤ◌}
+use Rattle.std.proofs.Common.{◌≡◌, ℕ, zero, suc, ◌+◌, ◌<◌, inl, inr, Bool, true, false, not, refl, sym, ap, ap₂, ◌∙◌, List, [], ◌∷◌, ◌++◌, map, arith, cond, ℤ, pos, neg_ℤ, ◌+ℤ◌, ◌-ℤ◌}
 use Rattle.std.specs.Prelude.{nat_eq}
 use Rattle.std.specs.Str.{bytes_eq}
 use Rattle.std.specs.Ordering.{int_eq}
 use Rattle.std.specs.List.{list_all}
-use Rattle.std.proofs.lemmas.Bool.Decides.{nat_tests, Decides-int_eq}
+use Rattle.std.proofs.lemmas.Bool.Decides.{Decides-int_eq}
 use Rattle.std.proofs.lemmas.Slice.Eq.{bytes_eq-Decides}
 use Rattle.std.proofs.lemmas.Int.{ints}
 use Rattle.std.proofs.lemmas.List.{map-append}
+use Rattle.std.proofs.lemmas.Bool.{cases_Bool, eqb-true, and_parts}
 use Rattle.kh_types.specs.StateSum.{int_sum}
+use Rattle.kh_types.proofs.IntSums.{int_sum-append}
 use Rattle.gluing.specs.Slides.{InsideTerm, inside_value, inside_sum, inside_terms, triangle_before, triangle_after, is_slidable}
 use Rattle.gluing.proofs.Tallies.{Tally, is_counted_by, zero_or_one, counted_at, counted, tallies_of, opposite, have_one_sum}
-use Rattle.gluing.proofs.KinkSums.{int_sum-append}
-use Rattle.gluing.proofs.SlideTable.{have_one_sum-slide, both_true}
+use Rattle.gluing.proofs.SlideTable.{have_one_sum-slide}
 
 -- x, some times over
 abbrev times : ℕ → ℤ → ℤ
@@ -52,14 +53,10 @@ first_count : (is_minus : Bool) (x : ℤ) → times (zero_or_one (not is_minus))
 first_count true x = omega (arith, ints)
 first_count false x = omega (arith, ints)
 
-true_or_false : (b : Bool) → (b ≡ true) ⊎ (b ≡ false)
-true_or_false true = inl refl
-true_or_false false = inr refl
-
 tally_sum-counted_here : (rest : List ℕ → ℤ → ℤ) (term : InsideTerm) (tally : Tally) → is_counted_by term tally ≡ true
     → tally_value rest (counted_at term tally) ≡ inside_value rest term +ℤ tally_value rest tally
 tally_sum-counted_here rest term tally here =
-    let parts = both_true (bytes_eq term.joined tally.joined) (int_eq term.shift tally.shift) here in
+    let parts = and_parts (bytes_eq term.joined tally.joined) (int_eq term.shift tally.shift) here in
     let joined : term.joined ≡ tally.joined = (bytes_eq-Decides term.joined tally.joined).0 parts.0 in
     let shift : term.shift ≡ tally.shift = (Decides-int_eq term.shift tally.shift).0 parts.1 in
     one_more term.is_minus tally.plus tally.minus (rest tally.joined tally.shift)
@@ -68,7 +65,7 @@ tally_sum-counted_here rest term tally here =
 tally_sum-counted : (rest : List ℕ → ℤ → ℤ) (term : InsideTerm) (tallies : List Tally)
     → tally_sum rest (counted term tallies) ≡ inside_value rest term +ℤ tally_sum rest tallies
 tally_sum-counted rest term [] = ap (λ x. x +ℤ pos 0) (first_count term.is_minus (rest term.joined term.shift))
-tally_sum-counted rest term (tally ∷ tallies) = elim (true_or_false (is_counted_by term tally)) [
+tally_sum-counted rest term (tally ∷ tallies) = elim (cases_Bool (is_counted_by term tally)) [
   | inl here ↦
       ap (λ b. tally_sum rest (cond b (counted_at term tally ∷ tallies) (tally ∷ counted term tallies))) here
       ∙ ap (λ x. x +ℤ tally_sum rest tallies) (tally_sum-counted_here rest term tally here)
@@ -94,16 +91,13 @@ tally_sum-balanced : (rest : List ℕ → ℤ → ℤ) (tallies : List Tally) �
     → tally_sum rest tallies ≡ pos 0
 tally_sum-balanced rest [] all = refl
 tally_sum-balanced rest (tally ∷ tallies) all =
-    let parts = both_true (nat_eq tally.plus tally.minus) (list_all (λ t. nat_eq t.plus t.minus) tallies) all in
-    let same : tally.plus ≡ tally.minus = is_same tally.plus tally.minus parts.0 in
+    let parts = and_parts (nat_eq tally.plus tally.minus) (list_all (λ t. nat_eq t.plus t.minus) tallies) all in
+    let same : tally.plus ≡ tally.minus = eqb-true tally.plus tally.minus parts.0 in
     ap₂ (λ x y. x +ℤ y)
     (ap (λ k. times k (rest tally.joined tally.shift) -ℤ times tally.minus (rest tally.joined tally.shift)) same
     ∙ cancelled (times tally.minus (rest tally.joined tally.shift)))
     (tally_sum-balanced rest tallies parts.1)
   where
-    is_same : (x y : ℕ) → nat_eq x y ≡ true → x ≡ y
-    is_same x y same = grind (arith, nat_tests)
-
     cancelled : (x : ℤ) → x -ℤ x ≡ pos 0
     cancelled x = omega (arith, ints)
 

@@ -1,8 +1,8 @@
 -- The table of the third Reidemeister move, computed.
-use Rattle.std.proofs.Common.{◌≡◌, ℕ, zero, suc, ◌+◌, ◌<◌, ◌≤◌, ◌⊎◌, inl, inr, Bool, true, false, not, ◌&&◌, ◌||◌, refl, sym, ap, ◌∙◌, [], ◌∷◌, map, arith}
+use Rattle.std.proofs.Common.{◌≡◌, ℕ, ◌+◌, ◌<◌, ◌≤◌, Bool, true, false, not, ◌||◌, refl, [], ◌∷◌, map, arith}
 use Rattle.std.specs.List.{range_with_len, list_all}
-use Rattle.std.proofs.lemmas.Bool.Decides.{nat_tests}
 use Rattle.gluing.specs.Slides.{inside_terms, triangle_before, triangle_after, closed_inside, is_slidable}
+use Rattle.kh_types.proofs.RangeCounts.{list_all-at}
 use Rattle.gluing.proofs.Tallies.{slide_keeps_sum, have_one_sum}
 
 -- of the eight states of a triangle at slots 0, 0 and 1 one closes a circle inside
@@ -17,21 +17,8 @@ all_slots : list_all (λ p. list_all (λ q. list_all (λ r. slide_keeps_sum p q 
     ≡ true
 all_slots = refl
 
-pub both_true : (a b : Bool) → (a && b) ≡ true → (a ≡ true) × (b ≡ true)
-both_true true b both = (refl, both)
-both_true false b both = (both, absurd (grind (arith, both)))
-
-first_or_later : (a x n : ℕ) → a ≤ x → x < a + suc n → (a ≡ x) ⊎ ((a + 1 ≤ x) × (x < a + 1 + n))
-first_or_later a x n from below = grind (arith, nat_tests)
-
 pub list_all-range : (p : ℕ → Bool) (a n x : ℕ) → list_all p (range_with_len a n) ≡ true → a ≤ x → x < a + n → p x ≡ true
-list_all-range p a zero x all from below = absurd (omega arith)
-list_all-range p a (suc n) x all from below =
-    let parts = both_true (p a) (list_all p (range_with_len (a + 1) n)) all in
-    elim (first_or_later a x n from below) [
-      | inl here ↦ ap p (sym here) ∙ parts.0
-      | inr later ↦ list_all-range p (a + 1) n x parts.1 later.0 later.1
-    ]
+list_all-range p a n x = list_all-at p a n x
 
 pub slide_keeps_sum-all : (p q r : ℕ) → p < 4 → q < 4 → r < 4 → slide_keeps_sum p q r ≡ true
 slide_keeps_sum-all p q r p_below q_below r_below =

@@ -9,9 +9,9 @@ use Rattle.kh_types.specs.Bits.{ones}
 use Rattle.kh_types.specs.StateSum.{int_sum, circle_coefficient}
 use Rattle.gluing.proofs.Terms.{term_at, signed_by_count}
 use Rattle.gluing.specs.Slides.{inside_sum, terms_of_state, term_exponents, ends_joined, closed_inside, is_slidable, triangle_before, triangle_after}
-use Rattle.gluing.proofs.KinkSums.{signed_by-add, signed_by-next, int_sum-append}
+use Rattle.gluing.proofs.KinkSums.{signed_by-add, signed_by-next}
 use Rattle.gluing.proofs.SlideSums.{inside_sum-append, inside_sum-slide}
-use Rattle.kh_types.proofs.IntSums.{int_sum-alike}
+use Rattle.kh_types.proofs.IntSums.{int_sum-alike, int_sum-append}
 
 -- what the rest of a diagram is worth, where the state of its other crossings has some ones, and its circles are told by how the
 -- ends are joined

@@ -1,5 +1,9 @@
 -- Sums over all states, taken together by the bits of three crossings.
-use Rattle.std.proofs.Common.{◌≡◌, ◌≢◌, ℕ, zero, suc, ◌⊎◌, inl, inr, ◌+◌, ◌/◌, ◌%◌, ◌^◌, ◌<◌, ◌≤◌, ◌∙◌, ℤ, pos, ◌+ℤ◌, sym, refl, map, ap, ap₂, arith, Bool, true, false, cond}
+--
+-- To add up f over all states by the bits at three places, a function takes at each state with zeros there the sum of the eight values
+-- around it, and 0 at all others. One place at a time: the values at a number with 0 there and at the one with 1 there are added at the
+-- first. Three such steps give sums of eight, so that two functions whose eights have one sum have one sum over all states.
+use Rattle.std.proofs.Common.{◌≡◌, ◌≢◌, ℕ, zero, suc, ◌⊎◌, inl, inr, ◌+◌, ◌^◌, ◌<◌, ◌≤◌, ◌∙◌, ℤ, pos, ◌+ℤ◌, sym, refl, map, ap, ap₂, arith, Bool, true, false, cond}
 use Rattle.std.specs.Prelude.{nat_eq}
 use Rattle.std.specs.List.{range_with_len}
 use Rattle.std.proofs.Math.Nat.{pow-suc}
@@ -8,8 +12,9 @@ use Rattle.std.proofs.lemmas.Int.{ints}
 use Rattle.kh_types.specs.Bits.{bit, ones}
 use Rattle.kh_types.specs.StateSum.{int_sum}
 use Rattle.kh_types.proofs.EdgeBits.{bit-set_there, bit-set_other}
+use Rattle.kh_types.proofs.BitLemmas.{ones-more, bit-cases}
 use Rattle.gluing.proofs.KinkSums.{int_sum-doubled}
-use Rattle.gluing.proofs.CodeCircles.{bit-above, bit-highest, bit-lower, ones-more}
+use Rattle.gluing.proofs.CodeCircles.{bit-above, bit-highest, bit-lower}
 
 -- the sum of a function's values at a number with 0 at a place, and with 1 there; and nothing at the numbers with 1
 abbrev pub by_bit : ℕ → (ℕ → ℤ) → ℕ → ℤ
@@ -80,12 +85,6 @@ eight c d e f state =
     f state +ℤ f (state + 2 ^ c) +ℤ (f (state + 2 ^ d) +ℤ f (state + 2 ^ d + 2 ^ c))
     +ℤ (f (state + 2 ^ e) +ℤ f (state + 2 ^ e + 2 ^ c) +ℤ (f (state + 2 ^ e + 2 ^ d) +ℤ f (state + 2 ^ e + 2 ^ d + 2 ^ c)))
 
-zero_or_one : (state place : ℕ) → (bit state place ≡ 0) ⊎ (bit state place ≡ 1)
-zero_or_one state place = either (state / 2 ^ place)
-  where
-    either : (k : ℕ) → (k % 2 ≡ 0) ⊎ (k % 2 ≡ 1)
-    either k = grind (arith, nat_tests)
-
 -- at a number with zeros at the three places
 three_bits : (c d e : ℕ) (f : ℕ → ℤ) (state : ℕ) → c ≢ d → c ≢ e → d ≢ e → bit state c ≡ 0 → bit state d ≡ 0 → bit state e ≡ 0
     → by_bit e (by_bit d (by_bit c f)) state ≡ eight c d e f state
@@ -145,13 +144,13 @@ int_sum-by_three_bits f g n c d e c_below d_below e_below c_d c_e d_e same =
     λ h. by_bit-sum h n c c_below ∙ by_bit-sum (by_bit c h) n d d_below ∙ by_bit-sum (by_bit d (by_bit c h)) n e e_below in
     whole f
     ∙ sums_over-alike (by_bit e (by_bit d (by_bit c f))) (by_bit e (by_bit d (by_bit c g))) 0 (2 ^ n) (λ state from below.
-    elim (zero_or_one state e) [
+    elim (bit-cases state e) [
       | inr one ↦
           by_bit-off (bit state e) (by_bit d (by_bit c f) state +ℤ by_bit d (by_bit c f) (state + 2 ^ e)) (pos 0) one
           ∙ sym (by_bit-off (bit state e) (by_bit d (by_bit c g) state +ℤ by_bit d (by_bit c g) (state + 2 ^ e)) (pos 0) one)
-      | inl at_e ↦ elim (zero_or_one state d) [
+      | inl at_e ↦ elim (bit-cases state d) [
         | inr one ↦ not_second c d e f state d_e at_e one ∙ sym (not_second c d e g state d_e at_e one)
-        | inl at_d ↦ elim (zero_or_one state c) [
+        | inl at_d ↦ elim (bit-cases state c) [
           | inr one ↦ not_first c d e f state c_d c_e d_e at_d at_e one ∙ sym (not_first c d e g state c_d c_e d_e at_d at_e one)
           | inl at_c ↦
               three_bits c d e f state c_d c_e d_e at_c at_d at_e

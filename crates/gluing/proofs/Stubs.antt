@@ -1,8 +1,13 @@
 -- A triangle with its ends at stubs: new numbers, each joined with the arc that it stands for.
+--
+-- Sides may stand for one arc, or end at each other. So each of the nine numbers of a triangle gets a number of its own behind all others,
+-- a stub, which a pair joins with the arc that it stands for. Stubs add no class, and pairs on stubs have as many classes as the pairs on
+-- the arcs themselves. So the triangle can be glued as if all its ends were different.
 use Rattle.std.proofs.Common.{◌≡◌, ℕ, zero, suc, ◌⊎◌, inl, inr, ◌+◌, ◌-◌, ◌<◌, ◌≤◌, ◌∙◌, List, [], ◌∷◌, ◌++◌, sym, refl, ap, ap₂, arith, cond}
 use Rattle.std.specs.Prelude.{slice_index, nat_eq, nat_lt}
 use Rattle.std.specs.List.{range_with_len}
 use Rattle.std.proofs.lemmas.Bool.Decides.{nat_tests}
+use Rattle.std.proofs.lemmas.Bool.{cases_order}
 use Rattle.kh_types.specs.Classes.{classes_of, class_count, Respects, AreBelow}
 use Rattle.kh_types.proofs.ClassLemmas.{classes-together, classes-finest}
 use Rattle.kh_types.proofs.JoinedClasses.{slice_index-range}
@@ -270,12 +275,9 @@ at_stubs-apart_ordered n arcs placed i j less below same = elim (kind_of j below
   ]
 ]
 
-pub order_of : (i j : ℕ) → (i ≡ j) ⊎ ((i < j) ⊎ (j < i))
-order_of i j = grind (arith, nat_tests)
-
 pub at_stubs-apart : (n : ℕ) (arcs : ℕ → ℕ) → IsPlacedTriangle n arcs → (i j : ℕ) → i < 10 → j < 10
     → at_stubs n arcs i ≡ at_stubs n arcs j → i ≡ j
-at_stubs-apart n arcs placed i j i_below j_below same = elim (order_of i j) [
+at_stubs-apart n arcs placed i j i_below j_below same = elim (cases_order i j) [
   | inl is ↦ is
   | inr other ↦ elim other [
     | inl less ↦ absurd (at_stubs-apart_ordered n arcs placed i j less j_below same)

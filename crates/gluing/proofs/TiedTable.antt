@@ -3,15 +3,15 @@ use Rattle.std.proofs.Common.{◌≡◌, ℕ, ◌+◌, ◌<◌, ◌∙◌, List,
 use Rattle.std.specs.Prelude.{slice_index, nat_eq, nat_lt}
 use Rattle.std.specs.Str.{bytes_eq}
 use Rattle.std.specs.List.{range_with_len, list_all}
-use Rattle.std.proofs.lemmas.Bool.Decides.{nat_tests}
 use Rattle.std.proofs.lemmas.Slice.Eq.{bytes_eq-Decides}
 use Rattle.std.proofs.lemmas.List.FromFn.{length-range_with_len, get_or-range_with_len}
 use Rattle.std.proofs.lemmas.List.{get_or-map}
+use Rattle.std.proofs.lemmas.Bool.{and_parts, ltb-true, eqb-true}
 use Rattle.kh_types.specs.Classes.{classes_of, class_count, AreBelow}
 use Rattle.kh_types.specs.Circles.{smoothings_of}
+use Rattle.kh_types.proofs.RangeCounts.{list_all-at}
 use Rattle.gluing.specs.Slides.{triangle_before, triangle_after, ends_joined, closed_inside, inside_classes}
 use Rattle.gluing.proofs.Ties.{is_tied_throughout, is_tied_at, are_below, ties_of}
-use Rattle.gluing.proofs.SlideTable.{both_true, list_all-range}
 
 all_slots : list_all (λ p. list_all (λ q. list_all (λ r. is_tied_throughout (triangle_before p q r) && is_tied_throughout (triangle_after p q r)) (range_with_len 0 4))
     (range_with_len 0 4)) (range_with_len 0 4) ≡ true
@@ -19,10 +19,10 @@ all_slots = refl
 
 pub is_tied-slots : (p q r : ℕ) → p < 4 → q < 4 → r < 4 → (is_tied_throughout (triangle_before p q r) ≡ true) × (is_tied_throughout (triangle_after p q r) ≡ true)
 is_tied-slots p q r p_below q_below r_below =
-    both_true (is_tied_throughout (triangle_before p q r)) (is_tied_throughout (triangle_after p q r))
-    (list_all-range (λ z. is_tied_throughout (triangle_before p q z) && is_tied_throughout (triangle_after p q z)) 0 4 r
-    (list_all-range (λ y. list_all (λ z. is_tied_throughout (triangle_before p y z) && is_tied_throughout (triangle_after p y z)) (range_with_len 0 4)) 0 4 q
-    (list_all-range
+    and_parts (is_tied_throughout (triangle_before p q r)) (is_tied_throughout (triangle_after p q r))
+    (list_all-at (λ z. is_tied_throughout (triangle_before p q z) && is_tied_throughout (triangle_after p q z)) 0 4 r
+    (list_all-at (λ y. list_all (λ z. is_tied_throughout (triangle_before p y z) && is_tied_throughout (triangle_after p y z)) (range_with_len 0 4)) 0 4 q
+    (list_all-at
     (λ x. list_all (λ y. list_all (λ z. is_tied_throughout (triangle_before x y z) && is_tied_throughout (triangle_after x y z)) (range_with_len 0 4))
     (range_with_len 0 4)) 0 4 p
     all_slots (omega arith) (omega arith))
@@ -41,12 +41,9 @@ pub record IsTied (crossings : List (List ℕ)) (state : ℕ) : Type 0 where
 AreBelow-from : (n : ℕ) (pairs : List (ℕ × ℕ)) → are_below n pairs ≡ true → AreBelow n pairs
 AreBelow-from n [] all = tt
 AreBelow-from n (pair ∷ pairs) all =
-    let parts = both_true (nat_lt pair.0 n && nat_lt pair.1 n) (are_below n pairs) all in
-    let two = both_true (nat_lt pair.0 n) (nat_lt pair.1 n) parts.0 in
-    ((is_lt pair.0 n two.0, is_lt pair.1 n two.1), AreBelow-from n pairs parts.1)
-  where
-    is_lt : (x n : ℕ) → nat_lt x n ≡ true → x < n
-    is_lt x n test = grind (arith, nat_tests)
+    let parts = and_parts (nat_lt pair.0 n && nat_lt pair.1 n) (are_below n pairs) all in
+    let two = and_parts (nat_lt pair.0 n) (nat_lt pair.1 n) parts.0 in
+    ((ltb-true pair.0 n two.0, ltb-true pair.1 n two.1), AreBelow-from n pairs parts.1)
 
 -- lists of values that agree, agree at each number
 values-same : (f g : ℕ → ℕ) (n x : ℕ) → map f (range_with_len 0 n) ≡ map g (range_with_len 0 n) → x < n → f x ≡ g x
@@ -57,25 +54,22 @@ values-same f g n x same below =
     ∙ ap (λ xs. slice_index xs x) same
     ∙ get_or-map g (range_with_len 0 n) x 0 0 (omega arith) ∙ ap g is_x
 
-is_same : (x y : ℕ) → nat_eq x y ≡ true → x ≡ y
-is_same x y test = grind (arith, nat_tests)
-
 pub IsTied-state : (crossings : List (List ℕ)) → is_tied_throughout crossings ≡ true → (state : ℕ) → state < 8 → IsTied crossings state
 IsTied-state crossings all state state_below =
     let ties = ties_of (ends_joined crossings state) in
-    let here = list_all-range (is_tied_at crossings) 0 8 state all (omega arith) (omega arith) in
+    let here = list_all-at (is_tied_at crossings) 0 8 state all (omega arith) (omega arith) in
     let values = bytes_eq (map (slice_index (inside_classes crossings state)) (range_with_len 0 7))
     (map (slice_index (classes_of 10 ties)) (range_with_len 0 7)) in
     let counts = nat_eq (class_count (inside_classes crossings state)) (closed_inside crossings state + class_count (classes_of 10 ties)) in
-    let first = both_true (are_below 10 (smoothings_of crossings state)) (are_below 10 ties && (values && counts)) here in
-    let second = both_true (are_below 10 ties) (values && counts) first.1 in
-    let third = both_true values counts second.1 in
+    let first = and_parts (are_below 10 (smoothings_of crossings state)) (are_below 10 ties && (values && counts)) here in
+    let second = and_parts (are_below 10 ties) (values && counts) first.1 in
+    let third = and_parts values counts second.1 in
     record {
       below = AreBelow-from 10 (smoothings_of crossings state) first.0;
       ties_below = AreBelow-from 10 ties second.0;
       alike = λ x below. values-same (slice_index (inside_classes crossings state)) (slice_index (classes_of 10 ties)) 7 x
           ((bytes_eq-Decides (map (slice_index (inside_classes crossings state)) (range_with_len 0 7))
           (map (slice_index (classes_of 10 ties)) (range_with_len 0 7))).0 third.0) below;
-      count = is_same (class_count (inside_classes crossings state))
+      count = eqb-true (class_count (inside_classes crossings state))
           (closed_inside crossings state + class_count (classes_of 10 ties)) third.1;
     }

@@ -28,7 +28,7 @@ fault_if-none : (holds : Bool) (fault : CodeFault) → (fault_if holds fault ≡
 fault_if-none true fault = (λ none. absurd (cc), λ fails. absurd (cc))
 fault_if-none false fault = (λ none. refl, λ fails. refl)
 
-second_fails : (b c : Bool) → (b && c) ≡ false → b ≡ true → c ≡ false
+pub second_fails : (b c : Bool) → (b && c) ≡ false → b ≡ true → c ≡ false
 second_fails true c fails holds = fails
 second_fails false c fails holds = absurd (cc)
 

@@ -1,5 +1,6 @@
 -- Bits of numbers.
-use Rattle.std.proofs.Common.{◌≡◌, ℕ, ◌+◌, ◌%◌, ◌^◌, ◌<◌, ◌≤◌, ap, arith}
+use Rattle.std.proofs.Common.{◌≡◌, ℕ, ◌+◌, ◌%◌, ◌^◌, ◌<◌, ◌≤◌, ap, arith, ◌⊎◌, ◌/◌}
+use Rattle.std.proofs.lemmas.Bool.Decides.{nat_tests}
 use Rattle.std.proofs.Math.Nat.{div-eq_of_lt}
 use Rattle.std.proofs.Math.Pow.{pow_mono}
 use Rattle.kh_types.specs.Bits.{bit, ones}
@@ -11,6 +12,12 @@ bit-past number place size below past =
     let power : 2 ^ size ≤ 2 ^ place = pow_mono past in
     let less : number < 2 ^ place = omega arith in
     ap (λ n. n % 2) (div-eq_of_lt less)
+
+pub bit-cases : (number place : ℕ) → (bit number place ≡ 0) ⊎ (bit number place ≡ 1)
+bit-cases number place = by (number / 2 ^ place)
+  where
+    by : (n : ℕ) → (n % 2 ≡ 0) ⊎ (n % 2 ≡ 1)
+    by n = grind (arith, nat_tests)
 
 pub ones-more : (count number : ℕ) → ones (count + 1) number ≡ ones count number + bit number count
 ones-more count number = sum_by-range_more (bit number) 0 count count (omega arith)

@@ -1,9 +1,9 @@
 -- A state has at most as many circles as there are crossings, components and loops together. One more pair for each crossing, the
 -- ends of its under pass, joins all arcs at the crossing, whatever its smoothing, and so joins all that the passes join. Each pair
 -- lowers the number of classes by one at most.
-use Rattle.std.proofs.Common.{◌≡◌, ℕ, suc, ◌+◌, ◌-◌, ◌<◌, ◌≤◌, ◌∙◌, List, [], ◌∷◌, ◌++◌, sym, refl, length, get_or, ap, arith, Bool, true, false, cond}
+use Rattle.std.proofs.Common.{◌≡◌, ℕ, suc, ◌+◌, ◌-◌, ◌<◌, ◌≤◌, ◌∙◌, List, [], ◌∷◌, ◌++◌, sym, refl, length, get_or, ap, arith, Bool, true, false}
 use Rattle.std.specs.Prelude.{nat_eq}
-use Rattle.std.specs.List.{flat_map, enumerate_from, AllByRecursion}
+use Rattle.std.specs.List.{flat_map, AllByRecursion}
 use Rattle.std.proofs.lemmas.List.Elements.{All-from_get_or, recursion_from_All}
 use Rattle.kh_types.specs.declared.limits.TheConstants.{CROSSINGS, CIRCLES}
 use Rattle.kh_types.specs.declared.dart.Dart.{Dart}

@@ -1,4 +1,8 @@
 -- The numbers of circles, by counting.
+--
+-- A circle's number is its place among the least numbers of all circles, in ascending order: so it is how many circles have a lesser name
+-- (`position-counted`). From this count follow all the facts below: numbers are below the number of circles, the list of names has the
+-- circle's at that place, the order of numbers is that of names, and two circles with one number are one.
 use Rattle.std.proofs.Common.{◌≡◌, ℕ, ◌⊎◌, inl, inr, ◌+◌, ◌-◌, ◌<◌, ◌≤◌, ◌∙◌, List, ◌∷◌, ◌++◌, sym, ap, subst, length, arith, cond, IsTrue}
 use Rattle.std.specs.Prelude.{nat_eq, slice_index, min, max}
 use Rattle.std.specs.List.{filter, position_or_len, range_with_len}

@@ -1,5 +1,5 @@
 -- Classes under the joining of pairs.
-use Rattle.std.proofs.Common.{◌≡◌, ℕ, ◌+◌, ◌<◌, ◌∙◌, List, [], ◌∷◌, ◌++◌, sym, length, map, get_or, take, drop, ap, arith}
+use Rattle.std.proofs.Common.{◌≡◌, ℕ, ◌+◌, ◌<◌, ◌∙◌, List, [], ◌∷◌, ◌++◌, sym, length, map, get_or, take, drop, ap, arith, ◌≢◌, max, min}
 use Rattle.std.proofs.Math.ListN.{set}
 use Rattle.std.proofs.lemmas.List.{get_or_default, length-append, length-map, length-take, length-drop}
 use Rattle.std.specs.Prelude.{slice_index}
@@ -9,6 +9,7 @@ use Rattle.std.proofs.lemmas.List.FromFn.{length-range_with_len, get_or-range_wi
 use Rattle.std.proofs.lemmas.Bool.Decides.{nat_tests}
 use Rattle.kh_types.specs.Classes.{merged, joined, classes_of, Respects, AreBelow}
 use Rattle.std.proofs.lemmas.List.Edits.{map_over_more}
+use Rattle.kh_types.proofs.Lists.{AllByRecursion-append, AllByRecursion-first, AllByRecursion-second}
 
 -- a list on its way to its image, with one element more replaced
 pub map_in_place : (f : ℕ → ℕ) (xs ys : List ℕ) (i y : ℕ) → i < length xs → ys ≡ map f (take i xs) ++ drop i xs
@@ -29,6 +30,39 @@ one_value x y u v of_x of_y of_u of_v same joins alike u_x u_y v_x v_y = grind (
 -- the two classes that are joined become one
 pub merged-both : (x y : ℕ) → merged x y x ≡ merged x y y
 merged-both x y = grind (arith, nat_tests)
+
+-- what becomes of the number of a class where two classes become one
+pub merged-first : (x y : ℕ) → merged x y x ≡ min x y
+merged-first x y = grind (arith, nat_tests)
+
+pub merged-others : (x y z : ℕ) → z ≢ x → z ≢ y → merged x y z ≡ z
+merged-others x y z not_x not_y = grind (arith, nat_tests)
+
+pub merged-greatest : (x y z : ℕ) → z ≡ max x y → merged x y z ≡ min x y
+merged-greatest x y z is = grind (arith, nat_tests)
+
+pub merged-kept : (x y z : ℕ) → z ≢ max x y → merged x y z ≡ z
+merged-kept x y z other = grind (arith, nat_tests)
+
+pub merged-low : (n x y z : ℕ) → z < n → merged (n + x) (n + y) z ≡ z
+merged-low n x y z low = grind (arith, nat_tests)
+
+pub merged-moved : (n x y z : ℕ) → merged (n + x) (n + y) (n + z) ≡ n + merged x y z
+merged-moved n x y z = grind (arith, nat_tests)
+
+-- pairs below a number, and pairs that a function respects, in two lists and in both in one
+
+pub AreBelow-append : (n : ℕ) (xs ys : List (ℕ × ℕ)) → AreBelow n xs → AreBelow n ys → AreBelow n (xs ++ ys)
+AreBelow-append n xs ys = AllByRecursion-append (λ (pair : ℕ × ℕ). (pair.0 < n) × (pair.1 < n)) xs ys
+
+pub Respects-append : (g : ℕ → ℕ) (xs ys : List (ℕ × ℕ)) → Respects g xs → Respects g ys → Respects g (xs ++ ys)
+Respects-append g xs ys = AllByRecursion-append (λ (pair : ℕ × ℕ). g pair.0 ≡ g pair.1) xs ys
+
+pub Respects-first : (g : ℕ → ℕ) (xs ys : List (ℕ × ℕ)) → Respects g (xs ++ ys) → Respects g xs
+Respects-first g xs ys = AllByRecursion-first (λ (pair : ℕ × ℕ). g pair.0 ≡ g pair.1) xs ys
+
+pub Respects-second : (g : ℕ → ℕ) (xs ys : List (ℕ × ℕ)) → Respects g (xs ++ ys) → Respects g ys
+Respects-second g xs ys = AllByRecursion-second (λ (pair : ℕ × ℕ). g pair.0 ≡ g pair.1) xs ys
 
 pub slice_index-joined : (classes : List ℕ) (pair : ℕ × ℕ) (x : ℕ) → x < length classes
     → slice_index (joined classes pair) x

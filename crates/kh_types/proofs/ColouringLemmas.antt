@@ -1,4 +1,9 @@
 -- Colours that follow the checkerboard equations: they are a solution, and each colour of a class follows from any other.
+--
+-- Each arc gives one equation modulo 2 between the bits of its two crossings. The walk over the arcs keeps classes of crossings and one
+-- solution: where an arc ties two classes it joins them, and turns the colours of one if need be; where it lies within one class, it must
+-- hold already, else no choice solves all. For any choice that solves the equations agrees with the colours on all of a class or on none of
+-- it (`forced`), so that a contradiction within a class is one for every choice.
 use Rattle.std.proofs.Common.{◌≡◌, ℕ, zero, suc, inl, inr, ◌-◌, ◌+◌, ◌*◌, ◌/◌, ◌%◌, ◌^◌, ◌<◌, ◌≤◌, ◌∙◌, List, [], ◌∷◌, length, refl, sym, ap, subst, arith, Bool, true, false, true≢false, not, ◌&&◌}
 use Rattle.std.specs.Prelude.{◌≢◌, Some, None, nat_eq, slice_index}
 use Rattle.std.specs.List.{list_all, range_with_len}
@@ -16,7 +21,8 @@ use Rattle.kh_types.specs.Colouring.{tie_of, is_coloured, is_tied, contradicts, 
 use Rattle.kh_types.specs.Acceptance.{checkerboard_at, fault_if}
 use Rattle.kh_types.proofs.BitLemmas.{bit-past}
 use Rattle.kh_types.proofs.ClassLemmas.{IsOneOnClasses, one_on_joined, slice_index-joined, length-joined, merged-both}
-use Rattle.kh_types.proofs.Ranges.{list_any-below, list_any-below_none, list_all-range_prefix, list_all-range_last, list_all-range_each}
+use Rattle.kh_types.proofs.Ranges.{list_any-below, list_any-below_none, list_all-range_prefix, list_all-range_last}
+use Rattle.kh_types.proofs.RangeCounts.{list_all-each}
 
 -- whether the bit of a choice and the colour at a place differ
 abbrev pub against : ℕ → List ℕ → ℕ → ℕ
@@ -281,7 +287,7 @@ FollowsTo-fine crossings arcs classes colours follows =
     let below : choice < 2 ^ length crossings =
     subst (λ n. choice < 2 ^ n) follows.colour_size (number_of-below colours) in
     let solves : solves_up_to crossings arcs choice ≡ true =
-    list_all-range_each (solves_at crossings choice) 1 arcs (λ arc from within.
+    list_all-each (solves_at crossings choice) 1 arcs (λ arc from within.
     let equation = equation_of crossings arc in
     odd_of_bits (bit choice (place_of equation.crossing)) (bit choice (place_of equation.other))
     (slice_index colours (place_of equation.crossing)) (slice_index colours (place_of equation.other)) equation.slots

@@ -1,4 +1,8 @@
 -- The test of a complex says the same as the facts about all degrees, rows and columns.
+--
+-- The test goes over the degrees by their numbers, and over the rows and columns that are there; the fact speaks of all integers and all
+-- numbers. Past the end of a list sizes are 0 and entries are 0, so nothing is left to test there: a degree either has a number or has no
+-- places, a product of two matrices has the entry 0 outside of both, and a dead place is within its degree.
 use Rattle.std.proofs.Common.{◌≡◌, ℕ, ◌+◌, ◌*◌, ◌%◌, ◌<◌, ◌≤◌, ◌∙◌, ◌⊎◌, inl, inr, List, [], ◌∷◌, ℤ, pos, negsuc, ◌+ℤ◌, ◌-ℤ◌, length, ap, sym, ap₂, subst, subst₂, refl, arith, Bool, true, IsTrue, sum_by}
 use Rattle.std.specs.Prelude.{nat_eq, slice_index_or}
 use Rattle.std.specs.List.{range_with_len}

@@ -130,12 +130,3 @@ once-places crossings choice place slot other other_slot oriented below slot_bel
     (colour-dart_of choice place slot ∙ alike ∙ sym (colour-dart_of choice other other_slot)) in
     let same_crossing : place + 1 ≡ other + 1 = ap (λ (dart : Dart). dart.crossing) same_dart in
     (omega (arith, same_crossing), ap (λ (dart : Dart). dart.slot) same_dart)
-
-pub both-places : (crossings : List (List ℕ)) (choice arc side : ℕ) → IsColoured crossings choice → IsArc crossings arc → side < 2
-    → (place : ℕ) × (slot : ℕ) × (place < length crossings) × (slot < 4) × (arc_at crossings place slot ≡ arc)
-    × (colour_at choice place slot ≡ side)
-both-places crossings choice arc side oriented is below =
-    let found = oriented.both arc side is below in
-    let dart = found.0 in
-    let within = found.1.within in
-    (dart.crossing - 1, dart.slot, omega (arith, within.crossing.positive, within.crossing.within), within.slot, found.1.on_arc, found.2)

@@ -1,4 +1,8 @@
 -- Where each arc stands twice, it has two darts, which are partners.
+--
+-- Darts are places 4k + slot, so that searches are over a range. An arc that stands twice has two places that pass the test of its darts;
+-- without the dart itself one is left, which the search for a partner finds, and which is the only one (`partner_at-only`). So the partner
+-- of the partner is the dart. All is said by places first, then carried over to darts.
 use Rattle.std.proofs.Common.{◌≡◌, ◌≢◌, ℕ, ◌⊎◌, inl, inr, ◌+◌, ◌-◌, ◌*◌, ◌/◌, ◌%◌, ◌<◌, ◌≤◌, ◌∙◌, List, refl, sym, ap, subst, length, arith, Bool, true, false, not, ◌&&◌}
 use Rattle.std.specs.Prelude.{nat_eq, Option, Some, None, unwrap_or}
 use Rattle.std.specs.List.{count_by, find, range_with_len}

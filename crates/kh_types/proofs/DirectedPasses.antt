@@ -1,4 +1,8 @@
 -- Each pass of a directed code leads from the arc whose head it is to the next arc.
+--
+-- The rule on under passes gives each of them by definition. The direction of an over pass is that of its sign, and the sign is read off in
+-- three ways: in components of three arcs or more from the numbers of its two arcs, in smaller ones from the first under pass of the
+-- component, or from the first over pass where there is none. In each case the pass leads from the arc of its head to the next arc.
 use Rattle.std.proofs.Common.{◌≡◌, ◌≢◌, ℕ, zero, suc, ◌⊎◌, inl, inr, ◌+◌, ◌%◌, ◌<◌, ◌≤◌, ◌∙◌, List, refl, sym, ap, arith, Bool, true, false, not}
 use Rattle.std.specs.Prelude.{nat_eq, nat_le, ◌||◌, if◌then◌else◌, Option, Some, None, is_some, unwrap_or}
 use Rattle.std.proofs.lemmas.Bool.{cases_lt, eqb-true}
@@ -58,10 +62,10 @@ head-cases crossings dart is = cases (is_positive crossings dart.crossing) dart.
     cases false slot is = grind (arith, nat_tests)
 
 -- the test by which a crossing is positive, in components of three arcs or more and in smaller ones
-by_size : (m : ℕ) (large small : Bool) → 2 < m → (if nat_le 3 m then large else small) ≡ large
+pub by_size : (m : ℕ) (large small : Bool) → 2 < m → (if nat_le 3 m then large else small) ≡ large
 by_size m large small above = grind (arith, nat_tests)
 
-by_smallness : (m : ℕ) (large small : Bool) → m ≤ 2 → (if nat_le 3 m then large else small) ≡ small
+pub by_smallness : (m : ℕ) (large small : Bool) → m ≤ 2 → (if nat_le 3 m then large else small) ≡ small
 by_smallness m large small within = grind (arith, nat_tests)
 
 -- in a component of at most two arcs each arc of the over pass is the next of the other

@@ -1,8 +1,12 @@
 -- Two circles become one along an edge, forwards or backwards: their names, and the circles that the crossing touches.
+--
+-- Along an edge one crossing changes its smoothing, and the pairs of all others stay. So the classes of the circles are joined once, those
+-- of the arcs at the slots 0 and 2 (EdgeCircles). The names then follow: the greater of the two disappears, the lesser stands for both, and
+-- the circles that the crossing touches are two before and one after, or the other way round (`merges_or_splits`).
 use Rattle.std.proofs.Common.{◌≡◌, ◌≢◌, ℕ, ◌⊎◌, inl, inr, ◌+◌, ◌*◌, ◌<◌, ◌≤◌, ◌∙◌, [], ◌∷◌, refl, sym, ap, subst, length, arith, Bool, true, false, ◌&&◌, not, IsTrue}
 use Rattle.std.specs.Prelude.{nat_eq, ◌||◌, min, max, slice_index}
 use Rattle.std.specs.List.{filter}
-use Rattle.std.proofs.lemmas.Bool.{eq-eqb}
+use Rattle.std.proofs.lemmas.Bool.{eq-eqb, and_from, and_right, cases_lt}
 use Rattle.std.proofs.lemmas.Bool.Decides.{nat_tests}
 use Rattle.std.proofs.lemmas.List.{get_or_past}
 use Rattle.kh_types.specs.Acceptance.{accepted}
@@ -13,7 +17,7 @@ use Rattle.kh_types.specs.Circles.{circles_of, circle_names, smoothings_of}
 use Rattle.kh_types.specs.Darts.{dart_at}
 use Rattle.kh_types.specs.Differential.{is_touched, touched}
 use Rattle.kh_types.proofs.AcceptedLemmas.{HasArcsTwice-accepted}
-use Rattle.kh_types.proofs.ClassLemmas.{classes-finest, length-joined, slice_index-joined}
+use Rattle.kh_types.proofs.ClassLemmas.{classes-finest, length-joined, merged-greatest, merged-kept, slice_index-joined}
 use Rattle.kh_types.proofs.DartPairs.{IsDart-at}
 use Rattle.kh_types.proofs.JoinedClasses.{HasMore-names, max-fixed, min-fixed}
 use Rattle.kh_types.proofs.Lists.{filter-range_agree, length-HasMore}
@@ -25,7 +29,6 @@ use Rattle.kh_types.proofs.EdgeBits.{bit-set_there}
 use Rattle.kh_types.proofs.EdgeCircles.{joins_or_parts}
 use Rattle.kh_types.proofs.FilteredRanges.{filter-filter, filter-one, filter-two}
 use Rattle.kh_types.proofs.JoinedSlots.{across-below, across-slot, arc_at-slot, respects-across}
-use Rattle.kh_types.proofs.WalkLemmas.{lesser_or}
 
 -- the circle of the arc at a slot of a crossing
 abbrev pub circle_at : Code → ℕ → ℕ → ℕ → ℕ
@@ -95,13 +98,6 @@ missed : (a b c d k g x : ℕ) → (a ≡ k) ⊎ (a ≡ g) → (b ≡ k) ⊎ (b 
     → x ≢ k → x ≢ g → one_of a b c d x ≡ false
 missed a b c d k g x a_is b_is c_is d_is not_k not_g = grind (arith, nat_tests)
 
-both_true : (a b : Bool) → a ≡ true → b ≡ true → (a && b) ≡ true
-both_true a b a_holds b_holds = ap (λ c. c && b) a_holds ∙ b_holds
-
-second_false : (a b : Bool) → b ≡ false → (a && b) ≡ false
-second_false true b fails = fails
-second_false false b fails = refl
-
 -- the arcs at a crossing are on the circles k and g
 record AreOn (code : Code) (state crossing k g : ℕ) : Type 0 where
   two : ((circle_at code state crossing 0 ≡ k) × (circle_at code state crossing 2 ≡ g))
@@ -112,7 +108,7 @@ record AreOn (code : Code) (state crossing k g : ℕ) : Type 0 where
 touches : (code : Code) (state crossing k g x : ℕ) → AreOn code state crossing k g → (x ≡ k) ⊎ (x ≡ g)
     → slice_index (circles_of code state) x ≡ x → (is_least (circles_of code state) x && is_touched code state crossing x) ≡ true
 touches code state crossing k g x on is own =
-    both_true (is_least (circles_of code state) x) (is_touched code state crossing x) (eq-eqb (slice_index (circles_of code state) x) x own)
+    and_from (is_least (circles_of code state) x) (is_touched code state crossing x) (eq-eqb (slice_index (circles_of code state) x) x own)
     (is_touched-slots code state crossing x
     ∙ hit (circle_at code state crossing 0) (circle_at code state crossing 1) (circle_at code state crossing 2)
     (circle_at code state crossing 3) k g x on.two is)
@@ -120,7 +116,7 @@ touches code state crossing k g x on is own =
 touches_not : (code : Code) (state crossing k g x : ℕ) → AreOn code state crossing k g → x ≢ k → x ≢ g
     → (is_least (circles_of code state) x && is_touched code state crossing x) ≡ false
 touches_not code state crossing k g x on not_k not_g =
-    second_false (is_least (circles_of code state) x) (is_touched code state crossing x)
+    and_right (is_least (circles_of code state) x) (is_touched code state crossing x)
     (is_touched-slots code state crossing x
     ∙ missed (circle_at code state crossing 0) (circle_at code state crossing 1) (circle_at code state crossing 2)
     (circle_at code state crossing 3) k g x (elim on.two [ inl s ↦ inl s.0 | inr s ↦ inr s.0 ]) on.second
@@ -157,12 +153,6 @@ both_in_order p q = grind (arith, nat_tests)
 
 pub becomes_least : (p q z : ℕ) → (z ≡ p) ⊎ (z ≡ q) → merged p q z ≡ min p q
 becomes_least p q z is = grind (arith, nat_tests)
-
-greatest_becomes : (p q z : ℕ) → z ≡ max p q → merged p q z ≡ min p q
-greatest_becomes p q z is = grind (arith, nat_tests)
-
-stays : (p q z : ℕ) → z ≢ max p q → merged p q z ≡ z
-stays p q z other = grind (arith, nat_tests)
 
 pub stays_least : (p q c x : ℕ) → p ≢ q → (x ≡ max p q → c ≡ x) → (x ≡ min p q → c ≡ x)
     → nat_eq (merged p q c) x ≡ (nat_eq c x && not (nat_eq x (max p q)))
@@ -228,7 +218,7 @@ two_become_one code before after crossing is is_crossing second fourth join =
                 ∙ becomes_least p q (circle_at code before crossing 3) fourth);
           })
           kept_from (omega (arith, order, gone_below))
-          (now kept (omega (arith, order, gone_below)) ∙ ap (λ z. merged p q z) kept_own ∙ stays p q kept (omega (arith, order)));
+          (now kept (omega (arith, order, gone_below)) ∙ ap (λ z. merged p q z) kept_own ∙ merged-kept p q kept (omega (arith, order)));
       names =
           filter-range_agree (is_least afterwards) (λ x. is_least circles x && is_other gone x) 1 most
           (λ x from below.
@@ -239,12 +229,12 @@ two_become_one code before after crossing is is_crossing second fourth join =
           ∙ sym (filter-filter (is_least circles) (is_other gone) (arcs_and_loops code));
       count = length-HasMore gone (circle_names code before) (filter (is_least (joined circles (first, third))) (arcs_and_loops code)) more
           ∙ ap (λ cs. length (filter (is_least cs) (arcs_and_loops code)) + 1) (sym join.one);
-      one = λ x is_gone. elim (lesser_or x n) [
-        | inl x_below ↦ now x x_below ∙ greatest_becomes p q (slice_index circles x) is_gone
+      one = λ x is_gone. elim (cases_lt x n) [
+        | inl x_below ↦ now x x_below ∙ merged-greatest p q (slice_index circles x) is_gone
         | inr past ↦ absurd (omega (arith, is_gone, get_or_past circles x 0 (omega (arith, is_n, past)), order))
       ];
-      others = λ x other. elim (lesser_or x n) [
-        | inl x_below ↦ now x x_below ∙ stays p q (slice_index circles x) other
+      others = λ x other. elim (cases_lt x n) [
+        | inl x_below ↦ now x x_below ∙ merged-kept p q (slice_index circles x) other
         | inr past ↦
             get_or_past afterwards x 0 (omega (arith, after_length, past)) ∙ sym (get_or_past circles x 0 (omega (arith, is_n, past)))
       ];

@@ -1,4 +1,8 @@
 -- A component of a directed code without single arcs has two arcs or more, so that there are at most as many as crossings.
+--
+-- Count the least arcs of components among the numbers 1 to 2n. No arc is its own next, so the number behind a least arc is in its
+-- component, and is the least of none; nor is the last arc the least of one. Numbers of which no two are neighbours are at most half of a
+-- range (`count_by-half`), so there are at most n components. Then no fault is one of components before the code breaks another rule.
 use Rattle.std.proofs.Common.{◌≡◌, ◌≢◌, ℕ, zero, suc, inl, inr, ◌+◌, ◌*◌, ◌<◌, ◌≤◌, ◌∙◌, List, [], ◌∷◌, length, refl, ap, arith, Bool, true, false, cond}
 use Rattle.std.specs.Prelude.{Option, Some, None, unwrap_or, nat_eq, nat_lt, slice_index, if◌then◌else◌}
 use Rattle.std.specs.List.{range_with_len, count_by}

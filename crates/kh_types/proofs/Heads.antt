@@ -1,4 +1,9 @@
 -- Each arc of a directed code has one head and one tail, where no component has a single arc.
+--
+-- Of the two darts of an arc one is a head: two heads are excluded in OneHead, and two tails lie across from two heads of other arcs. So
+-- the search for a head and that for a tail each find the one dart there is (`HasEnds-directed`), and each pass leads from a head to the
+-- dart across. A single arc, with both ends of its pass, would have two darts of one colour: a checkerboard excludes it, so accepted codes
+-- have none, and the same holds for them (`HasEnds-accepted`).
 use Rattle.std.proofs.Common.{◌≡◌, ℕ, inl, inr, ◌+◌, ◌*◌, ◌%◌, ◌<◌, ◌∙◌, ◌-◌, List, refl, sym, ap, subst, length, arith, Bool, true, false, not, ◌&&◌}
 use Rattle.std.specs.Prelude.{nat_eq, ◌||◌, if◌then◌else◌, unwrap_or, IsTrue, MatchBool}
 use Rattle.std.specs.List.{find, range_with_len}

@@ -1,4 +1,9 @@
 -- Classes before and after one more pair is joined, and which pairs have the same classes.
+--
+-- Classes are a list of names, each the least number of its class; one pair more replaces the greater of two names by the lesser. So names
+-- stay least ones (`IsNamed-classes_of`), which makes the list depend only on which numbers are together (`classes_of-same`): the order of
+-- pairs, their direction, and pairs that follow from others do not matter. A pair of two classes takes one name away, the greater
+-- (`class_count-joined`), and a pair within one class changes nothing.
 use Rattle.std.proofs.Common.{◌≡◌, ◌≢◌, ℕ, ◌⊎◌, inl, inr, ◌+◌, ◌<◌, ◌≤◌, ◌∙◌, List, [], ◌∷◌, ◌++◌, sym, refl, length, map, ap, arith, false, eq-eqb}
 use Rattle.std.specs.Prelude.{slice_index, nat_eq, min, max}
 use Rattle.std.specs.List.{fold, filter, range_with_len}
@@ -132,7 +137,7 @@ classes_of-same n pairs others below others_below onward back =
 
 -- the names of joined classes
 
-max-cases : (x y : ℕ) → (max x y ≡ x) ⊎ (max x y ≡ y)
+pub max-cases : (x y : ℕ) → (max x y ≡ x) ⊎ (max x y ≡ y)
 max-cases x y = grind (arith, nat_tests)
 
 pub min-cases : (x y : ℕ) → (min x y ≡ x) ⊎ (min x y ≡ y)

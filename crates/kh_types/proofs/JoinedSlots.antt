@@ -1,4 +1,8 @@
 -- What the smoothings of a state join, from dart to dart.
+--
+-- A smoothing pairs the four slots of its crossing. To cross it, from a slot to the one joined with it, is a map of the places of darts
+-- that leads back when done twice, stays at its crossing, and changes the colour where each crossing has a bit. A function has one value on
+-- all pairs that the smoothings of a state join exactly where it has one value at the arcs of each dart and of the dart across.
 use Rattle.std.proofs.Common.{◌≡◌, ℕ, zero, suc, ◌⊎◌, inl, inr, ◌+◌, ◌-◌, ◌*◌, ◌/◌, ◌%◌, ◌<◌, ◌∙◌, List, [], ◌∷◌, refl, sym, ap, subst, length, arith, Bool, true, false, cond}
 use Rattle.std.specs.Prelude.{nat_eq, slice_index_or}
 use Rattle.std.specs.List.{flat_map, enumerate_from}

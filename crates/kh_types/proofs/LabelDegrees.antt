@@ -36,7 +36,7 @@ int_eq-iff a b c d onward back = elim (cases_Bool (int_eq a b)) [
 ]
 
 -- a range of twice as many numbers has a lower and an upper half
-sum_by-later : (f : ℕ → ℕ) (b a n : ℕ) → sum_by f (range_with_len (b + a) n) ≡ sum_by (λ x. f (b + x)) (range_with_len a n)
+pub sum_by-later : (f : ℕ → ℕ) (b a n : ℕ) → sum_by f (range_with_len (b + a) n) ≡ sum_by (λ x. f (b + x)) (range_with_len a n)
 sum_by-later f b a zero = refl
 sum_by-later f b a (suc n) =
     let next : b + a + 1 ≡ b + (a + 1) = omega arith in
@@ -54,10 +54,10 @@ sum_by-halves f n =
 
 -- the lower half of the labels has v+ on the last circle, and the upper half v-
 
-ones-lower : (count label : ℕ) → label < 2 ^ count → ones (count + 1) label ≡ ones count label
+pub ones-lower : (count label : ℕ) → label < 2 ^ count → ones (count + 1) label ≡ ones count label
 ones-lower count label below = omega (arith, ones-more count label, bit-past label count count below (omega arith))
 
-ones-upper : (count label : ℕ) → label < 2 ^ count → ones (count + 1) (2 ^ count + label) ≡ ones count label + 1
+pub ones-upper : (count label : ℕ) → label < 2 ^ count → ones (count + 1) (2 ^ count + label) ≡ ones count label + 1
 ones-upper count label below =
     let none = bit-past label count count below (omega arith) in
     let turned : 2 ^ count + label ≡ label + 2 ^ count = omega arith in

@@ -1,7 +1,7 @@
 -- Sums over lists: of sums, of multiples, of images, by places, and of which one term counts.
 use Rattle.std.proofs.Common.{◌≡◌, ◌≢◌, ℕ, zero, suc, ◌+◌, ◌-◌, ◌*◌, ◌<◌, ◌≤◌, ◌∙◌, List, [], ◌∷◌, length, get_or, map, refl, sym, ap, ap₂, arith, Bool, true, false, cond, inl, inr}
 use Rattle.std.specs.Prelude.{nat_eq}
-use Rattle.std.specs.List.{filter, flat_map, sum_by, range_with_len}
+use Rattle.std.specs.List.{AllByRecursion, filter, flat_map, sum_by, range_with_len}
 use Rattle.std.proofs.Math.Path.{fun_ext}
 use Rattle.std.proofs.lemmas.Bool.{eq-eqb, eqb-true, cases_eq}
 use Rattle.std.proofs.lemmas.List.Sums.{sum_by-cons, sum_by-append}
@@ -11,6 +11,11 @@ use Rattle.kh_types.proofs.RangeCounts.{list_all-each}
 
 pub sum_by-alike : {X : Type 0} (f g : X → ℕ) → ((x : X) → f x ≡ g x) → (xs : List X) → sum_by f xs ≡ sum_by g xs
 sum_by-alike {X} f g alike xs = ap (λ (h : X → ℕ). sum_by h xs) (fun_ext alike)
+
+pub sum_by-on : {X : Type 0} (f g : X → ℕ) (xs : List X) → AllByRecursion (λ x. f x ≡ g x) xs → sum_by f xs ≡ sum_by g xs
+sum_by-on f g [] alike = refl
+sum_by-on f g (x ∷ xs) alike =
+    sum_by-cons f x xs ∙ ap₂ (λ m n. m + n) alike.0 (sum_by-on f g xs alike.1) ∙ sym (sum_by-cons g x xs)
 
 pub sum_by-plus : {X : Type 0} (f g : X → ℕ) (xs : List X) → sum_by (λ x. f x + g x) xs ≡ sum_by f xs + sum_by g xs
 sum_by-plus f g [] = refl

@@ -1,10 +1,14 @@
 -- General lemmas on lists, for all crates.
-use Rattle.std.proofs.Common.{◌≡◌, ◌≢◌, ℕ, zero, suc, ◌+◌, ◌-◌, ◌<◌, ◌≤◌, ◌∙◌, List, [], ◌∷◌, ◌++◌, length, map, get_or, refl, sym, ap, arith, Bool, true, false, cond, take, drop, not, unwrap_or}
+--
+-- What std does not have: facts about all elements of a list by recursion, elements of lists that are made of others, searches, counts, and
+-- lists of which one has an element more (`HasMore`), as the names of classes do before a pair is joined.
+use Rattle.std.proofs.Common.{◌≡◌, ◌≢◌, ℕ, zero, suc, ◌+◌, ◌-◌, ◌<◌, ◌≤◌, ◌∙◌, List, [], ◌∷◌, ◌++◌, length, map, get_or, refl, sym, ap, arith, Bool, true, false, cond, take, drop, not, unwrap_or, ◌⊎◌, inl, inr}
 use Rattle.std.specs.Prelude.{Some, None}
 use Rattle.std.specs.List.{All, AllByRecursion, Contains, filter, flat_map, find, count_by, range_with_len, enumerate_from, position, position_or_len, remove}
 use Rattle.std.proofs.lemmas.List.{length-append, length-map, get_or-map, take-map, drop-map, map-append}
-use Rattle.std.proofs.lemmas.List.Elements.{filter-append, All-nil, All-append, All-head, Contains-append_left, Contains-append_right}
+use Rattle.std.proofs.lemmas.List.Elements.{filter-append, All-nil, All-append, All-head, Contains-append_left, Contains-append_right, All-contains, All-from_recursion}
 use Rattle.std.proofs.lemmas.List.Sums.{sum_by-cons, prefix_len-le-length}
+use Rattle.std.proofs.lemmas.List.FromFn.{length-range_with_len, get_or-range_with_len}
 use Rattle.kh_types.proofs.Ranges.{range_around}
 use Rattle.std.proofs.lemmas.Bool.Decides.{nat_tests}
 
@@ -29,6 +33,40 @@ AllByRecursion-first P (x ∷ xs) ys holds = (holds.0, AllByRecursion-first P xs
 pub AllByRecursion-second : {X : Type 0} (P : X → Type 0) (xs ys : List X) → AllByRecursion P (xs ++ ys) → AllByRecursion P ys
 AllByRecursion-second P [] ys holds = holds
 AllByRecursion-second P (x ∷ xs) ys holds = AllByRecursion-second P xs ys holds.1
+
+pub AllByRecursion-weaker : {X : Type 0} (P Q : X → Type 0) (xs : List X) → ((x : X) → P x → Q x) → AllByRecursion P xs
+    → AllByRecursion Q xs
+AllByRecursion-weaker P Q [] weaker all = tt
+AllByRecursion-weaker P Q (x ∷ xs) weaker all = (weaker x all.0, AllByRecursion-weaker P Q xs weaker all.1)
+
+pub AllByRecursion-both : {X : Type 0} (P Q R : X → Type 0) (xs : List X) → ((x : X) → P x → Q x → R x) → AllByRecursion P xs
+    → AllByRecursion Q xs → AllByRecursion R xs
+AllByRecursion-both P Q R [] both first second = tt
+AllByRecursion-both P Q R (x ∷ xs) both first second =
+    (both x first.0 second.0, AllByRecursion-both P Q R xs both first.1 second.1)
+
+pub AllByRecursion-at : {X : Type 0} (P : X → Type 0) (xs : List X) (x : X) → AllByRecursion P xs → Contains xs x → P x
+AllByRecursion-at P xs x all has = All-contains P xs x (All-from_recursion P xs all) has
+
+-- the elements of a list with one more in front
+
+pub Contains-first : {X : Type 0} (x : X) (xs : List X) → Contains (x ∷ xs) x
+Contains-first x xs = (0, omega arith, refl)
+
+pub Contains-later : {X : Type 0} (x y : X) (xs : List X) → Contains xs y → Contains (x ∷ xs) y
+Contains-later x y xs (k, below, is) = (suc k, omega (arith, below), is)
+
+pub Contains-cases : {X : Type 0} (x y : X) (xs : List X) → Contains (x ∷ xs) y → (x ≡ y) ⊎ Contains xs y
+Contains-cases x y xs (zero, below, is) = inl is
+Contains-cases x y xs (suc k, below, is) = inr (k, omega (arith, below), is)
+
+pub Contains-range : (n k : ℕ) → k < n → Contains (range_with_len 0 n) k
+Contains-range n k below = (k, omega (arith, below, length-range_with_len 0 n), get_or-range_with_len 0 n k k below ∙ omega arith)
+
+pub range-contains : (n k : ℕ) → Contains (range_with_len 0 n) k → k < n
+range-contains n k has =
+    let within : has.0 < n = omega (arith, has.1, length-range_with_len 0 n) in
+    omega (arith, within, sym has.2 ∙ get_or-range_with_len 0 n has.0 k within)
 
 -- tests that agree on a range pass the same of its numbers
 

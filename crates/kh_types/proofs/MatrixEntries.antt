@@ -1,4 +1,8 @@
 -- The entries of a matrix that is made entry by entry, and what a cancellation makes of them.
+--
+-- Matrices are lists of rows, and steps on them are said entry by entry. `with_entries` makes each entry anew from its row and column, and
+-- keeps the size. So what a cancellation does is one formula for an entry (`entry_cancelled`), which is 0 in the row and in the column of
+-- the pivot, and the entry less the way through the pivot elsewhere; and that is what PivotLemmas asks of entries that a pivot leaves.
 use Rattle.std.proofs.Common.{◌≡◌, ℕ, ◌+◌, ◌-◌, ◌*◌, ◌%◌, ◌≤◌, ◌<◌, ◌≢◌, ◌∙◌, ◌⊎◌, inl, inr, List, [], length, map, refl, ap, sym, subst, arith, Bool, true, false, ◌||◌}
 use Rattle.std.specs.Prelude.{nat_eq, slice_index, slice_index_or, if◌then◌else◌}
 use Rattle.std.specs.List.{enumerate_from}

@@ -1,4 +1,8 @@
 -- Components that are intervals, and the arc that follows an arc.
+--
+-- A directed code numbers the arcs of each component in a row: the component is the interval from its least arc on, as long as it has arcs
+-- (`component-inside`). So an arc has a place in it, and the next arc is the number behind, or the least where there is none
+-- (`HasPlace-directed`). From places follows the rest: next keeps the component, is one to one, and comes back after two steps in twos.
 use Rattle.std.proofs.Common.{◌≡◌, ◌≢◌, ℕ, ◌⊎◌, inl, inr, ◌+◌, ◌<◌, ◌≤◌, ◌∙◌, List, refl, sym, ap, arith, true}
 use Rattle.std.specs.Prelude.{slice_index, min, nat_eq, if◌then◌else◌}
 use Rattle.std.specs.List.{flat_map}

@@ -1,4 +1,8 @@
 -- No arc of a directed code has two heads, where no component has a single arc.
+--
+-- Two heads on one arc make its component one of two arcs (TwoHeads), and each rule on these excludes one case. Two under passes: the rule
+-- of two arcs. An under pass and an over pass: the sign was read off the under pass, so the over pass begins where that one ends. Two over
+-- passes: the sign of each is read off the first over pass listed, which goes up, so that the other goes down, and one head is a tail.
 use Rattle.std.proofs.Common.{◌≡◌, ◌≢◌, ℕ, ◌⊎◌, inl, inr, ◌+◌, ◌%◌, ◌<◌, ◌≤◌, ◌∙◌, List, refl, sym, ap, length, arith, Bool, true, false, not}
 use Rattle.std.specs.Prelude.{nat_eq, nat_lt, if◌then◌else◌, Some, None}
 use Rattle.std.proofs.lemmas.Bool.{cases_lt, cases_eq, cases_Bool, eq-eqb, eqb-true}

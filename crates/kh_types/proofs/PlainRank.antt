@@ -2,7 +2,6 @@
 use Rattle.std.proofs.Common.{◌≡◌, ℕ, zero, suc, ◌+◌, ◌-◌, ◌≤◌, ◌<◌, ◌≢◌, ◌∙◌, inl, inr, List, [], length, refl, ap, sym, arith, Bool, true, false, cond, not}
 use Rattle.std.specs.Prelude.{Option, Some, None, nat_eq, nat_lt, slice_index, slice_index_or}
 use Rattle.std.specs.List.{position, position_or_len, remove}
-use Rattle.std.specs.Option.{option_map_or}
 use Rattle.std.proofs.Math.Nat.{mod-eq_of_lt, zero-mod}
 use Rattle.std.proofs.lemmas.Bool.Decides.{nat_tests, leb_tells}
 use Rattle.std.proofs.lemmas.List.{get_or_past}

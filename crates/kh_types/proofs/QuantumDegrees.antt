@@ -1,5 +1,5 @@
 -- The sizes of the degrees of generators, and which degrees have generators.
-use Rattle.std.proofs.Common.{◌≡◌, ℕ, ◌+◌, ◌-◌, ◌*◌, ◌/◌, ◌^◌, ◌<◌, ◌≤◌, ◌∙◌, List, [], ℤ, pos, negsuc, ◌+ℤ◌, ◌-ℤ◌, ◌⊎◌, inl, inr, map, suc, refl, sym, length, get_or, true, subst, arith}
+use Rattle.std.proofs.Common.{◌≡◌, ℕ, ◌+◌, ◌-◌, ◌*◌, ◌/◌, ◌^◌, ◌<◌, ◌≤◌, ◌∙◌, [], ℤ, pos, negsuc, ◌+ℤ◌, ◌-ℤ◌, ◌⊎◌, inl, inr, map, suc, refl, sym, length, get_or, true, subst, arith}
 use Rattle.std.specs.List.{All, range_with_len}
 use Rattle.std.specs.Ordering.{int_eq}
 use Rattle.std.proofs.lemmas.Bool.{and_parts, cases_lt}
@@ -8,13 +8,13 @@ use Rattle.std.proofs.lemmas.Int.{ints}
 use Rattle.std.proofs.lemmas.List.{nil_from_length}
 use Rattle.std.proofs.lemmas.List.Elements.{All-weaker, filter_passes}
 use Rattle.std.proofs.lemmas.List.FromFn.{length-range_with_len, length-map-range_with_len, get_or-map-range_with_len}
-use Rattle.std.proofs.lemmas.List.Sums.{sum_by-le, count_by-le-length}
+use Rattle.std.proofs.lemmas.List.Sums.{sum_by-le}
 use Rattle.std.proofs.Math.Nat.{mod-lt}
 use Rattle.kh_types.specs.declared.limits.TheConstants.{CROSSINGS, EXPONENT}
-use Rattle.kh_types.specs.Code.{Code, crossing_numbers}
+use Rattle.kh_types.specs.Code.{Code}
 use Rattle.kh_types.specs.Bits.{bit, ones}
-use Rattle.kh_types.specs.Components.{components_of, component_count}
-use Rattle.kh_types.specs.Directions.{is_positive_in, plus_count, minus_count}
+use Rattle.kh_types.specs.Components.{component_count}
+use Rattle.kh_types.specs.Directions.{plus_count, minus_count}
 use Rattle.kh_types.specs.Circles.{circle_count}
 use Rattle.kh_types.specs.Generators.{Generator, one_count, homological_degree, quantum_degree, generators, has_degrees, generators_at}
 use Rattle.kh_types.specs.Accepted.{IsAccepted}
@@ -22,6 +22,7 @@ use Rattle.kh_types.specs.Table.{IsWithin, from_minus}
 use Rattle.kh_types.proofs.Lists.{All-some}
 use Rattle.kh_types.proofs.CircleBound.{circle_count-le, circle_count-within}
 use Rattle.kh_types.proofs.Ranges.{map-range_agree}
+pub use Rattle.kh_types.proofs.DirectionLemmas.{plus_count-le}
 use Rattle.std.proofs.lemmas.Simd.{map-map}
 
 -- the numbers from -n to n by their places
@@ -70,14 +71,6 @@ ones-le count number =
 
 pub one_count-le : (code : Code) (state : ℕ) → one_count code state ≤ length code.crossings
 one_count-le code state = ones-le (length code.crossings) state
-
-pub plus_count-le : (crossings : List (List ℕ)) → plus_count crossings ≤ length crossings
-plus_count-le crossings =
-    omega (
-      arith,
-      count_by-le-length (is_positive_in crossings (components_of crossings)) (crossing_numbers crossings),
-      length-range_with_len 1 (length crossings),
-    )
 
 -- the degrees of a generator
 

@@ -1,4 +1,8 @@
 -- Which numbers of a range pass a test, how many, and what a search for one of them finds.
+--
+-- Definitions search and count over ranges of numbers; here is what such a test says of single numbers, and back. Counts are compared by
+-- taking one number away (`but`): where one number passes it is the only one, and a map that takes what passes one to one to what passes
+-- another test bounds the one count by the other (`count_by-into`).
 use Rattle.std.proofs.Common.{◌≡◌, ◌≢◌, ℕ, zero, suc, inl, inr, ◌+◌, ◌<◌, ◌≤◌, ◌∙◌, List, ◌∷◌, get_or, length, ◌-◌, refl, sym, ap, arith, Bool, true, false, not, ◌&&◌, cond}
 use Rattle.std.specs.Prelude.{nat_eq, Some}
 use Rattle.std.specs.List.{count_by, find, list_all, list_any, range_with_len}
@@ -7,6 +11,7 @@ use Rattle.std.proofs.lemmas.Bool.Decides.{nat_tests}
 use Rattle.std.proofs.lemmas.List.Sums.{sum_by-cons, AllPass-from_list_all, list_all-from_AllPass}
 use Rattle.std.proofs.lemmas.List.Folds.{Any-from_list_any, list_any_at}
 use Rattle.std.proofs.lemmas.List.FromFn.{length-range_with_len, get_or-range_with_len}
+use Rattle.kh_types.proofs.Ranges.{count_by-range_more}
 
 -- the number at a place of a range
 get_or-range : (a n x d : ℕ) → a ≤ x → x < a + n → get_or (range_with_len a n) (x - a) d ≡ x
@@ -43,7 +48,7 @@ list_any-one p a n passes =
     (a + found.0, omega arith, omega arith, ap p (sym is) ∙ found.4)
 
 -- what one number adds to a count
-abbrev counted : Bool → ℕ
+abbrev pub counted : Bool → ℕ
 counted passes = cond passes 1 0
 
 -- one number more in front
@@ -149,3 +154,36 @@ only-counted p a n k m one k_from k_below k_passes m_from m_below m_passes = eli
       let both = count_by-but (but p m) a n k k_from k_below (sym (but-other (p k) m k other) ∙ k_passes) in
       absurd (omega (arith, one, k_but, both))
 ]
+
+-- numbers that pass are no more than those to which they are taken, each to another
+pub count_by-into : (p q : ℕ → Bool) (g : ℕ → ℕ) (n m : ℕ) → ((x : ℕ) → x < n → p x ≡ true → (g x < m) × (q (g x) ≡ true))
+    → ((x y : ℕ) → x < n → y < n → p x ≡ true → p y ≡ true → g x ≡ g y → x ≡ y)
+    → count_by p (range_with_len 0 n) ≤ count_by q (range_with_len 0 m)
+count_by-into p q g zero m into apart = omega (arith, (let e : count_by p (range_with_len 0 0) ≡ 0 = refl in e))
+count_by-into p q g (suc n) m into apart =
+    let more : count_by p (range_with_len 0 (n + 1)) ≡ count_by p (range_with_len 0 n) + counted (p n) =
+    count_by-range_more p 0 n n (omega arith) in
+    let whole : count_by p (range_with_len 0 (suc n)) ≡ count_by p (range_with_len 0 (n + 1)) =
+    ap (λ k. count_by p (range_with_len 0 k)) (let e : suc n ≡ n + 1 = omega arith in e) in
+    elim (cases_Bool (p n)) [
+      | inl passes ↦
+          let here = into n (omega arith) passes in
+          let image = g n in
+          let rest = count_by-into p (but q image) g n m
+          (λ x below x_passes.
+          let there = into x (omega (arith, below)) x_passes in (
+            there.0,
+            sym (but-other (q (g x)) image (g x)
+                (λ same. absurd (omega (arith, below, apart x n (omega (arith, below)) (omega arith) x_passes passes same)))) ∙ there.1,
+          ))
+          (λ x y x_below y_below. apart x y (omega (arith, x_below)) (omega (arith, y_below))) in
+          let fewer = count_by-but q 0 m image (omega arith) (omega (arith, here.0)) here.1 in
+          let one : counted (p n) ≡ 1 = ap counted passes in
+          omega (arith, more, whole, rest, fewer, one)
+      | inr fails ↦
+          let rest = count_by-into p q g n m
+          (λ x below. into x (omega (arith, below)))
+          (λ x y x_below y_below. apart x y (omega (arith, x_below)) (omega (arith, y_below))) in
+          let none : counted (p n) ≡ 0 = ap counted fails in
+          omega (arith, more, whole, rest, none)
+    ]

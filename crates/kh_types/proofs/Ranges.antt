@@ -1,4 +1,7 @@
 -- A range with one number more at its end, under each function that loops compute over ranges.
+--
+-- Loops go over ranges, so their invariants are about a range that becomes longer by its last number. Each function that a loop computes
+-- (filter, sum, count, map, search, all, any) has its step here, as it is, and for ranges from 0 and from 1 as `grind` applies it.
 use Rattle.std.proofs.Common.{◌≡◌, ℕ, zero, suc, ◌+◌, ◌-◌, ◌<◌, ◌≤◌, ◌∙◌, List, [], ◌∷◌, ◌++◌, map, length, get_or, ap, sym, arith, Bool, true, false, cond, refl, ◌&&◌, ◌||◌}
 use Rattle.std.specs.Prelude.{Option, Some, None}
 use Rattle.std.specs.List.{range_with_len, filter, count_by, sum_by, flat_map, list_all, list_any, find}
@@ -134,14 +137,6 @@ list_all-range_last p a n j is_j passes =
     let last = (and_parts (list_all p (range_with_len a n)) (p j && true) (sym cut ∙ passes)).1 in
     (and_parts (p j) true last).0
 
--- what each number of a range passes, all pass
-pub list_all-range_each : (p : ℕ → Bool) (a n : ℕ) → ((x : ℕ) → a ≤ x → x < a + n → p x ≡ true)
-    → list_all p (range_with_len a n) ≡ true
-list_all-range_each p a zero each = refl
-list_all-range_each p a (suc n) each =
-    ap (λ b. b && list_all p (range_with_len (a + 1) n)) (each a (omega arith) (omega arith))
-    ∙ list_all-range_each p (a + 1) n (λ x from below. each x (omega (arith, from)) (omega (arith, below)))
-
 -- the same for ranges that begin with 0 or with 1, in forms that `grind` applies by itself
 pub range_from_zero : (n : ℕ) → range_with_len 0 (n + 1) ≡ range_with_len 0 n ++ n ∷ []
 range_from_zero n = range_more 0 n n (omega arith)
@@ -177,3 +172,17 @@ map-range_agree f g a zero same = refl
 map-range_agree {X} f g a (suc n) same =
     ap (λ (x : X). x ∷ map f (range_with_len (a + 1) n)) (same a (omega arith) (omega arith))
     ∙ ap (λ (xs : List X). g a ∷ xs) (map-range_agree f g (a + 1) n (λ x from below. same x (omega arith) (omega arith)))
+
+-- the numbers below 2, as labels are, and below 4, as slots are
+
+pub below_two : (P : ℕ → Type 0) → P 0 → P 1 → (n : ℕ) → n < 2 → P n
+below_two P at_0 at_1 zero below = at_0
+below_two P at_0 at_1 (suc zero) below = at_1
+below_two P at_0 at_1 (suc (suc n)) below = absurd (omega (arith, below))
+
+pub below_four : (P : ℕ → Type 0) → P 0 → P 1 → P 2 → P 3 → (n : ℕ) → n < 4 → P n
+below_four P at_0 at_1 at_2 at_3 zero below = at_0
+below_four P at_0 at_1 at_2 at_3 (suc zero) below = at_1
+below_four P at_0 at_1 at_2 at_3 (suc (suc zero)) below = at_2
+below_four P at_0 at_1 at_2 at_3 (suc (suc (suc zero))) below = at_3
+below_four P at_0 at_1 at_2 at_3 (suc (suc (suc (suc n)))) below = absurd (omega (arith, below))

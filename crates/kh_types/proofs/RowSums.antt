@@ -8,7 +8,7 @@ use Rattle.kh_types.specs.StateSum.{euler, int_sum, signed_by}
 use Rattle.kh_types.specs.Table.{IsWithin, Row, from_minus, is_shown}
 use Rattle.kh_types.proofs.AlternatingSums.{alternating, signed_by-zero}
 use Rattle.kh_types.proofs.Integers.{int_eq-other}
-use Rattle.kh_types.proofs.IntSums.{int_sum-alike, int_sum-filter, int_sum-flat_map, int_sum-map, int_sum-outside, int_sum-within, int_sum-zeros, int_sum-cond}
+use Rattle.kh_types.proofs.IntSums.{int_sum-alike, int_sum-filter, int_sum-flat_map, int_sum-map, int_sum-outside, int_sum-within, int_sum-cond}
 use Rattle.kh_types.proofs.QuantumDegrees.{within_or_not}
 
 -- the row of a dimension

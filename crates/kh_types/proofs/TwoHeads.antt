@@ -1,4 +1,8 @@
 -- Where an arc of a directed code had two heads, it and its next arc would be the whole component.
+--
+-- Across from each of the two heads lies a dart of the next arc, so that all four darts of the two arcs lie in pairs at the ends of two
+-- passes. A pass that begins on one of the two arcs thus ends on one of them too: the function that is 1 on them and 0 elsewhere respects
+-- all passes, and is one on the component (`size-two`). What OneHead then excludes is a component of two arcs.
 use Rattle.std.proofs.Common.{◌≡◌, ◌≢◌, ℕ, ◌⊎◌, inl, inr, ◌+◌, ◌<◌, ◌∙◌, List, sym, ap, arith, Bool, true, false, not}
 use Rattle.std.specs.Prelude.{nat_eq, ◌||◌, if◌then◌else◌}
 use Rattle.std.specs.List.{flat_map}

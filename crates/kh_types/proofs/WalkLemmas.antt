@@ -1,10 +1,14 @@
 -- Walks round the cycles of a permutation, each from its least number: all numbers of the cycle get its class.
-use Rattle.std.proofs.Common.{◌≡◌, ◌≢◌, ℕ, ◌⊎◌, inl, inr, ◌+◌, ◌<◌, ◌≤◌, ◌∙◌, List, length, refl, sym, ap, arith, cond, not}
+--
+-- This is the invariant of each loop that labels cycles. From the least number p of a cycle the walk gives p to one number after the other,
+-- until it is back at p. On the way the numbers with p are a stretch of the cycle (`IsOnWalk`), whose end is new or p, since f is one to
+-- one. When the walk is back, the numbers with p are closed under f, so they are the whole cycle, by the finest property of cycles.
+use Rattle.std.proofs.Common.{◌≡◌, ◌≢◌, ℕ, ◌⊎◌, inl, inr, ◌+◌, ◌<◌, ◌∙◌, List, length, refl, sym, ap, arith, cond, not}
 use Rattle.std.specs.Prelude.{nat_eq, slice_index}
 use Rattle.std.specs.List.{count_by, range_with_len}
 use Rattle.std.proofs.Math.ListN.{set}
 use Rattle.std.proofs.lemmas.Bool.Decides.{nat_tests}
-use Rattle.std.proofs.lemmas.Bool.{cases_eq, eq-eqb, eqb-true, false_from_ne_true}
+use Rattle.std.proofs.lemmas.Bool.{cases_eq, eq-eqb, eqb-true, false_from_ne_true, cases_lt}
 use Rattle.std.proofs.lemmas.List.{ext_get_or, get_or-set_same, get_or-set_other, length-set}
 use Rattle.std.proofs.lemmas.List.FromFn.{length-range_with_len}
 use Rattle.std.proofs.lemmas.List.Sums.{sum_by-set}
@@ -106,14 +110,11 @@ own_is_least cycles classes m p named walked below own = elim (cases_eq (slice_i
       absurd (apart (sym (walked.before p (omega (arith, named.size, below)) (omega (arith, least, apart))) ∙ own))
 ]
 
-pub lesser_or : (x p : ℕ) → (x < p) ⊎ (p ≤ x)
-lesser_or x p = grind (arith, nat_tests)
-
 only_own : (cycles classes : List ℕ) (m p y : ℕ) → IsNamed m cycles → IsWalked cycles classes p → y < m
     → slice_index classes y ≡ p → y ≡ p
 only_own cycles classes m p y named walked below has =
     let inside : y < length cycles = omega (arith, named.size, below) in
-    elim (lesser_or (slice_index cycles y) p) [
+    elim (cases_lt (slice_index cycles y) p) [
       | inl lesser ↦ absurd (omega (arith, walked.before y inside lesser, lesser, has))
       | inr later ↦ sym (walked.behind y inside later) ∙ has
     ]

@@ -1,4 +1,8 @@
 -- The way along a function that takes no two numbers to one, from the image of a number until it comes to one of two.
+--
+-- Follow f from the image of e. As f takes no two numbers to one, the way comes to no number twice but where it began, and each step leaves
+-- one number fewer that is not on it; so it comes to d or e. The numbers that it passes are a test, which each step enlarges by one number.
+-- In the end the test is 1 on the way to the last of d and e, and 0 at the other: what Exchanges splits by.
 use Rattle.std.proofs.Common.{◌≡◌, ◌≢◌, ℕ, zero, suc, ◌⊎◌, inl, inr, ◌+◌, ◌<◌, ◌≤◌, ◌∙◌, refl, sym, ap, subst, arith, Bool, true, false, not, cond}
 use Rattle.std.specs.Prelude.{nat_eq, ◌||◌}
 use Rattle.std.specs.List.{count_by, range_with_len}
@@ -155,7 +159,7 @@ IsWay-at_e m f d e passed x is d_below apart is_e on =
     (IsWay-ends m f d e d passed x is d_below apart (inr is_e) (λ same. apart (same ∙ is_e)) (inl refl) on)
 
 -- each step leaves one number fewer that does not pass
-not_passed : (b : Bool) → (b ≡ true → ⊥) → not b ≡ true
+pub not_passed : (b : Bool) → (b ≡ true → ⊥) → not b ≡ true
 not_passed true fails = absurd (fails refl)
 not_passed false fails = refl
 

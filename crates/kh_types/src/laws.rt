@@ -7,6 +7,7 @@ pub mod checkerboard;
 pub mod classes;
 pub mod complexes;
 pub mod darts;
+pub mod diagrams;
 pub mod heads;
 pub mod ranks;
 pub mod sizes;

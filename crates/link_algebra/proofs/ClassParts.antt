@@ -1,9 +1,13 @@
 -- Classes of pairs of which some are below a number and the others from there on: the classes of either part stand side by side.
+--
+-- Numbers from a bound on are those of the second part, raised. A pair of the first part joins below the bound, a pair of the second from
+-- there on, and joining keeps the two stretches apart: so the list of classes is that of the first part and then that of the second,
+-- raised, and the numbers of classes add up.
 use Rattle.std.proofs.Common.{List, [], ap, ap₂, arith, cond, length, map, refl, subst, suc, sym, zero, ℕ, ◌++◌, ◌+◌, ◌<◌, ◌∙◌, ◌∷◌, ◌≡◌}
 use Rattle.std.proofs.lemmas.Bool.Decides.{nat_tests}
 use Rattle.std.proofs.lemmas.List.{length-append, length-map, map-append}
 use Rattle.std.proofs.lemmas.List.FromFn.{length-range_with_len}
-use Rattle.std.proofs.lemmas.List.Sums.{length-filter, sum_by-append, sum_by-cons}
+use Rattle.std.proofs.lemmas.List.Sums.{length-filter, sum_by-append}
 use Rattle.std.specs.List.{fold, range_with_len, sum_by}
 use Rattle.std.specs.Prelude.{nat_eq, slice_index}
 use Rattle.kh_types.proofs.JoinedClasses.{slice_index-range}
@@ -11,7 +15,8 @@ use Rattle.kh_types.proofs.ListSums.{sum_by-range_alike}
 use Rattle.kh_types.proofs.Ranges.{range-append}
 use Rattle.kh_types.specs.Classes.{AreBelow, class_count, classes_of, is_least, joined, merged, merged_all}
 use Rattle.kh_types.specs.Bits.{one_if}
-use Rattle.kh_types.proofs.ClassLemmas.{length-joined}
+use Rattle.kh_types.proofs.ClassLemmas.{length-joined, merged-low, merged-moved}
+use Rattle.kh_types.proofs.LabelDegrees.{sum_by-later}
 
 -- all numbers raised
 abbrev pub lifted : ℕ → List ℕ → List ℕ
@@ -63,12 +68,6 @@ map-lifted f g m (x ∷ xs) same = ap₂ (λ y ys. y ∷ ys) (same x) (map-lifte
 merged-above : (m x y z : ℕ) → x < m → y < m → merged x y (m + z) ≡ m + z
 merged-above m x y z x_below y_below = grind (arith, nat_tests)
 
-merged-under : (m x y z : ℕ) → z < m → merged (m + x) (m + y) z ≡ z
-merged-under m x y z below = grind (arith, nat_tests)
-
-merged-lifted : (m x y z : ℕ) → merged (m + x) (m + y) (m + z) ≡ m + merged x y z
-merged-lifted m x y z = grind (arith, nat_tests)
-
 merged-small : (m x y z : ℕ) → x < m → y < m → z < m → merged x y z < m
 merged-small m x y z x_below y_below z_below = grind (arith, nat_tests)
 
@@ -103,8 +102,8 @@ joined-back m front back pair size below first second =
     ap₂ (λ a b. merged_all a b (front ++ lifted m back)) (at pair.0 first) (at pair.1 second)
     ∙ map-append (merged (m + x) (m + y)) front (lifted m back)
     ∙ ap₂ (λ us vs. us ++ vs)
-    (map-kept (merged (m + x) (m + y)) front (λ k inside. merged-under m x y (slice_index front k) (below k inside)))
-    (map-lifted (merged (m + x) (m + y)) (merged x y) m back (merged-lifted m x y))
+    (map-kept (merged (m + x) (m + y)) front (λ k inside. merged-low m x y (slice_index front k) (below k inside)))
+    (map-lifted (merged (m + x) (m + y)) (merged x y) m back (merged-moved m x y))
 
 small-joined : (m : ℕ) (classes : List ℕ) (pair : ℕ × ℕ) → length classes ≡ m → AllBelow m classes → pair.0 < m → pair.1 < m
     → AllBelow m (joined classes pair)
@@ -149,16 +148,13 @@ fold-append_pairs : (classes : List ℕ) (pairs more : List (ℕ × ℕ))
 fold-append_pairs classes [] more = refl
 fold-append_pairs classes (pair ∷ pairs) more = fold-append_pairs (joined classes pair) pairs more
 
-pub index-range : (n k : ℕ) → k < n → slice_index (range_with_len 0 n) k ≡ k
-index-range n k below = slice_index-range n k below
-
 pub length-classes : (m : ℕ) (pairs : List (ℕ × ℕ)) → AreBelow m pairs
     → (length (classes_of m pairs) ≡ m) × ((k : ℕ) → k < length (classes_of m pairs) → slice_index (classes_of m pairs) k < m)
 length-classes m pairs below =
     fold-small m (range_with_len 0 m) pairs (length-range_with_len 0 m)
     (λ k within.
     let inside : k < m = omega (arith, within, length-range_with_len 0 m) in
-    omega (arith, index-range m k inside, inside)) below
+    omega (arith, slice_index-range m k inside, inside)) below
 
 -- the classes of both parts side by side
 pub classes-parts : (m n : ℕ) (pairs more : List (ℕ × ℕ)) → AreBelow m pairs → AreBelow n more
@@ -173,17 +169,8 @@ classes-parts m n pairs more below more_below =
     (fold-front m (range_with_len 0 m) (range_with_len 0 n) pairs (length-range_with_len 0 m)
     (λ k within.
     let inside : k < m = omega (arith, within, length-range_with_len 0 m) in
-    omega (arith, index-range m k inside, inside)) below)
+    omega (arith, slice_index-range m k inside, inside)) below)
     ∙ fold-back m n (classes_of m pairs) (range_with_len 0 n) more small.0 small.1 (length-range_with_len 0 n) more_below
-
--- so there are as many as in both
-pub count-shifted : (f : ℕ → ℕ) (a b n : ℕ) → sum_by f (range_with_len (a + b) n) ≡ sum_by (λ k. f (a + k)) (range_with_len b n)
-count-shifted f a b zero = refl
-count-shifted f a b (suc n) =
-    let e : a + b + 1 ≡ a + (b + 1) = omega arith in
-    sum_by-cons f (a + b) (range_with_len (a + b + 1) n)
-    ∙ ap (λ s. f (a + b) + s) (ap (λ c. sum_by f (range_with_len c n)) e ∙ count-shifted f a (b + 1) n)
-    ∙ sym (sum_by-cons (λ k. f (a + k)) b (range_with_len (b + 1) n))
 
 pub class_count-append_lists : (m : ℕ) (front back : List ℕ) → length front ≡ m
     → class_count (front ++ lifted m back) ≡ class_count front + class_count back
@@ -202,7 +189,7 @@ class_count-append_lists m front back size =
     (sum_by-range_alike (test all) (test front) 0 m
     (λ x from below. ap (λ c. cond (nat_eq c x) 1 0) (index-front front (lifted m back) x (omega (arith, below, size))))
     ∙ ap (λ k. sum_by (test front) (range_with_len 0 k)) (sym size) ∙ sym (counted front))
-    (ap (λ b. sum_by (test all) (range_with_len b n)) e ∙ count-shifted (test all) m 0 n
+    (ap (λ b. sum_by (test all) (range_with_len b n)) e ∙ sum_by-later (test all) m 0 n
     ∙ sum_by-range_alike (λ k. test all (m + k)) (test back) 0 n
     (λ k from below.
     ap (λ c. cond (nat_eq c (m + k)) 1 0)

@@ -1,4 +1,9 @@
 -- The homology of the mirror.
+--
+-- Each generator has a star in the mirror, with all bits and labels exchanged, at the opposite degrees. An edge has one that leads back,
+-- with the same coefficient up to a sign of either end (MirrorSigns). So the matrix out of a degree is the transposed one into the opposite
+-- degree, with rows and columns in another order and times signs: none of this changes the rank, and dimensions are numbers of generators
+-- less two ranks.
 use Rattle.std.proofs.Common.{IsTrue, ap, ap₂, arith, inl, inr, length, pos, refl, sym, ℕ, ℤ, ◌*◌, ◌+ℤ◌, ◌-ℤ◌, ◌-◌, ◌<◌, ◌∙◌, ◌≡◌, ◌≤◌}
 use Rattle.std.proofs.lemmas.Bool.{cases_lt}
 use Rattle.std.proofs.lemmas.Int.{ints}

@@ -2,13 +2,12 @@
 use Rattle.std.proofs.Common.{◌≡◌, ◌≢◌, ℕ, zero, suc, ◌+◌, ◌^◌, ◌<◌, ◌∙◌, inl, inr, ℤ, List, length, get_or, arith, true, cond}
 use Rattle.std.specs.List.{AllByRecursion, Contains, flat_map, range_with_len, sum_by}
 use Rattle.std.proofs.lemmas.List.Elements.{All-filter, All-from_recursion, All-get_or, filter_passes}
-use Rattle.std.proofs.lemmas.List.FromFn.{get_or-range_with_len, length-range_with_len}
 use Rattle.std.proofs.lemmas.List.Sums.{length-filter}
 use Rattle.kh_types.specs.Circles.{circle_count}
 use Rattle.kh_types.specs.Code.{Code, IsCrossing}
 use Rattle.kh_types.specs.Differential.{coefficient, coefficient_at}
 use Rattle.kh_types.specs.Generators.{Generator, generator_of, generators, generators_at, generators_of, has_degrees, states}
-use Rattle.kh_types.proofs.Lists.{AllByRecursion-append, Contains-filter, Contains-flat_map, Contains-map}
+use Rattle.kh_types.proofs.Lists.{AllByRecursion-append, Contains-filter, Contains-flat_map, Contains-map, Contains-range}
 use Rattle.kh_types.proofs.ListSums.{sum_by-alike, sum_by-flat_map, sum_by-map, sum_by-some}
 use Rattle.kh_types.proofs.RangeImages.{all-map_range}
 use Rattle.cube_squares.proofs.Pairs.{IsStep, edge_or_zero}
@@ -40,9 +39,6 @@ generators_at-is code i j at d within = (
       (All-filter (has_degrees code i j) (IsGenerator code) (generators code) (All-from_recursion (IsGenerator code) (generators code) (generators-all code))),
   All-get_or (λ x. has_degrees code i j x ≡ true) (generators_at code i j) at d within (filter_passes (has_degrees code i j) (generators code)),
 )
-
-Contains-range : (n k : ℕ) → k < n → Contains (range_with_len 0 n) k
-Contains-range n k below = (k, omega (arith, below, length-range_with_len 0 n), get_or-range_with_len 0 n k k below ∙ omega arith)
 
 -- and each has a place
 pub generators_at-contain : (code : Code) (i j : ℤ) (x : Generator) → IsGenerator code x → has_degrees code i j x ≡ true

@@ -27,6 +27,5 @@ pub mod UnionLemmas
 pub mod Twice
 pub mod MirrorPasses
 pub mod KeptNumbers
-pub mod NumberedBlocks
 pub mod ReversedNumbers
 pub mod MirrorImages

@@ -1,4 +1,7 @@
 -- The degrees of the mirror's generators are those of the diagram's with the signs exchanged, and as many have them.
+--
+-- The mirror has the plus crossings as minus crossings, the zeros of a state as ones, and v- for v+. Put into the two degrees, all this
+-- changes their signs. As the star is one to one, as many generators have two degrees as stars have the opposite ones.
 use Rattle.std.proofs.Common.{IsTrue, ap, ap₂, arith, cond, length, pos, refl, suc, sym, zero, ℕ, ℤ, ◌*◌, ◌+ℤ◌, ◌+◌, ◌-ℤ◌, ◌-◌, ◌<◌, ◌^◌, ◌∙◌, ◌≡◌, ◌≤◌}
 use Rattle.std.proofs.lemmas.Bool.Decides.{Decides-and, Decides-int_eq, Decides-like, same_from_decides}
 use Rattle.std.proofs.lemmas.Int.{ints}

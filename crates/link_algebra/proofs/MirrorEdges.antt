@@ -43,34 +43,34 @@ slots-joined code state crossing slot is is_crossing below joined_below =
     ∙ circles-across code state (4 * k + slot) is (omega (arith, is_crossing.positive, is_crossing.within, below))
     ∙ ap (λ a. circle_in code state a) (at slot below)
 
+-- the slots that a smoothing joins with the slots 0 and 2
+joined-both : (code : Code) (state crossing p q : ℕ) → IsTrue (accepted code) → IsCrossing code.crossings crossing → p < 4 → q < 4
+    → joined_slot (bit state (place_of crossing)) p ≡ 0 → joined_slot (bit state (place_of crossing)) q ≡ 2
+    → (circle_at_slot code state crossing 0 ≡ circle_at_slot code state crossing p)
+    × (circle_at_slot code state crossing 2 ≡ circle_at_slot code state crossing q)
+joined-both code state crossing p q is is_crossing p_below q_below first third = (
+  ap (λ u. circle_at_slot code state crossing u) (sym first)
+      ∙ slots-joined code state crossing p is is_crossing p_below (omega (arith, first)),
+  ap (λ u. circle_at_slot code state crossing u) (sym third)
+      ∙ slots-joined code state crossing q is is_crossing q_below (omega (arith, third)),
+)
+
 -- where a crossing has its 0-smoothing, or its 1-smoothing
 joined-zero : (code : Code) (state crossing : ℕ) → IsTrue (accepted code) → IsCrossing code.crossings crossing
     → bit state (place_of crossing) ≡ 0
     → (circle_at_slot code state crossing 0 ≡ circle_at_slot code state crossing 1)
     × (circle_at_slot code state crossing 2 ≡ circle_at_slot code state crossing 3)
 joined-zero code state crossing is is_crossing is_zero =
-    let b = bit state (place_of crossing) in
-    let first : joined_slot b 1 ≡ 0 = ap (λ b. joined_slot b 1) is_zero in
-    let third : joined_slot b 3 ≡ 2 = ap (λ b. joined_slot b 3) is_zero in (
-      ap (λ u. circle_at_slot code state crossing u) (sym first)
-          ∙ slots-joined code state crossing 1 is is_crossing (omega arith) (omega (arith, first)),
-      ap (λ u. circle_at_slot code state crossing u) (sym third)
-          ∙ slots-joined code state crossing 3 is is_crossing (omega arith) (omega (arith, third)),
-    )
+    joined-both code state crossing 1 3 is is_crossing (omega arith) (omega arith) (ap (λ b. joined_slot b 1) is_zero)
+    (ap (λ b. joined_slot b 3) is_zero)
 
 joined-one : (code : Code) (state crossing : ℕ) → IsTrue (accepted code) → IsCrossing code.crossings crossing
     → bit state (place_of crossing) ≡ 1
     → (circle_at_slot code state crossing 0 ≡ circle_at_slot code state crossing 3)
     × (circle_at_slot code state crossing 2 ≡ circle_at_slot code state crossing 1)
 joined-one code state crossing is is_crossing is_one =
-    let b = bit state (place_of crossing) in
-    let first : joined_slot b 3 ≡ 0 = ap (λ b. joined_slot b 3) is_one in
-    let third : joined_slot b 1 ≡ 2 = ap (λ b. joined_slot b 1) is_one in (
-      ap (λ u. circle_at_slot code state crossing u) (sym first)
-          ∙ slots-joined code state crossing 3 is is_crossing (omega arith) (omega (arith, first)),
-      ap (λ u. circle_at_slot code state crossing u) (sym third)
-          ∙ slots-joined code state crossing 1 is is_crossing (omega arith) (omega (arith, third)),
-    )
+    joined-both code state crossing 3 1 is is_crossing (omega arith) (omega arith) (ap (λ b. joined_slot b 3) is_one)
+    (ap (λ b. joined_slot b 1) is_one)
 
 -- the circles at the ends of the under pass of the mirror are those at the ends of the under pass, in one order or the other
 abbrev pub Ends : (ℕ → ℕ) → Code → Code → ℕ → ℕ → Type 0

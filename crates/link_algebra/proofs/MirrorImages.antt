@@ -2,7 +2,7 @@
 use Rattle.std.proofs.Common.{◌≡◌, ◌≢◌, ℕ, ◌⊎◌, inl, inr, ◌+◌, ◌%◌, ◌<◌, ◌≤◌, ◌∙◌, List, [], ◌∷◌, map, get_or, refl, sym, ap, ap₂, subst, arith, Bool, true, false, not, ◌&&◌, ◌||◌, pos, neg_ℤ, IsTrue}
 use Rattle.std.specs.Prelude.{nat_eq, if◌then◌else◌, int_lt, MatchBool}
 use Rattle.std.specs.List.{range_with_len}
-use Rattle.std.proofs.lemmas.Bool.{both_ways, cases_eq, cases_lt}
+use Rattle.std.proofs.lemmas.Bool.{both_ways, cases_eq, cases_lt, ne_eqb}
 use Rattle.std.proofs.lemmas.Bool.Decides.{nat_tests}
 use Rattle.std.proofs.lemmas.Int.{ints}
 use Rattle.kh_types.specs.Acceptance.{accepted}
@@ -19,7 +19,6 @@ use Rattle.code_passes.specs.Passes.{is_over, turned_labels}
 use Rattle.code_passes.proofs.CutArcs.{IsFirst, component-in, end-within, size}
 use Rattle.code_passes.proofs.LeastArcs.{IsFirstOf-directed}
 use Rattle.code_passes.proofs.TwoArcComponents.{turned_labels-component}
-use Rattle.orient_arcs.proofs.Members.{neq-eqb}
 use Rattle.orient_arcs.proofs.PlacedNumbers.{placed-numbers}
 use Rattle.orient_arcs.specs.Renumbered.{label_entered, number_in, order_of}
 use Rattle.code_passes.specs.Parts.{passes_through}
@@ -42,7 +41,7 @@ ascending-labels a b a_some b_some same = by ((is_over (pos a) && is_over (pos b
     by false test same = kept test
 
 label-over : (dart : Dart) → dart.slot ≢ 0 → label_at dart ≡ pos dart.crossing
-label-over dart over = ap (λ b. if b then neg_ℤ (pos dart.crossing) else pos dart.crossing) (neq-eqb dart.slot 0 over)
+label-over dart over = ap (λ b. if b then neg_ℤ (pos dart.crossing) else pos dart.crossing) (ne_eqb dart.slot 0 over)
 
 module _ (code : Code) (holds : IsTrue (accepted code)) where
   abbrev cs : List (List ℕ)
@@ -99,9 +98,38 @@ module _ (code : Code) (holds : IsTrue (accepted code)) where
           | inl same ↦ inr same
           | inr neither ↦ absurd
               (both_ways (nat_eq s 0 || nat_eq s (if b then 3 else 1))
-              (ap (λ t. t || nat_eq s (if b then 3 else 1)) (neq-eqb s 0 other) ∙ neq-eqb s (if b then 3 else 1) neither) enters)
+              (ap (λ t. t || nat_eq s (if b then 3 else 1)) (ne_eqb s 0 other) ∙ ne_eqb s (if b then 3 else 1) neither) enters)
         ]
       ]
+
+      -- the over pass enters at a slot and leaves at another, which the turn makes 0 and 2
+      turned : (d : Bool) (enters leaves : ℕ) → 1 ≤ enters → enters < 4 → 1 ≤ leaves → leaves < 4 → (0 + mirror_turn d) % 4 ≡ leaves
+          → (enters + mirror_turn d) % 4 ≡ 0 → (leaves + mirror_turn d) % 4 ≡ 2
+          → is_positive code.crossings (head_of code.crossings x).crossing ≡ d
+          → IsCrossing code.crossings (head_of code.crossings x).crossing
+          → IsPass (mirror_of code).crossings (head_of code.crossings x).crossing leaves enters
+          → IsPass (mirror_of code).crossings (head_of code.crossings x).crossing 0 2
+          → IsPass code.crossings (head_of code.crossings x).crossing enters leaves
+          → ((head_of code.crossings x).slot ≡ 0) ⊎ ((head_of code.crossings x).slot ≡ enters)
+          → arc_at_slot code (head_of code.crossings x).crossing (head_of code.crossings x).slot ≡ x → IsUnderNow x
+      turned d enters leaves some enters_below some_too leaves_below from_0 to_0 to_2 sign is over under own slot on_arc =
+          let k = (head_of code.crossings x).crossing in
+          elim slot [
+            | inl zeroth ↦
+                let at = ap (λ y. mirror_number code holds y) (sym on_arc ∙ ap (arc_at_slot code k) zeroth)
+                ∙ arcs-now k 0 leaves d is (omega arith) sign from_0 in
+                absurd (omega (arith, none, some_too, ap (λ (h : Dart). h.slot) (ap (head_of (mirror_of code).crossings) at ∙ over.head)))
+            | inr at_enters ↦
+                let x_is : arc_at_slot code k enters ≡ x = ap (arc_at_slot code k) (sym at_enters) ∙ on_arc in
+                let at = ap (λ y. mirror_number code holds y) (sym x_is) ∙ arcs-now k enters 0 d is enters_below sign to_0 in
+                record {
+                  over = λ zeroth. absurd (omega (arith, at_enters, zeroth, some));
+                  head = ap (head_of (mirror_of code).crossings) at ∙ under.head;
+                  onward = ap (next (mirror_of code).crossings) at ∙ sym under.follows
+                      ∙ sym (arcs-now k leaves 2 d is leaves_below sign to_2)
+                      ∙ ap (λ y. mirror_number code holds y) (own.follows ∙ ap (next code.crossings) x_is);
+                }
+          ]
 
       by : (d : Bool) → is_positive code.crossings (head_of code.crossings x).crossing ≡ d
           → IsCrossing code.crossings (head_of code.crossings x).crossing
@@ -111,40 +139,12 @@ module _ (code : Code) (holds : IsTrue (accepted code)) where
           → MatchBool d (IsPass code.crossings (head_of code.crossings x).crossing 3 1) (IsPass code.crossings (head_of code.crossings x).crossing 1 3)
           → IsTrue (nat_eq (head_of code.crossings x).slot 0 || nat_eq (head_of code.crossings x).slot (if d then 3 else 1))
           → arc_at_slot code (head_of code.crossings x).crossing (head_of code.crossings x).slot ≡ x → IsUnderNow x
-      by true sign is over under own enters on_arc =
-          let k = (head_of code.crossings x).crossing in
-          elim (slot_is true (head_of code.crossings x).slot enters) [
-            | inl zeroth ↦
-                let at = ap (λ y. mirror_number code holds y) (sym on_arc ∙ ap (arc_at_slot code k) zeroth)
-                ∙ arcs-now k 0 1 true is (omega arith) sign refl in
-                absurd (omega (arith, none, ap (λ (h : Dart). h.slot) (ap (head_of (mirror_of code).crossings) at ∙ over.head)))
-            | inr third ↦
-                let x_is : arc_at_slot code k 3 ≡ x = ap (arc_at_slot code k) (sym third) ∙ on_arc in
-                let at = ap (λ y. mirror_number code holds y) (sym x_is) ∙ arcs-now k 3 0 true is (omega arith) sign refl in
-                record {
-                  over = λ zeroth. absurd (omega (arith, third, zeroth));
-                  head = ap (head_of (mirror_of code).crossings) at ∙ under.head;
-                  onward = ap (next (mirror_of code).crossings) at ∙ sym under.follows ∙ sym (arcs-now k 1 2 true is (omega arith) sign refl)
-                      ∙ ap (λ y. mirror_number code holds y) (own.follows ∙ ap (next code.crossings) x_is);
-                }
-          ]
-      by false sign is over under own enters on_arc =
-          let k = (head_of code.crossings x).crossing in
-          elim (slot_is false (head_of code.crossings x).slot enters) [
-            | inl zeroth ↦
-                let at = ap (λ y. mirror_number code holds y) (sym on_arc ∙ ap (arc_at_slot code k) zeroth)
-                ∙ arcs-now k 0 3 false is (omega arith) sign refl in
-                absurd (omega (arith, none, ap (λ (h : Dart). h.slot) (ap (head_of (mirror_of code).crossings) at ∙ over.head)))
-            | inr first ↦
-                let x_is : arc_at_slot code k 1 ≡ x = ap (arc_at_slot code k) (sym first) ∙ on_arc in
-                let at = ap (λ y. mirror_number code holds y) (sym x_is) ∙ arcs-now k 1 0 false is (omega arith) sign refl in
-                record {
-                  over = λ zeroth. absurd (omega (arith, first, zeroth));
-                  head = ap (head_of (mirror_of code).crossings) at ∙ under.head;
-                  onward = ap (next (mirror_of code).crossings) at ∙ sym under.follows ∙ sym (arcs-now k 3 2 false is (omega arith) sign refl)
-                      ∙ ap (λ y. mirror_number code holds y) (own.follows ∙ ap (next code.crossings) x_is);
-                }
-          ]
+      by true sign is over under own enters =
+          turned true 3 1 (omega arith) (omega arith) (omega arith) (omega arith) refl refl refl sign is over under own
+          (slot_is true (head_of code.crossings x).slot enters)
+      by false sign is over under own enters =
+          turned false 1 3 (omega arith) (omega arith) (omega arith) (omega arith) refl refl refl sign is over under own
+          (slot_is false (head_of code.crossings x).slot enters)
 
   -- two arcs that follow one another both ways are a component
   two-arcs : (x y : ℕ) → IsArc cs x → IsArc cs y → x < y → next cs x ≡ y → next cs y ≡ x

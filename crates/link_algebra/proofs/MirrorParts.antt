@@ -1,4 +1,8 @@
 -- The parts of the mirror and of the reversal are those of the code, turned.
+--
+-- The mirror begins each crossing at its over pass, which becomes the under pass: the slots are turned by one or by three, as the sign
+-- says. The reversal begins at the other end of the under pass, a turn by two. So both have the passes of the code at each place, under
+-- other labels, and each name is a head as often as before in the mirror, and as often as it was a tail in the reversal.
 use Rattle.std.proofs.Common.{◌≡◌, ℕ, zero, suc, ◌+◌, ◌-◌, ◌%◌, ◌<◌, ◌∙◌, List, [], ◌∷◌, length, map, refl, sym, ap, ap₂, arith, cond, not, Bool, true, false, IsTrue}
 use Rattle.std.specs.Prelude.{nat_eq, slice_index_or}
 use Rattle.std.specs.List.{count_by, flat_map, range_with_len}

@@ -13,7 +13,7 @@ use Rattle.kh_types.specs.declared.dart.Dart.{Dart}
 use Rattle.kh_types.proofs.Heads.{HasNoSingleArcs-accepted, IsPass-over, IsPass-under}
 use Rattle.code_passes.specs.ComponentLabels.{entering_label, label_at}
 use Rattle.code_passes.specs.Passes.{Pass, is_over}
-use Rattle.code_passes.specs.Parts.{ArePaired, Parts, is_positive_at, over_pass, passes_at, passes_through, under_pass}
+use Rattle.code_passes.specs.Parts.{ArePaired, is_positive_at, over_pass, passes_at, passes_through, under_pass}
 use Rattle.orient_arcs.specs.Renumbered.{follows, label_entered}
 use Rattle.orient_arcs.proofs.Members.{IsIn}
 use Rattle.orient_arcs.proofs.PairedPasses.{All-flat_map_range, entering-enters, entering-holds, heads_of}
@@ -38,17 +38,11 @@ under-of dart over = by (nat_eq dart.slot 0) refl over
     by false is over = absurd (none dart.crossing over)
 
 module _ (code : Code) (holds : IsTrue (accepted code)) where
-  abbrev cs : List (List ℕ)
-  cs = code.crossings
-
   abbrev directed : IsDirected code.crossings
   directed = (HasNoSingleArcs-accepted code holds).0
 
   abbrev moves : HasNoSingleArcs code.crossings
   moves = (HasNoSingleArcs-accepted code holds).1
-
-  abbrev parts : Parts
-  parts = mirror_parts code
 
   abbrev passes : List Pass
   passes = passes_through (mirror_parts code)

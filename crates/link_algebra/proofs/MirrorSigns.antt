@@ -1,12 +1,11 @@
 -- The coefficients of the mirror are those of the diagram, transposed, up to a sign of the row and a sign of the column.
-use Rattle.std.proofs.Common.{Bool, IsTrue, ap, ap₂, arith, cond, false, inl, inr, length, refl, suc, sym, true, zero, ℕ, ◌%◌, ◌*◌, ◌+◌, ◌-◌, ◌<◌, ◌^◌, ◌∙◌, ◌≡◌}
+use Rattle.std.proofs.Common.{Bool, IsTrue, ap, ap₂, arith, cond, false, inl, inr, length, refl, sym, true, ℕ, ◌*◌, ◌+◌, ◌-◌, ◌<◌, ◌^◌, ◌∙◌, ◌≡◌}
 use Rattle.std.proofs.lemmas.Bool.{cases_eq, eq-eqb, ne_eqb}
-use Rattle.std.proofs.lemmas.Bool.Decides.{nat_tests}
 use Rattle.std.specs.List.{range_with_len, sum_by}
-use Rattle.std.specs.Prelude.{if◌then◌else◌, nat_eq}
+use Rattle.std.specs.Prelude.{nat_eq}
 use Rattle.kh_types.proofs.EdgeBits.{bit-set_other, bit-set_there}
 use Rattle.kh_types.proofs.ListSums.{sum_by-plus, sum_by-range_alike, sum_by-single}
-use Rattle.kh_types.proofs.Residues.{same-equal, same-mul, same-multiple}
+use Rattle.kh_types.proofs.Residues.{same-equal, same-mul}
 use Rattle.kh_types.specs.Acceptance.{accepted}
 use Rattle.kh_types.specs.Bits.{bit, ones}
 use Rattle.kh_types.specs.Code.{Code, IsCrossing, place_of}
@@ -14,17 +13,13 @@ use Rattle.kh_types.specs.Differential.{coefficient}
 use Rattle.kh_types.specs.Generators.{Generator}
 use Rattle.kh_types.specs.Residues.{Same}
 use Rattle.cube_squares.proofs.Pairs.{IsStep, coefficient-one}
-use Rattle.cube_squares.proofs.Signs.{ones-set_above}
+use Rattle.cube_squares.proofs.Signs.{ones-set_above, power_sign, same_parity, signs-product}
 use Rattle.cube_squares.proofs.TouchedCircles.{fits}
 use Rattle.link_algebra.proofs.Flips.{bit-flipped, flipped, ones-flipped}
 use Rattle.link_algebra.proofs.MirrorEdges.{AreMirrors, AreStars, AreStars-from, fits-star}
 use Rattle.link_algebra.proofs.Renamings.{IsTurned}
 use Rattle.link_algebra.proofs.GeneratorLists.{IsGenerator, coefficient-elsewhere}
 use Rattle.link_algebra.proofs.Stars.{IsGenerator-star, IsStar, IsStar-back}
-
--- -1 to a power, modulo p
-abbrev pub power_sign : ℕ → ℕ → ℕ
-power_sign p n = if nat_eq (n % 2) 0 then 1 else p - 1
 
 -- the sum of the places at which a state has a 1
 abbrev pub weight : ℕ → ℕ → ℕ
@@ -59,46 +54,6 @@ weight-set n s c is_zero below =
 
     nothing : (x : ℕ) → x ≡ x + 0
     nothing x = omega arith
-
--- signs multiply
-signs-product : (p a b : ℕ) → 0 < p → Same p (power_sign p a * power_sign p b) (power_sign p (a + b))
-signs-product p a b positive = by (a % 2) (b % 2) refl refl
-  where
-    even : (n : ℕ) → n % 2 ≡ 0 → power_sign p n ≡ 1
-    even n is = grind (arith, nat_tests)
-
-    odd : (n : ℕ) → n % 2 ≡ 1 → power_sign p n ≡ p - 1
-    odd n is = grind (arith, nat_tests)
-
-    ring : (m : ℕ) → m * m + (m + 1) * 1 ≡ 1 + (m + 1) * m
-    ring m = omega arith
-
-    square_of : (m q : ℕ) → q ≡ m + 1 → m * m + q * 1 ≡ 1 + q * m
-    square_of m q is = ap (λ x. m * m + x * 1) is ∙ ring m ∙ ap (λ x. 1 + x * m) (sym is)
-
-    square : (q : ℕ) → 0 < q → (q - 1) * (q - 1) + q * 1 ≡ 1 + q * (q - 1)
-    square q positive = square_of (q - 1) q (omega (arith, positive))
-
-    by : (x y : ℕ) → a % 2 ≡ x → b % 2 ≡ y → Same p (power_sign p a * power_sign p b) (power_sign p (a + b))
-    by zero zero is_a is_b =
-        same-equal p (power_sign p a * power_sign p b) (power_sign p (a + b))
-        (ap₂ (λ x y. x * y) (even a is_a) (even b is_b) ∙ sym (even (a + b) (omega (arith, is_a, is_b))))
-    by zero (suc zero) is_a is_b =
-        same-equal p (power_sign p a * power_sign p b) (power_sign p (a + b))
-        (ap₂ (λ x y. x * y) (even a is_a) (odd b is_b) ∙ omega (arith, odd (a + b) (omega (arith, is_a, is_b))))
-    by (suc zero) zero is_a is_b =
-        same-equal p (power_sign p a * power_sign p b) (power_sign p (a + b))
-        (ap₂ (λ x y. x * y) (odd a is_a) (even b is_b) ∙ omega (arith, odd (a + b) (omega (arith, is_a, is_b))))
-    by (suc zero) (suc zero) is_a is_b =
-        same-equal p (power_sign p a * power_sign p b) ((p - 1) * (p - 1)) (ap₂ (λ x y. x * y) (odd a is_a) (odd b is_b))
-        ∙ sym (same-multiple p ((p - 1) * (p - 1)) 1) ∙ same-equal p ((p - 1) * (p - 1) + p * 1) (1 + p * (p - 1)) (square p positive)
-        ∙ same-multiple p 1 (p - 1) ∙ same-equal p 1 (power_sign p (a + b)) (sym (even (a + b) (omega (arith, is_a, is_b))))
-    by zero (suc (suc y)) is_a is_b = absurd (omega (arith, is_b))
-    by (suc zero) (suc (suc y)) is_a is_b = absurd (omega (arith, is_b))
-    by (suc (suc x)) y is_a is_b = absurd (omega (arith, is_a))
-
-same_parity : (p a b : ℕ) → a % 2 ≡ b % 2 → power_sign p a ≡ power_sign p b
-same_parity p a b same = ap (λ r. if nat_eq r 0 then 1 else p - 1) same
 
 -- a step of the diagram is a step back of the mirror
 pub step-star : (f back : ℕ → ℕ) (old new : Code) (tail head tail_star head_star : Generator) (crossing : ℕ) → IsGenerator old head

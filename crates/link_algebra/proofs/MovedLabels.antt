@@ -1,4 +1,8 @@
 -- Labels under other names: where circles correspond, so do labels, and as many are 1.
+--
+-- Circles are numbered by the order of their names, which other names of arcs change. So a label is carried over circle by circle: the bit
+-- at a circle's new number is the bit at its old one. This is one to one, since a name and its way back are, and the number of circles and
+-- of labels 1 stays, as counts over circles do not know their order.
 use Rattle.std.proofs.Common.{IsTrue, List, [], ap, arith, map, sym, ℕ, ◌<◌, ◌^◌, ◌∙◌, ◌∷◌, ◌≡◌, ◌≤◌}
 use Rattle.std.proofs.lemmas.Bool.Decides.{Decides-eqb, Decides-like, same_from_decides}
 use Rattle.std.proofs.lemmas.List.{length-map}

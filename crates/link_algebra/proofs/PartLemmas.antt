@@ -1,17 +1,16 @@
 -- Crossings listed one after another.
 use Rattle.std.proofs.Common.{◌≡◌, ℕ, zero, suc, ◌+◌, ◌-◌, ◌<◌, ◌∙◌, List, [], ◌∷◌, ◌++◌, length, map, take, get_or, refl, sym, ap, arith}
 use Rattle.std.specs.List.{range_with_len}
-use Rattle.std.proofs.lemmas.List.{append_assoc}
+use Rattle.std.proofs.lemmas.List.{append_assoc, map_more}
 use Rattle.kh_types.specs.Code.{crossing_numbers, slots_of}
 use Rattle.kh_types.specs.Directions.{is_positive, positive_at}
-use Rattle.orient_arcs.proofs.StepLemmas.{map_take_more}
 use Rattle.link_algebra.specs.Unions.{raised_slots}
 
 pub union_more : (first second : List (List ℕ)) (by k crossing : ℕ) → k < length second → crossing ≡ k + 1
     → first ++ map (raised_slots by) (take (k + 1) second)
     ≡ (first ++ map (raised_slots by) (take k second)) ++ raised_slots by (slots_of second crossing) ∷ []
 union_more first second by k crossing within is =
-    ap (λ xs. first ++ xs) (map_take_more (raised_slots by) second k [] within)
+    ap (λ xs. first ++ xs) (map_more (raised_slots by) second k [] within)
     ∙ sym (append_assoc first (map (raised_slots by) (take k second)) (raised_slots by (get_or second k []) ∷ []))
     ∙ ap (λ m. (first ++ map (raised_slots by) (take k second)) ++ raised_slots by (get_or second m []) ∷ [])
     (let e : k ≡ crossing - 1 = omega (arith, is) in e)

@@ -1,8 +1,12 @@
 -- The reversal goes over each component from its least arc on, the other way; so the reversal of the reversal is the code.
+--
+-- The reversal's passes go from next arc to arc, so the walk from a least arc goes to the last arc of its component and then down. The
+-- blocks of the order are thus the components again (NumberedBlocks), each turned round behind its first arc. So the numbers keep
+-- components, the reversal of the reversal is the code under these numbers, and KeptOrder says that it then has its own.
 use Rattle.std.proofs.Common.{◌≡◌, ◌≢◌, ℕ, zero, suc, inl, inr, ◌+◌, ◌-◌, ◌*◌, ◌%◌, ◌<◌, ◌≤◌, ◌∙◌, List, [], ◌∷◌, length, refl, sym, ap, subst, arith, Bool, true, false, not, cond, IsTrue}
 use Rattle.std.specs.Prelude.{nat_eq, if◌then◌else◌, MatchBool, slice_index_or}
 use Rattle.std.specs.List.{AllByRecursion, position_or_len}
-use Rattle.std.proofs.lemmas.Bool.{cases_eq, cases_lt, eq-eqb}
+use Rattle.std.proofs.lemmas.Bool.{cases_eq, cases_lt, eq-eqb, ne_eqb}
 use Rattle.std.proofs.lemmas.List.{length-map}
 use Rattle.kh_types.specs.Acceptance.{accepted}
 use Rattle.kh_types.specs.Accepted.{IsDirected}
@@ -19,11 +23,11 @@ use Rattle.orient_arcs.specs.OtherNames.{IsNamedBy, KeepsComponents}
 use Rattle.code_passes.specs.Parts.{ArePaired, is_positive_at, over_pass, passes_at, passes_through, slots_in, under_pass}
 use Rattle.orient_arcs.specs.Renumbered.{follows, label_entered, number_in, order_of, walk}
 use Rattle.orient_arcs.proofs.KeptOrder.{own-crossings}
-use Rattle.orient_arcs.proofs.Members.{IsIn, neq-eqb}
+use Rattle.orient_arcs.proofs.Members.{IsIn}
 use Rattle.orient_arcs.proofs.PairedPasses.{All-flat_map_range, entering-enters, entering-holds, heads_of, length-heads}
 use Rattle.link_algebra.specs.Mirrors.{reversal_of, reversal_parts, reversal_slots, slots_from}
 use Rattle.link_algebra.proofs.MirrorParts.{IsTurnOf-reversal, listed, own-sign, reversal-listed, reversal_size}
-use Rattle.link_algebra.proofs.NumberedBlocks.{GoesOver, placed-numbers}
+use Rattle.orient_arcs.proofs.NumberedBlocks.{GoesOver, placed-numbers}
 use Rattle.link_algebra.proofs.TurnedCodes.{reversal-accepted, reversal-rotated, reversal-signs, reversal_name, reversal_number}
 use Rattle.link_algebra.proofs.TurnedParts.{IsTurnOf, arc-head, head-arc, number-is, paired}
 
@@ -178,7 +182,7 @@ module _ (code : Code) (holds : IsTrue (accepted code)) where
       let to : before (first + suc (suc i)) ≡ first + suc i = before-later first (suc i) is below in
       let on : before (first + suc (suc i)) ≢ first = λ same. absurd (omega (arith, same, to)) in
       ap (λ b. (first + suc (suc i)) ∷ (if b then [] else walk (follows (passes_through (reversal_parts code))) first fuel (before (first + suc (suc i)))))
-      (neq-eqb (before (first + suc (suc i))) first on)
+      (ne_eqb (before (first + suc (suc i))) first on)
       ∙ ap (λ y. (first + suc (suc i)) ∷ walk (follows (passes_through (reversal_parts code))) first fuel y) to
       ∙ ap (λ ys. (first + suc (suc i)) ∷ ys) (walk-down first is fuel i (omega (arith, below)) (omega (arith, enough)))
 
@@ -207,7 +211,7 @@ module _ (code : Code) (holds : IsTrue (accepted code)) where
           let on : before first ≢ first = λ same. absurd (omega (arith, same, to)) in
           let e : suc (suc i) - 1 ≡ suc i = omega arith in
           ap (λ b. first ∷ (if b then [] else walk (follows (passes_through (reversal_parts code))) first fuel (before first)))
-          (neq-eqb (before first) first on)
+          (ne_eqb (before first) first on)
           ∙ ap (λ y. first ∷ walk (follows (passes_through (reversal_parts code))) first fuel y) to
           ∙ ap (λ ys. first ∷ ys) (walk-down first is fuel i (omega (arith, is_s)) (omega (arith, enough)))
           ∙ ap (λ n. first ∷ down first n) (sym e)
@@ -249,7 +253,7 @@ module _ (code : Code) (holds : IsTrue (accepted code)) where
         ∙ names.there y y_is.positive (omega (arith, y_is.within));
     across = λ x y x_is y_is less.
         let placed = λ (z : ℕ) (z_is : IsArc cs z).
-        placed-numbers code directed (reversal_parts code) paired_parts arc-there there-arc names_from walked rounds turn.size z z_is in
+        placed-numbers code directed (reversal_parts code) paired_parts arc-there there-arc names_from walked rounds z z_is in
         let x_first = IsFirstOf-directed cs directed x x_is in
         let first_is : IsFirst cs (component cs x) = record { is_arc = x_first.is_arc; own = x_first.own } in
         let y_place = HasPlace-directed cs directed y y_is in
@@ -262,7 +266,7 @@ module _ (code : Code) (holds : IsTrue (accepted code)) where
         ] in
         omega (arith, f-is x x_is, f-is y y_is, (placed x x_is).below, (placed y y_is).from, behind);
     within = λ x x_is.
-        let placed = placed-numbers code directed (reversal_parts code) paired_parts arc-there there-arc names_from walked rounds turn.size x x_is in
+        let placed = placed-numbers code directed (reversal_parts code) paired_parts arc-there there-arc names_from walked rounds x x_is in
         let x_first = IsFirstOf-directed cs directed x x_is in
         elim (placed.least) [
           | inl low ↦ inl (omega (arith, f-is (component cs x) x_first.is_arc, f-is x x_is, low))

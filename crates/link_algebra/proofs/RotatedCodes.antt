@@ -1,4 +1,9 @@
 -- Codes whose crossings are turned by some slots, with other numbers on the arcs: faces, pieces, components and colours stay.
+--
+-- Two codes agree up to a turn of each crossing by some slots and other numbers on the arcs. Darts then correspond: a turn goes round the
+-- crossing, so that partners go to partners and the next slot to the next slot. Faces, pieces and passes are said by these two steps, so
+-- they correspond too, as do colours, where a turn by one slot changes the bit. Each rule of acceptance but the direction of over passes
+-- then follows at once.
 use Rattle.std.proofs.Common.{IsTrue, List, [], ap, ap₂, arith, cond, get_or, inl, inr, length, map, refl, subst, suc, sym, zero, ℕ, ◌%◌, ◌*◌, ◌+◌, ◌-◌, ◌/◌, ◌<◌, ◌^◌, ◌∙◌, ◌∷◌, ◌≡◌, ◌≢◌, ◌≤◌}
 use Rattle.std.proofs.lemmas.Bool.{cases_eq, eq-eqb, ne_eqb}
 use Rattle.std.proofs.lemmas.List.FromFn.{get_or-map-range_with_len, length-map-range_with_len}

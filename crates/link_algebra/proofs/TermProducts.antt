@@ -1,4 +1,8 @@
 -- Products of terms of state sums.
+--
+-- A term of a state sum is a sign, a power of q and a power of q + q^-1. The product of two has the product of signs, the sum of exponents,
+-- and the sum of the numbers of circles: the last because coefficients of (q + q^-1)^c are made by c steps, and a product is made by the
+-- steps of both.
 use Rattle.std.proofs.Common.{Bool, List, [], ap, ap₂, arith, cond, false, inl, inr, neg_ℤ, pos, refl, suc, sym, true, zero, ℕ, ℤ, ◌%◌, ◌*ℤ◌, ◌*◌, ◌+ℤ◌, ◌+◌, ◌-ℤ◌, ◌∙◌, ◌∷◌, ◌≡◌, ◌≢◌, ◌≤◌, ◌⊎◌}
 use Rattle.std.proofs.Math.IntN.{+ℤ_idl, suc_ℤ-*ℤ, zero-*ℤ}
 use Rattle.std.proofs.lemmas.Bool.{false_from_ne_true}

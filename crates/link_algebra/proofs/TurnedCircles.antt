@@ -1,11 +1,14 @@
 -- The circles of a state are those of the state with all bits exchanged, where all crossings are turned by one slot.
+--
+-- A smoothing joins a slot with the one before or behind it. After a turn by one slot the other smoothing joins the turned slots. So a
+-- state of the one code and the state with all bits exchanged of the other join corresponding darts, hence arcs under their names, and
+-- their circles correspond; turning back gives the other direction.
 use Rattle.std.proofs.Common.{IsTrue, [], ap, arith, inl, inr, length, subst, suc, sym, zero, ℕ, ◌%◌, ◌*◌, ◌+◌, ◌-◌, ◌/◌, ◌<◌, ◌^◌, ◌∙◌, ◌≡◌, ◌⊎◌}
-use Rattle.std.proofs.lemmas.Bool.Decides.{nat_tests}
 use Rattle.std.specs.Prelude.{slice_index_or}
 use Rattle.kh_types.proofs.CircleCycles.{circles-across, smoothings-below}
 use Rattle.kh_types.proofs.ClassLemmas.{classes-finest}
 use Rattle.kh_types.proofs.EdgeNames.{IsArc-slot}
-use Rattle.kh_types.proofs.JoinedSlots.{across-slot, arc_at-slot, respects-across}
+use Rattle.kh_types.proofs.JoinedSlots.{across-slot, arc_at-slot, respects-across, joined_slot-below}
 use Rattle.kh_types.proofs.QuantumDegrees.{plus_count-le}
 use Rattle.kh_types.specs.Acceptance.{accepted}
 use Rattle.kh_types.specs.Bits.{bit}
@@ -118,7 +121,7 @@ respects-turned f back old new s new_is turned below =
     let at = turned.turned (k + 1) (record { positive = omega arith; within = omega (arith, k_below) }) in
     let v = (u + at.0) % 4 in
     let j = joined_slot (bit s k) u in
-    let j_below : j < 4 = joined-below (bit s k) u (omega arith) in
+    let j_below : j < 4 = joined_slot-below (bit s k) u (omega arith) in
     let moved : (slot : ℕ) → slot < 4 → f (arc_at old.crossings (4 * k + slot)) ≡ arc_at new.crossings (4 * k + (slot + at.0) % 4) =
     λ slot slot_below.
     ap f (arc-placed old k slot slot_below) ∙ sym (at.2 slot slot_below)
@@ -130,9 +133,6 @@ respects-turned f back old new s new_is turned below =
     ap (λ x. circle_in new t x) (moved j j_below ∙ ap (λ w. arc_at new.crossings w) there)
     ∙ circles-across new t (4 * k + v) new_is (omega (arith, k_below, turned.size))
     ∙ ap (λ x. circle_in new t x) (sym (moved u (omega arith)) ∙ ap (λ w. f (arc_at old.crossings w)) whole))
-  where
-    joined-below : (b slot : ℕ) → slot < 4 → joined_slot b slot < 4
-    joined-below b slot below = grind (arith, nat_tests)
 
 onward-turned : (f back : ℕ → ℕ) (old new : Code) (s : ℕ) → IsTrue (accepted old) → IsTrue (accepted new) → IsTurned f back old new
     → s < 2 ^ length old.crossings → (x y : ℕ) → IsName old x → IsName old y → circle_in old s x ≡ circle_in old s y

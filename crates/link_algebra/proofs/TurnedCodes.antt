@@ -1,4 +1,8 @@
 -- The mirror and the reversal of an accepted code: accepted, with dual homology, and with the same.
+--
+-- Mirror and reversal are renumbered turns of the code (MirrorParts), so they have its faces, pieces and colours (RotatedCodes), and their
+-- passes are directed: they are accepted. The mirror is dual to the code, by TurnedCircles and Duality; the reversal is dual to the mirror
+-- in the same way, a turn by one slot more, so it has the homology of the code.
 use Rattle.std.proofs.Common.{◌≡◌, ℕ, zero, suc, ◌⊎◌, inl, inr, ◌+◌, ◌-◌, ◌*◌, ◌%◌, ◌^◌, ◌<◌, ◌≤◌, ◌∙◌, ℤ, neg_ℤ, length, refl, sym, ap, ap₂, subst, arith, cond, not, Bool, true, false, IsTrue}
 use Rattle.std.specs.List.{count_by, range_with_len}
 use Rattle.std.proofs.lemmas.Int.{ints}

@@ -1,8 +1,7 @@
 -- Crossings that are those of an accepted code, each turned by some slots: renumbering gives an accepted code with other numbers on the
 -- arcs.
-use Rattle.std.proofs.Common.{◌≡◌, ◌≢◌, ℕ, zero, suc, ◌⊎◌, inl, inr, ◌+◌, ◌-◌, ◌*◌, ◌%◌, ◌<◌, ◌≤◌, ◌∙◌, List, [], ◌∷◌, length, get_or, refl, sym, ap, subst, arith, cond, IsTrue}
+use Rattle.std.proofs.Common.{◌≡◌, ◌≢◌, ℕ, zero, suc, ◌⊎◌, inl, inr, ◌+◌, ◌-◌, ◌*◌, ◌%◌, ◌<◌, ◌≤◌, ◌∙◌, List, length, get_or, refl, sym, ap, subst, arith, cond, IsTrue}
 use Rattle.std.specs.Prelude.{nat_le}
-use Rattle.std.specs.List.{AllByRecursion}
 use Rattle.std.proofs.lemmas.Bool.{cases_lt}
 use Rattle.std.proofs.lemmas.Bool.Decides.{nat_tests}
 use Rattle.kh_types.specs.Acceptance.{accepted}
@@ -18,7 +17,7 @@ use Rattle.orient_arcs.specs.Renumbered.{number_in, order_of, renumber}
 use Rattle.orient_arcs.proofs.AcceptedParts.{over-apart}
 use Rattle.orient_arcs.proofs.Bridge.{IsDirected-renumbered, distinct-order, heads-order, length-order, length-renumbered, number-arc, order-heads, sign-kept, slot-renumbered}
 use Rattle.orient_arcs.proofs.Members.{IsIn, IsIn-get, get-IsIn, position-get}
-use Rattle.orient_arcs.proofs.PairedCodes.{ArePaired-directed, arc-of, ends-arcs, some-head}
+use Rattle.orient_arcs.proofs.PairedCodes.{ArePaired-directed, some-head, head-arc as own-arc}
 use Rattle.orient_arcs.proofs.PairedPasses.{counted-in, heads_of, in-counted}
 use Rattle.link_algebra.proofs.Renamings.{IsRenaming, IsRotated}
 use Rattle.link_algebra.proofs.RotatedCodes.{accepted-rotated}
@@ -65,14 +64,7 @@ module _ (by : ℕ → ℕ) (code : Code) (holds : IsTrue (accepted code)) (part
 
   pub head-arc : (x : ℕ) → IsIn x (heads_of parts paired) → IsArc code.crossings x
   head-arc x is =
-      arc-of code directed moves (λ (pass : Pass). pass.enters) x
-      (firsts (passes_through (parts_of code)) (ends-arcs code directed moves))
-      (omega (arith, counted-in (λ (pass : Pass). pass.enters) (passes_through parts) x is, turn.heads x))
-    where
-      firsts : (ps : List Pass) → AllByRecursion (λ (pass : Pass). IsArc code.crossings pass.enters × IsArc code.crossings pass.leaves) ps
-          → AllByRecursion (λ (pass : Pass). IsArc code.crossings pass.enters) ps
-      firsts [] all = tt
-      firsts (p ∷ ps) all = (all.0.0, firsts ps all.1)
+      own-arc code directed moves x (omega (arith, counted-in (λ (pass : Pass). pass.enters) (passes_through parts) x is, turn.heads x))
 
   -- the new numbers, and the way back
   pub number : ℕ → ℕ

@@ -1,4 +1,8 @@
 -- The disjoint union of accepted codes is accepted.
+--
+-- Darts of the union are those of the first code and then those of the second, by places, and partners stay within their part. So faces and
+-- pieces add up (ClassParts), and the number that the sphere allows, which is said of pieces, adds up as well; a choice of bits for the
+-- union is one for each part, side by side.
 use Rattle.std.proofs.Common.{IsTrue, List, [], ap, ap₂, arith, inl, inr, length, map, refl, subst, suc, sym, true, zero, ℕ, ◌%◌, ◌*◌, ◌++◌, ◌+◌, ◌-◌, ◌/◌, ◌<◌, ◌^◌, ◌∙◌, ◌∷◌, ◌≡◌, ◌≢◌, ◌≤◌}
 use Rattle.std.proofs.Math.Nat.{mul-le-mul_left}
 use Rattle.std.proofs.lemmas.Bool.{eq-eqb}

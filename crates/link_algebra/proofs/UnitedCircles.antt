@@ -1,4 +1,8 @@
 -- The circles of a disjoint union are those of both codes.
+--
+-- A state of the union is one of either code: its low bits and its high bits. The smoothings of the second code join numbers behind those
+-- of the first; each less one, without the number 0, they are two parts side by side (ClassParts). So the numbers of circles add up, and
+-- loops with them.
 use Rattle.std.proofs.Common.{Bool, IsTrue, List, [], ap, ap₂, arith, cond, false, length, map, refl, subst, suc, sym, true, zero, ℕ, ◌*◌, ◌++◌, ◌+◌, ◌-◌, ◌<◌, ◌^◌, ◌∙◌, ◌∷◌, ◌≡◌, ◌≤◌}
 use Rattle.std.proofs.lemmas.List.{append_assoc, length-append, length-map, map-append}
 use Rattle.std.proofs.lemmas.List.Sums.{sum_by-append}
@@ -15,9 +19,10 @@ use Rattle.kh_types.specs.Bits.{bit, ones}
 use Rattle.kh_types.specs.Circles.{circle_count, smoothing_of, smoothings_of}
 use Rattle.kh_types.specs.Classes.{AreBelow, class_count, classes_of}
 use Rattle.kh_types.specs.Code.{Code, IsArc, arc_count, arc_in}
-use Rattle.link_algebra.proofs.ClassParts.{class_count-append_lists, classes-parts, count-shifted, length-classes, lifted_pairs}
+use Rattle.link_algebra.proofs.ClassParts.{class_count-append_lists, classes-parts, length-classes, lifted_pairs}
 use Rattle.link_algebra.specs.Unions.{raised_slots, union_of}
 use Rattle.kh_types.proofs.JoinedSlots.{smoothings_from}
+use Rattle.kh_types.proofs.LabelDegrees.{sum_by-later}
 
 -- the slots of crossings hold numbers above 0 and below another
 abbrev pub SlotsHold : ℕ → List ℕ → Type 0
@@ -197,7 +202,7 @@ ones-both n m a b small =
     let e : 0 + n ≡ n + 0 = omega arith in
     ap (λ xs. sum_by (bit s) xs) (range-append 0 n m) ∙ sum_by-append (bit s) (range_with_len 0 n) (range_with_len (0 + n) m)
     ∙ ap₂ (λ x y. x + y) (sum_by-range_alike (bit s) (bit a) 0 n (λ k from below. bit-first n a b k (omega (arith, below))))
-    (ap (λ c. sum_by (bit s) (range_with_len c m)) e ∙ count-shifted (bit s) n 0 m
+    (ap (λ c. sum_by (bit s) (range_with_len c m)) e ∙ sum_by-later (bit s) n 0 m
     ∙ sum_by-range_alike (λ k. bit s (n + k)) (bit b) 0 m (λ k from below. bit-second n a b k small))
 
 pub smoothings-both : (first second : Code) (a b : ℕ) → IsTrue (accepted second) → a < 2 ^ length first.crossings

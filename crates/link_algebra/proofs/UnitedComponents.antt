@@ -1,4 +1,7 @@
 -- The components of a disjoint union are those of both codes.
+--
+-- Components are classes under passes, and the passes of the second code join arcs behind those of the first. So the list of components is
+-- that of the first and then that of the second, raised; sizes, least arcs and next arcs of a part (`IsPart`) are its own.
 use Rattle.std.proofs.Common.{IsTrue, List, [], ap, ap₂, arith, cond, inl, inr, length, map, refl, subst, suc, sym, zero, ℕ, ◌*◌, ◌++◌, ◌+◌, ◌-◌, ◌<◌, ◌∙◌, ◌∷◌, ◌≡◌, ◌≢◌, ◌≤◌, ◌⊎◌}
 use Rattle.std.proofs.lemmas.Bool.{ne_eqb}
 use Rattle.std.proofs.lemmas.Bool.Decides.{nat_tests}

@@ -1,4 +1,7 @@
 -- The disjoint union of directed codes is directed.
+--
+-- Each crossing and each arc of the union is one of a code's, raised (`IsPart`). Every rule of a directed code is about one crossing, or
+-- about one component and the crossings that it passes, which are of the same part. So each is read off the part, and holds there.
 use Rattle.std.proofs.Common.{IsTrue, List, ap, ap₂, arith, cond, inl, inr, length, subst, sym, ℕ, ◌%◌, ◌*◌, ◌+◌, ◌-◌, ◌/◌, ◌<◌, ◌∙◌, ◌≡◌, ◌≢◌, ◌≤◌, ◌⊎◌}
 use Rattle.std.proofs.lemmas.Bool.{cases_lt, ne_eqb}
 use Rattle.std.proofs.lemmas.Bool.Decides.{nat_tests}
@@ -14,7 +17,7 @@ use Rattle.kh_types.specs.Accepted.{IsDirected, IsInterval}
 use Rattle.kh_types.specs.Code.{Code, IsArc, IsCrossing, arc_count, arc_in, slots_of}
 use Rattle.kh_types.specs.Components.{arcs_in, component_of, components_of, next}
 use Rattle.kh_types.specs.Darts.{arc_of, dart_at, times}
-use Rattle.link_algebra.proofs.ClassParts.{count-shifted}
+use Rattle.kh_types.proofs.LabelDegrees.{sum_by-later}
 use Rattle.link_algebra.proofs.UnitedComponents.{IsPart, IsPart-first, IsPart-second, component-is, index-past, length-components}
 use Rattle.link_algebra.proofs.UnitedSigns.{next-part, part-arc}
 use Rattle.link_algebra.proofs.UnitedSums.{length-both}
@@ -73,7 +76,7 @@ times-blocks first second arc =
     ∙ ap₂ (λ x y. x + y)
     (sum_by-range_alike (on_arc whole arc) (λ q. on_arc whole arc (4 * 0 + q)) 0 (4 * n)
     (λ q from below. ap (on_arc whole arc) (let e : q ≡ 4 * 0 + q = omega arith in e)))
-    (ap (λ c. sum_by (on_arc whole arc) (range_with_len c (4 * k))) f ∙ count-shifted (on_arc whole arc) (4 * n) 0 (4 * k))
+    (ap (λ c. sum_by (on_arc whole arc) (range_with_len c (4 * k))) f ∙ sum_by-later (on_arc whole arc) (4 * n) 0 (4 * k))
 
 times-own : (before : ℕ) (part whole : List (List ℕ)) (arc : ℕ) → IsPart before part whole
     → sum_by (λ q. on_arc whole (arc + 2 * before) (4 * before + q)) (range_with_len 0 (4 * length part)) ≡ times part arc

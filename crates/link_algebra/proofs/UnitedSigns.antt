@@ -1,4 +1,8 @@
 -- The next arcs and the signs of a part of a code are those that it has alone.
+--
+-- The sign of a crossing is read off its component, and where that has two arcs, off the first crossing that it passes. A search over all
+-- crossings of the union finds nothing before the part and behind it (`IsAlone`), and within it what the search in the part finds, moved
+-- (`slot-part`).
 use Rattle.std.proofs.Common.{Bool, IsTrue, List, None, Option, Some, ap, ap₂, arith, cond, false, inl, inr, length, refl, subst, suc, sym, true, zero, ℕ, ◌*◌, ◌+◌, ◌-◌, ◌<◌, ◌∙◌, ◌≡◌, ◌≢◌, ◌≤◌, ◌⊎◌}
 use Rattle.std.proofs.lemmas.Bool.{ne_eqb}
 use Rattle.std.proofs.lemmas.Bool.Decides.{nat_tests}
@@ -12,8 +16,9 @@ use Rattle.kh_types.proofs.Ranges.{range-append}
 use Rattle.kh_types.specs.Acceptance.{accepted}
 use Rattle.kh_types.specs.Code.{Code, IsArc, IsCrossing, arc_count, arc_in, place_of, slots_of}
 use Rattle.kh_types.specs.Components.{arcs_in, component_of, components_of, next}
-use Rattle.kh_types.specs.Directions.{first_over, first_under, is_positive_by_next, is_positive_by_order, is_positive_by_under, is_positive_in, is_positive_of_two, passes_over, passes_under, plus_count}
-use Rattle.link_algebra.proofs.ClassParts.{count-shifted}
+use Rattle.kh_types.specs.Directions.{first_over, first_under, is_positive_by_next, is_positive_by_order, is_positive_by_under, is_positive_in, is_positive_of_two, passes_under, plus_count}
+use Rattle.kh_types.proofs.LabelDegrees.{sum_by-later}
+use Rattle.kh_types.proofs.Lists.{find-none}
 use Rattle.link_algebra.proofs.UnitedComponents.{IsPart, IsPart-first, IsPart-second, component-is, component-past}
 use Rattle.link_algebra.proofs.UnitedSums.{length-both}
 use Rattle.link_algebra.specs.Unions.{union_of}
@@ -61,13 +66,6 @@ next-part before part whole arc is is_arc =
         → cond (nat_eq u v) (arc + by + 1) v ≡ cond (nat_eq x y) (arc + 1) y + by
     no_choice u v x y arc by most border is_v is_x positive within = grind (arith, nat_tests)
 
--- a search through the crossings, which only crossings of the part can pass
-find-none : (p : ℕ → Bool) (a n : ℕ) → ((k : ℕ) → a ≤ k → k < a + n → p k ≡ false) → find p (range_with_len a n) ≡ None
-find-none p a zero fails = refl
-find-none p a (suc n) fails =
-    ap (λ b. cond b (Some a) (find p (range_with_len (a + 1) n))) (fails a (omega arith) (omega arith))
-    ∙ find-none p (a + 1) n (λ k from below. fails k (omega arith) (omega arith))
-
 find-shifted : (p q : ℕ → Bool) (before a n : ℕ) → ((k : ℕ) → a ≤ k → k < a + n → p (before + k) ≡ q k)
     → find p (range_with_len (before + a) n) ≡ option_map (λ k. before + k) (find q (range_with_len a n))
 find-shifted p q before a zero same = refl
@@ -111,49 +109,41 @@ pub record IsAlone (before : ℕ) (part whole : List (List ℕ)) : Type 0 where
       → (crossing ≤ before) ⊎ (before + length part < crossing)
       → component_of (components_of whole) (arc_in (slots_of whole crossing) slot) ≢ name + 2 * before
 
+same_test : (x y by : ℕ) → nat_eq (x + by) (y + by) ≡ nat_eq x y
+same_test x y by = grind (arith, nat_tests)
+
+-- a search for a crossing with the arc at a slot in a component finds the same in the part and in the whole
+slot-part : (slot before : ℕ) (part whole : List (List ℕ)) (name : ℕ) → slot < 4 → IsPart before part whole → IsAlone before part whole
+    → IsArc part name
+    → find (λ k. nat_eq (component_of (components_of whole) (arc_in (slots_of whole k) slot)) (name + 2 * before))
+    (range_with_len 1 (length whole))
+    ≡ option_map (λ k. before + k)
+    (find (λ k. nat_eq (component_of (components_of part) (arc_in (slots_of part k) slot)) name) (range_with_len 1 (length part)))
+slot-part slot before part whole name slot_below is alone is_name =
+    find-part (λ k. nat_eq (component_of (components_of whole) (arc_in (slots_of whole k) slot)) (name + 2 * before))
+    (λ k. nat_eq (component_of (components_of part) (arc_in (slots_of part k) slot)) name) before (length part) (length whole) is.fits
+    (λ k from within.
+    let is_crossing : IsCrossing part k = record { positive = from; within = within } in
+    let arc = part-arc before part whole k slot is is_crossing slot_below in
+    ap (λ x. nat_eq x (name + 2 * before))
+    (ap (component_of (components_of whole)) (is.arcs k slot is_crossing slot_below) ∙ is.component (arc_in (slots_of part k) slot) arc)
+    ∙ same_test (component_of (components_of part) (arc_in (slots_of part k) slot)) name (2 * before))
+    (λ k from within.
+    ne_eqb (component_of (components_of whole) (arc_in (slots_of whole k) slot)) (name + 2 * before)
+    (alone.other k slot name (record { positive = from; within = omega (arith, within, is.fits) }) slot_below is_name (inl within)))
+    (λ k from within.
+    ne_eqb (component_of (components_of whole) (arc_in (slots_of whole k) slot)) (name + 2 * before)
+    (alone.other k slot name (record { positive = omega (arith, from); within = within }) slot_below is_name (inr from)))
+
 under-part : (before : ℕ) (part whole : List (List ℕ)) (name : ℕ) → IsPart before part whole → IsAlone before part whole → IsArc part name
     → first_under whole (components_of whole) (name + 2 * before)
     ≡ option_map (λ k. before + k) (first_under part (components_of part) name)
-under-part before part whole name is alone is_name =
-    find-part (passes_under whole (components_of whole) (name + 2 * before)) (passes_under part (components_of part) name) before
-    (length part) (length whole) is.fits
-    (λ k from within.
-    let is_crossing : IsCrossing part k = record { positive = from; within = within } in
-    let arc = part-arc before part whole k 0 is is_crossing (omega arith) in
-    ap (λ x. nat_eq x (name + 2 * before))
-    (ap (component_of (components_of whole)) (is.arcs k 0 is_crossing (omega arith)) ∙ is.component (arc_in (slots_of part k) 0) arc)
-    ∙ same_test (component_of (components_of part) (arc_in (slots_of part k) 0)) name (2 * before))
-    (λ k from within.
-    ne_eqb (component_of (components_of whole) (arc_in (slots_of whole k) 0)) (name + 2 * before)
-    (alone.other k 0 name (record { positive = from; within = omega (arith, within, is.fits) }) (omega arith) is_name (inl within)))
-    (λ k from within.
-    ne_eqb (component_of (components_of whole) (arc_in (slots_of whole k) 0)) (name + 2 * before)
-    (alone.other k 0 name (record { positive = omega (arith, from); within = within }) (omega arith) is_name (inr from)))
-  where
-    same_test : (x y by : ℕ) → nat_eq (x + by) (y + by) ≡ nat_eq x y
-    same_test x y by = grind (arith, nat_tests)
+under-part before part whole name = slot-part 0 before part whole name (omega arith)
 
 over-part : (before : ℕ) (part whole : List (List ℕ)) (name : ℕ) → IsPart before part whole → IsAlone before part whole → IsArc part name
     → first_over whole (components_of whole) (name + 2 * before)
     ≡ option_map (λ k. before + k) (first_over part (components_of part) name)
-over-part before part whole name is alone is_name =
-    find-part (passes_over whole (components_of whole) (name + 2 * before)) (passes_over part (components_of part) name) before
-    (length part) (length whole) is.fits
-    (λ k from within.
-    let is_crossing : IsCrossing part k = record { positive = from; within = within } in
-    let arc = part-arc before part whole k 1 is is_crossing (omega arith) in
-    ap (λ x. nat_eq x (name + 2 * before))
-    (ap (component_of (components_of whole)) (is.arcs k 1 is_crossing (omega arith)) ∙ is.component (arc_in (slots_of part k) 1) arc)
-    ∙ same_test (component_of (components_of part) (arc_in (slots_of part k) 1)) name (2 * before))
-    (λ k from within.
-    ne_eqb (component_of (components_of whole) (arc_in (slots_of whole k) 1)) (name + 2 * before)
-    (alone.other k 1 name (record { positive = from; within = omega (arith, within, is.fits) }) (omega arith) is_name (inl within)))
-    (λ k from within.
-    ne_eqb (component_of (components_of whole) (arc_in (slots_of whole k) 1)) (name + 2 * before)
-    (alone.other k 1 name (record { positive = omega (arith, from); within = within }) (omega arith) is_name (inr from)))
-  where
-    same_test : (x y by : ℕ) → nat_eq (x + by) (y + by) ≡ nat_eq x y
-    same_test x y by = grind (arith, nat_tests)
+over-part before part whole name = slot-part 1 before part whole name (omega arith)
 
 find-within : (p : ℕ → Bool) (a n k : ℕ) → find p (range_with_len a n) ≡ Some k → (a ≤ k) × (k < a + n)
 find-within p a zero k is = absurd (none_some k is)
@@ -166,9 +156,6 @@ find-within p a (suc n) k is = by (p a) is (λ found. find-within p (a + 1) n k 
         → (find p (range_with_len (a + 1) n) ≡ Some k → (a + 1 ≤ k) × (k < a + 1 + n)) → (a ≤ k) × (k < a + suc n)
     by true is later = let e : a ≡ k = cc in (omega (arith, e), omega (arith, e))
     by false is later = (omega (arith, (later is).0), omega (arith, (later is).1))
-
-same_test : (x y by : ℕ) → nat_eq (x + by) (y + by) ≡ nat_eq x y
-same_test x y by = grind (arith, nat_tests)
 
 same_order : (x y by : ℕ) → nat_lt (x + by) (y + by) ≡ nat_lt x y
 same_order x y by = grind (arith, nat_tests)
@@ -315,7 +302,7 @@ plus-both first second first_is second_is =
     (ap (is_positive_in whole (components_of whole)) e
     ∙ positive-part 0 first.crossings whole c (IsPart-first first second first_is second_is)
     (IsAlone-first first second first_is second_is) (record { positive = from; within = omega (arith, below) }))))
-    (ap (λ c. sum_by (test whole) (range_with_len c k)) f ∙ count-shifted (test whole) n 1 k
+    (ap (λ c. sum_by (test whole) (range_with_len c k)) f ∙ sum_by-later (test whole) n 1 k
     ∙ sum_by-range_alike (λ c. test whole (n + c)) (test second.crossings) 1 k
     (λ c from below.
     ap (λ b. cond b 1 0)

@@ -6,6 +6,7 @@ ghost use Rattle.kh_types.specs.declared.limits.TheConstants.{ARCS};
 ghost use Rattle.link_algebra.specs.Mirrors.{slots_from};
 ghost use Rattle.link_algebra.specs.Unions.{raised_slots};
 
+use kh_types::laws::diagrams::diagram_laws;
 use kh_types::{Crossing, Dart, Diagram};
 
 /// The arcs at a crossing, counterclockwise, from a slot on.
@@ -43,6 +44,6 @@ fn arc_at(diagram: &Diagram, crossing: u8, slot: u8) -> u8
     ensures arc { result ≡ arc_in (slots_of diagram.now.crossings crossing) slot }
     ensures within { result ≤ ARCS }
 {
-    let _count = diagram.count();
+    diagram_laws(diagram);
     diagram.arc_at(Dart { crossing, slot })
 }

@@ -10,6 +10,7 @@ ghost use Rattle.link_algebra.specs.Mirrors.{mirror_of, mirror_parts, mirror_slo
 
 use crate::slots::slots_from;
 use arrayvec::ArrayVec;
+use kh_types::laws::diagrams::diagram_laws;
 use kh_types::{CROSSINGS, Crossing, Diagram};
 use orient_arcs::{Parts, renumber};
 
@@ -22,7 +23,7 @@ pub fn mirror(diagram: &Diagram) -> Diagram
         → dimension p result (neg_ℤ i) (neg_ℤ j) ≡ dimension p diagram.now i j }
     ensures sum { (exponent : ℤ) → state_sum result (neg_ℤ exponent) ≡ state_sum diagram.now exponent }
 {
-    let _crossings = diagram.crossings();
+    diagram_laws(diagram);
     Diagram::of_accepted(&renumber(&mirror_parts(diagram)))
 }
 
@@ -34,7 +35,7 @@ pub fn reverse(diagram: &Diagram) -> Diagram
         → dimension p result i j ≡ dimension p diagram.now i j }
     ensures sum { (exponent : ℤ) → state_sum result exponent ≡ state_sum diagram.now exponent }
 {
-    let _crossings = diagram.crossings();
+    diagram_laws(diagram);
     Diagram::of_accepted(&renumber(&reversal_parts(diagram)))
 }
 

@@ -1,8 +1,7 @@
 -- Parts that are alike to an accepted code, with its directions, are renumbered to an accepted code with the same state sum.
-use Rattle.std.proofs.Common.{◌≡◌, ◌≢◌, ℕ, zero, suc, inl, inr, ◌+◌, ◌-◌, ◌*◌, ◌/◌, ◌%◌, ◌<◌, ◌≤◌, ◌∙◌, List, [], length, refl, sym, ap, ap₂, arith, Bool, cond, ℤ}
+use Rattle.std.proofs.Common.{◌≡◌, ◌≢◌, ℕ, inl, inr, ◌+◌, ◌-◌, ◌*◌, ◌/◌, ◌%◌, ◌<◌, ◌∙◌, List, [], length, sym, ap, ap₂, arith, ℤ}
 use Rattle.std.specs.Prelude.{slice_index_or, IsTrue}
 use Rattle.std.specs.List.{count_by, range_with_len}
-use Rattle.std.proofs.lemmas.List.Sums.{sum_by-cons}
 use Rattle.kh_types.specs.Code.{Code, arc_in, slots_of, IsCrossing}
 use Rattle.kh_types.specs.Components.{components_of}
 use Rattle.kh_types.specs.Classes.{class_count}
@@ -14,24 +13,13 @@ use Rattle.kh_types.specs.Acceptance.{accepted}
 use Rattle.kh_types.proofs.AcceptedLemmas.{IsAccepted-is, HasArcsTwice-directed}
 use Rattle.kh_types.proofs.CircleBound.{ArcsBelow-slots}
 use Rattle.kh_types.proofs.Heads.{HasNoSingleArcs-accepted}
+use Rattle.kh_types.proofs.RangeCounts.{count_by-alike}
 use Rattle.code_passes.specs.Parts.{Parts, ArePaired}
 use Rattle.orient_arcs.specs.Renumbered.{renumber}
 use Rattle.orient_arcs.specs.Alike.{IsOf}
 use Rattle.orient_arcs.proofs.Bridge.{IsDirected-renumbered, sign-kept}
 use Rattle.orient_arcs.proofs.AlikeCrossings.{AreAlike-then, AreAlike-renumbered, IsCheckerboard-alike, faces-alike, pieces-alike, component_count-alike, state_sum-alike, name_count}
 use Rattle.gluing.specs.Alike.{AreAlike}
-
-count-agree : (p q : ℕ → Bool) (a n : ℕ) → ((k : ℕ) → a ≤ k → k < a + n → p k ≡ q k)
-    → count_by p (range_with_len a n) ≡ count_by q (range_with_len a n)
-count-agree p q a zero same = refl
-count-agree p q a (suc n) same =
-    omega (
-      arith,
-      sum_by-cons (λ k. cond (p k) 1 0) a (range_with_len (a + 1) n),
-      sum_by-cons (λ k. cond (q k) 1 0) a (range_with_len (a + 1) n),
-      ap {B = ℕ} (λ b. cond b 1 0) (same a (omega arith) (omega arith)),
-      count-agree p q (a + 1) n (λ k from below. same k (omega (arith, from)) (omega (arith, below))),
-    )
 
 -- the arcs of an over pass differ where no arc is its own next
 pub over-apart : (crossings : List (List ℕ)) → IsDirected crossings → HasNoSingleArcs crossings → (crossing : ℕ)
@@ -79,7 +67,7 @@ module _ (code : Code) (parts : Parts) (holds : IsTrue (accepted code)) (of_code
   plus =
       let size = alike.size in
       ap (λ n. count_by (is_positive_in new.crossings (components_of new.crossings)) (range_with_len 1 n)) size
-      ∙ count-agree (is_positive new.crossings) (is_positive code.crossings) 1 (length code.crossings)
+      ∙ count_by-alike (is_positive new.crossings) (is_positive code.crossings) 1 (length code.crossings)
       (λ k from below. signs k (record { positive = from; within = omega (arith, below) }))
 
   pub IsAccepted-renumbered : IsTrue (accepted new)

@@ -1,9 +1,13 @@
 -- Crossings that are alike have the same partners, faces, pieces, checkerboards and circles.
+--
+-- Crossings are alike where two darts have one name in the one list exactly where they have one in the other. All that acceptance looks at
+-- is said by darts: the partner of a dart is the other one with its name, faces and pieces go by partners, an equation of the checkerboard
+-- is one of a dart and its partner, circles are classes of darts under smoothings. So all of these agree.
 use Rattle.std.proofs.Common.{◌≡◌, ℕ, zero, suc, inl, inr, ◌+◌, ◌-◌, ◌*◌, ◌/◌, ◌%◌, ◌^◌, ◌<◌, ◌≤◌, ◌∙◌, List, [], ◌∷◌, length, map, get_or, refl, sym, ap, ap₂, subst, arith, Bool, true, cond, not, ◌&&◌, ℤ}
 use Rattle.std.specs.Prelude.{nat_eq, unwrap_or, Some, slice_index}
 use Rattle.std.specs.List.{find, list_all, range_with_len}
 use Rattle.std.specs.Option.{option_map}
-use Rattle.std.proofs.lemmas.Bool.{cases_eq, eq-eqb, eqb-true}
+use Rattle.std.proofs.lemmas.Bool.{cases_eq, eq-eqb, eqb-true, ne_eqb}
 use Rattle.std.proofs.lemmas.List.Elements.{All-from_get_or, recursion_from_All}
 use Rattle.kh_types.specs.declared.dart.Dart.{Dart}
 use Rattle.kh_types.specs.Bits.{bit, ones}
@@ -16,10 +20,10 @@ use Rattle.kh_types.specs.Circles.{smoothings_of, circle_count}
 use Rattle.kh_types.specs.Checkerboard.{solves_at, IsCheckerboard}
 use Rattle.kh_types.specs.Directions.{plus_count, minus_count}
 use Rattle.kh_types.specs.StateSum.{int_sum, state_term, state_sum, term_of}
-use Rattle.kh_types.proofs.Ranges.{find-map}
+use Rattle.kh_types.proofs.Ranges.{find-map, map-range_agree}
 use Rattle.kh_types.proofs.RangeCounts.{list_all-at, list_all-each}
 use Rattle.kh_types.proofs.JoinedClasses.{slice_index-range}
-use Rattle.kh_types.proofs.ClassCounts.{class_count-wider, class_count-circles, class_count-components}
+use Rattle.kh_types.proofs.ClassCounts.{class_count-circles, class_count-components}
 use Rattle.kh_types.proofs.CircleBound.{ArcsBelow, ArcsBelow-slots, smoothings_of-below, passes_of-below}
 use Rattle.kh_types.proofs.DartPairs.{dart_at-place, dart_place-below, IsDart-at, IsDartOf-first_dart, first_dart_or_partner, partner-partner}
 use Rattle.orient_arcs.specs.Alike.{HasNamesBelow}
@@ -27,14 +31,14 @@ use Rattle.gluing.specs.Glue.{renamed, Places, JoinAlike}
 use Rattle.code_passes.specs.Parts.{Parts, ArePaired, passes_through}
 use Rattle.orient_arcs.specs.Renumbered.{order_of, number_in, renumber}
 use Rattle.orient_arcs.proofs.Bridge.{length-renumbered, slot-renumbered, slot-head, number-once}
-use Rattle.orient_arcs.proofs.Members.{neq-eqb}
 use Rattle.gluing.proofs.Glued.{class_count-glued_parts}
 use Rattle.gluing.specs.Codes.{arc_of_dart}
-use Rattle.orient_arcs.proofs.DartSmoothings.{smoothings_of-darts, dart_passes, passes_of-darts, dart_passes-below}
+use Rattle.orient_arcs.proofs.DartSmoothings.{dart_passes, passes_of-darts, dart_passes-below}
 use Rattle.kh_types.proofs.IntSums.{int_sum-alike}
 use Rattle.gluing.proofs.DartPairs.{dart_smoothings}
-use Rattle.gluing.proofs.CodeCircles.{dart_smoothings-below}
+use Rattle.gluing.proofs.CodeCircles.{dart_smoothings-below, smoothings_of-darts}
 use Rattle.gluing.specs.Alike.{AreAlike}
+use Rattle.gluing.proofs.Renamed.{class_count-range}
 
 pub AreAlike-back : (crossings others : List (List ℕ)) → AreAlike crossings others → AreAlike others crossings
 AreAlike-back crossings others alike = record {
@@ -61,17 +65,10 @@ find-agree p q a (suc n) same =
     ap₂ (λ b o. cond b (Some a) o) (same a (omega arith) (omega arith))
     (find-agree p q (a + 1) n (λ k from below. same k (omega (arith, from)) (omega (arith, below))))
 
-pub map-agree : {X : Type 0} (f g : ℕ → X) (a n : ℕ) → ((k : ℕ) → a ≤ k → k < a + n → f k ≡ g k)
-    → map f (range_with_len a n) ≡ map g (range_with_len a n)
-map-agree f g a zero same = refl
-map-agree f g a (suc n) same =
-    ap₂ (λ x xs. x ∷ xs) (same a (omega arith) (omega arith))
-    (map-agree f g (a + 1) n (λ k from below. same k (omega (arith, from)) (omega (arith, below))))
-
 pub same-test : (x y z w : ℕ) → (x ≡ y → z ≡ w) → (z ≡ w → x ≡ y) → nat_eq z w ≡ nat_eq x y
 same-test x y z w onward back = elim (cases_eq x y) [
   | inl same ↦ eq-eqb z w (onward same) ∙ sym (eq-eqb x y same)
-  | inr other ↦ neq-eqb z w (λ same. other (back same)) ∙ sym (neq-eqb x y other)
+  | inr other ↦ ne_eqb z w (λ same. other (back same)) ∙ sym (ne_eqb x y other)
 ]
 
 module _ (crossings others : List (List ℕ)) (alike : AreAlike crossings others) where
@@ -99,7 +96,7 @@ module _ (crossings others : List (List ℕ)) (alike : AreAlike crossings others
   faces-alike =
       ap (λ n. open_faces n (partner_at others)) alike.size
       ∙ ap (classes_of (4 * length crossings))
-      (map-agree (face_pair (partner_at others)) (face_pair (partner_at crossings)) 0 (4 * length crossings)
+      (map-range_agree (face_pair (partner_at others)) (face_pair (partner_at crossings)) 0 (4 * length crossings)
       (λ k from below. paired k (partner_at-alike k (omega (arith, below)))))
     where
       paired : (k : ℕ) → partner_at others k ≡ partner_at crossings k → face_pair (partner_at others) k ≡ face_pair (partner_at crossings) k
@@ -109,7 +106,7 @@ module _ (crossings others : List (List ℕ)) (alike : AreAlike crossings others
   pieces-alike =
       ap (λ n. open_pieces n (partner_at others)) alike.size
       ∙ ap (classes_of (length crossings))
-      (map-agree (piece_pair (partner_at others)) (piece_pair (partner_at crossings)) 0 (4 * length crossings)
+      (map-range_agree (piece_pair (partner_at others)) (piece_pair (partner_at crossings)) 0 (4 * length crossings)
       (λ k from below. paired k (partner_at-alike k (omega (arith, below)))))
     where
       paired : (k : ℕ) → partner_at others k ≡ partner_at crossings k → piece_pair (partner_at others) k ≡ piece_pair (partner_at crossings) k
@@ -164,13 +161,6 @@ module _ (crossings others : List (List ℕ)) (alike : AreAlike crossings others
   }
 
 -- circles
-
-range-count : (n : ℕ) → class_count (range_with_len 0 n) ≡ n
-range-count n =
-    let wide = class_count-wider 0 n [] tt in
-    let none : class_count (classes_of 0 []) ≡ 0 = refl in
-    let e : 0 + n ≡ n = omega arith in
-    ap (λ k. class_count (range_with_len 0 k)) (sym e) ∙ wide ∙ omega (arith, none)
 
 -- names below a number, by places
 pub ArcsBelow-places : (n : ℕ) (crossings : List (List ℕ)) → HasNamesBelow n crossings → ArcsBelow n crossings
@@ -227,7 +217,7 @@ class_count-darts m n crossings others alike below others_below outer outer_belo
           ∙ arc_of-dart crossings y);
     } in
     let law = class_count-glued_parts (4 * count) m n f g outer [] [] outer_below tt tt f_places g_places joins in
-    omega (arith, law, range-count m, range-count n)
+    omega (arith, law, class_count-range m, class_count-range n)
 
 pub class_count-alike : (m n : ℕ) (crossings others : List (List ℕ)) → AreAlike crossings others → ArcsBelow m crossings
     → ArcsBelow n others → (state : ℕ)

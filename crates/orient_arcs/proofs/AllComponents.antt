@@ -1,9 +1,13 @@
 -- The components of paired passes: each goes round, in each each name stands once, and they stand in the order of their least names.
-use Rattle.std.proofs.Common.{◌≡◌, ℕ, zero, suc, ◌⊎◌, inl, inr, ◌+◌, ◌<◌, ◌≤◌, ◌∙◌, List, [], ◌∷◌, ◌++◌, length, map, refl, sym, ap, subst, arith, Bool, true, false, not, ◌&&◌}
+--
+-- The order goes over the names below a bound, and walks from each that is in no component so far. What is known of the components found is
+-- one record: each goes round, they have no name twice, they ascend by first names, and all names below the bound are in one. A walk from a
+-- new name goes round and meets none of the old ones, since each name is the next of one only; so one step more keeps the record.
+use Rattle.std.proofs.Common.{◌≡◌, ℕ, zero, suc, inl, inr, ◌+◌, ◌<◌, ◌≤◌, ◌∙◌, List, [], ◌∷◌, ◌++◌, length, map, refl, sym, ap, subst, arith, Bool, true, false, not, ◌&&◌}
 use Rattle.std.specs.Prelude.{if◌then◌else◌, slice_index}
 use Rattle.std.specs.List.{fold, range_with_len, AllByRecursion}
-use Rattle.std.proofs.lemmas.Bool.{and_parts, and_from, not-true, cases_eq, cases_Bool, both_ways}
-use Rattle.std.proofs.lemmas.List.{length-map}
+use Rattle.std.proofs.lemmas.Bool.{and_parts, and_from, not-true, cases_eq, cases_Bool, both_ways, cases_lt}
+use Rattle.std.proofs.lemmas.List.{length-map, append-nil}
 use Rattle.kh_types.proofs.Lists.{AllByRecursion-append}
 use Rattle.code_passes.specs.Passes.{Pass}
 use Rattle.orient_arcs.specs.Renumbered.{walk, all_of, is_in, with_component, follows}
@@ -74,10 +78,6 @@ pub record AreSoFar (next : ℕ → ℕ) (heads : List ℕ) (bound : ℕ) (compo
   pub named : (y : ℕ) → IsIn y (all_of components) → IsIn y heads
   pub distinct : AreDistinct (all_of components)
   pub covers : (y : ℕ) → y < bound → IsIn y heads → IsIn y (all_of components)
-
-append-nil : (xs : List ℕ) → xs ++ [] ≡ xs
-append-nil [] = refl
-append-nil (x ∷ xs) = ap (λ ys. x ∷ ys) (append-nil xs)
 
 all_of-more : (components : List (List ℕ)) (names : List ℕ) → all_of (components ++ names ∷ []) ≡ all_of components ++ names
 all_of-more [] names = append-nil names
@@ -155,13 +155,10 @@ module _ (passes : List Pass) (are : AreNext (follows passes) (map (λ (pass : P
 
       least_in : (y first : ℕ) → first ≡ name → IsIn y (map (λ (pass : Pass). pass.enters) passes)
           → (IsIn y (all_of components) → ⊥) → first ≤ y
-      least_in y first is_name y_is fresh = elim (cases_lt_le y name) [
+      least_in y first is_name y_is fresh = elim (cases_lt y name) [
         | inl less ↦ absurd (fresh (so_far.covers y less y_is))
         | inr not_less ↦ omega (arith, not_less, is_name)
       ]
-        where
-          cases_lt_le : (a b : ℕ) → (a < b) ⊎ (b ≤ a)
-          cases_lt_le a b = grind arith
 
   AreSoFar-step : (name : ℕ) (components : List (List ℕ)) → AreSoFar next heads name components
       → AreSoFar next heads (name + 1) (with_component passes components name)

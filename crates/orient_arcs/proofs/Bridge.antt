@@ -1,9 +1,14 @@
 -- The renumbered code is the code of the labels of its components.
+--
+-- Here two descriptions meet: renumbered parts, by names and their order, and a code as components of labels (code_passes). The components
+-- of the parts have labels (Labels); their passes are those of the names, under new numbers, so that the renumbered crossings are the
+-- crossings of these labels with the signs of the parts. What code_passes says of such codes then holds: they are directed, with these
+-- signs.
 use Rattle.std.proofs.Common.{◌≡◌, ◌≢◌, ℕ, zero, suc, inl, inr, ◌+◌, ◌-◌, ◌*◌, ◌<◌, ◌∙◌, List, [], ◌∷◌, length, map, get_or, refl, sym, ap, ap₂, subst, arith, Bool, true, false}
 use Rattle.std.specs.Prelude.{if◌then◌else◌, None, slice_index_or, ℤ, pos, neg_ℤ, MatchBool}
 use Rattle.std.specs.List.{range_with_len, AllByRecursion}
 use Rattle.std.specs.Ordering.{int_eq}
-use Rattle.std.proofs.lemmas.List.{length-map}
+use Rattle.std.proofs.lemmas.List.{length-map, get_or-map}
 use Rattle.std.proofs.lemmas.List.FromFn.{get_or-map-range_with_len}
 use Rattle.kh_types.specs.Code.{arc_in, slots_of, IsArc, IsCrossing}
 use Rattle.kh_types.specs.Components.{next}
@@ -47,11 +52,6 @@ renamed-slot number slots (suc zero) below = refl
 renamed-slot number slots (suc (suc zero)) below = refl
 renamed-slot number slots (suc (suc (suc zero))) below = refl
 renamed-slot number slots (suc (suc (suc (suc slot)))) below = absurd (omega (arith, below))
-
-get_or-map : {X Y : Type 0} (f : X → Y) (xs : List X) (k : ℕ) (d : X) (e : Y) → k < length xs → get_or (map f xs) k e ≡ f (get_or xs k d)
-get_or-map f [] k d e below = absurd (omega (arith, below))
-get_or-map f (x ∷ xs) zero d e below = refl
-get_or-map f (x ∷ xs) (suc k) d e below = get_or-map f xs k d e (omega (arith, below))
 
 pub slot-renumbered : (parts : Parts) (crossing slot : ℕ) → IsCrossing parts.crossings crossing → slot < 4
     → arc_in (slots_of (renumber parts).crossings crossing) slot

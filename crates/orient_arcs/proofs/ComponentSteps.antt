@@ -1,9 +1,13 @@
 -- One component more in the order of names.
+--
+-- The code of renumbering pushes one component after the other, and turns one of two names that are both over by beginning its walk with
+-- the second. The specification makes all components and turns them at the end. One step of the one is one step of the other: a name that
+-- is new adds its walk, turned or not (`order-turned`), any other adds nothing (`order-same`).
 use Rattle.std.proofs.Common.{◌≡◌, ◌≢◌, ℕ, zero, suc, inl, inr, ◌+◌, ◌*◌, ◌≤◌, ◌∙◌, List, [], ◌∷◌, ◌++◌, length, map, refl, sym, ap, ap₂, subst, arith, Bool, true, false, not, ◌&&◌, ℤ, length-append}
 use Rattle.std.specs.Prelude.{nat_eq, int_lt, if◌then◌else◌}
 use Rattle.std.specs.List.{flat_map, fold, range_with_len, AllByRecursion}
-use Rattle.std.proofs.lemmas.Bool.{cases_Bool, eqb-true, eqb-false, eq-eqb, both_ways, and_parts}
-use Rattle.std.proofs.lemmas.List.{length-map}
+use Rattle.std.proofs.lemmas.Bool.{cases_Bool, eqb-true, eqb-false, eq-eqb, both_ways, and_parts, ne_eqb}
+use Rattle.std.proofs.lemmas.List.{length-map, append-nil}
 use Rattle.std.proofs.lemmas.List.Sums.{fold-append}
 use Rattle.std.proofs.lemmas.Grind.{flat_map-append}
 use Rattle.kh_types.proofs.Ranges.{range_from_zero}
@@ -11,7 +15,7 @@ use Rattle.code_passes.specs.Passes.{Pass, is_over}
 use Rattle.code_passes.specs.Parts.{Parts, ArePaired, passes_through}
 use Rattle.orient_arcs.specs.Renumbered.{follows, label_entered, all_of, is_in, walk, with_component, turned_names}
 use Rattle.orient_arcs.specs.Steps.{order_below, is_new, start_of}
-use Rattle.orient_arcs.proofs.Members.{IsIn, length-among, is_in-true, true-is_in, neq-eqb}
+use Rattle.orient_arcs.proofs.Members.{IsIn, length-among, is_in-true, true-is_in}
 use Rattle.orient_arcs.proofs.AllComponents.{IsRound, AreSoFar, AreSoFar-fold}
 use Rattle.orient_arcs.proofs.PairedPasses.{heads_of, length-heads, AreNext-passes}
 use Rattle.orient_arcs.proofs.Labels.{IsIn-order, order-IsIn, AreDistinct-order}
@@ -20,7 +24,7 @@ module _ (next : ℕ → ℕ) where
   -- a walk round two names
   pub walk-two : (fuel a b : ℕ) → next a ≡ b → next b ≡ a → b ≢ a → walk next a (suc (suc fuel)) a ≡ a ∷ b ∷ []
   walk-two fuel a b is_b is_a differ =
-      let first : nat_eq (next a) a ≡ false = ap (λ x. nat_eq x a) is_b ∙ neq-eqb b a differ in
+      let first : nat_eq (next a) a ≡ false = ap (λ x. nat_eq x a) is_b ∙ ne_eqb b a differ in
       let second : nat_eq (next (next a)) a ≡ true = eq-eqb (next (next a)) a (ap next is_b ∙ is_a) in
       ap₂ (λ s t. a ∷ (if s then [] else next a ∷ (if t then [] else walk next a fuel (next (next a))))) first second
       ∙ ap (λ x. a ∷ x ∷ []) is_b
@@ -62,10 +66,6 @@ module _ (next : ℕ → ℕ) where
       let is : walk next name (suc (suc (suc fuel))) name ≡ name ∷ next name ∷ third ∷ more =
       ap₂ (λ s t. name ∷ (if s then [] else next name ∷ (if t then [] else third ∷ more))) one two in
       ap (turned_names label) is ∙ sym is
-
-append-nil : (xs : List ℕ) → xs ++ [] ≡ xs
-append-nil [] = refl
-append-nil (x ∷ xs) = ap (λ ys. x ∷ ys) (append-nil xs)
 
 module _ (parts : Parts) (paired : ArePaired parts) where
   abbrev passes : List Pass

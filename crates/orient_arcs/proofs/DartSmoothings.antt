@@ -6,13 +6,10 @@ use Rattle.std.proofs.lemmas.List.{map-append}
 use Rattle.kh_types.specs.Code.{arc_in}
 use Rattle.kh_types.specs.Classes.{AreBelow}
 use Rattle.kh_types.specs.Components.{passes_of}
-use Rattle.kh_types.specs.Circles.{smoothings_of}
+use Rattle.kh_types.proofs.ClassLemmas.{AreBelow-append}
 use Rattle.gluing.specs.Arcs.{arc_by_place}
 use Rattle.gluing.specs.Codes.{arc_of_dart}
 use Rattle.gluing.specs.Glue.{renamed}
-use Rattle.gluing.proofs.DartPairs.{dart_smoothings}
-use Rattle.gluing.proofs.CodeCircles.{smoothings-from}
-use Rattle.gluing.proofs.Renamed.{AreBelow-append}
 
 -- the darts of the crossing at a place of the list, by their slots
 abbrev pub darts_of : ℕ → List ℕ
@@ -24,12 +21,6 @@ darts_of place = 4 * place ∷ (4 * place + 1) ∷ (4 * place + 2) ∷ (4 * plac
 
 abbrev at_dart : (ℕ → ℕ → ℕ) → ℕ → ℕ
 at_dart arc dart = arc (dart / 4) (dart % 4)
-
-pub smoothings_of-darts : (crossings : List (List ℕ)) (state : ℕ)
-    → smoothings_of crossings state ≡ renamed (arc_of_dart crossings) (dart_smoothings (length crossings) state)
-smoothings_of-darts crossings state =
-    smoothings-from (arc_by_place crossings) state 0 crossings
-    (λ k slot below slot_below. let e : k ≡ 0 + k = omega arith in ap (λ j. arc_by_place crossings j slot) e)
 
 -- the same of passes
 

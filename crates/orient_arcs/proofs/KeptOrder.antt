@@ -1,8 +1,13 @@
 -- A code under other names, which keep the order of its components, has its own numbers when it is renumbered.
+--
+-- The names are f of the arcs, where f keeps the order of components. The order of the parts goes over names, that of the code over arcs:
+-- each walk from f of a least arc is f of the walk from the arc. As f sends later components to greater names, the new names come in the
+-- order of the arcs, and what the order has is f of the first numbers (IsUpTo). A circle over all of two arcs may begin with either;
+-- `ascending` decides.
 use Rattle.std.proofs.Common.{◌≡◌, ◌≢◌, ℕ, zero, suc, inl, inr, ◌+◌, ◌-◌, ◌*◌, ◌<◌, ◌≤◌, ◌∙◌, List, [], ◌∷◌, ◌++◌, length, map, get_or, refl, sym, ap, ap₂, subst, arith, Bool, true, false, not, ◌&&◌}
 use Rattle.std.specs.Prelude.{nat_eq, if◌then◌else◌, MatchBool, int_lt}
 use Rattle.std.specs.List.{position_or_len, range_with_len, AllByRecursion}
-use Rattle.std.proofs.lemmas.Bool.{cases_eq, cases_lt, cases_Bool, eq-eqb, and_from, and_parts, both_ways}
+use Rattle.std.proofs.lemmas.Bool.{cases_eq, cases_lt, cases_Bool, eq-eqb, and_from, and_parts, both_ways, not-true, ne_eqb}
 use Rattle.std.proofs.lemmas.List.{length-map, map-append}
 use Rattle.std.proofs.lemmas.List.FromFn.{length-range_with_len, get_or-map-range_with_len}
 use Rattle.kh_types.specs.Code.{Code, arc_in, slots_of, IsArc, IsCrossing}
@@ -23,7 +28,7 @@ use Rattle.orient_arcs.specs.Steps.{order_below, is_new}
 use Rattle.orient_arcs.specs.OtherNames.{IsNamedBy, IsOverCircle, KeepsComponents}
 use Rattle.orient_arcs.proofs.NamedLists.{IsIn-map, map-IsIn, own-again, rising, turned-map}
 use Rattle.orient_arcs.proofs.AscendingNames.{component-behind, component-from}
-use Rattle.orient_arcs.proofs.Members.{IsIn, is_in-true, true-is_in, is_in-false, neq-eqb, position-get, AreDistinct}
+use Rattle.orient_arcs.proofs.Members.{IsIn, is_in-true, true-is_in, is_in-false, position-get, AreDistinct}
 use Rattle.orient_arcs.proofs.PairedPasses.{heads_of, entering-holds, entering-enters, label-once, length-heads, All-flat_map_range}
 use Rattle.orient_arcs.proofs.PairedCodes.{ArePaired-directed}
 use Rattle.orient_arcs.proofs.Bridge.{below-bound, distinct-order, slot-head}
@@ -147,13 +152,13 @@ module _ (code : Code) (directed : IsDirected code.crossings) (moves : HasNoSing
             (eq-eqb (follows (passes_through (parts_of code)) x) start (own ∙ same)))
         | inr other ↦
             ap (λ b. f x ∷ (if b then [] else walk (follows (passes_through parts)) (f start) fuel (f (next code.crossings x))))
-            (neq-eqb (f (next code.crossings x)) (f start)
+            (ne_eqb (f (next code.crossings x)) (f start)
             (λ same. other (keeps.apart (next code.crossings x) start next_is start_is same)))
             ∙ ap (λ ys. f x ∷ ys) (walk-names start start_is fuel (next code.crossings x) next_is)
             ∙ ap (λ y. f x ∷ map f (walk (follows (passes_through (parts_of code))) start fuel y)) (sym own)
             ∙ sym (ap (λ b. f x ∷ map f (if b then [] else walk (follows (passes_through (parts_of code))) start fuel
             (follows (passes_through (parts_of code)) x)))
-            (neq-eqb (follows (passes_through (parts_of code)) x) start (λ same. other (sym own ∙ same))))
+            (ne_eqb (follows (passes_through (parts_of code)) x) start (λ same. other (sym own ∙ same))))
       ])
 
   length-passes : length (passes_through parts) ≡ 2 * length code.crossings
@@ -332,10 +337,6 @@ module _ (code : Code) (directed : IsDirected code.crossings) (moves : HasNoSing
         }
   ]
     where
-      not-true : (b : Bool) → not b ≡ true → b ≡ false
-      not-true true holds = absurd (cc)
-      not-true false holds = refl
-
       begun : (first : ℕ) → IsFirst code.crossings first → (arc : ℕ) → IsArc code.crossings arc → component code.crossings arc ≡ first
           → f arc ≤ f first → arc < first + size code.crossings first → first ≤ arc
           → turned_names (label_entered (passes_through parts))

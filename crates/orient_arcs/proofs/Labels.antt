@@ -1,5 +1,9 @@
 -- The components of paired passes, by the labels of their names, and the passes of these labels.
-use Rattle.std.proofs.Common.{◌≡◌, ◌≢◌, ℕ, zero, suc, ◌⊎◌, inl, inr, ◌+◌, ◌/◌, ◌<◌, ◌≤◌, ◌∙◌, List, [], ◌∷◌, ◌++◌, length, map, take, get_or, refl, sym, ap, subst, arith, Bool, true, false, ◌&&◌, ◌||◌}
+--
+-- A component of names has labels, those of the passes that enter on them. Turned names have turned labels, so the list of labels stands
+-- for the components in order, and the place of a name in the order is its new number. A pass of these labels enters on such a number and
+-- leaves on the next in its component (`all-numbered`). The labels name crossings, each pass once, so that none is bad.
+use Rattle.std.proofs.Common.{◌≡◌, ℕ, zero, suc, ◌⊎◌, inl, inr, ◌+◌, ◌/◌, ◌<◌, ◌≤◌, ◌∙◌, List, [], ◌∷◌, ◌++◌, length, map, take, get_or, refl, sym, ap, subst, arith, Bool, true, false, ◌&&◌, ◌||◌}
 use Rattle.std.specs.Prelude.{nat_eq, nat_lt, if◌then◌else◌, None, ℤ, nat_abs, int_lt}
 use Rattle.std.specs.List.{flat_map, list_any, position_or_len, range_with_len, AllByRecursion}
 use Rattle.std.specs.Ordering.{int_eq}
@@ -11,6 +15,7 @@ use Rattle.code_passes.specs.Labels.{listed_number, is_bad_label, bad_label, nam
 use Rattle.code_passes.specs.Passes as gauss
 use Rattle.code_passes.specs.Passes.{Pass, is_over, pass_at, passes_from, all_passes}
 use Rattle.code_passes.specs.Passes.{all_labels}
+use Rattle.code_passes.proofs.ComponentPasses.{leaves-last, leaves-inside}
 use Rattle.kh_types.proofs.Integers.{int_eq-other}
 use Rattle.orient_arcs.specs.Renumbered.{all_of, turned_names, number_in}
 use Rattle.orient_arcs.proofs.Members.{IsIn, IsIn-same, IsIn-left, IsIn-right, IsIn-parts, AreDistinct, AreDistinct-append, IsIn-get, apart-before, position-get}
@@ -206,19 +211,13 @@ module _ (label : ℕ → ℤ) (next : ℕ → ℕ) (order : List ℕ) (distinct
         has_label = number_at-map label xs at below;
         enters = omega (arith, number at below);
         leaves = elim (cases_eq (at + 1) (length xs)) [
-          | inl ends ↦ leaves_last (length front + 1) at (length (map label xs)) (omega (arith, ends, size))
+          | inl ends ↦ leaves-last (length front + 1) at (length (map label xs)) (omega (arith, ends, size))
               ∙ sym (ap (number_in order) (round-end next xs round at ends) ∙ number 0 (omega (arith, below)) ∙ omega arith)
-          | inr inside ↦ leaves_inside (length front + 1) at (length (map label xs)) (λ same. inside (same ∙ size))
+          | inr inside ↦ leaves-inside (length front + 1) at (length (map label xs)) (λ same. inside (same ∙ size))
               ∙ sym (ap (number_in order) (round-at next xs round at (omega (arith, below, inside)))
               ∙ number (at + 1) (omega (arith, below, inside)) ∙ omega arith)
         ];
       }
-    where
-      leaves_last : (first k n : ℕ) → k + 1 ≡ n → (if nat_eq (k + 1) n then first else first + k + 1) ≡ first
-      leaves_last first k n last = grind (arith, nat_tests)
-
-      leaves_inside : (first k n : ℕ) → k + 1 ≢ n → (if nat_eq (k + 1) n then first else first + k + 1) ≡ first + k + 1
-      leaves_inside first k n inside = grind (arith, nat_tests)
 
   pub all-numbered : (components : List (List ℕ)) (front : List ℕ) → order ≡ front ++ flat_map (turned_names label) components
       → AllByRecursion (IsRound next) components

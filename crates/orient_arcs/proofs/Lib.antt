@@ -15,10 +15,12 @@ pub mod AcceptedParts
 pub mod PairingTests
 pub mod StepLemmas
 pub mod ComponentSteps
+pub mod Blocks
 pub mod OwnNumbers
 pub mod PairedAlike
 pub mod NamedLists
 pub mod AscendingNames
 pub mod KeptOrder
 pub mod ArcWalks
+pub mod NumberedBlocks
 pub mod PlacedNumbers

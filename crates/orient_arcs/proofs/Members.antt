@@ -2,12 +2,8 @@
 use Rattle.std.proofs.Common.{◌≡◌, ◌≢◌, ℕ, zero, suc, ◌⊎◌, inl, inr, ◌+◌, ◌<◌, ◌≤◌, ◌∙◌, List, [], ◌∷◌, ◌++◌, length, take, get_or, refl, sym, ap, arith, Bool, true, false, not, cond, ◌||◌}
 use Rattle.std.specs.Prelude.{nat_eq}
 use Rattle.std.specs.List.{position_or_len}
-use Rattle.std.proofs.lemmas.Bool.{cases_eq, eq-eqb, cases_Bool, both_ways}
-use Rattle.std.proofs.lemmas.Bool.Decides.{eqb_tells}
+use Rattle.std.proofs.lemmas.Bool.{cases_eq, eq-eqb, cases_Bool, both_ways, ne_eqb}
 use Rattle.orient_arcs.specs.Renumbered.{is_in}
-
-pub neq-eqb : (x y : ℕ) → x ≢ y → nat_eq x y ≡ false
-neq-eqb x y differ = elim (eqb_tells x y) [ inl same ↦ absurd (differ same.1) | inr other ↦ other.0 ]
 
 abbrev pub IsIn : ℕ → List ℕ → Type 0
 IsIn x [] = ⊥
@@ -93,7 +89,7 @@ true-is_in x [] holds = absurd (false_true holds)
     false_true same = cc
 true-is_in x (y ∷ ys) holds = elim (cases_eq x y) [
   | inl same ↦ inl same
-  | inr other ↦ inr (true-is_in x ys (ap (λ b. b || is_in ys x) (sym (neq-eqb x y other)) ∙ holds))
+  | inr other ↦ inr (true-is_in x ys (ap (λ b. b || is_in ys x) (sym (ne_eqb x y other)) ∙ holds))
 ]
 
 pub false-is_in : (x : ℕ) (xs : List ℕ) → is_in xs x ≡ false → IsIn x xs → ⊥
@@ -133,5 +129,5 @@ position-get (x ∷ xs) (suc at) distinct below =
     let y = get_or xs at 0 in
     let later = position-get xs at distinct.1 (omega (arith, below)) in
     ap (λ b. cond (not b) (1 + position_or_len (nat_eq y) xs) 0)
-    (neq-eqb y x (λ same. distinct.0 (IsIn-same x y xs same (IsIn-get xs at (omega (arith, below))))))
+    (ne_eqb y x (λ same. distinct.0 (IsIn-same x y xs same (IsIn-get xs at (omega (arith, below))))))
     ∙ omega (arith, later)

@@ -1,13 +1,17 @@
 -- Names have one order: components in order are one list.
+--
+-- Components that go round, have no name twice and stand in the order of their least names can be listed in one way only: the first of both
+-- lists begins with the least name of all, and goes on from name to next name until it is back; so they agree, and so do the rest, over the
+-- other names.
 use Rattle.std.proofs.Common.{◌≡◌, ℕ, zero, suc, ◌⊎◌, inl, inr, ◌+◌, ◌-◌, ◌<◌, ◌≤◌, ◌∙◌, List, [], ◌∷◌, ◌++◌, length, refl, sym, ap, ap₂, arith, cond}
 use Rattle.std.specs.Prelude.{nat_eq, slice_index, slice_index_or}
 use Rattle.std.specs.List.{count_by, flat_map, position_or_len}
-use Rattle.std.proofs.lemmas.Bool.{cases_eq, eq-eqb}
+use Rattle.std.proofs.lemmas.Bool.{cases_eq, eq-eqb, ne_eqb}
 use Rattle.std.proofs.lemmas.Grind.{same_number_lists}
 use Rattle.std.proofs.lemmas.List.Sums.{sum_by-append, sum_by-cons}
 use Rattle.code_passes.specs.Parts.{Parts, ArePaired, passes_through}
 use Rattle.orient_arcs.specs.Renumbered.{AreInOrder, AreOrdered, all_of, follows, label_entered, name_in_component, order_of, turned_names}
-use Rattle.orient_arcs.proofs.Members.{IsIn, AreDistinct, neq-eqb, IsIn-left, IsIn-parts, IsIn-get, get-IsIn, position-get}
+use Rattle.orient_arcs.proofs.Members.{IsIn, AreDistinct, IsIn-left, IsIn-parts, IsIn-get, get-IsIn, position-get}
 use Rattle.orient_arcs.proofs.Ordered.{AreOrdered-components}
 
 -- how often a number stands
@@ -27,7 +31,7 @@ count-in : (y : ℕ) (zs : List ℕ) → 1 ≤ count_by (nat_eq y) zs → IsIn y
 count-in y [] some = absurd (omega (arith, some))
 count-in y (z ∷ zs) some = elim (cases_eq y z) [
   | inl same ↦ inl same
-  | inr other ↦ inr (count-in y zs (omega (arith, some, count-more y z zs, ap {B = ℕ} (λ b. cond b 1 0) (neq-eqb y z other))))
+  | inr other ↦ inr (count-in y zs (omega (arith, some, count-more y z zs, ap {B = ℕ} (λ b. cond b 1 0) (ne_eqb y z other))))
 ]
 
 -- what stands once at most is distinct

@@ -2,12 +2,12 @@
 use Rattle.std.proofs.Common.{◌≡◌, ℕ, zero, suc, ◌⊎◌, inl, inr, ◌<◌, ◌≤◌, ◌∙◌, List, [], ◌∷◌, length, refl, sym, ap, arith, cond}
 use Rattle.std.specs.Prelude.{nat_eq, slice_index, slice_index_or}
 use Rattle.std.specs.List.{count_by, AllByRecursion}
-use Rattle.std.proofs.lemmas.Bool.{eq-eqb, cases_Bool}
+use Rattle.std.proofs.lemmas.Bool.{eq-eqb, cases_Bool, ne_eqb}
 use Rattle.std.proofs.lemmas.List.Sums.{sum_by-cons}
 use Rattle.code_passes.specs.Passes.{Pass}
 use Rattle.code_passes.specs.Parts.{Parts, ArePaired, passes_through, head_count}
 use Rattle.orient_arcs.specs.Renumbered.{AreOrdered, all_of, named_components, is_in}
-use Rattle.orient_arcs.proofs.Members.{IsIn, IsIn-same, AreDistinct, neq-eqb, IsIn-get, true-is_in, false-is_in}
+use Rattle.orient_arcs.proofs.Members.{IsIn, IsIn-same, AreDistinct, IsIn-get, true-is_in, false-is_in}
 use Rattle.orient_arcs.proofs.AllComponents.{IsRound, BeginsLeast, AreAscending}
 use Rattle.orient_arcs.proofs.PairedPasses.{counted-in, in-counted}
 use Rattle.orient_arcs.proofs.Labels.{round-at, round-end}
@@ -38,7 +38,7 @@ count-out x (y ∷ ys) out =
     omega (
       arith,
       sum_by-cons (λ z. cond (nat_eq x z) 1 0) y ys,
-      ap {B = ℕ} (λ b. cond b 1 0) (neq-eqb x y (λ same. out (inl same))),
+      ap {B = ℕ} (λ b. cond b 1 0) (ne_eqb x y (λ same. out (inl same))),
       count-out x ys (λ later. out (inr later)),
     )
 
@@ -55,7 +55,7 @@ count-in x (y ∷ ys) distinct (inr later) =
     omega (
       arith,
       sum_by-cons (λ z. cond (nat_eq x z) 1 0) y ys,
-      ap {B = ℕ} (λ b. cond b 1 0) (neq-eqb x y (λ same. distinct.0 (IsIn-same y x ys same later))),
+      ap {B = ℕ} (λ b. cond b 1 0) (ne_eqb x y (λ same. distinct.0 (IsIn-same y x ys same later))),
       count-in x ys distinct.1 later,
     )
 

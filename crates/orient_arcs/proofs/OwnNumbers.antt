@@ -1,35 +1,31 @@
 -- A code's own numbers stay, where it is directed and has no single arcs.
-use Rattle.std.proofs.Common.{◌≡◌, ℕ, zero, suc, ◌⊎◌, inl, inr, ◌+◌, ◌-◌, ◌*◌, ◌<◌, ◌≤◌, ◌∙◌, List, [], ◌∷◌, ◌++◌, length, map, get_or, refl, sym, ap, ap₂, subst, arith, Bool, true, false, not, ◌&&◌, ℤ, pos}
+use Rattle.std.proofs.Common.{◌≡◌, ℕ, zero, suc, inl, inr, ◌+◌, ◌-◌, ◌*◌, ◌<◌, ◌≤◌, ◌∙◌, List, [], ◌∷◌, ◌++◌, length, map, get_or, refl, sym, ap, ap₂, subst, arith, Bool, true, false, ℤ, pos}
 use Rattle.std.specs.Prelude.{nat_eq, if◌then◌else◌, slice_index_or, MatchBool}
 use Rattle.std.specs.List.{position_or_len, range_with_len, AllByRecursion}
-use Rattle.std.proofs.lemmas.Bool.{cases_eq, cases_lt, and_from}
-use Rattle.std.proofs.lemmas.List.{length-map}
+use Rattle.std.proofs.lemmas.Bool.{cases_eq}
 use Rattle.std.proofs.lemmas.List.FromFn.{length-range_with_len, get_or-range_with_len}
 use Rattle.kh_types.specs.Code.{Code, arc_in, slots_of, IsArc, IsCrossing}
 use Rattle.kh_types.specs.Components.{next}
 use Rattle.kh_types.specs.Directions.{is_positive, HasNoSingleArcs, IsPass}
 use Rattle.kh_types.specs.Accepted.{IsDirected}
 use Rattle.kh_types.proofs.Heads.{IsPass-under, IsPass-over}
-use Rattle.kh_types.proofs.NextArcs.{HasPlace-directed}
 use Rattle.kh_types.proofs.Ranges.{range-append}
-use Rattle.code_passes.proofs.LeastArcs.{IsFirstOf-directed}
 use Rattle.code_passes.specs.Passes as gauss
 use Rattle.code_passes.specs.Passes.{Pass}
 use Rattle.code_passes.specs.ComponentLabels as printing
 use Rattle.code_passes.specs.ComponentLabels.{label_at, component_labels}
 use Rattle.code_passes.proofs.ArcLabels.{IsOriented}
-use Rattle.code_passes.proofs.CutArcs.{IsFirst, IsFirst-next, size, end-within, size-positive}
+use Rattle.code_passes.proofs.CutArcs.{IsFirst, size, end-within}
 use Rattle.code_passes.proofs.TwoArcComponents.{turned_labels-component}
 use Rattle.code_passes.specs.Parts.{Parts, ArePaired, parts_of, passes_through, passes_at, slots_in, is_positive_at, under_pass, over_pass}
-use Rattle.orient_arcs.specs.Renumbered.{follows, label_entered, walk, turned_names, is_in, bound_of, order_of, number_in, renamed_crossing, renumber}
-use Rattle.orient_arcs.specs.Steps.{order_below, is_new}
-use Rattle.orient_arcs.proofs.Members.{IsIn, is_in-true, is_in-false, position-get, AreDistinct}
-use Rattle.orient_arcs.proofs.PairedPasses.{heads_of, entering-holds, entering-enters, label-once, length-heads, in-counted, counted-in, All-flat_map_range}
+use Rattle.orient_arcs.specs.Renumbered.{follows, label_entered, walk, turned_names, order_of, number_in, renamed_crossing, renumber}
+use Rattle.orient_arcs.proofs.Members.{IsIn, position-get, AreDistinct}
+use Rattle.orient_arcs.proofs.PairedPasses.{heads_of, entering-holds, entering-enters, label-once, in-counted, counted-in, All-flat_map_range}
 use Rattle.orient_arcs.proofs.Labels.{turned-cases, turned-labels}
-use Rattle.orient_arcs.proofs.PairedCodes.{ArePaired-directed, positive-is, some-head, ends-arcs, arc-of}
-use Rattle.orient_arcs.proofs.Bridge.{below-bound, distinct-order}
-use Rattle.orient_arcs.proofs.ArcWalks.{walk-arcs}
-use Rattle.orient_arcs.proofs.ComponentSteps.{order-same, order-turned}
+use Rattle.orient_arcs.proofs.PairedCodes.{ArePaired-directed, positive-is, some-head, head-arc}
+use Rattle.orient_arcs.proofs.Bridge.{distinct-order}
+use Rattle.orient_arcs.proofs.ArcWalks.{walk-arcs, walk-first}
+use Rattle.orient_arcs.proofs.Blocks.{order-by_blocks}
 
 -- numbers in a range
 pub in-range : (a n x : ℕ) → a ≤ x → x < a + n → IsIn x (range_with_len a n)
@@ -43,6 +39,43 @@ pub range-in : (a n x : ℕ) → IsIn x (range_with_len a n) → (a ≤ x) × (x
 range-in a zero x is = absurd is
 range-in a (suc n) x (inl same) = (omega (arith, same), omega (arith, same))
 range-in a (suc n) x (inr later) = let is = range-in (a + 1) n x later in (omega (arith, is.0), omega (arith, is.1))
+
+-- the order of parts over the arcs of a code, in which each walk from a least arc is that of the numbers of its component, is that of the
+-- numbers
+module _ (code : Code) (directed : IsDirected code.crossings) (parts : Parts) (paired : ArePaired parts)
+    (heads : (x : ℕ) → IsArc code.crossings x → IsIn x (heads_of parts paired))
+    (arcs : (x : ℕ) → IsIn x (heads_of parts paired) → IsArc code.crossings x)
+    (nexts : (x : ℕ) → IsArc code.crossings x → follows (passes_through parts) x ≡ next code.crossings x)
+    (same_size : length parts.crossings ≡ length code.crossings)
+    (stays : (first : ℕ) → IsFirst code.crossings first
+    → turned_names (label_entered (passes_through parts)) (range_with_len first (size code.crossings first))
+    ≡ range_with_len first (size code.crossings first)) where
+  kept-order : order_of (passes_through parts) ≡ range_with_len 1 (2 * length code.crossings)
+  kept-order =
+      order-by_blocks code directed parts paired heads arcs (λ first. range_with_len first (size code.crossings first))
+      (walk-first code directed parts paired same_size nexts) (λ last front. front ≡ range_with_len 1 last) refl
+      (λ last front is x there.
+      let within = range-in 1 last x (subst (λ (xs : List ℕ). IsIn x xs) is there) in omega (arith, within.1))
+      (λ last front is x x_is within.
+      subst (λ (xs : List ℕ). IsIn x xs) (sym is) (in-range 1 last x x_is.positive (omega (arith, within))))
+      (λ last front first is.
+      let turned : last + 1 ≡ 1 + last = omega arith in
+      ap₂ (λ xs ys. xs ++ ys) is
+      (stays (last + 1) first ∙ ap (λ x. range_with_len x (size code.crossings (last + 1))) turned)
+      ∙ sym (range-append 1 last (size code.crossings (last + 1))))
+
+  pub kept-number : (x : ℕ) → IsArc code.crossings x → number_in (order_of (passes_through parts)) x ≡ x
+  kept-number x is =
+      let n = 2 * length code.crossings in
+      let k = x - 1 in
+      let at : get_or (range_with_len 1 n) k 0 ≡ x =
+      get_or-range_with_len 1 n k 0 (omega (arith, is.positive, is.within)) ∙ omega (arith, is.positive) in
+      let distinct : AreDistinct (range_with_len 1 n) =
+      subst (λ (xs : List ℕ). AreDistinct xs) kept-order (distinct-order parts paired) in
+      let place = position-get (range_with_len 1 n) k distinct
+      (omega (arith, length-range_with_len 1 n, is.positive, is.within)) in
+      ap (λ os. number_in os x) kept-order
+      ∙ ap (λ p. p + 1) (ap (λ z. position_or_len (nat_eq z) (range_with_len 1 n)) (sym at) ∙ place) ∙ omega (arith, is.positive)
 
 module _ (code : Code) (directed : IsDirected code.crossings) (moves : HasNoSingleArcs code.crossings) where
   abbrev cs : List (List ℕ)
@@ -94,15 +127,8 @@ module _ (code : Code) (directed : IsDirected code.crossings) (moves : HasNoSing
   pub arc-head : (x : ℕ) → IsArc cs x → IsIn x (heads_of parts paired)
   arc-head x is = in-counted (λ (pass : Pass). pass.enters) passes x (some-head code directed moves x is)
 
-  head-arc : (x : ℕ) → IsIn x (heads_of parts paired) → IsArc cs x
-  head-arc x is =
-      arc-of code directed moves (λ (pass : Pass). pass.enters) x (firsts passes (ends-arcs code directed moves))
-      (counted-in (λ (pass : Pass). pass.enters) passes x is)
-    where
-      firsts : (ps : List Pass) → AllByRecursion (λ (pass : Pass). IsArc code.crossings pass.enters × IsArc code.crossings pass.leaves) ps
-          → AllByRecursion (λ (pass : Pass). IsArc code.crossings pass.enters) ps
-      firsts [] all = tt
-      firsts (p ∷ ps) all = (all.0.0, firsts ps all.1)
+  own-arc : (x : ℕ) → IsIn x (heads_of parts paired) → IsArc cs x
+  own-arc x is = head-arc code directed moves x (counted-in (λ (pass : Pass). pass.enters) passes x is)
 
   pub follows-next : (x : ℕ) → IsArc cs x → follows passes x ≡ next cs x
   unfolding IsOwn
@@ -152,133 +178,8 @@ module _ (code : Code) (directed : IsDirected code.crossings) (moves : HasNoSing
       map-alike f g [] each = refl
       map-alike f g (x ∷ xs) each = ap₂ (λ y ys. y ∷ ys) (each x (inl refl)) (map-alike f g xs (λ z z_in. each z (inr z_in)))
 
-  -- how far the order has come
-  record IsUpTo (k : ℕ) : Type 0 where
-    pub last : ℕ
-    pub order : order_below passes k ≡ range_with_len 1 last
-    pub within : last ≤ 2 * length cs
-    pub first : last < 2 * length cs → IsFirst cs (last + 1)
-    pub reached : (k ≤ last + 1) ⊎ (last ≡ 2 * length cs)
-
-  up-to-more : (k : ℕ) → IsUpTo k → IsUpTo (k + 1)
-  up-to-more k up = elim (cases_lt k (up.last + 1)) [
-    | inl early ↦
-        let old : is_new passes (order_below passes k) k ≡ false =
-        (elim (cases_eq k 0) [
-          | inl none ↦
-              ap (λ b. b && not (is_in (order_below passes k) k))
-              (is_in-false k (heads_of parts paired) (λ here. absurd (omega (arith, none, (head-arc k here).positive))))
-          | inr some ↦
-              and_not (is_in (heads_of parts paired) k) (is_in (order_below passes k) k)
-              (ap (λ os. is_in os k) up.order
-              ∙ is_in-true k (range_with_len 1 up.last) (in-range 1 up.last k (omega (arith, some)) (omega (arith, early))))
-        ]) in
-        record {
-          last = up.last;
-          order = sym (order-same parts paired k old) ∙ up.order;
-          within = up.within;
-          first = up.first;
-          reached = inl (omega (arith, early));
-        }
-    | inr late ↦ elim (cases_lt up.last (2 * length cs)) [
-      | inr done ↦
-          let full : up.last ≡ 2 * length cs = omega (arith, done, up.within) in
-          let old : is_new passes (order_below passes k) k ≡ false =
-          ap (λ b. b && not (is_in (order_below passes k) k))
-          (is_in-false k (heads_of parts paired) (λ here. absurd (omega (arith, late, done, (head-arc k here).within)))) in
-          record {
-            last = up.last;
-            order = sym (order-same parts paired k old) ∙ up.order;
-            within = up.within;
-            first = up.first;
-            reached = inr full;
-          }
-      | inl more ↦
-          let k_is : k ≡ up.last + 1 = elim up.reached [
-            | inl early ↦ omega (arith, early, late)
-            | inr full ↦ absurd (omega (arith, full, more))
-          ] in
-          let is : IsFirst cs k = subst (λ (x : ℕ). IsFirst cs x) (sym k_is) (up.first more) in
-          let count = size cs k in
-          let some = size-positive cs directed k is in
-          let end = end-within cs directed k is in
-          let new : is_new passes (order_below passes k) k ≡ true =
-          and_from (is_in (heads_of parts paired) k) (not (is_in (order_below passes k) k))
-          (is_in-true k (heads_of parts paired) (arc-head k is.is_arc))
-          (ap (λ os. not (is_in os k)) up.order
-          ∙ ap not (is_in-false k (range_with_len 1 up.last)
-          (λ here. absurd (omega (arith, k_is, (range-in 1 up.last k here).1))))) in
-          let length_passes : length passes ≡ 2 * length cs =
-          sym (length-map passes (λ (pass : Pass). pass.enters)) ∙ length-heads parts paired in
-          let zero_more : k ≡ k + 0 = omega arith in
-          let walked : walk (follows passes) k (length passes) k ≡ range_with_len k count =
-          ap (λ x. walk (follows passes) k (length passes) x) zero_more
-          ∙ walk-range k is (length passes) 0 (omega (arith, some)) (omega (arith, length_passes, end, is.is_arc.positive))
-          ∙ ap₂ (λ x n. range_with_len x n) (sym zero_more) (omega arith) in
-          let begins : k ≡ 1 + up.last = omega (arith, k_is) in
-          record {
-            last = up.last + count;
-            order = sym (order-turned parts paired k new)
-                ∙ ap₂ (λ xs ys. xs ++ ys) up.order
-                (ap (turned_names (label_entered passes)) walked ∙ turned-own k is ∙ ap (λ x. range_with_len x count) begins)
-                ∙ sym (range-append 1 up.last count);
-            within = omega (arith, end, k_is);
-            first = λ left.
-                let e : k + count ≡ up.last + count + 1 = omega (arith, k_is) in
-                subst (λ (x : ℕ). IsFirst cs x) e (IsFirst-next cs directed k is (omega (arith, left, k_is)));
-            reached = inl (omega (arith, k_is, some));
-          }
-    ]
-  ]
-    where
-      and_not : (b c : Bool) → c ≡ true → (b && not c) ≡ false
-      and_not true true holds = refl
-      and_not false true holds = refl
-      and_not true false holds = absurd (cc)
-      and_not false false holds = refl
-
-  up-to : (k : ℕ) → IsUpTo k
-  up-to zero = record {
-    last = 0;
-    order = refl;
-    within = omega arith;
-    first = λ some.
-        let is : IsArc cs 1 = record { positive = omega arith; within = omega (arith, some) } in
-        let least = (HasPlace-directed cs directed 1 is).from in
-        let positive = (IsFirstOf-directed cs directed 1 is).is_arc.positive in
-        record { is_arc = is; own = omega (arith, least, positive) };
-    reached = inl (omega arith);
-  }
-  up-to (suc k) =
-      let e : k + 1 ≡ suc k = omega arith in subst (λ (j : ℕ). IsUpTo j) e (up-to-more k (up-to k))
-
-  pub own-order : order_of passes ≡ range_with_len 1 (2 * length cs)
-  own-order =
-      let up = up-to (bound_of passes) in
-      let all : up.last ≡ 2 * length cs = elim up.reached [
-        | inr full ↦ full
-        | inl reached ↦ elim (cases_lt up.last (2 * length cs)) [
-          | inr done ↦ omega (arith, done, up.within)
-          | inl more ↦
-              let last_arc : IsArc cs (2 * length cs) = record { positive = omega (arith, more); within = omega arith } in
-              let below = below-bound passes (2 * length cs) (arc-head (2 * length cs) last_arc) in
-              absurd (omega (arith, below, reached, more))
-        ]
-      ] in
-      up.order ∙ ap (λ n. range_with_len 1 n) all
-
   pub own-number : (x : ℕ) → IsArc cs x → number_in (order_of passes) x ≡ x
-  own-number x is =
-      let n = 2 * length cs in
-      let k = x - 1 in
-      let at : get_or (range_with_len 1 n) k 0 ≡ x =
-      get_or-range_with_len 1 n k 0 (omega (arith, is.positive, is.within)) ∙ omega (arith, is.positive) in
-      let distinct : AreDistinct (range_with_len 1 n) =
-      subst (λ (xs : List ℕ). AreDistinct xs) own-order (distinct-order parts paired) in
-      let place = position-get (range_with_len 1 n) k distinct
-      (omega (arith, length-range_with_len 1 n, is.positive, is.within)) in
-      ap (λ os. number_in os x) own-order
-      ∙ ap (λ p. p + 1) (ap (λ z. position_or_len (nat_eq z) (range_with_len 1 n)) (sym at) ∙ place) ∙ omega (arith, is.positive)
+  own-number = kept-number code directed parts paired arc-head own-arc follows-next refl turned-own
 
   pub own-renumbered : AllByRecursion (λ (slots : List ℕ). length slots ≡ 4) cs → renumber parts ≡ code
   own-renumbered four =

@@ -1,8 +1,12 @@
 -- Parts that are those of a code under other names are paired where the code is.
+--
+-- Parts are those of a code under other names. A name of the parts is that of some arc, and slots hold it exactly where they hold the arc;
+-- so it is as often a head as the arc is, and as often a tail. The arcs of a code are so once each, hence the names are; other numbers are
+-- so never.
 use Rattle.std.proofs.Common.{◌≡◌, ℕ, zero, suc, inl, inr, ◌+◌, ◌-◌, ◌*◌, ◌/◌, ◌%◌, ◌<◌, ◌≤◌, ◌∙◌, List, [], length, refl, sym, ap, ap₂, arith, Bool, true, false, cond}
 use Rattle.std.specs.Prelude.{nat_eq, if◌then◌else◌, slice_index_or}
 use Rattle.std.specs.List.{count_by, flat_map, list_any, range_with_len}
-use Rattle.std.proofs.lemmas.Bool.{cases_Bool, both_ways, eqb-true}
+use Rattle.std.proofs.lemmas.Bool.{cases_Bool, both_ways, eqb-true, ne_eqb}
 use Rattle.std.proofs.lemmas.List.Sums.{sum_by-append}
 use Rattle.kh_types.specs.Code.{Code, arc_in}
 use Rattle.kh_types.specs.Darts.{arc_of, dart_at}
@@ -13,7 +17,6 @@ use Rattle.kh_types.specs.Accepted.{IsDirected}
 use Rattle.code_passes.specs.Passes.{Pass}
 use Rattle.code_passes.specs.Parts.{Parts, ArePaired, parts_of, passes_at, slots_in, is_positive_at, head_count, tail_count}
 use Rattle.orient_arcs.specs.Alike.{IsOf}
-use Rattle.orient_arcs.proofs.Members.{neq-eqb}
 use Rattle.orient_arcs.proofs.AlikeCrossings.{same-test}
 use Rattle.orient_arcs.proofs.PairedCodes.{ArePaired-directed, positive-is}
 
@@ -126,7 +129,7 @@ module _ (code : Code) (directed : IsDirected code.crossings) (moves : HasNoSing
               let arc = directed.slots (dart_at e) (IsDart-at code.crossings e e_below) in
               ap (λ z. nat_eq z x) (sym (at-dart parts.crossings place slot slot_below))
               ∙ no-name stands e e_below none
-              ∙ sym (neq-eqb (arc_of code.crossings (dart_at e)) 0 (λ zeroth. absurd (omega (arith, zeroth, arc.positive))))
+              ∙ sym (ne_eqb (arc_of code.crossings (dart_at e)) 0 (λ zeroth. absurd (omega (arith, zeroth, arc.positive))))
               ∙ ap (λ z. nat_eq z 0) (at-dart code.crossings place slot slot_below)),
         )
       ]

@@ -1,20 +1,22 @@
 -- The arcs of a directed code without single arcs are paired by its own directions.
-use Rattle.std.proofs.Common.{◌≡◌, ℕ, zero, suc, ◌⊎◌, inl, inr, ◌+◌, ◌-◌, ◌<◌, ◌≤◌, ◌∙◌, List, [], ◌∷◌, length, map, refl, sym, ap, subst, arith, Bool, true, false, cond, ◌||◌}
+use Rattle.std.proofs.Common.{◌≡◌, ℕ, zero, suc, ◌⊎◌, inl, inr, ◌+◌, ◌-◌, ◌<◌, ◌≤◌, ◌∙◌, List, length, map, refl, sym, ap, subst, arith, Bool, true, false, cond, ◌||◌}
 use Rattle.std.specs.Prelude.{nat_eq, if◌then◌else◌, IsTrue}
 use Rattle.std.specs.List.{count_by, sum_by, flat_map, range_with_len, AllByRecursion}
-use Rattle.std.proofs.lemmas.Bool.{cases_eq, both_ways}
+use Rattle.std.proofs.lemmas.Bool.{cases_eq, both_ways, ne_eqb}
 use Rattle.std.proofs.lemmas.List.Sums.{sum_by-append, sum_by-cons}
 use Rattle.std.proofs.lemmas.List.FromFn.{get_or-map-range_with_len}
 use Rattle.kh_types.specs.Code.{Code, arc_in, slots_of, IsArc, IsCrossing}
-use Rattle.kh_types.specs.Darts.{times}
+use Rattle.kh_types.specs.Darts.{times, IsDart, arc_of}
 use Rattle.kh_types.specs.Directions.{is_positive, head_of, tail_of, HasNoSingleArcs}
 use Rattle.kh_types.specs.Accepted.{IsDirected}
 use Rattle.kh_types.proofs.Heads.{HasEnds-directed}
+use Rattle.kh_types.proofs.Lists.{AllByRecursion-weaker}
+use Rattle.kh_types.specs.declared.dart.Dart.{Dart}
 use Rattle.code_passes.specs.Passes.{Pass}
 use Rattle.code_passes.proofs.DartCounts.{times_in, times-crossings}
 use Rattle.code_passes.specs.Parts.{Parts, ArePaired, parts_of, passes_through, passes_at, slots_in, is_positive_at, head_count, tail_count}
 use Rattle.orient_arcs.proofs.PairedPasses.{All-flat_map_range, flat_map_range-All, counted-in, in-counted, all-in, found-holds}
-use Rattle.orient_arcs.proofs.Members.{IsIn, neq-eqb}
+use Rattle.orient_arcs.proofs.Members.{IsIn}
 
 -- each slot is one end of one pass
 one-place : (parts : Parts) (x place : ℕ)
@@ -56,7 +58,7 @@ which-head slot b head = elim (cases_eq slot 0) [
     | inl same ↦ inr same
     | inr neither ↦ absurd
         (both_ways (nat_eq slot 0 || nat_eq slot (if b then 3 else 1))
-        (ap (λ t. t || nat_eq slot (if b then 3 else 1)) (neq-eqb slot 0 other) ∙ neq-eqb slot (if b then 3 else 1) neither) head)
+        (ap (λ t. t || nat_eq slot (if b then 3 else 1)) (ne_eqb slot 0 other) ∙ ne_eqb slot (if b then 3 else 1) neither) head)
   ]
 ]
 
@@ -118,87 +120,79 @@ module _ (code : Code) (directed : IsDirected code.crossings) (moves : HasNoSing
       let holds = found-holds f (λ (pass : Pass). IsArc crossings (f pass)) (passes_through parts) x all (in-counted f (passes_through parts) x some) in
       subst (λ (y : ℕ). IsArc crossings y) holds.1 holds.0
 
-  -- an arc has a pass that enters on it, and one that leaves on it
-  pass-counted : (f : Pass → ℕ) (x place : ℕ) → place < length crossings
-      → AllByRecursion (λ (pass : Pass). IsIn (f pass) (map f (passes_through parts))) (passes_at parts place)
-  pass-counted f x place below =
-      flat_map_range-All (λ (pass : Pass). IsIn (f pass) (map f (passes_through parts))) (passes_at parts) 0 (length crossings)
+  pub head-arc : (x : ℕ) → 1 ≤ head_count parts x → IsArc crossings x
+  head-arc x =
+      arc-of (λ (pass : Pass). pass.enters) x
+      (AllByRecursion-weaker (λ (pass : Pass). IsArc crossings pass.enters × IsArc crossings pass.leaves)
+      (λ (pass : Pass). IsArc crossings pass.enters) (passes_through parts) (λ pass ends. ends.0) ends-arcs)
+
+  tail-arc : (x : ℕ) → 1 ≤ tail_count parts x → IsArc crossings x
+  tail-arc x =
+      arc-of (λ (pass : Pass). pass.leaves) x
+      (AllByRecursion-weaker (λ (pass : Pass). IsArc crossings pass.enters × IsArc crossings pass.leaves)
+      (λ (pass : Pass). IsArc crossings pass.leaves) (passes_through parts) (λ pass ends. ends.1) ends-arcs)
+
+  -- the arc of a dart at one end of a pass is among the ends of passes
+  abbrev names : (Pass → ℕ) → List ℕ
+  names f = map f (passes_through parts)
+
+  pass-counted : (f : Pass → ℕ) (place : ℕ) → place < length crossings
+      → AllByRecursion (λ (pass : Pass). IsIn (f pass) (names f)) (passes_at parts place)
+  pass-counted f place below =
+      flat_map_range-All (λ (pass : Pass). IsIn (f pass) (names f)) (passes_at parts) 0 (length crossings)
       (all-in f (passes_through parts)) place (omega arith) (omega (arith, below))
 
-  pub some-head : (x : ℕ) → IsArc crossings x → 1 ≤ head_count parts x
-  some-head x is =
-      let ends = HasEnds-directed crossings directed moves x is in
-      let dart = head_of crossings x in
-      let within = ends.head.within in
+  some-end : (f : Pass → ℕ) (under : ℕ) (over : Bool → ℕ)
+      → ((place : ℕ) → place < length crossings → IsIn (arc_in (slots_in crossings place) under) (names f)
+      × IsIn (arc_in (slots_in crossings place) (over (is_positive_at parts.positive place))) (names f))
+      → (x : ℕ) (dart : Dart) → IsDart crossings dart → arc_of crossings dart ≡ x
+      → (dart.slot ≡ under) ⊎ (dart.slot ≡ over (is_positive crossings dart.crossing))
+      → 1 ≤ count_by (λ (pass : Pass). nat_eq (f pass) x) (passes_through parts)
+  some-end f under over ends x dart within on_arc end =
       let place = dart.crossing - 1 in
       let below : place < length crossings = omega (arith, within.crossing.positive, within.crossing.within) in
       let e : place + 1 ≡ dart.crossing = omega (arith, within.crossing.positive) in
-      let in_all = pass-counted (λ (pass : Pass). pass.enters) x place below in
-      counted-in (λ (pass : Pass). pass.enters) (passes_through parts) x
-      (by (is_positive crossings dart.crossing) (is_positive_at parts.positive place)
-      (positive-is place below ∙ ap (is_positive crossings) e) (slots_in crossings place) dart.slot within.slot ends.enters ends.head.on_arc
-      in_all.0 in_all.1.0)
-    where
-      names : List ℕ
-      names = map (λ (pass : Pass). pass.enters) (passes_through (parts_of code))
+      let here = ends place below in
+      let same = positive-is place below ∙ ap (is_positive crossings) e in
+      counted-in f (passes_through parts) x
+      (elim end [
+        | inl is_under ↦
+            subst (λ (y : ℕ). IsIn y (names f)) (ap (arc_in (slots_in crossings place)) (sym is_under) ∙ on_arc) here.0
+        | inr is_over ↦
+            subst (λ (y : ℕ). IsIn y (names f))
+            (ap (λ b. arc_in (slots_in crossings place) (over b)) same ∙ ap (arc_in (slots_in crossings place)) (sym is_over) ∙ on_arc) here.1
+      ])
 
-      by : (b c : Bool) → c ≡ b → (slots : List ℕ) (slot : ℕ) → slot < 4
-          → IsTrue (nat_eq slot 0 || nat_eq slot (if b then 3 else 1)) → arc_in slots slot ≡ x
-          → IsIn (arc_in slots 0) names → IsIn (arc_in slots (if c then 3 else 1)) names → IsIn x names
-      by b c same slots slot below head is_x under over =
-          elim (which-head slot b head) [
-            | inl zeroth ↦ subst (λ (y : ℕ). IsIn y names) (ap (arc_in slots) (sym zeroth) ∙ is_x) under
-            | inr other ↦
-                subst (λ (y : ℕ). IsIn y names)
-                (ap (λ (t : Bool). arc_in slots (if t then 3 else 1)) same ∙ ap (arc_in slots) (sym other) ∙ is_x) over
-          ]
+  -- so an arc has a pass that enters on it, and one that leaves on it
+  pub some-head : (x : ℕ) → IsArc crossings x → 1 ≤ head_count parts x
+  some-head x is =
+      let ends = HasEnds-directed crossings directed moves x is in
+      some-end (λ (pass : Pass). pass.enters) 0 (λ b. if b then 3 else 1)
+      (λ place below. let in_all = pass-counted (λ (pass : Pass). pass.enters) place below in (in_all.0, in_all.1.0)) x (head_of crossings x)
+      ends.head.within ends.head.on_arc (which-head (head_of crossings x).slot (is_positive crossings (head_of crossings x).crossing) ends.enters)
 
   some-tail : (x : ℕ) → IsArc crossings x → 1 ≤ tail_count parts x
   some-tail x is =
       let ends = HasEnds-directed crossings directed moves x is in
-      let dart = tail_of crossings x in
-      let within = ends.tail.within in
-      let place = dart.crossing - 1 in
-      let below : place < length crossings = omega (arith, within.crossing.positive, within.crossing.within) in
-      let e : place + 1 ≡ dart.crossing = omega (arith, within.crossing.positive) in
-      let in_all = pass-counted (λ (pass : Pass). pass.leaves) x place below in
-      counted-in (λ (pass : Pass). pass.leaves) (passes_through parts) x
-      (by (is_positive crossings dart.crossing) (is_positive_at parts.positive place)
-      (positive-is place below ∙ ap (is_positive crossings) e) (slots_in crossings place) dart.slot within.slot ends.leaves ends.tail.on_arc
-      in_all.0 in_all.1.0)
-    where
-      names : List ℕ
-      names = map (λ (pass : Pass). pass.leaves) (passes_through (parts_of code))
-
-      by : (b c : Bool) → c ≡ b → (slots : List ℕ) (slot : ℕ) → slot < 4
-          → (IsTrue (nat_eq slot 0 || nat_eq slot (if b then 3 else 1)) → ⊥) → arc_in slots slot ≡ x
-          → IsIn (arc_in slots 2) names → IsIn (arc_in slots (if c then 1 else 3)) names → IsIn x names
-      by b c same slots slot below head is_x under over =
-          elim (which-tail slot b below head) [
-            | inl second ↦ subst (λ (y : ℕ). IsIn y names) (ap (arc_in slots) (sym second) ∙ is_x) under
-            | inr other ↦
-                subst (λ (y : ℕ). IsIn y names)
-                (ap (λ (t : Bool). arc_in slots (if t then 1 else 3)) same ∙ ap (arc_in slots) (sym other) ∙ is_x) over
-          ]
+      some-end (λ (pass : Pass). pass.leaves) 2 (λ b. if b then 1 else 3)
+      (λ place below. let in_all = pass-counted (λ (pass : Pass). pass.leaves) place below in (in_all.0, in_all.1.0)) x (tail_of crossings x)
+      ends.tail.within ends.tail.on_arc
+      (which-tail (tail_of crossings x).slot (is_positive crossings (tail_of crossings x).crossing) ends.tail.within.slot ends.leaves)
 
   pub ArePaired-directed : ArePaired parts
   ArePaired-directed =
       let one : (x : ℕ) → IsArc crossings x
       → (1 ≤ head_count parts x) × (1 ≤ tail_count parts x) × (head_count parts x + tail_count parts x ≡ 2) =
       λ x is. (some-head x is, some-tail x is, both x ∙ directed.twice x is) in
-      let heads = λ (x : ℕ) (some : 1 ≤ head_count parts x).
-      arc-of (λ (pass : Pass). pass.enters) x (firsts (passes_through parts) ends-arcs) some in
-      let tails = λ (x : ℕ) (some : 1 ≤ tail_count parts x).
-      arc-of (λ (pass : Pass). pass.leaves) x (seconds (passes_through parts) ends-arcs) some in
       record {
         heads = λ x. elim (some_or_none (head_count parts x)) [
-          | inl some ↦ let is = one x (heads x some) in omega (arith, is.0, is.1, is.2)
+          | inl some ↦ let is = one x (head-arc x some) in omega (arith, is.0, is.1, is.2)
           | inr none ↦ omega (arith, none)
         ];
         tails = λ x. elim (some_or_none (head_count parts x)) [
-          | inl some ↦ let is = one x (heads x some) in omega (arith, is.0, is.1, is.2)
+          | inl some ↦ let is = one x (head-arc x some) in omega (arith, is.0, is.1, is.2)
           | inr none ↦ elim (some_or_none (tail_count parts x)) [
-            | inl some ↦ let is = one x (tails x some) in omega (arith, is.0, is.1, is.2)
+            | inl some ↦ let is = one x (tail-arc x some) in omega (arith, is.0, is.1, is.2)
             | inr no_tail ↦ no_tail ∙ sym none
           ]
         ];
@@ -206,13 +200,3 @@ module _ (code : Code) (directed : IsDirected code.crossings) (moves : HasNoSing
     where
       some_or_none : (n : ℕ) → (1 ≤ n) ⊎ (n ≡ 0)
       some_or_none n = grind arith
-
-      firsts : (ps : List Pass) → AllByRecursion (λ (pass : Pass). IsArc code.crossings pass.enters × IsArc code.crossings pass.leaves) ps
-          → AllByRecursion (λ (pass : Pass). IsArc code.crossings pass.enters) ps
-      firsts [] all = tt
-      firsts (p ∷ ps) all = (all.0.0, firsts ps all.1)
-
-      seconds : (ps : List Pass) → AllByRecursion (λ (pass : Pass). IsArc code.crossings pass.enters × IsArc code.crossings pass.leaves) ps
-          → AllByRecursion (λ (pass : Pass). IsArc code.crossings pass.leaves) ps
-      seconds [] all = tt
-      seconds (p ∷ ps) all = (all.0.1, seconds ps all.1)

@@ -1,26 +1,21 @@
 -- What paired passes are: each name has one pass that enters on it, and one that leaves on it.
+--
+-- In paired parts each number stands at most once among those on which passes enter, and once among those on which they leave where it does
+-- so. So the search for the pass that enters on a name finds the one there is, each fact of all passes is one of the pass found, and the
+-- passes are told apart by names and by labels. Two passes a crossing make twice as many names as crossings.
 use Rattle.std.proofs.Common.{◌≡◌, ◌≢◌, ℕ, zero, suc, inl, inr, ◌+◌, ◌*◌, ◌<◌, ◌≤◌, ◌∙◌, List, [], ◌∷◌, length, map, refl, sym, ap, subst, arith, cond}
 use Rattle.std.specs.Prelude.{nat_eq, unwrap_or, Some, ℤ, pos, negsuc, nat_abs}
 use Rattle.std.specs.List.{find, count_by, flat_map, range_with_len, AllByRecursion}
-use Rattle.std.proofs.lemmas.Bool.{cases_eq, eq-eqb}
+use Rattle.std.proofs.lemmas.Bool.{cases_eq, eq-eqb, ne_eqb}
 use Rattle.std.proofs.lemmas.List.{length-map}
 use Rattle.std.proofs.lemmas.List.Sums.{sum_by-cons}
-use Rattle.kh_types.proofs.Lists.{AllByRecursion-append, AllByRecursion-first, AllByRecursion-second}
+use Rattle.kh_types.proofs.Lists.{AllByRecursion-append, AllByRecursion-first, AllByRecursion-second, AllByRecursion-both, AllByRecursion-weaker}
 use Rattle.code_passes.specs.Passes.{Pass, no_pass}
 use Rattle.code_passes.proofs.LabelCounts.{under_at-is, over_at-is}
 use Rattle.code_passes.specs.Parts.{Parts, ArePaired, passes_through, passes_at, slots_in, is_positive_at, under_pass, over_pass}
 use Rattle.orient_arcs.specs.Renumbered.{entering, follows, label_entered}
-use Rattle.orient_arcs.proofs.Members.{IsIn, AreDistinct, neq-eqb}
+use Rattle.orient_arcs.proofs.Members.{IsIn, AreDistinct}
 use Rattle.orient_arcs.proofs.Walks.{AreNext}
-
-pub All-both : {X : Type 0} (P Q R : X → Type 0) (xs : List X) → ((x : X) → P x → Q x → R x) → AllByRecursion P xs → AllByRecursion Q xs
-    → AllByRecursion R xs
-All-both P Q R [] onward first second = tt
-All-both P Q R (x ∷ xs) onward first second = (onward x first.0 second.0, All-both P Q R xs onward first.1 second.1)
-
-pub All-onward : {X : Type 0} (P Q : X → Type 0) (xs : List X) → ((x : X) → P x → Q x) → AllByRecursion P xs → AllByRecursion Q xs
-All-onward P Q [] onward all = tt
-All-onward P Q (x ∷ xs) onward all = (onward x all.0, All-onward P Q xs onward all.1)
 
 pub All-flat_map_range : {X : Type 0} (P : X → Type 0) (f : ℕ → List X) (a n : ℕ)
     → ((k : ℕ) → a ≤ k → k < a + n → AllByRecursion P (f k)) → AllByRecursion P (flat_map f (range_with_len a n))
@@ -50,7 +45,7 @@ module _ (f : Pass → ℕ) where
 
   found-later : (p : Pass) (passes : List Pass) (x : ℕ) → f p ≢ x → found (p ∷ passes) x ≡ found passes x
   found-later p passes x other =
-      ap (λ b. unwrap_or (cond b (Some p) (find (λ (pass : Pass). nat_eq (f pass) x) passes)) no_pass) (neq-eqb (f p) x other)
+      ap (λ b. unwrap_or (cond b (Some p) (find (λ (pass : Pass). nat_eq (f pass) x) passes)) no_pass) (ne_eqb (f p) x other)
 
   pub found-holds : (P : Pass → Type 0) (passes : List Pass) (x : ℕ) → AllByRecursion P passes → IsIn x (map f passes)
       → P (found passes x) × (f (found passes x) ≡ x)
@@ -74,7 +69,7 @@ module _ (f : Pass → ℕ) where
   found-own [] distinct = tt
   found-own (p ∷ passes) distinct = (
     found-here p passes (f p) refl,
-    All-both (λ (pass : Pass). f p ≢ f pass) (λ (pass : Pass). found passes (f pass) ≡ pass)
+    AllByRecursion-both (λ (pass : Pass). f p ≢ f pass) (λ (pass : Pass). found passes (f pass) ≡ pass)
         (λ (pass : Pass). found (p ∷ passes) (f pass) ≡ pass) passes
         (λ pass other own. found-later p passes (f pass) other ∙ own)
         (out-all (f p) passes distinct.0) (found-own passes distinct.1),
@@ -98,7 +93,7 @@ module _ (f : Pass → ℕ) where
   in-counted (p ∷ passes) x some = elim (cases_eq (f p) x) [
     | inl same ↦ inl (sym same)
     | inr other ↦ inr
-        (in-counted passes x (omega (arith, some, counted-more p passes x, ap {B = ℕ} (λ b. cond b 1 0) (neq-eqb (f p) x other))))
+        (in-counted passes x (omega (arith, some, counted-more p passes x, ap {B = ℕ} (λ b. cond b 1 0) (ne_eqb (f p) x other))))
   ]
 
   pub distinct-counted : (passes : List Pass) → ((x : ℕ) → counted passes x ≤ 1) → AreDistinct (map f passes)
@@ -114,7 +109,7 @@ module _ (f : Pass → ℕ) where
   all-in [] = tt
   all-in (p ∷ passes) = (
     inl refl,
-    All-onward (λ (pass : Pass). IsIn (f pass) (map f passes)) (λ (pass : Pass). IsIn (f pass) (map f (p ∷ passes))) passes
+    AllByRecursion-weaker (λ (pass : Pass). IsIn (f pass) (map f passes)) (λ (pass : Pass). IsIn (f pass) (map f (p ∷ passes))) passes
         (λ pass is. inr is) (all-in passes),
   )
 
@@ -155,7 +150,7 @@ module _ (parts : Parts) (paired : ArePaired parts) where
   pub AreNext-passes : AreNext (follows passes) heads_of
   AreNext-passes = record {
     closed = λ x is. entering-holds (λ (pass : Pass). IsIn pass.leaves heads_of) x
-        (All-onward (λ (pass : Pass). IsIn pass.leaves (map (λ (p : Pass). p.leaves) passes)) (λ (pass : Pass). IsIn pass.leaves heads_of)
+        (AllByRecursion-weaker (λ (pass : Pass). IsIn pass.leaves (map (λ (p : Pass). p.leaves) passes)) (λ (pass : Pass). IsIn pass.leaves heads_of)
         passes
         (λ pass here.
         in-counted (λ (p : Pass). p.enters) passes pass.leaves

@@ -1,9 +1,8 @@
 -- The test whether names are paired.
-use Rattle.std.proofs.Common.{◌≡◌, ℕ, zero, suc, ◌+◌, ◌⊎◌, inl, inr, ◌<◌, ◌≤◌, ◌∙◌, List, [], ◌∷◌, length, take, get_or, map, refl, sym, ap, arith, Bool, true, false, ◌&&◌}
+use Rattle.std.proofs.Common.{◌≡◌, ℕ, ◌⊎◌, inl, inr, ◌≤◌, ◌∙◌, List, [], ◌∷◌, map, refl, sym, ap, arith, Bool, true, ◌&&◌}
 use Rattle.std.specs.Prelude.{nat_eq, nat_lt, IsTrue, ◌↔◌}
 use Rattle.std.specs.List.{count_by, list_all}
 use Rattle.std.proofs.lemmas.Bool.{and_parts, and_from}
-use Rattle.std.proofs.Math.Bool.{and_assoc}
 use Rattle.std.proofs.lemmas.List.Folds.{list_all-map}
 use Rattle.code_passes.specs.Passes.{Pass}
 use Rattle.code_passes.specs.Parts.{Parts, ArePaired, passes_through}
@@ -35,20 +34,6 @@ all-parts p q (x ∷ xs) all =
 all-each : {X : Type 0} (p : X → Bool) (xs : List X) → ((x : X) → p x ≡ true) → list_all p xs ≡ true
 all-each p [] each = refl
 all-each p (x ∷ xs) each = and_from (p x) (list_all p xs) (each x) (all-each p xs each)
-
-pub all_take_more : {X : Type 0} (p : X → Bool) (xs : List X) (k : ℕ) (d : X) → k < length xs
-    → list_all p (take (k + 1) xs) ≡ (list_all p (take k xs) && p (get_or xs k d))
-all_take_more p [] k d below = absurd (omega (arith, below))
-all_take_more p (x ∷ xs) zero d below = true_last (p x)
-  where
-    true_last : (b : Bool) → (b && true) ≡ (true && b)
-    true_last true = refl
-    true_last false = refl
-all_take_more p (x ∷ xs) (suc k) d below =
-    let more : suc k + 1 ≡ suc (k + 1) = omega arith in
-    ap (λ n. list_all p (take n (x ∷ xs))) more
-    ∙ ap (λ b. p x && b) (all_take_more p xs k d (omega (arith, below)))
-    ∙ sym (and_assoc (p x) (list_all p (take k xs)) (p (get_or xs k d)))
 
 -- the test of a name
 record IsPairedIn (passes : List Pass) (name : ℕ) : Type 0 where

@@ -1,53 +1,23 @@
 -- Parts whose names are the arcs of a code and follow one another as these do: each component keeps its numbers, and begins with its
 -- least arc, unless it is turned.
-use Rattle.std.proofs.Common.{◌≡◌, ◌≢◌, ℕ, zero, suc, ◌⊎◌, inl, inr, ◌+◌, ◌-◌, ◌*◌, ◌<◌, ◌≤◌, ◌∙◌, List, [], ◌∷◌, ◌++◌, length, get_or, refl, sym, ap, ap₂, subst, arith, Bool, true, false, not, ◌&&◌, cond, ℤ, length-append}
-use Rattle.std.specs.Prelude.{nat_eq, if◌then◌else◌, int_lt}
+use Rattle.std.proofs.Common.{◌≡◌, ℕ, zero, suc, inl, inr, ◌+◌, ◌<◌, ◌≤◌, ◌∙◌, List, length, ap, arith, not, cond}
+use Rattle.std.specs.Prelude.{nat_eq}
 use Rattle.std.specs.List.{position_or_len, range_with_len}
-use Rattle.std.proofs.lemmas.Bool.{cases_eq, cases_lt, eq-eqb, and_from, and_parts}
-use Rattle.std.proofs.lemmas.List.{length-map}
+use Rattle.std.proofs.lemmas.Bool.{cases_eq, eq-eqb, ne_eqb}
 use Rattle.std.proofs.lemmas.List.FromFn.{length-range_with_len}
 use Rattle.kh_types.specs.Code.{Code, IsArc}
 use Rattle.kh_types.specs.Components.{next}
 use Rattle.kh_types.specs.Accepted.{IsDirected}
-use Rattle.kh_types.proofs.NextArcs.{component, HasPlace-directed}
-use Rattle.code_passes.specs.Passes.{Pass, is_over}
-use Rattle.code_passes.proofs.CutArcs.{IsFirst, IsFirst-next, size, component-in, end-within, size-positive}
-use Rattle.code_passes.proofs.LeastArcs.{IsFirstOf-directed}
+use Rattle.code_passes.proofs.CutArcs.{IsFirst, size, size-positive}
 use Rattle.code_passes.specs.Parts.{Parts, ArePaired, passes_through}
-use Rattle.orient_arcs.specs.Renumbered.{follows, label_entered, walk, turned_names, is_in, bound_of, order_of, number_in}
-use Rattle.orient_arcs.specs.Steps.{order_below, is_new}
-use Rattle.orient_arcs.proofs.Members.{IsIn, IsIn-left, IsIn-right, IsIn-parts, is_in-true, is_in-false, neq-eqb}
-use Rattle.orient_arcs.proofs.PairedPasses.{heads_of, length-heads}
-use Rattle.orient_arcs.proofs.ArcWalks.{walk-arcs}
-use Rattle.orient_arcs.proofs.Bridge.{below-bound}
-use Rattle.orient_arcs.proofs.ComponentSteps.{order-same, order-turned}
-use Rattle.orient_arcs.proofs.Labels.{turned-cases}
+use Rattle.orient_arcs.specs.Renumbered.{follows, order_of, number_in}
+use Rattle.orient_arcs.proofs.Members.{IsIn}
+use Rattle.orient_arcs.proofs.PairedPasses.{heads_of}
 use Rattle.orient_arcs.proofs.OwnNumbers.{in-range, range-in}
-
 -- numbers in lists that are put together
-
-pub number-left : (xs ys : List ℕ) (x : ℕ) → IsIn x xs → number_in (xs ++ ys) x ≡ number_in xs x
-number-left xs ys x is = ap (λ p. p + 1) (by xs is)
-  where
-    by : (xs : List ℕ) → IsIn x xs → position_or_len (nat_eq x) (xs ++ ys) ≡ position_or_len (nat_eq x) xs
-    by [] is = absurd is
-    by (z ∷ zs) is = elim (cases_eq x z) [
-      | inl same ↦
-          ap (λ b. cond (not b) (1 + position_or_len (nat_eq x) (zs ++ ys)) 0) (eq-eqb x z same)
-          ∙ sym (ap (λ b. cond (not b) (1 + position_or_len (nat_eq x) zs) 0) (eq-eqb x z same))
-      | inr other ↦
-          let later : IsIn x zs = elim is [ inl same ↦ absurd (other same) | inr there ↦ there ] in
-          ap (λ k. cond (not (nat_eq x z)) (1 + k) 0) (by zs later)
-    ]
-
-pub number-right : (xs ys : List ℕ) (x : ℕ) → (IsIn x xs → ⊥) → number_in (xs ++ ys) x ≡ length xs + number_in ys x
-number-right xs ys x out = let p = by xs out in omega (arith, p)
-  where
-    by : (xs : List ℕ) → (IsIn x xs → ⊥) → position_or_len (nat_eq x) (xs ++ ys) ≡ length xs + position_or_len (nat_eq x) ys
-    by [] out = omega arith
-    by (z ∷ zs) out =
-        let later = by zs (λ there. out (inr there)) in
-        ap (λ b. cond (not b) (1 + position_or_len (nat_eq x) (zs ++ ys)) 0) (neq-eqb x z (λ same. out (inl same))) ∙ omega (arith, later)
+use Rattle.orient_arcs.proofs.ArcWalks.{walk-first}
+use Rattle.orient_arcs.proofs.NumberedBlocks as blocks
+use Rattle.orient_arcs.proofs.NumberedBlocks.{GoesOver}
 
 number-range : (a n x : ℕ) → a ≤ x → x < a + n → a + number_in (range_with_len a n) x ≡ x + 1
 number-range a zero x from below = absurd (omega (arith, from, below))
@@ -59,294 +29,34 @@ number-range a (suc n) x from below = elim (cases_eq x a) [
   | inr other ↦
       let later = number-range (a + 1) n x (omega (arith, from, other)) (omega (arith, below)) in
       let here : number_in (range_with_len a (suc n)) x ≡ 1 + number_in (range_with_len (a + 1) n) x =
-      ap (λ b. cond (not b) (1 + position_or_len (nat_eq x) (range_with_len (a + 1) n)) 0 + 1) (neq-eqb x a other) ∙ omega arith in
+      ap (λ b. cond (not b) (1 + position_or_len (nat_eq x) (range_with_len (a + 1) n)) 0 + 1) (ne_eqb x a other) ∙ omega arith in
       omega (arith, here, later)
 ]
-
-pub number-first : (a b : ℕ) → number_in (b ∷ a ∷ []) b ≡ 1
-number-first a b = ap (λ t. cond (not t) (1 + position_or_len (nat_eq b) (a ∷ [])) 0 + 1) (eq-eqb b b refl)
-
-pub number-second : (a b : ℕ) → a ≢ b → number_in (b ∷ a ∷ []) a ≡ 2
-number-second a b apart =
-    ap₂ (λ s t. cond (not s) (1 + cond (not t) 1 0) 0 + 1) (neq-eqb a b apart) (eq-eqb a a refl)
-
-pub turned-over : (label : ℕ → ℤ) (a b : ℕ) → a ≢ b → turned_names label (a ∷ b ∷ []) ≡ b ∷ a ∷ []
-    → (is_over (label a) ≡ true) × (is_over (label b) ≡ true)
-turned-over label a b apart is =
-    by ((is_over (label a) && is_over (label b)) && int_lt (label b) (label a)) refl is
-  where
-    by : (t : Bool) → ((is_over (label a) && is_over (label b)) && int_lt (label b) (label a)) ≡ t
-        → (if t then b ∷ a ∷ [] else a ∷ b ∷ []) ≡ b ∷ a ∷ [] → (is_over (label a) ≡ true) × (is_over (label b) ≡ true)
-    by true test same =
-        and_parts (is_over (label a)) (is_over (label b))
-        (and_parts (is_over (label a) && is_over (label b)) (int_lt (label b) (label a)) test).0
-    by false test same = absurd (apart (ap (λ xs. get_or xs 0 0) same))
 
 module _ (code : Code) (directed : IsDirected code.crossings) (parts : Parts) (paired : ArePaired parts)
     (heads : (x : ℕ) → IsArc code.crossings x → IsIn x (heads_of parts paired))
     (arcs : (x : ℕ) → IsIn x (heads_of parts paired) → IsArc code.crossings x)
     (nexts : (x : ℕ) → IsArc code.crossings x → follows (passes_through parts) x ≡ next code.crossings x)
     (same_size : length parts.crossings ≡ length code.crossings) where
-  abbrev cs : List (List ℕ)
-  cs = code.crossings
+  abbrev pub HasOverLabels : ℕ → Type 0
+  HasOverLabels = blocks.HasOverLabels code.crossings (passes_through parts)
 
-  abbrev passes : List Pass
-  passes = passes_through parts
+  abbrev pub IsPlaced : List ℕ → ℕ → Type 0
+  IsPlaced = blocks.IsPlaced code.crossings (passes_through parts)
 
-  -- the component of a least arc has two arcs, and is over at both its crossings in the parts
-  pub record HasOverLabels (first : ℕ) : Type 0 where
-    pub two : size code.crossings first ≡ 2
-    pub first_over : is_over (label_entered (passes_through parts) first) ≡ true
-    pub second_over : is_over (label_entered (passes_through parts) (first + 1)) ≡ true
-
-  -- the number of an arc in an order is one of its component
-  pub record IsPlaced (order : List ℕ) (x : ℕ) : Type 0 where
-    pub here : IsIn x order
-    pub from : component code.crossings x ≤ number_in order x
-    pub below : number_in order x < component code.crossings x + size code.crossings (component code.crossings x)
-    pub least : (number_in order (component code.crossings x) ≤ number_in order x) ⊎ HasOverLabels (component code.crossings x)
-
-  record IsPlacedTo (k : ℕ) : Type 0 where
-    pub last : ℕ
-    pub count : length (order_below (passes_through parts) k) ≡ last
-    pub within : last ≤ 2 * length code.crossings
-    pub first : last < 2 * length code.crossings → IsFirst code.crossings (last + 1)
-    pub reached : (k ≤ last + 1) ⊎ (last ≡ 2 * length code.crossings)
-    pub low : (x : ℕ) → IsIn x (order_below (passes_through parts) k) → x ≤ last
-    pub placed : (x : ℕ) → IsArc code.crossings x → x ≤ last → IsPlaced (order_below (passes_through parts) k) x
-
-  walked : (first : ℕ) → IsFirst code.crossings first
-      → walk (follows (passes_through parts)) first (length (passes_through parts)) first ≡ range_with_len first (size code.crossings first)
-  walked first is =
+  goes-over : (first : ℕ) → IsFirst code.crossings first → GoesOver code.crossings first (range_with_len first (size code.crossings first))
+  goes-over first is =
       let some = size-positive code.crossings directed first is in
-      let end = end-within code.crossings directed first is in
-      let zero_more : first ≡ first + 0 = omega arith in
-      let none_less : size code.crossings first - 0 ≡ size code.crossings first = omega arith in
-      let long : length (passes_through parts) ≡ 2 * length code.crossings =
-      sym (length-map passes (λ (pass : Pass). pass.enters)) ∙ length-heads parts paired ∙ ap (λ n. 2 * n) same_size in
-      ap (λ x. walk (follows (passes_through parts)) first (length (passes_through parts)) x) zero_more
-      ∙ walk-arcs code.crossings directed (follows (passes_through parts)) nexts first is (length (passes_through parts)) 0 (omega (arith, some))
-      (omega (arith, long, end, is.is_arc.positive))
-      ∙ ap₂ (λ x n. range_with_len x n) (sym zero_more) none_less
-
-  -- the numbers of a component that is put behind others
-  record IsBlock (front names : List ℕ) (first : ℕ) : Type 0 where
-    pub count : length names ≡ size code.crossings first
-    pub low : (x : ℕ) → IsIn x names → x < first + size code.crossings first
-    pub placed : (x : ℕ) → first ≤ x → x < first + size code.crossings first → IsPlaced (front ++ names) x
-
-  block : (front : List ℕ) (first : ℕ) → IsFirst code.crossings first → length front + 1 ≡ first → ((x : ℕ) → IsIn x front → x < first)
-      → IsBlock front (turned_names (label_entered (passes_through parts)) (range_with_len first (size code.crossings first))) first
-  block front first is begins before =
-      let label = label_entered (passes_through parts) in
-      let s = size code.crossings first in
-      let inside : (x : ℕ) → first ≤ x → x < first + size code.crossings first → component code.crossings x ≡ first =
-      λ x from below. component-in code.crossings directed first x is from below in
-      let alike : (x : ℕ) → first ≤ x → x < first + size code.crossings first
-      → size code.crossings (component code.crossings x) ≡ size code.crossings first =
-      λ x from below. ap (size code.crossings) (inside x from below) in
-      let out : (x : ℕ) → first ≤ x → IsIn x front → ⊥ = λ x from there. absurd (omega (arith, from, before x there)) in
-      let some = size-positive code.crossings directed first is in
-      elim (turned-cases (label_entered (passes_through parts)) (range_with_len first (size code.crossings first))) [
-        | inl same ↦
-            subst (λ (names : List ℕ). IsBlock front names first) (sym same)
-            (let number : (x : ℕ) → first ≤ x → x < first + size code.crossings first
-            → number_in (front ++ range_with_len first (size code.crossings first)) x ≡ x =
-            λ x from below.
-            let right = number-right front (range_with_len first s) x (out x from) in
-            let own = number-range first s x from below in
-            omega (arith, right, own, begins) in
-            record {
-              count = length-range_with_len first s;
-              low = λ x there. (range-in first s x there).1;
-              placed = λ x from below. record {
-                here = IsIn-right x front (range_with_len first s) (in-range first s x from below);
-                from = omega (arith, number x from below, inside x from below, from);
-                below = omega (arith, number x from below, inside x from below, alike x from below, below);
-                least = inl (
-                    let least_is = ap (number_in (front ++ range_with_len first s)) (inside x from below) in
-                    omega (arith, least_is, number x from below, number first (omega arith) (omega (arith, some)), from));
-              };
-            })
-        | inr two ↦
-            let a = two.0 in
-            let b = two.1 in
-            let long : size code.crossings first ≡ 2 = sym (length-range_with_len first s) ∙ ap length two.2 in
-            let pair : range_with_len first (size code.crossings first) ≡ first ∷ (first + 1) ∷ [] = ap (λ n. range_with_len first n) long in
-            let a_is : two.0 ≡ first = ap (λ xs. get_or xs 0 0) (sym two.2 ∙ pair) in
-            let b_is : two.1 ≡ first + 1 = ap (λ xs. get_or xs 1 0) (sym two.2 ∙ pair) in
-            let turned : turned_names (label_entered (passes_through parts)) (range_with_len first (size code.crossings first))
-            ≡ (first + 1) ∷ first ∷ [] = two.3 ∙ ap₂ (λ x y. x ∷ y ∷ []) b_is a_is in
-            let apart : first ≢ first + 1 = λ same. absurd (omega (arith, same)) in
-            let over = turned-over (label_entered (passes_through parts)) first (first + 1) apart
-            (ap (turned_names (label_entered (passes_through parts))) (sym pair) ∙ turned) in
-            let labels : HasOverLabels first = record { two = long; first_over = over.0; second_over = over.1 } in
-            subst (λ (names : List ℕ). IsBlock front names first) (sym turned)
-            (let number_second : number_in (front ++ ((first + 1) ∷ first ∷ [])) (first + 1) ≡ first =
-            (let right = number-right front ((first + 1) ∷ first ∷ []) (first + 1) (out (first + 1) (omega arith)) in
-            let own = number-first first (first + 1) in omega (arith, right, own, begins)) in
-            let number_least : number_in (front ++ ((first + 1) ∷ first ∷ [])) first ≡ first + 1 =
-            (let right = number-right front ((first + 1) ∷ first ∷ []) first (out first (omega arith)) in
-            let own = number-second first (first + 1) apart in omega (arith, right, own, begins)) in
-            let number : (x : ℕ) → first ≤ x → x < first + size code.crossings first
-            → (first ≤ number_in (front ++ ((first + 1) ∷ first ∷ [])) x) × (number_in (front ++ ((first + 1) ∷ first ∷ [])) x < first + 2)
-            × IsIn x ((first + 1) ∷ first ∷ []) =
-            λ x from below. elim (cases_eq x first) [
-              | inl same ↦
-                  let at = ap (number_in (front ++ ((first + 1) ∷ first ∷ []))) same in
-                  (omega (arith, at, number_least), omega (arith, at, number_least), inr (inl same))
-              | inr other ↦
-                  let second : x ≡ first + 1 = omega (arith, other, from, below, long) in
-                  let at = ap (number_in (front ++ ((first + 1) ∷ first ∷ []))) second in
-                  (omega (arith, at, number_second), omega (arith, at, number_second), inl second)
-            ] in
-            record {
-              count = sym long;
-              low = λ x there. elim there [
-                | inl same ↦ omega (arith, same, long)
-                | inr later ↦ elim later [ inl same ↦ omega (arith, same, long) | inr none ↦ absurd none ]
-              ];
-              placed = λ x from below. record {
-                here = IsIn-right x front ((first + 1) ∷ first ∷ []) (number x from below).2;
-                from = omega (arith, (number x from below).0, inside x from below);
-                below = omega (arith, (number x from below).1, inside x from below, alike x from below, long);
-                least = inr (subst (λ (y : ℕ). HasOverLabels y) (sym (inside x from below)) labels);
-              };
-            })
-      ]
-
-  IsPlaced-left : (front names : List ℕ) (x : ℕ) → IsPlaced front x → IsIn (component code.crossings x) front → IsPlaced (front ++ names) x
-  IsPlaced-left front names x placed first_in =
-      let own = number-left front names x placed.here in
-      let first = number-left front names (component code.crossings x) first_in in
-      let from = placed.from in
-      let below = placed.below in
+      let number = number-range first (size code.crossings first) first (omega arith) (omega (arith, some)) in
       record {
-        here = IsIn-left x front names placed.here;
-        from = omega (arith, own, from);
-        below = omega (arith, own, below);
-        least = elim (placed.least) [
-          | inl low ↦ inl (omega (arith, own, first, low))
-          | inr labels ↦ inr labels
-        ];
+        count = length-range_with_len first (size code.crossings first);
+        inside = range-in first (size code.crossings first);
+        all = in-range first (size code.crossings first);
+        begins = omega (arith, number);
+        pair = λ two. ap (λ n. range_with_len first n) two;
       }
 
-  placed-more : (k : ℕ) → IsPlacedTo k → IsPlacedTo (k + 1)
-  placed-more k to =
-      let order = order_below (passes_through parts) k in
-      elim (cases_lt k (to.last + 1)) [
-        | inl early ↦
-            let old : is_new (passes_through parts) (order_below (passes_through parts) k) k ≡ false =
-            (elim (cases_eq k 0) [
-              | inl none ↦
-                  ap (λ b. b && not (is_in (order_below (passes_through parts) k) k))
-                  (is_in-false k (heads_of parts paired) (λ here. absurd (omega (arith, none, (arcs k here).positive))))
-              | inr some ↦
-                  let is : IsArc code.crossings k =
-                  record { positive = omega (arith, some); within = omega (arith, early, to.within) } in
-                  and_not (is_in (heads_of parts paired) k) (is_in (order_below (passes_through parts) k) k)
-                  (is_in-true k (order_below (passes_through parts) k) (to.placed k is (omega (arith, early))).here)
-            ]) in
-            same k to old (inl (omega (arith, early)))
-        | inr late ↦ elim (cases_lt to.last (2 * length code.crossings)) [
-          | inr done ↦
-              let full : to.last ≡ 2 * length code.crossings = omega (arith, done, to.within) in
-              let old : is_new (passes_through parts) (order_below (passes_through parts) k) k ≡ false =
-              ap (λ b. b && not (is_in (order_below (passes_through parts) k) k))
-              (is_in-false k (heads_of parts paired) (λ here. absurd (omega (arith, late, done, (arcs k here).within)))) in
-              same k to old (inr full)
-          | inl more ↦
-              let k_is : k ≡ to.last + 1 = elim to.reached [
-                | inl early ↦ omega (arith, early, late)
-                | inr full ↦ absurd (omega (arith, full, more))
-              ] in
-              let is : IsFirst code.crossings k = subst (λ (x : ℕ). IsFirst code.crossings x) (sym k_is) (to.first more) in
-              let s = size code.crossings k in
-              let some = size-positive code.crossings directed k is in
-              let end = end-within code.crossings directed k is in
-              let new : is_new (passes_through parts) (order_below (passes_through parts) k) k ≡ true =
-              and_from (is_in (heads_of parts paired) k) (not (is_in (order_below (passes_through parts) k) k))
-              (is_in-true k (heads_of parts paired) (heads k is.is_arc))
-              (ap not (is_in-false k (order_below (passes_through parts) k) (λ here. absurd (omega (arith, k_is, to.low k here))))) in
-              let names = turned_names (label_entered (passes_through parts)) (range_with_len k (size code.crossings k)) in
-              let made : order_below (passes_through parts) (k + 1)
-              ≡ order_below (passes_through parts) k ++ turned_names (label_entered (passes_through parts)) (range_with_len k (size code.crossings k)) =
-              sym (order-turned parts paired k new)
-              ∙ ap (λ ns. order_below (passes_through parts) k ++ turned_names (label_entered (passes_through parts)) ns) (walked k is) in
-              let blocked = block order k is (omega (arith, to.count, k_is)) (λ x there. omega (arith, k_is, to.low x there)) in
-              record {
-                last = to.last + size code.crossings k;
-                count = ap length made ∙ length-append order names ∙ omega (arith, to.count, blocked.count);
-                within = omega (arith, end, k_is);
-                first = λ left.
-                    let e : k + size code.crossings k ≡ to.last + size code.crossings k + 1 = omega (arith, k_is) in
-                    subst (λ (x : ℕ). IsFirst code.crossings x) e (IsFirst-next code.crossings directed k is (omega (arith, left, k_is)));
-                reached = inl (omega (arith, k_is, some));
-                low = λ x there. elim (IsIn-parts x order names (subst (λ (os : List ℕ). IsIn x os) made there)) [
-                  | inl front ↦ omega (arith, to.low x front)
-                  | inr back ↦ omega (arith, blocked.low x back, k_is)
-                ];
-                placed = λ x x_is x_within.
-                    subst (λ (os : List ℕ). IsPlaced os x) (sym made)
-                    (elim (cases_lt to.last x) [
-                      | inr before ↦
-                          let place = HasPlace-directed code.crossings directed x x_is in
-                          let first_is : IsArc code.crossings (component code.crossings x) = (IsFirstOf-directed code.crossings directed x x_is).is_arc in
-                          IsPlaced-left order names x (to.placed x x_is before)
-                          (to.placed (component code.crossings x) first_is (omega (arith, place.from, before))).here
-                      | inl after ↦ blocked.placed x (omega (arith, after, k_is)) (omega (arith, x_within, k_is))
-                    ]);
-              }
-        ]
-      ]
-    where
-      and_not : (b c : Bool) → c ≡ true → (b && not c) ≡ false
-      and_not true true holds = refl
-      and_not false true holds = refl
-      and_not true false holds = absurd (cc)
-      and_not false false holds = refl
-
-      same : (k : ℕ) (to : IsPlacedTo k) → is_new (passes_through parts) (order_below (passes_through parts) k) k ≡ false
-          → (k + 1 ≤ to.last + 1) ⊎ (to.last ≡ 2 * length code.crossings) → IsPlacedTo (k + 1)
-      same k to old reached =
-          let made = order-same parts paired k old in
-          record {
-            last = to.last;
-            count = ap length (sym made) ∙ to.count;
-            within = to.within;
-            first = to.first;
-            reached = reached;
-            low = λ x there. to.low x (subst (λ (os : List ℕ). IsIn x os) (sym made) there);
-            placed = λ x x_is x_within. subst (λ (os : List ℕ). IsPlaced os x) made (to.placed x x_is x_within);
-          }
-
-  placed-to : (k : ℕ) → IsPlacedTo k
-  placed-to zero = record {
-    last = 0;
-    count = refl;
-    within = omega arith;
-    first = λ some.
-        let is : IsArc code.crossings 1 = record { positive = omega arith; within = omega (arith, some) } in
-        let least = (HasPlace-directed code.crossings directed 1 is).from in
-        let positive = (IsFirstOf-directed code.crossings directed 1 is).is_arc.positive in
-        record { is_arc = is; own = omega (arith, least, positive) };
-    reached = inl (omega arith);
-    low = λ x none. absurd none;
-    placed = λ x is within. absurd (omega (arith, is.positive, within));
-  }
-  placed-to (suc k) = let e : k + 1 ≡ suc k = omega arith in subst (λ (j : ℕ). IsPlacedTo j) e (placed-more k (placed-to k))
-
   pub placed-numbers : (x : ℕ) → IsArc code.crossings x → IsPlaced (order_of (passes_through parts)) x
-  placed-numbers x is =
-      let to = placed-to (bound_of (passes_through parts)) in
-      let all : to.last ≡ 2 * length code.crossings = elim to.reached [
-        | inr full ↦ full
-        | inl reached ↦ elim (cases_lt to.last (2 * length code.crossings)) [
-          | inr done ↦ omega (arith, done, to.within)
-          | inl more ↦
-              let last_arc : IsArc code.crossings (2 * length code.crossings) = record { positive = omega (arith, more); within = omega arith } in
-              let below = below-bound (passes_through parts) (2 * length code.crossings) (heads (2 * length code.crossings) last_arc) in
-              absurd (omega (arith, below, reached, more))
-        ]
-      ] in
-      to.placed x is (omega (arith, all, is.within))
+  placed-numbers =
+      blocks.placed-numbers code directed parts paired heads arcs (λ first. range_with_len first (size code.crossings first))
+      (walk-first code directed parts paired same_size nexts) goes-over

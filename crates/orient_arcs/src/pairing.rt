@@ -5,7 +5,8 @@ ghost use Rattle.code_passes.specs.Parts.{ArePaired};
 ghost use Rattle.orient_arcs.specs.Pairing.{all_are_paired, entering_count, is_paired_at, is_paired_in, leaving_count};
 
 use crate::parts::Parts;
-use crate::passes::{Pass, passes_through};
+use crate::passes::passes_through;
+use code_passes::Pass;
 
 impl Parts {
     /// Whether each name that stands at all stands twice, once as the head of an arc and once as a

@@ -2,43 +2,12 @@
 
 ghost use Rattle.std.specs.Prelude.{◌≡◌, ◌≤◌, ◌<◌, ◌+◌, ◌*◌, ◌++◌, length};
 ghost use Rattle.kh_types.specs.declared.limits.TheConstants.{ARCS, CROSSINGS};
-ghost use Rattle.code_passes.specs.Passes.{Pass, no_pass};
 ghost use Rattle.code_passes.specs.Parts.{is_positive_at, over_pass, passes_at, passes_through, slots_in, under_pass};
 
 use crate::parts::Parts;
 use arrayvec::ArrayVec;
+use code_passes::Pass;
 use kh_types::{ARCS, CROSSINGS, Crossing};
-use std::marker::Model;
-
-/// A pass: its label, and the names on which it enters and leaves.
-#[derive(Clone, Copy)]
-pub(crate) struct Pass {
-    pub label: i32,
-    pub enters: u8,
-    pub leaves: u8,
-}
-
-impl Model for Pass {
-    ghost use Rattle.code_passes.specs.Passes.{Pass};
-
-    ghost Value = { Pass };
-
-    ghost view = { λ pass. record { label = pass.label; enters = pass.enters; leaves = pass.leaves } };
-
-    ghost inverse = { λ pass. record { label = pass.label; enters = pass.enters; leaves = pass.leaves } };
-}
-
-impl Default for Pass {
-    ghost is_default = { λ pass. pass ≡ no_pass };
-
-    fn default() -> Pass {
-        Pass {
-            label: 0,
-            enters: 0,
-            leaves: 0,
-        }
-    }
-}
 
 /// All passes.
 #[tactic(auto, using(crate::proofs::StepLemmas::passes_more, crate::proofs::StepLemmas::length_passes))]

@@ -9,8 +9,9 @@ ghost use Rattle.orient_arcs.specs.Renumbered.{AreInOrder, bound_of, entering, f
 ghost use Rattle.orient_arcs.specs.Steps.{is_new, is_turned, order_below, start_of};
 
 use crate::parts::Parts;
-use crate::passes::{Pass, passes_through};
+use crate::passes::passes_through;
 use arrayvec::ArrayVec;
+use code_passes::Pass;
 use kh_types::{ARCS, CROSSINGS, Crossing, RawCode};
 
 /// The code of some parts: components in the order of their least names, each numbered along its

@@ -1,10 +1,15 @@
 -- Darts at the three corners of a triangle, and functions of darts that are given corner by corner.
-use Rattle.std.proofs.Common.{◌≡◌, ◌≢◌, ℕ, zero, suc, inl, inr, ◌+◌, ◌*◌, ◌/◌, ◌%◌, ◌<◌, ◌∙◌, List, sym, refl, ap, subst, arith, true, false, cond, eq-eqb}
+--
+-- A slide permutes what stands at the twelve darts of three crossings. Darts are places 4k + slot, so a dart of a triangle is `on` a corner
+-- with a slot, and a function given at the four slots of each corner and elsewhere is one on all darts. All that follows on darts is by
+-- these cases.
+use Rattle.std.proofs.Common.{◌≡◌, ◌≢◌, ℕ, inl, inr, ◌+◌, ◌*◌, ◌/◌, ◌%◌, ◌<◌, ◌∙◌, List, sym, ap, subst, arith, cond, eq-eqb}
 use Rattle.std.specs.Prelude.{nat_eq, slice_index}
 use Rattle.std.proofs.Math.Path.{fun_ext}
-use Rattle.std.proofs.lemmas.Bool.{cases_eq}
-use Rattle.std.proofs.lemmas.Bool.Decides.{nat_tests}
+use Rattle.std.proofs.lemmas.Bool.{cases_eq, eq-eqb, ne_eqb}
+use Rattle.kh_types.proofs.Ranges.{below_four}
 use Rattle.slides.specs.Slid.{on, steps_from, corner, source}
+pub use Rattle.kh_types.proofs.Ranges.{below_four as four}
 
 -- slots on from a dart
 
@@ -65,13 +70,6 @@ crossings-apart x y a b apart same = apart (sym (on-crossing x a) ∙ ap (λ k. 
 
 -- cases
 
-pub four : (P : ℕ → Type 0) → P 0 → P 1 → P 2 → P 3 → (j : ℕ) → j < 4 → P j
-four P at_0 at_1 at_2 at_3 zero below = at_0
-four P at_0 at_1 at_2 at_3 (suc zero) below = at_1
-four P at_0 at_1 at_2 at_3 (suc (suc zero)) below = at_2
-four P at_0 at_1 at_2 at_3 (suc (suc (suc zero))) below = at_3
-four P at_0 at_1 at_2 at_3 (suc (suc (suc (suc j)))) below = absurd (omega (arith, below))
-
 -- whether a dart is at none of the three crossings
 pub record IsOutside (x y z place : ℕ) : Type 0 where
   pub not_x : place / 4 ≢ x / 4
@@ -100,19 +98,13 @@ by_corner xs ys zs x y z place =
     (cond (nat_eq (place / 4) (y / 4)) (slice_index ys (steps_from y place))
     (cond (nat_eq (place / 4) (z / 4)) (slice_index zs (steps_from z place)) place))
 
-pub eq_yes : (a b : ℕ) → a ≡ b → nat_eq a b ≡ true
-eq_yes a b same = eq-eqb a b same
-
-pub eq_no : (a b : ℕ) → a ≢ b → nat_eq a b ≡ false
-eq_no a b apart = grind (arith, nat_tests)
-
 pub by_corner-x : (xs ys zs : List ℕ) (x y z j : ℕ) → j < 4 → by_corner xs ys zs x y z (on x j) ≡ slice_index xs j
 by_corner-x xs ys zs x y z j below =
     let place = on x j in
     ap (λ b. cond b (slice_index xs (steps_from x place))
     (cond (nat_eq (place / 4) (y / 4)) (slice_index ys (steps_from y place))
     (cond (nat_eq (place / 4) (z / 4)) (slice_index zs (steps_from z place)) place)))
-    (eq_yes (place / 4) (x / 4) (on-crossing x j))
+    (eq-eqb (place / 4) (x / 4) (on-crossing x j))
     ∙ ap (λ k. slice_index xs k) (steps_from-on x j below)
 
 pub by_corner-y : (xs ys zs : List ℕ) (x y z j : ℕ) → AreApart x y z → j < 4 → by_corner xs ys zs x y z (on y j) ≡ slice_index ys j
@@ -121,10 +113,10 @@ by_corner-y xs ys zs x y z j apart below =
     ap (λ b. cond b (slice_index xs (steps_from x place))
     (cond (nat_eq (place / 4) (y / 4)) (slice_index ys (steps_from y place))
     (cond (nat_eq (place / 4) (z / 4)) (slice_index zs (steps_from z place)) place)))
-    (eq_no (place / 4) (x / 4) (λ same. apart.x_y (sym same ∙ on-crossing y j)))
+    (ne_eqb (place / 4) (x / 4) (λ same. apart.x_y (sym same ∙ on-crossing y j)))
     ∙ ap (λ b. cond b (slice_index ys (steps_from y place))
     (cond (nat_eq (place / 4) (z / 4)) (slice_index zs (steps_from z place)) place))
-    (eq_yes (place / 4) (y / 4) (on-crossing y j))
+    (eq-eqb (place / 4) (y / 4) (on-crossing y j))
     ∙ ap (λ k. slice_index ys k) (steps_from-on y j below)
 
 pub by_corner-z : (xs ys zs : List ℕ) (x y z j : ℕ) → AreApart x y z → j < 4 → by_corner xs ys zs x y z (on z j) ≡ slice_index zs j
@@ -133,11 +125,11 @@ by_corner-z xs ys zs x y z j apart below =
     ap (λ b. cond b (slice_index xs (steps_from x place))
     (cond (nat_eq (place / 4) (y / 4)) (slice_index ys (steps_from y place))
     (cond (nat_eq (place / 4) (z / 4)) (slice_index zs (steps_from z place)) place)))
-    (eq_no (place / 4) (x / 4) (λ same. apart.x_z (sym same ∙ on-crossing z j)))
+    (ne_eqb (place / 4) (x / 4) (λ same. apart.x_z (sym same ∙ on-crossing z j)))
     ∙ ap (λ b. cond b (slice_index ys (steps_from y place))
     (cond (nat_eq (place / 4) (z / 4)) (slice_index zs (steps_from z place)) place))
-    (eq_no (place / 4) (y / 4) (λ same. apart.y_z (sym same ∙ on-crossing z j)))
-    ∙ ap (λ b. cond b (slice_index zs (steps_from z place)) place) (eq_yes (place / 4) (z / 4) (on-crossing z j))
+    (ne_eqb (place / 4) (y / 4) (λ same. apart.y_z (sym same ∙ on-crossing z j)))
+    ∙ ap (λ b. cond b (slice_index zs (steps_from z place)) place) (eq-eqb (place / 4) (z / 4) (on-crossing z j))
     ∙ ap (λ k. slice_index zs k) (steps_from-on z j below)
 
 pub by_corner-outside : (xs ys zs : List ℕ) (x y z place : ℕ) → IsOutside x y z place → by_corner xs ys zs x y z place ≡ place
@@ -145,11 +137,11 @@ by_corner-outside xs ys zs x y z place outside =
     ap (λ b. cond b (slice_index xs (steps_from x place))
     (cond (nat_eq (place / 4) (y / 4)) (slice_index ys (steps_from y place))
     (cond (nat_eq (place / 4) (z / 4)) (slice_index zs (steps_from z place)) place)))
-    (eq_no (place / 4) (x / 4) outside.not_x)
+    (ne_eqb (place / 4) (x / 4) outside.not_x)
     ∙ ap (λ b. cond b (slice_index ys (steps_from y place))
     (cond (nat_eq (place / 4) (z / 4)) (slice_index zs (steps_from z place)) place))
-    (eq_no (place / 4) (y / 4) outside.not_y)
-    ∙ ap (λ b. cond b (slice_index zs (steps_from z place)) place) (eq_no (place / 4) (z / 4) outside.not_z)
+    (ne_eqb (place / 4) (y / 4) outside.not_y)
+    ∙ ap (λ b. cond b (slice_index zs (steps_from z place)) place) (ne_eqb (place / 4) (z / 4) outside.not_z)
 
 -- the corners may be named from any on
 pub by_corner-rotated : (xs ys zs : List ℕ) (x y z : ℕ) → AreApart x y z → by_corner xs ys zs x y z ≡ by_corner ys zs xs y z x
@@ -164,9 +156,6 @@ by_corner-rotated xs ys zs x y z apart =
     (record { not_x = outside.not_y; not_y = outside.not_z; not_z = outside.not_x }))))
 
 -- where the arcs come from
-
-pub source-is : (x y z place : ℕ) → source x y z place ≡ by_corner (corner y z) (corner z x) (corner x y) x y z place
-source-is x y z place = refl
 
 pub source-x : (x y z j : ℕ) → j < 4 → source x y z (on x j) ≡ slice_index (corner y z) j
 source-x x y z j below = by_corner-x (corner y z) (corner z x) (corner x y) x y z j below
@@ -186,7 +175,7 @@ source-rotated x y z apart = by_corner-rotated (corner y z) (corner z x) (corner
 -- twice leads back
 source-source_x : (x y z : ℕ) → AreApart x y z → (j : ℕ) → j < 4 → source x y z (source x y z (on x j)) ≡ on x j
 source-source_x x y z apart =
-    four (λ j. source x y z (source x y z (on x j)) ≡ on x j)
+    below_four (λ j. source x y z (source x y z (on x j)) ≡ on x j)
     (ap (source x y z) (source-x x y z 0 (omega arith)) ∙ source-y x y z 3 apart (omega arith) ∙ sym (on-zero x))
     (ap (source x y z) (source-x x y z 1 (omega arith)) ∙ source-z x y z 2 apart (omega arith))
     (ap (source x y z) (source-x x y z 2 (omega arith)) ∙ source-y x y z 1 apart (omega arith))
@@ -206,7 +195,7 @@ source-source x y z apart =
 source-below_x : (n x y z : ℕ) → y < 4 * n → z < 4 * n → (j : ℕ) → j < 4 → source x y z (on x j) < 4 * n
 source-below_x n x y z y_below z_below j below =
     subst (λ (k : ℕ). k < 4 * n) (sym (source-x x y z j below))
-    (four (λ i. slice_index (corner y z) i < 4 * n) (on-below n y 3 y_below) (on-below n z 2 z_below) (on-below n y 1 y_below) z_below
+    (below_four (λ i. slice_index (corner y z) i < 4 * n) (on-below n y 3 y_below) (on-below n z 2 z_below) (on-below n y 1 y_below) z_below
     j below)
 
 pub source-below : (n x y z : ℕ) → AreApart x y z → x < 4 * n → y < 4 * n → z < 4 * n → (place : ℕ) → place < 4 * n

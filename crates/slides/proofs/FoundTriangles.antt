@@ -1,14 +1,17 @@
 -- The slot of a slide is that of a triangle.
-use Rattle.std.proofs.Common.{◌≡◌, ◌≢◌, ◌↔◌, ℕ, ◌⊎◌, inl, inr, ◌+◌, ◌-◌, ◌/◌, ◌<◌, ◌≤◌, ◌∙◌, List, refl, sym, ap, arith, zero, suc, Bool, true, false, not, ◌&&◌, cond}
+--
+-- The test of a slot holds exactly where there is a triangle. What a search finds passes, is in the range and is the first, so the least
+-- slot is taken; and no slide can be made exactly where each triangle's slots have one parity.
+use Rattle.std.proofs.Common.{◌≡◌, ◌≢◌, ◌↔◌, ℕ, inl, inr, ◌+◌, ◌-◌, ◌/◌, ◌<◌, ◌≤◌, ◌∙◌, List, refl, sym, ap, arith, zero, suc, Bool, true, false, not, ◌&&◌, cond}
 use Rattle.std.specs.Prelude.{nat_eq, ◌||◌, Some, None}
 use Rattle.std.specs.List.{find, range_with_len}
-use Rattle.std.proofs.lemmas.Bool.{and_parts, cases_Bool, cases_eq, eqb-true, eqb-false}
+use Rattle.std.proofs.lemmas.Bool.{and_parts, cases_Bool, cases_eq, eqb-true, eqb-false, eq-eqb, ne_eqb, or_cases, not-true, and_from, or_left, or_right}
 use Rattle.kh_types.specs.Code.{IsCrossing, place_of}
 use Rattle.kh_types.specs.Darts.{dart_count}
 use Rattle.kh_types.proofs.Lists.{find-none}
 use Rattle.kh_types.proofs.Ranges.{list_any-found, list_any-below}
+use Rattle.kh_types.proofs.AcceptedLemmas.{second_fails}
 use Rattle.slides.specs.Triangles.{step, dart_at_slot, is_at_crossing, is_triangle, has_heights, is_slidable_at, slide_slot, has_triangle, IsTriangle, IsTriangleAt, HasOneParity}
-use Rattle.slides.proofs.Corners.{eq_yes, eq_no}
 
 -- what a search finds passes, is in the range, and is the first
 pub record IsFirst (p : ℕ → Bool) (a n found : ℕ) : Type 0 where
@@ -43,14 +46,6 @@ IsFirst-found p a (suc n) found is = elim (cases_Bool (p a)) [
         ];
       }
 ]
-
-or_cases : (a b : Bool) → (a || b) ≡ true → (a ≡ true) ⊎ (b ≡ true)
-or_cases true b holds = inl refl
-or_cases false b holds = inr holds
-
-not-true : (b : Bool) → not b ≡ true → b ≡ false
-not-true true holds = absurd (cc)
-not-true false holds = refl
 
 crossings-differ : (c d : ℕ) → c ≢ d → 1 ≤ c → 1 ≤ d → c - 1 ≢ d - 1
 crossings-differ c d apart c_positive d_positive same = apart (omega (arith, c_positive, d_positive, same))
@@ -147,20 +142,8 @@ IsTriangleAt-is crossings c d e slot is_c is_d is_e below holds =
       ];
     }
 
-and_both : (a b : Bool) → a ≡ true → b ≡ true → (a && b) ≡ true
-and_both true b first second = second
-and_both false b first second = first
-
-or_left : (a b : Bool) → a ≡ true → (a || b) ≡ true
-or_left true b first = refl
-or_left false b first = absurd (cc)
-
-or_right : (a b : Bool) → b ≡ true → (a || b) ≡ true
-or_right true b second = refl
-or_right false b second = second
-
 numbers-differ : (c d : ℕ) → place_of c ≢ place_of d → not (nat_eq c d) ≡ true
-numbers-differ c d apart = ap not (eq_no c d (λ same. apart (ap place_of same)))
+numbers-differ c d apart = ap not (ne_eqb c d (λ same. apart (ap place_of same)))
 
 pub is_triangle-at : (crossings : List (List ℕ)) (c d e slot : ℕ) → slot < 4 → IsTriangleAt crossings c d e slot
     → is_triangle crossings c d e slot ≡ true
@@ -172,23 +155,23 @@ is_triangle-at crossings c d e slot below is =
     let x_at : x / 4 ≡ place_of c = omega (arith, below) in
     let made = λ (differ_d : place_of c ≢ place_of d) (differ_e : place_of c ≢ place_of e) (differ : place_of d ≢ place_of e)
     (there : ((is_at_crossing y d && is_at_crossing z e) || (is_at_crossing y e && is_at_crossing z d)) ≡ true).
-    and_both (not (nat_eq c d) && (not (nat_eq c e) && not (nat_eq d e)))
+    and_from (not (nat_eq c d) && (not (nat_eq c e) && not (nat_eq d e)))
     (nat_eq (step crossings z) x && ((is_at_crossing y d && is_at_crossing z e) || (is_at_crossing y e && is_at_crossing z d)))
-    (and_both (not (nat_eq c d)) (not (nat_eq c e) && not (nat_eq d e)) (numbers-differ c d differ_d)
-    (and_both (not (nat_eq c e)) (not (nat_eq d e)) (numbers-differ c e differ_e) (numbers-differ d e differ)))
-    (and_both (nat_eq (step crossings z) x) ((is_at_crossing y d && is_at_crossing z e) || (is_at_crossing y e && is_at_crossing z d))
-    (eq_yes (step crossings z) x triangle.third) there) in
+    (and_from (not (nat_eq c d)) (not (nat_eq c e) && not (nat_eq d e)) (numbers-differ c d differ_d)
+    (and_from (not (nat_eq c e)) (not (nat_eq d e)) (numbers-differ c e differ_e) (numbers-differ d e differ)))
+    (and_from (nat_eq (step crossings z) x) ((is_at_crossing y d && is_at_crossing z e) || (is_at_crossing y e && is_at_crossing z d))
+    (eq-eqb (step crossings z) x triangle.third) there) in
     elim (is.corners) [
       | inl at ↦
           made (λ same. triangle.x_y (x_at ∙ same ∙ sym at.0)) (λ same. triangle.x_z (x_at ∙ same ∙ sym at.1))
           (λ same. triangle.y_z (at.0 ∙ same ∙ sym at.1))
           (or_left (is_at_crossing y d && is_at_crossing z e) (is_at_crossing y e && is_at_crossing z d)
-          (and_both (is_at_crossing y d) (is_at_crossing z e) (eq_yes (y / 4) (place_of d) at.0) (eq_yes (z / 4) (place_of e) at.1)))
+          (and_from (is_at_crossing y d) (is_at_crossing z e) (eq-eqb (y / 4) (place_of d) at.0) (eq-eqb (z / 4) (place_of e) at.1)))
       | inr at ↦
           made (λ same. triangle.x_z (x_at ∙ same ∙ sym at.1)) (λ same. triangle.x_y (x_at ∙ same ∙ sym at.0))
           (λ same. triangle.y_z (at.0 ∙ sym same ∙ sym at.1))
           (or_right (is_at_crossing y d && is_at_crossing z e) (is_at_crossing y e && is_at_crossing z d)
-          (and_both (is_at_crossing y e) (is_at_crossing z d) (eq_yes (y / 4) (place_of e) at.0) (eq_yes (z / 4) (place_of d) at.1)))
+          (and_from (is_at_crossing y e) (is_at_crossing z d) (eq-eqb (y / 4) (place_of e) at.0) (eq-eqb (z / 4) (place_of d) at.1)))
     ]
 
 pub is_triangle-exactly : (crossings : List (List ℕ)) (c d e slot : ℕ) → IsCrossing crossings c → IsCrossing crossings d
@@ -231,10 +214,6 @@ find-nothing p a (suc n) none k from below = elim (cases_Bool (p a)) [
   where
     some_none : (x : ℕ) → Some x ≡ None → ⊥
     some_none x same = absurd (cc)
-
-second_fails : (a b : Bool) → (a && b) ≡ false → a ≡ true → b ≡ false
-second_fails true b fails holds = fails
-second_fails false b fails holds = absurd (cc)
 
 fails_second : (a b : Bool) → (a ≡ true → b ≡ false) → (a && b) ≡ false
 fails_second true b fails = fails refl

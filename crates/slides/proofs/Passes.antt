@@ -12,9 +12,10 @@ use Rattle.kh_types.specs.Directions.{is_positive}
 use Rattle.kh_types.proofs.JoinedClasses.{classes_of-same}
 use Rattle.kh_types.proofs.CircleBound.{ArcsBelow-slots, passes_of-below}
 use Rattle.kh_types.proofs.PassPairs.{passes-all}
+use Rattle.kh_types.proofs.Ranges.{below_four}
 use Rattle.slides.specs.Slid.{on, source, slid}
 use Rattle.slides.specs.SlideCodes.{is_head_with, KeepsPass}
-use Rattle.slides.proofs.Corners.{four, at_places, IsOutside, AreApart, AreApart-rotated, on-crossing, on-slot, on-on, on-zero, on-round, on-below, source-x, source-rotated, source-outside, source-source, source-below}
+use Rattle.slides.proofs.Corners.{at_places, IsOutside, AreApart, AreApart-rotated, on-crossing, on-slot, on-on, on-zero, on-round, on-below, source-x, source-rotated, source-outside, source-source, source-below}
 use Rattle.slides.proofs.Sides.{HasSides}
 use Rattle.slides.proofs.SlidArcs.{length-slid, arc_of_dart-slid, HasArcsTwice-slid}
 use Rattle.slides.proofs.SlidHeads.{kind-source, IsKind-heads}
@@ -26,7 +27,7 @@ round place a b is = ap (λ k. on place k) is ∙ on-round place b
 source-behind_x : (x y z : ℕ) → (j : ℕ) → j < 4 → source x y z (on (on x j) 2) ≡ on (source x y z (on x j)) 2
 source-behind_x x y z =
     let from = source x y z in
-    four (λ j. from (on (on x j) 2) ≡ on (from (on x j)) 2)
+    below_four (λ j. from (on (on x j) 2) ≡ on (from (on x j)) 2)
     (ap from (on-on x 0 2) ∙ source-x x y z 2 (omega arith) ∙ sym (round y 5 1 (omega arith)) ∙ sym (on-on y 3 2)
     ∙ sym (ap (λ k. on k 2) (source-x x y z 0 (omega arith))))
     (ap from (on-on x 1 2) ∙ source-x x y z 3 (omega arith) ∙ sym (on-zero z) ∙ sym (round z 4 0 (omega arith)) ∙ sym (on-on z 2 2)
@@ -72,7 +73,7 @@ pub respects-behind : (f : ℕ → ℕ) (crossings : List (List ℕ)) → Respec
 respects-behind f crossings respects place below =
     let slots = slice_index_or crossings (place / 4) [] in
     let pairs = at_crossing (λ pair. f pair.0 ≡ f pair.1) crossings respects (place / 4) (omega (arith, below)) in
-    four (λ slot. f (arc_in slots slot) ≡ f (arc_in slots ((slot + 2) % 4))) pairs.0 pairs.1.0 (sym pairs.0) (sym pairs.1.0)
+    below_four (λ slot. f (arc_in slots slot) ≡ f (arc_in slots ((slot + 2) % 4))) pairs.0 pairs.1.0 (sym pairs.0) (sym pairs.1.0)
     (place % 4) (omega arith)
     ∙ ap f (sym (arc-behind crossings place))
 

@@ -1,4 +1,7 @@
 -- The arcs of a code after a slide.
+--
+-- After a slide the arc at a dart is the one that stood at its source. Sources are one to one on the darts of the triangle, and other darts
+-- keep their arcs. So each arc stands at two darts again, and the partner of a dart is the one whose source was the partner of its source.
 use Rattle.std.proofs.Common.{◌≡◌, ◌≢◌, ℕ, zero, suc, ◌⊎◌, inl, inr, ◌+◌, ◌-◌, ◌*◌, ◌/◌, ◌%◌, ◌<◌, ◌≤◌, ◌∙◌, List, [], length, refl, sym, ap, subst, arith, Bool, true, false, not, ◌&&◌}
 use Rattle.std.specs.Prelude.{nat_eq, slice_index_or}
 use Rattle.std.specs.List.{count_by, range_with_len}
@@ -49,10 +52,6 @@ count-none q a n none = count_by-alike q (λ k. false) a n none ∙ count-false 
     count-false : (a n : ℕ) → count_by (λ k. false) (range_with_len a n) ≡ 0
     count-false a zero = refl
     count-false a (suc n) = count-false (a + 1) n
-
-but-fails : (b : Bool) (m k : ℕ) → (b ≡ true → k ≡ m) → (b && not (nat_eq k m)) ≡ false
-but-fails true m k only = grind (arith, nat_tests, only refl)
-but-fails false m k only = refl
 
 pub count-two : (q : ℕ → Bool) (n m other : ℕ) → m < n → other < n → other ≢ m → q m ≡ true → q other ≡ true
     → ((k : ℕ) → k < n → q k ≡ true → (k ≡ m) ⊎ (k ≡ other)) → count_by q (range_with_len 0 n) ≡ 2

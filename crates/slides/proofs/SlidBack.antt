@@ -1,4 +1,8 @@
 -- A slide of the triangle across leads back; so both numbers, of faces and of pieces, are kept.
+--
+-- A slide maps the darts so that faces and pieces of the first code meet all those of the second (SlidFaces): there are no more after than
+-- before. The slid code has a triangle across, whose slide leads back, so there are no fewer either. Both numbers stay, and with them the
+-- sphere.
 use Rattle.std.proofs.Common.{◌≡◌, ℕ, ◌+◌, ◌*◌, ◌/◌, ◌<◌, ◌≤◌, ◌∙◌, List, length, map, refl, sym, ap, ap₂, subst, arith}
 use Rattle.std.specs.Prelude.{slice_index, IsTrue}
 use Rattle.std.specs.List.{range_with_len}
@@ -12,10 +16,11 @@ use Rattle.kh_types.proofs.ClassLemmas.{classes-together}
 use Rattle.kh_types.proofs.DartPairs.{IsPairing-partner_at}
 use Rattle.kh_types.proofs.AcceptedLemmas.{HasArcsTwice-accepted}
 use Rattle.kh_types.proofs.RangeImages.{all-map_range, map_range-at, map_range-agree}
+use Rattle.kh_types.proofs.Ranges.{below_four}
 use Rattle.face_walk.proofs.OpenFaces.{piece_pairs-below}
 use Rattle.face_walk.proofs.FewFaces.{face_count-accepted}
 use Rattle.slides.specs.Slid.{on, source, slid}
-use Rattle.slides.proofs.Corners.{four, at_places, AreApart, AreApart-rotated, AreApart-on, on-crossing, on-on, on-zero, source-x, source-rotated, source-outside, source-source, source-below}
+use Rattle.slides.proofs.Corners.{at_places, AreApart, AreApart-rotated, AreApart-on, on-crossing, on-on, on-zero, source-x, source-rotated, source-outside, source-source, source-below}
 use Rattle.slides.proofs.Sides.{HasSides, HasSides-slid, IsPairing-slid, slid_partner}
 use Rattle.slides.proofs.SlidArcs.{length-slid, partner_at-slid}
 use Rattle.slides.proofs.Onto.{class_count-onto}
@@ -25,7 +30,7 @@ use Rattle.slides.proofs.Passes.{round}
 source-across_x : (x y z : ℕ) → (j : ℕ) → j < 4 → source (on x 2) (on y 2) (on z 2) (on x j) ≡ source x y z (on x j)
 source-across_x x y z =
     let across = source (on x 2) (on y 2) (on z 2) in
-    four (λ j. across (on x j) ≡ source x y z (on x j))
+    below_four (λ j. across (on x j) ≡ source x y z (on x j))
     (ap across (sym (round x 4 0 (omega arith)) ∙ sym (on-on x 2 2)) ∙ source-x (on x 2) (on y 2) (on z 2) 2 (omega arith) ∙ on-on y 2 1
     ∙ sym (source-x x y z 0 (omega arith)))
     (ap across (sym (round x 5 1 (omega arith)) ∙ sym (on-on x 2 3)) ∙ source-x (on x 2) (on y 2) (on z 2) 3 (omega arith)
@@ -100,7 +105,7 @@ crossing_x : (value : ℕ → ℕ) (x y z : ℕ) → value (x / 4) ≡ value (y 
     → value (source x y z (on x j) / 4) ≡ value (on x j / 4)
 crossing_x value x y z same_y same_z =
     let own = λ (j : ℕ). ap value (on-crossing x j) in
-    four (λ j. value (source x y z (on x j) / 4) ≡ value (on x j / 4))
+    below_four (λ j. value (source x y z (on x j) / 4) ≡ value (on x j / 4))
     (ap (λ k. value (k / 4)) (source-x x y z 0 (omega arith)) ∙ ap value (on-crossing y 3) ∙ sym same_y ∙ sym (own 0))
     (ap (λ k. value (k / 4)) (source-x x y z 1 (omega arith)) ∙ ap value (on-crossing z 2) ∙ sym same_z ∙ sym (own 1))
     (ap (λ k. value (k / 4)) (source-x x y z 2 (omega arith)) ∙ ap value (on-crossing y 1) ∙ sym same_y ∙ sym (own 2))

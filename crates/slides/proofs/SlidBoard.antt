@@ -1,5 +1,8 @@
 -- A slide keeps a checkerboard: the three crossings change their bits.
-use Rattle.std.proofs.Common.{◌≡◌, ◌≢◌, ℕ, ◌⊎◌, inl, inr, ◌+◌, ◌-◌, ◌*◌, ◌/◌, ◌%◌, ◌^◌, ◌<◌, ◌≤◌, ◌∙◌, List, length, refl, sym, ap, ap₂, subst, arith}
+--
+-- At the three crossings all bits change, and with them all colours. A dart there has the arc of its source, and where that arc was, it had
+-- the colour that the dart has now; elsewhere nothing changes. So each arc has one dart of either colour again.
+use Rattle.std.proofs.Common.{◌≡◌, ◌≢◌, ℕ, inl, inr, ◌+◌, ◌-◌, ◌*◌, ◌/◌, ◌%◌, ◌^◌, ◌<◌, ◌≤◌, ◌∙◌, List, length, refl, sym, ap, ap₂, subst, arith}
 use Rattle.std.specs.Prelude.{IsTrue}
 use Rattle.std.proofs.lemmas.Bool.{cases_eq, cases_lt, eq-eqb}
 use Rattle.std.proofs.Math.Nat.{add-div_right, div-eq_of_lt}
@@ -16,8 +19,10 @@ use Rattle.kh_types.proofs.DartPairs.{dart_at-place, dart_place-at, dart_place-b
 use Rattle.kh_types.proofs.DartColours.{IsColoured-checkerboard}
 use Rattle.kh_types.proofs.AcceptedLemmas.{IsAccepted-is, HasArcsTwice-accepted}
 use Rattle.kh_types.proofs.EdgeBits.{bit-set_there, bit-set_other, set-within}
+use Rattle.kh_types.proofs.Ranges.{below_four}
+use Rattle.kh_types.proofs.BitLemmas.{bit-cases}
 use Rattle.slides.specs.Slid.{on, source, slid}
-use Rattle.slides.proofs.Corners.{four, at_places, IsOutside, on-crossing, on-slot, on-on, on-zero, on-below, on-apart, source-x, source-rotated, source-outside, source-source, source-below}
+use Rattle.slides.proofs.Corners.{at_places, IsOutside, on-crossing, on-slot, on-on, on-zero, on-below, on-apart, source-x, source-rotated, source-outside, source-source, source-below}
 use Rattle.slides.proofs.Sides.{HasSides, HasSides-rotated}
 use Rattle.slides.proofs.SlidArcs.{length-slid, arc_of-at, HasArcsTwice-slid, partner_at-slid}
 use Rattle.gluing.specs.Codes.{arc_of_dart}
@@ -27,12 +32,6 @@ use Rattle.gluing.specs.Codes.{arc_of_dart}
 pub record IsFlipped (number flipped place : ℕ) : Type 0 where
   pub there : bit flipped place + bit number place ≡ 1
   pub others : (k : ℕ) → k ≢ place → bit flipped k ≡ bit number k
-
-bit-cases : (number place : ℕ) → (bit number place ≡ 0) ⊎ (bit number place ≡ 1)
-bit-cases number place = by_two (number / 2 ^ place)
-  where
-    by_two : (q : ℕ) → (q % 2 ≡ 0) ⊎ (q % 2 ≡ 1)
-    by_two q = let e : q % 2 < 2 = omega arith in grind (arith, e)
 
 odd-before : (q : ℕ) → (q + 1) % 2 ≡ 1 → q % 2 ≡ 0
 odd-before q odd = omega (arith, odd)
@@ -156,9 +155,6 @@ odd-turned a b odd = omega (arith, odd)
 odd-even : (a b c : ℕ) → (b + a) % 2 ≡ 1 → (c + b) % 2 ≡ 0 → (c + a) % 2 ≡ 1
 odd-even a b c odd even = omega (arith, odd, even)
 
-even-odd : (a b c : ℕ) → (b + a) % 2 ≡ 0 → (c + b) % 2 ≡ 1 → (c + a) % 2 ≡ 1
-even-odd a b c even odd = omega (arith, odd, even)
-
 moved-tints_x : (n : ℕ) (partner tints : ℕ → ℕ) (x y z : ℕ) → IsTinted n partner tints → HasSides n partner x y z → (j : ℕ) → j < 4
     → (tints (source x y z (on x j)) + tints (on x j)) % 2 ≡ 1
 moved-tints_x n partner tints x y z tinted sides =
@@ -173,7 +169,7 @@ moved-tints_x n partner tints x y z tinted sides =
     subst (λ (k : ℕ). (tints k + tints (on y 1)) % 2 ≡ 0) (on-on y 1 2) (tinted.across (on y 1)) in
     let across_x : (tints (on x 3) + tints (on x 1)) % 2 ≡ 0 =
     subst (λ (k : ℕ). (tints k + tints (on x 1)) % 2 ≡ 0) (on-on x 1 2) (tinted.across (on x 1)) in
-    four (λ j. (tints (source x y z (on x j)) + tints (on x j)) % 2 ≡ 1)
+    below_four (λ j. (tints (source x y z (on x j)) + tints (on x j)) % 2 ≡ 1)
     (at 0 (on y 3) x (source-x x y z 0 (omega arith)) (on-zero x) (odd-even (tints x) (tints (on y 1)) (tints (on y 3)) to_y across_y))
     (at 1 (on z 2) (on x 1) (source-x x y z 1 (omega arith)) refl
     (odd-even (tints (on x 1)) (tints z) (tints (on z 2)) to_z (tinted.across z)))

@@ -1,4 +1,8 @@
 -- A slide keeps the numbers of faces and of pieces.
+--
+-- For each dart after the slide a dart before it is given whose face it has. An end of the triangle keeps its arc, and so its face; a side
+-- has the triangle on the one side and the face of an end on the other. The map takes the next dart of a face to the same face, and meets
+-- each face, so there are no fewer before than after (Onto); pieces likewise. The slide back gives the rest (SlidBack).
 use Rattle.std.proofs.Common.{◌≡◌, ◌≢◌, ℕ, ◌*◌, ◌/◌, ◌<◌, ◌≤◌, ◌∙◌, List, [], ◌∷◌, map, refl, sym, ap, subst, arith}
 use Rattle.std.specs.Prelude.{slice_index}
 use Rattle.std.specs.List.{range_with_len}
@@ -7,9 +11,10 @@ use Rattle.kh_types.specs.Darts.{IsPairing, turned}
 use Rattle.kh_types.specs.Faces.{face_pair, open_faces}
 use Rattle.kh_types.proofs.ClassLemmas.{classes-together}
 use Rattle.kh_types.proofs.RangeImages.{all-map_range, map_range-at}
+use Rattle.kh_types.proofs.Ranges.{below_four}
 use Rattle.face_walk.proofs.OpenFaces.{turned-below}
 use Rattle.slides.specs.Slid.{on, source}
-use Rattle.slides.proofs.Corners.{four, at_places, IsOutside, AreApart, AreApart-rotated, by_corner, by_corner-x, by_corner-y, by_corner-z, by_corner-outside, by_corner-rotated, on-crossing, on-zero, on-below, on-apart, crossings-apart, source-x, source-y, source-z, source-rotated, source-outside, source-source, source-below}
+use Rattle.slides.proofs.Corners.{at_places, IsOutside, AreApart, AreApart-rotated, by_corner, by_corner-x, by_corner-y, by_corner-z, by_corner-outside, by_corner-rotated, on-crossing, on-zero, on-below, on-apart, crossings-apart, source-x, source-y, source-z, source-rotated, source-outside, source-source, source-below}
 use Rattle.slides.proofs.Sides.{HasSides, HasSides-rotated, IsPairing-slid, slid_partner}
 use Rattle.slides.proofs.Onto.{IsOnto, class_count-onto}
 
@@ -59,7 +64,7 @@ pub record IsNoSideDart (x y z place : ℕ) : Type 0 where
 
 end_x : (x y z : ℕ) → AreApart x y z → (j : ℕ) → j < 4 → on x j ≢ x → on x j ≢ on x 1 → IsEnd x y z (on x j)
 end_x x y z apart =
-    four (λ j. on x j ≢ x → on x j ≢ on x 1 → IsEnd x y z (on x j))
+    below_four (λ j. on x j ≢ x → on x j ≢ on x 1 → IsEnd x y z (on x j))
     (λ not_0 not_1. absurd (not_0 (on-zero x)))
     (λ not_0 not_1. absurd (not_1 refl))
     (λ not_0 not_1. end_2 x y z apart)
@@ -147,7 +152,7 @@ steps_x n partner value x y z pairing sides faces =
     let step_at : (j : ℕ) → value (partner (on x j)) ≡ value (turned (on x j)) = λ j.
     faces (partner (on x j)) (pairing.below (on x j) (on-below n x j sides.x_below))
     ∙ ap (λ k. value (turned k)) (pairing.back (on x j) (on-below n x j sides.x_below)) in
-    four (λ j. StepsAlike partner value x y z (on x j))
+    below_four (λ j. StepsAlike partner value x y z (on x j))
     (ap value
     (ap (λ k. face (from (partner k))) (on-zero x) ∙ ap (λ k. face (from k)) sides.from_x
     ∙ ap face (source-y x y z 1 apart (omega arith)) ∙ face_of-x x y z 2 (omega arith))
@@ -225,7 +230,7 @@ IsOnFaces-open_faces n partner pairing place below =
 face_of-below_x : (n x y z : ℕ) → x < 4 * n → y < 4 * n → z < 4 * n → (j : ℕ) → j < 4 → face_of x y z (on x j) < 4 * n
 face_of-below_x n x y z x_below y_below z_below j below =
     subst (λ (k : ℕ). k < 4 * n) (sym (face_of-x x y z j below))
-    (four (λ i. slice_index (around x y z) i < 4 * n) (on-below n y 3 y_below) (on-below n z 2 z_below) x_below (on-below n y 2 y_below)
+    (below_four (λ i. slice_index (around x y z) i < 4 * n) (on-below n y 3 y_below) (on-below n z 2 z_below) x_below (on-below n y 2 y_below)
     j below)
 
 face_of-below : (n x y z : ℕ) → AreApart x y z → x < 4 * n → y < 4 * n → z < 4 * n → (place : ℕ) → place < 4 * n
@@ -270,7 +275,7 @@ met_x n partner value x y z sides faces =
     let pair : IsMet n value face (dart_in_face x y z) (on x j) =
     (subst (λ (k : ℕ). k < 4 * n) (sym there) back_below, ap (λ k. value (face k)) there ∙ same) in
     pair in
-    four (λ j. IsMet n value face (dart_in_face x y z) (on x j))
+    below_four (λ j. IsMet n value face (dart_in_face x y z) (on x j))
     (met 0 (on x 2) (omega arith) refl (on-below n x 2 sides.x_below)
     (ap value (face_of-x x y z 2 (omega arith)) ∙ sym (ap value (on-zero x))))
     (met 1 y (omega arith) refl sides.y_below

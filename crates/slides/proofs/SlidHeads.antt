@@ -8,9 +8,11 @@ use Rattle.kh_types.specs.Directions.{is_positive, is_head, head_of, tail_of}
 use Rattle.kh_types.specs.Acceptance.{accepted}
 use Rattle.kh_types.proofs.DartPairs.{dart_at-place, dart_place-at, dart_place-below, IsDart-at, partner-at_place}
 use Rattle.kh_types.proofs.Heads.{HasNoSingleArcs-accepted, HasEnds-accepted, is_head-partner}
+use Rattle.kh_types.proofs.Ranges.{below_four}
+use Rattle.kh_types.proofs.Ways.{not_passed}
 use Rattle.slides.specs.Slid.{on, source, slid}
 use Rattle.slides.specs.SlideCodes.{is_head_with, IsOnlyDart, HasHeadsAndTails}
-use Rattle.slides.proofs.Corners.{four, at_places, on-crossing, on-slot, on-on, on-zero, source-x, source-rotated, source-outside, source-source, source-below}
+use Rattle.slides.proofs.Corners.{at_places, on-crossing, on-slot, on-on, on-zero, source-x, source-rotated, source-outside, source-source, source-below}
 use Rattle.slides.proofs.Sides.{HasSides, HasSides-rotated}
 use Rattle.slides.proofs.SlidArcs.{length-slid, arc_of-slid}
 
@@ -28,7 +30,7 @@ kind-source_x : (n : ℕ) (partner : ℕ → ℕ) (kind : ℕ → Bool) (x y z :
     → (j : ℕ) → j < 4 → kind (source x y z (on x j)) ≡ kind (on x j)
 kind-source_x n partner kind x y z is sides =
     let third = sym (ap kind (on-on x 1 2)) ∙ is.across (on x 1) in
-    four (λ j. kind (source x y z (on x j)) ≡ kind (on x j))
+    below_four (λ j. kind (source x y z (on x j)) ≡ kind (on x j))
     (ap kind (source-x x y z 0 (omega arith)) ∙ sym (ap kind (on-on y 1 2)) ∙ is.across (on y 1)
     ∙ ap (λ k. not (kind k)) (sym sides.from_x) ∙ ap not (is.partners x sides.x_below) ∙ not-not (kind x) ∙ sym (ap kind (on-zero x)))
     (ap kind (source-x x y z 1 (omega arith)) ∙ is.across z ∙ sym (is.partners z sides.z_below) ∙ ap kind sides.from_z)
@@ -56,8 +58,8 @@ enters_at positive slot = nat_eq slot 0 || nat_eq slot (cond positive 3 1)
 
 across_at : (positive : Bool) (slot : ℕ) → slot < 4 → enters_at positive ((slot + 2) % 4) ≡ not (enters_at positive slot)
 unfolding enters_at
-across_at true = four (λ slot. enters_at true ((slot + 2) % 4) ≡ not (enters_at true slot)) refl refl refl refl
-across_at false = four (λ slot. enters_at false ((slot + 2) % 4) ≡ not (enters_at false slot)) refl refl refl refl
+across_at true = below_four (λ slot. enters_at true ((slot + 2) % 4) ≡ not (enters_at true slot)) refl refl refl refl
+across_at false = below_four (λ slot. enters_at false ((slot + 2) % 4) ≡ not (enters_at false slot)) refl refl refl refl
 
 enters-across : (signs : ℕ → Bool) (place : ℕ) → is_head_with signs (dart_at (on place 2)) ≡ not (is_head_with signs (dart_at place))
 unfolding enters_at
@@ -115,10 +117,6 @@ only-slid crossings kind x y z arc dart sides keeps only =
           ∙ ap dart_at (sym (back k) ∙ ap (source x y z) (sym (dart_place-at (source x y z k)) ∙ ap dart_place same));
     }
 
-passes-not : (b : Bool) → (b ≡ true → ⊥) → not b ≡ true
-passes-not true fails = absurd (fails refl)
-passes-not false fails = refl
-
 not-passes : (b : Bool) → not b ≡ true → b ≡ true → ⊥
 not-passes true fails passes = absurd (cc)
 not-passes false fails passes = absurd (cc)
@@ -139,7 +137,7 @@ HasHeadsAndTails-slid code x y z is sides arc is_arc =
     let tail : IsOnlyDart crossings (λ dart. not (kind dart)) arc (tail_of crossings arc) =
     record {
       is = ends.tail;
-      kind_of = passes-not (kind (tail_of crossings arc)) ends.leaves;
+      kind_of = not_passed (kind (tail_of crossings arc)) ends.leaves;
       only = λ other is_other passes. ends.one_tail other is_other (not-passes (kind other) passes);
     } in (
       (dart_at (source x y z (dart_place (head_of crossings arc))), only-slid crossings kind x y z arc (head_of crossings arc) sides keeps head),

@@ -1,4 +1,8 @@
 -- A slide is one of the codes that the gluing law speaks of.
+--
+-- gluing speaks of codes with a triangle whose crossings show their slots in some order (`triangle_before`, `triangle_after`). Here the
+-- three crossings of the code are those, with their arcs inside and the six ends, and the slid crossings are those after: so that the sum
+-- of the whole is that of the law.
 use Rattle.std.proofs.Common.{◌≡◌, ◌≢◌, ℕ, zero, suc, ◌⊎◌, inl, inr, ◌+◌, ◌-◌, ◌*◌, ◌/◌, ◌%◌, ◌<◌, ◌≤◌, ◌∙◌, List, [], ◌∷◌, length, refl, sym, ap, ap₂, subst, arith, true, ℤ}
 use Rattle.std.specs.Prelude.{slice_index, slice_index_or, IsTrue}
 use Rattle.std.proofs.lemmas.Bool.{cases_eq, cases_lt}
@@ -10,6 +14,7 @@ use Rattle.kh_types.specs.Directions.{plus_count, minus_count}
 use Rattle.kh_types.specs.StateSum.{state_sum, sum_with}
 use Rattle.kh_types.proofs.DartPairs.{IsDart-at, IsOtherPlace-partner_at, partner_at-only}
 use Rattle.kh_types.proofs.AcceptedLemmas.{HasArcsTwice-accepted}
+use Rattle.kh_types.proofs.Ranges.{below_four}
 use Rattle.gluing.specs.Arcs.{arc_by_place}
 use Rattle.gluing.specs.Codes.{name_count, HoldsArcs, IsRenumbered, arc_of_dart}
 use Rattle.gluing.specs.Slides.{quadruple_from, IsPlacedTriangle, IsNoSide}
@@ -18,7 +23,7 @@ use Rattle.gluing.proofs.SlidSums.{sum_with-slide}
 use Rattle.gluing.proofs.Renumbered.{sum_with-renumbered}
 use Rattle.slides.specs.Triangles.{has_heights}
 use Rattle.slides.specs.Slid.{on, slid, slid_code}
-use Rattle.slides.proofs.Corners.{four, IsOutside, on-crossing, on-slot, on-zero, on-below, on-apart, source-x, source-outside}
+use Rattle.slides.proofs.Corners.{IsOutside, on-crossing, on-slot, on-zero, on-below, on-apart, source-x, source-outside}
 use Rattle.slides.proofs.Sides.{HasSides, HasSides-rotated}
 use Rattle.slides.proofs.SlidArcs.{length-slid, arc_of_dart-slid, arc_of-at, HasArcsTwice-slid}
 use Rattle.slides.proofs.SlidRule.{slid-rotated}
@@ -223,7 +228,7 @@ shows-before : (crossings : List (List ℕ)) (x y z : ℕ) (arcs : ℕ → ℕ) 
     → Shows arcs (slice_index_or crossings (x / 4) []) (quadruple_from (x % 4) (a ∷ b ∷ c ∷ d ∷ []))
 shows-before crossings x y z arcs a b c d at_0 at_1 at_2 at_3 side =
     Shows-from crossings arcs x (a ∷ b ∷ c ∷ d ∷ [])
-    (four (λ j. arc_of_dart crossings (on x j) ≡ arcs (slice_index (a ∷ b ∷ c ∷ d ∷ []) j)) (ap (arc_of_dart crossings) (on-zero x) ∙ at_0)
+    (below_four (λ j. arc_of_dart crossings (on x j) ≡ arcs (slice_index (a ∷ b ∷ c ∷ d ∷ []) j)) (ap (arc_of_dart crossings) (on-zero x) ∙ at_0)
     (side ∙ at_1) at_2 at_3)
 
 shows-after : (crossings : List (List ℕ)) (x y z : ℕ) (arcs : ℕ → ℕ) (a b c d : ℕ) → HasSides (length crossings) (partner_at crossings) x y z
@@ -236,7 +241,7 @@ shows-after crossings x y z arcs a b c d sides at_0 at_1 at_2 at_3 side =
     let moved = λ (j : ℕ) (below : j < 4).
     arc_of_dart-slid crossings x y z (on x j) (on-below n x j sides.x_below) ∙ ap (arc_of_dart crossings) (source-x x y z j below) in
     Shows-from new arcs x (a ∷ b ∷ c ∷ d ∷ [])
-    (four (λ j. arc_of_dart new (on x j) ≡ arcs (slice_index (a ∷ b ∷ c ∷ d ∷ []) j)) (moved 0 (omega arith) ∙ at_0)
+    (below_four (λ j. arc_of_dart new (on x j) ≡ arcs (slice_index (a ∷ b ∷ c ∷ d ∷ []) j)) (moved 0 (omega arith) ∙ at_0)
     (moved 1 (omega arith) ∙ at_1) (moved 2 (omega arith) ∙ side ∙ at_2) (moved 3 (omega arith) ∙ at_3))
 
 outside-places : (x y z place slot : ℕ) → slot < 4 → place ≢ x / 4 → place ≢ y / 4 → place ≢ z / 4 → IsOutside x y z (4 * place + slot)

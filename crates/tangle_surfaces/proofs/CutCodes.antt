@@ -1,9 +1,12 @@
 -- Behind the first k crossings of an accepted code, the smoothings of a state lead from arcs that do not end there to arcs that do not
 -- start there.
-use Rattle.std.proofs.Common.{◌≡◌, ◌≢◌, ℕ, ◌⊎◌, inl, inr, ◌+◌, ◌*◌, ◌/◌, ◌%◌, ◌<◌, ◌≤◌, ◌∙◌, List, drop, refl, sym, ap, ap₂, subst, length, arith, IsTrue, Bool, true, false, not, ◌&&◌, cond, eq-eqb}
+--
+-- Each arc has a dart of either colour, its end and its start. Cut behind the first k crossings, each of them is inside or outside, and an
+-- arc with one inside alone is open. A smoothing joins darts of different colours, so at an outer crossing it leads from arcs that end at
+-- the crossing to arcs that start there; all outer smoothings together lead from the arcs that end outside to those that start outside.
+use Rattle.std.proofs.Common.{◌≡◌, ◌≢◌, ℕ, inl, inr, ◌+◌, ◌*◌, ◌/◌, ◌%◌, ◌<◌, ◌≤◌, ◌∙◌, List, drop, refl, sym, ap, ap₂, subst, length, arith, IsTrue, Bool, true, false, not, ◌&&◌, cond, eq-eqb}
 use Rattle.std.specs.Prelude.{nat_eq}
-use Rattle.std.proofs.lemmas.Bool.{cases_Bool, cases_eq, eqb-true}
-use Rattle.std.proofs.lemmas.Bool.Decides.{nat_tests}
+use Rattle.std.proofs.lemmas.Bool.{cases_Bool, cases_eq, eqb-true, and_parts, cases_lt}
 use Rattle.kh_types.specs.Bits.{bit}
 use Rattle.kh_types.specs.Acceptance.{accepted}
 use Rattle.kh_types.specs.Code.{Code, IsArc, arc_count}
@@ -19,13 +22,6 @@ use Rattle.tangle_surfaces.specs.CutCodes.{colour_at, is_dart_of, is_inside, ope
 use Rattle.tangle_surfaces.proofs.LaterSlots.{all-later, across-later, later-across}
 
 -- whether the dart of a colour is inside
-
-two_pass : (s t : Bool) → (s && t) ≡ true → (s ≡ true) × (t ≡ true)
-two_pass true t both = (refl, both)
-two_pass false t both = (both, absurd (no both))
-  where
-    no : false ≡ true → ⊥
-    no same = cc same
 
 no_both : {P : Type 0} (b : Bool) → b ≡ true → b ≡ false → P
 no_both b is other = absurd (false_true (sym other ∙ is))
@@ -43,7 +39,7 @@ pub inside-found : (crossings : List (List ℕ)) (choice k side name : ℕ) → 
     → (place : ℕ) × (place < 4 * k) × (arc_at crossings place ≡ name) × (colour_at choice place ≡ side)
 inside-found crossings choice k side name is =
     let found = list_any-one (is_dart_of crossings choice side name) 0 (4 * k) is in
-    let passes = two_pass (nat_eq (arc_at crossings found.0) name) (nat_eq (colour_at choice found.0) side) found.3 in (
+    let passes = and_parts (nat_eq (arc_at crossings found.0) name) (nat_eq (colour_at choice found.0) side) found.3 in (
       found.0,
       omega (arith, found.2),
       eqb-true (arc_at crossings found.0) name passes.0,
@@ -111,7 +107,7 @@ IsBehind-sided code choice k side other name cut arc outside =
     let place = sided crossings choice side name in
     let there = IsSided-sided crossings choice side name (HasArcsTwice-accepted code cut.is) cut.coloured arc (omega (arith, cut.sum)) in
     record {
-      from = elim (less_or place (4 * k)) [
+      from = elim (cases_lt place (4 * k)) [
         | inr from ↦ from
         | inl before ↦
             no_both (is_inside crossings choice k side name)
@@ -121,9 +117,6 @@ IsBehind-sided code choice k side other name cut arc outside =
       on_arc = there.on_arc;
       has_side = there.has_side;
     }
-  where
-    less_or : (x n : ℕ) → (x < n) ⊎ (n ≤ x)
-    less_or x n = grind (arith, nat_tests)
 
 -- the next arc has its dart of the other colour outside
 next-outside : (code : Code) (choice k state side other name : ℕ) → IsCut code choice k side other

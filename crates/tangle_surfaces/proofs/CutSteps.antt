@@ -1,9 +1,13 @@
 -- One crossing more: a pairing of the open points and what a smoothing of the crossing joins make a pairing of the new open points.
-use Rattle.std.proofs.Common.{◌≡◌, ◌≢◌, ℕ, zero, suc, ◌⊎◌, inl, inr, ◌+◌, ◌*◌, ◌/◌, ◌%◌, ◌^◌, ◌<◌, ◌≤◌, ◌∙◌, List, [], ◌++◌, refl, sym, ap, ap₂, subst, length, arith, Bool, true, false, not, ◌&&◌, ◌||◌, cond, eq-eqb}
+--
+-- The pairing of the open points leads from starts to ends. A smoothing of the next crossing closes some of these points and opens others,
+-- and what it joins leads the same way (CutTests counts the cases). Paths of both that go from new open point to new open point are a
+-- pairing again (Paths), and the circles that are left are closed.
+use Rattle.std.proofs.Common.{◌≡◌, ◌≢◌, ℕ, zero, suc, ◌⊎◌, inl, inr, ◌+◌, ◌*◌, ◌/◌, ◌%◌, ◌<◌, ◌≤◌, ◌∙◌, List, [], ◌++◌, refl, sym, ap, ap₂, subst, length, arith, Bool, true, false, not, ◌&&◌, ◌||◌, cond, eq-eqb}
 use Rattle.std.specs.Prelude.{nat_eq, slice_index_or}
 use Rattle.std.specs.List.{fold, range_with_len}
 use Rattle.std.proofs.Math.Path.{fun_ext}
-use Rattle.std.proofs.lemmas.Bool.{eqb-true}
+use Rattle.std.proofs.lemmas.Bool.{eqb-true, or_cases, or_left, or_right, cases_lt}
 use Rattle.std.proofs.lemmas.List.Sums.{fold-append}
 use Rattle.kh_types.specs.Bits.{bit}
 use Rattle.kh_types.specs.Code.{Code, arc_in, arc_count}
@@ -16,6 +20,7 @@ use Rattle.kh_types.proofs.JoinedClasses.{joined-swapped, IsNamed-classes_of}
 use Rattle.kh_types.proofs.JoinedSlots.{arc_at-slot, pairs_by}
 use Rattle.kh_types.proofs.CircleCycles.{arc-at_place, one_place}
 use Rattle.kh_types.proofs.RangeCounts.{but}
+use Rattle.kh_types.proofs.BitLemmas.{bit-cases}
 use Rattle.tangle_surfaces.specs.Surfaces.{Lead, other_than, is_open}
 use Rattle.tangle_surfaces.specs.CutCodes.{colour_at, is_inside, opens, ends_there, starts_there}
 use Rattle.tangle_surfaces.specs.Pairings.{JoinOpen}
@@ -182,17 +187,6 @@ same_bool true c onward back = sym (onward refl)
 same_bool false true onward back = back refl
 same_bool false false onward back = refl
 
-or_cases : (s t : Bool) → (s || t) ≡ true → (s ≡ true) ⊎ (t ≡ true)
-or_cases true t either = inl refl
-or_cases false t either = inr either
-
-or_left : (s t : Bool) → s ≡ true → (s || t) ≡ true
-or_left s t is = ap (λ b. b || t) is
-
-or_right : (s t : Bool) → t ≡ true → (s || t) ≡ true
-or_right true t is = refl
-or_right false t is = is
-
 pub inside-more : (code : Code) (choice k side u v x : ℕ) → IsNext code choice k → IsPairAt choice k side u v
     → is_inside code.crossings choice (k + 1) side x
     ≡ (is_inside code.crossings choice k side x || (nat_eq x (arc_at code.crossings u) || nat_eq x (arc_at code.crossings v)))
@@ -204,7 +198,7 @@ inside-more code choice k side u v x next is =
     same_bool (is_inside crossings choice (k + 1) side x) (old || (at_u || at_v))
     (λ inside.
     let found = inside-found crossings choice (k + 1) side x inside in
-    elim (less_or found.0 (4 * k)) [
+    elim (cases_lt found.0 (4 * k)) [
       | inl before ↦ or_left old (at_u || at_v) (is_inside-at crossings choice k side x found.0 before found.2 found.3)
       | inr from ↦
           or_right old (at_u || at_v)
@@ -226,9 +220,6 @@ inside-more code choice k side u v x next is =
             is_inside-at crossings choice (k + 1) side x v is.v_below (sym (eqb-true x (arc_at crossings v) second)) is.v_side
       ]
     ])
-  where
-    less_or : (x n : ℕ) → (x < n) ⊎ (n ≤ x)
-    less_or x n = grind arith
 
 pub new-outside : (code : Code) (choice k side u v x : ℕ) → IsNext code choice k → IsPairAt choice k side u v
     → (nat_eq x (arc_at code.crossings u) || nat_eq x (arc_at code.crossings v)) ≡ true
@@ -311,12 +302,6 @@ Lead-joined code choice k u v r t classes pairs next ends starts have join =
     (Lead-paths n classes free other pairs have.onward have.back
     (subst (λ (s : ℕ → Bool). JoinOpen n (is_open (only_one other free) s) classes pairs) starts_are
     (subst (λ (e : ℕ → Bool). JoinOpen n (is_open e (starts_there crossings choice (k + 1))) classes pairs) ends_are join))))
-
-pub bit-cases : (number place : ℕ) → (bit number place ≡ 0) ⊎ (bit number place ≡ 1)
-bit-cases number place = by (number / 2 ^ place)
-  where
-    by : (x : ℕ) → (x % 2 ≡ 0) ⊎ (x % 2 ≡ 1)
-    by x = let small : x % 2 < 2 = omega arith in grind arith
 
 -- the four ways that colours and smoothing have
 

@@ -1,4 +1,8 @@
 -- What a smoothing of one crossing and a pairing of what is open behind it join leads back from starts to ends.
+--
+-- A pairing inside leads from starts to ends, what is outside from ends to starts. One crossing is two pairs of the latter kind. Put
+-- together, they lead from all ends to all starts, as each point is at the crossing, or open, or neither. So the discs between two pairings
+-- with a crossing between are a surface (IsSurface) whose components Leading describes.
 use Rattle.std.proofs.Common.{◌≡◌, ◌≢◌, ℕ, inl, inr, ◌+◌, ◌*◌, ◌%◌, ◌<◌, ◌≤◌, ◌∙◌, List, [], ◌∷◌, ◌++◌, sym, ap, ap₂, subst, length, arith, IsTrue, Bool, true, false, not, ◌&&◌, ◌||◌, cond}
 use Rattle.std.specs.Prelude.{nat_eq, slice_index_or}
 use Rattle.std.proofs.Math.Path.{fun_ext}
@@ -9,13 +13,14 @@ use Rattle.kh_types.specs.Circles.{smoothing_of}
 use Rattle.kh_types.specs.Colours.{IsColoured}
 use Rattle.kh_types.specs.CircleSteps.{arc_at}
 use Rattle.kh_types.proofs.JoinedSlots.{arc_at-slot}
+use Rattle.kh_types.proofs.BitLemmas.{bit-cases}
 use Rattle.tangle_surfaces.specs.Surfaces.{Lead, other_than, IsSurface}
 use Rattle.tangle_surfaces.specs.CutCodes.{is_inside, ends_there, starts_there, outer_smoothings}
 use Rattle.tangle_surfaces.proofs.Paths.{Lead-turned}
 use Rattle.tangle_surfaces.proofs.LeadLemmas.{AreApart, either, is_one, Lead-append, Lead-none, Lead-one, Lead-one_turned}
 use Rattle.tangle_surfaces.proofs.CutCodes.{Lead-outside, ends-starts}
 use Rattle.tangle_surfaces.proofs.CutTests.{stays, leads, closes_ends, closes_starts, kept_ends, kept_starts, at_behind}
-use Rattle.tangle_surfaces.proofs.CutSteps.{IsNext, IsPairAt, IsPairAt-turned, IsPairAt-slots, pair-below, pair-apart, inside-more, new-outside, bit-cases}
+use Rattle.tangle_surfaces.proofs.CutSteps.{IsNext, IsPairAt, IsPairAt-turned, IsPairAt-slots, pair-below, pair-apart, inside-more, new-outside}
 
 -- the numbers of arcs and loops of a code, and 0
 abbrev pub size_of : Code → ℕ

@@ -1,18 +1,24 @@
 -- The discs of two pairings are the cycles of the one and the other's way back, at ends.
-use Rattle.std.proofs.Common.{◌≡◌, ℕ, ◌⊎◌, inl, inr, ◌<◌, ◌∙◌, List, ◌++◌, refl, sym, ap, ap₂, subst, arith, Bool, true, false, ◌&&◌, ◌||◌, cond, eq-eqb}
+--
+-- Two pairings with what leads back give two permutations of points. Where the one leads from an end to a start and the other leads back to
+-- an end, their composition goes from end to end, and the disc of the two is its cycle. So discs are counted by cycles of one permutation
+-- and the way back of the other, which is what Euler's formula counts (OrbitGenus).
+use Rattle.std.proofs.Common.{◌≡◌, ℕ, ◌⊎◌, inl, inr, ◌<◌, ◌∙◌, List, ◌++◌, refl, sym, ap, ap₂, subst, arith, Bool, true, false, ◌&&◌, cond, eq-eqb}
 use Rattle.std.specs.Prelude.{nat_eq, slice_index}
-use Rattle.std.proofs.lemmas.Bool.{cases_Bool, eqb-true}
+use Rattle.std.proofs.lemmas.Bool.{cases_Bool, eqb-true, or_left, or_right}
 use Rattle.kh_types.specs.Classes.{classes_of, is_least, Respects, IsNamed}
 use Rattle.kh_types.specs.Permutations.{IsPermutation, cycles_of}
-use Rattle.kh_types.proofs.ClassLemmas.{classes-together, classes-finest}
+use Rattle.kh_types.proofs.ClassLemmas.{classes-together, classes-finest, Respects-append, Respects-first, Respects-second, AreBelow-append}
 use Rattle.kh_types.proofs.JoinedClasses.{IsNamed-classes_of}
 use Rattle.kh_types.proofs.Cycles.{AreCycles-cycles_of, IsNamed-cycles_of}
+use Rattle.kh_types.proofs.RangeCounts.{counted}
 use Rattle.tangle_surfaces.specs.Orbits.{is_in, count_in, between}
 use Rattle.tangle_surfaces.specs.Surfaces.{IsSurface, components, is_open, is_disc}
-use Rattle.tangle_surfaces.proofs.Counts.{counted, count_by-matched}
+use Rattle.tangle_surfaces.proofs.Counts.{count_by-matched, counted-same}
 use Rattle.tangle_surfaces.proofs.PartCounts.{AreFiner}
-use Rattle.tangle_surfaces.proofs.OrbitLemmas.{Keeps, AreFiner-cycles, IsPermutation-between, Keeps-between, Respects-append, Respects-first, Respects-second, AreBelow-append}
+use Rattle.tangle_surfaces.proofs.OrbitLemmas.{Keeps, AreFiner-cycles, IsPermutation-between, Keeps-between}
 use Rattle.tangle_surfaces.proofs.Leading.{led-inside, led-outside, IsPermutation-led, Keeps-led, first_next, first_back, second_next, second_back, components-below}
+use Rattle.tangle_surfaces.proofs.Paths.{or_else}
 
 -- tests that pass together
 pub all_three : (s t u : Bool) → (s && (t && u)) ≡ true → (s ≡ true) × (t ≡ true) × (u ≡ true)
@@ -35,22 +41,6 @@ not_both b is other = false_true (sym other ∙ is)
   where
     false_true : false ≡ true → ⊥
     false_true same = cc same
-
-pub or_else : (s t : Bool) → (s || t) ≡ true → s ≡ false → t ≡ true
-or_else s t either other = sym (ap (λ b. b || t) other) ∙ either
-
-pub or_first : (s t : Bool) → s ≡ true → (s || t) ≡ true
-or_first s t is = ap (λ b. b || t) is
-
-pub or_second : (s t : Bool) → t ≡ true → (s || t) ≡ true
-or_second true t is = refl
-or_second false t is = is
-
-counted-same : (b c : Bool) → counted b ≡ counted c → b ≡ c
-counted-same true true same = refl
-counted-same false false same = refl
-counted-same true false same = absurd (omega (arith, same))
-counted-same false true same = absurd (omega (arith, same))
 
 -- a start is no end
 start_no_end : (n : ℕ) (ends starts : ℕ → Bool) (m k w : List (ℕ × ℕ)) → IsSurface n ends starts m k w
@@ -93,7 +83,7 @@ discs-counted n ends starts all discs cycles end_of name are =
       omega (arith, are.discs_named.least x below, below),
       both_pass (is_in all name (slice_index discs x)) (is_open ends starts (slice_index discs x))
           (is_least discs (slice_index discs x)) (ap (λ c. nat_eq c name) (are.discs_finer x below) ∙ passes.0)
-          (are.disc_open x below ∙ or_first (ends x) (starts x) passes.1)
+          (are.disc_open x below ∙ or_left (ends x) (starts x) passes.1)
           (eq-eqb (slice_index discs (slice_index discs x)) (slice_index discs x) (are.discs_named.own x below)),
     ))
     (λ x y x_below y_below x_holds y_holds same.
@@ -208,13 +198,13 @@ AreDiscs-surface n ends starts m k w is =
     ap cycle (end_by-own ends f_back x end) ∙ sym (are.step x below)
     ∙ ap cycle (ap f_back (g_end x end) ∙ sym (end_start next (is.second.next_below x below end) (is.second.next_to x below end)))) in
     let opened : ℕ → ℕ = λ x. counted (is_open ends starts x) in
-    let open_end = λ (x : ℕ) (end : ends x ≡ true). or_first (ends x) (starts x) end in
+    let open_end = λ (x : ℕ) (end : ends x ≡ true). or_left (ends x) (starts x) end in
     let open_m : Respects opened m =
     is.first.only opened (λ x below end.
-    ap counted (open_end x end ∙ sym (or_second (ends (is.first.next x)) (starts (is.first.next x)) (is.first.next_to x below end)))) in
+    ap counted (open_end x end ∙ sym (or_right (ends (is.first.next x)) (starts (is.first.next x)) (is.first.next_to x below end)))) in
     let open_k : Respects opened k =
     is.second.only opened (λ x below end.
-    ap counted (open_end x end ∙ sym (or_second (ends (is.second.next x)) (starts (is.second.next x)) (is.second.next_to x below end)))) in
+    ap counted (open_end x end ∙ sym (or_right (ends (is.second.next x)) (starts (is.second.next x)) (is.second.next_to x below end)))) in
     let to_end : (x : ℕ) → x < n → is_open ends starts x ≡ true
     → (ends x ≡ true) ⊎ ((ends x ≡ false) × (starts x ≡ true)) =
     λ x below open_x. elim (cases_Bool (ends x)) [

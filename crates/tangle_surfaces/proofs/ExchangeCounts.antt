@@ -4,14 +4,15 @@ use Rattle.std.specs.Prelude.{slice_index}
 use Rattle.std.proofs.lemmas.Bool.{cases_eq}
 use Rattle.kh_types.specs.Classes.{merged, Respects, IsNamed}
 use Rattle.kh_types.specs.Permutations.{IsPermutation, IsExchange, AreJoined, cycles_of}
-use Rattle.kh_types.proofs.ClassLemmas.{slice_index-joined, merged-both}
+use Rattle.kh_types.proofs.ClassLemmas.{slice_index-joined, merged-both, Respects-append, Respects-first, Respects-second}
 use Rattle.kh_types.proofs.JoinedClasses.{classes_of-same}
 use Rattle.kh_types.proofs.Cycles.{AreCycles-cycles_of, IsNamed-cycles_of}
-use Rattle.kh_types.proofs.ExchangedCycles.{AreJoined-apart, AreJoined-split}
+use Rattle.kh_types.proofs.ExchangedCycles.{AreJoined-apart, AreJoined-split, AreJoined-together}
+use Rattle.kh_types.proofs.Exchanges.{IsExchange-back}
 use Rattle.tangle_surfaces.specs.Orbits.{is_in, parts_in, steps_of, orbits_of, one_if}
 use Rattle.tangle_surfaces.proofs.PartCounts.{AreFiner, parts_in-joined}
 use Rattle.tangle_surfaces.proofs.OrbitGenus.{parts_in-self}
-use Rattle.tangle_surfaces.proofs.OrbitLemmas.{Keeps, Respects-steps, Keeps-steps, Respects-append, Respects-first, Respects-second, steps-below, orbit_steps-below, each, IsExchange-turned}
+use Rattle.tangle_surfaces.proofs.OrbitLemmas.{Keeps, Respects-steps, Keeps-steps, steps-below, orbit_steps-below, each}
 
 -- finer classes, two of which become one in the coarser
 merged-sum : (n : ℕ) (fine coarse : List ℕ) (x y name : ℕ) → IsNamed n fine → x < n → y < n → AreJoined fine coarse x y
@@ -50,14 +51,6 @@ orbits-cycles n f back other x y permutes below exchange same g respects =
     (keeps-exchanged n f other g x y exchange
     ((AreCycles-cycles_of n f back permutes).finest g keeps x y exchange.x_below exchange.y_below same) keeps)
 
--- classes that two were joined into have them together
-together-joined : (n : ℕ) (before after : List ℕ) (x y : ℕ) → IsNamed n before → x < n → y < n → AreJoined before after x y
-    → slice_index after x ≡ slice_index after y
-together-joined n before after x y named x_below y_below merge =
-    ap (λ cs. slice_index cs x) merge.one ∙ slice_index-joined before (x, y) x (omega (arith, named.size, x_below))
-    ∙ merged-both (slice_index before x) (slice_index before y)
-    ∙ sym (slice_index-joined before (x, y) y (omega (arith, named.size, y_below))) ∙ ap (λ cs. slice_index cs y) (sym merge.one)
-
 pub exchange-counted : (n : ℕ) (f back other other_back : ℕ → ℕ) (x y : ℕ) → IsPermutation n f back
     → IsPermutation n other other_back → IsExchange n f other x y → (name : ℕ) → name < n
     → slice_index (orbits_of n f other) name ≡ name
@@ -91,8 +84,8 @@ exchange-counted n f back other other_back x y permutes other_permutes exchange 
           classes_of-same n (f_steps ++ other_steps) other_steps all_below (steps-below n other other_permutes.below)
           (λ g respects. Respects-second g f_steps other_steps respects)
           (λ g respects. Respects-append g f_steps other_steps
-          (orbits-cycles n other other_back f x y other_permutes permutes.below (IsExchange-turned n f other x y exchange)
-          (together-joined n (cycles_of n f) (cycles_of n other) x y f_named x_below y_below merge) g respects) respects) in
+          (orbits-cycles n other other_back f x y other_permutes permutes.below (IsExchange-back n f other x y exchange)
+          (AreJoined-together n (cycles_of n f) (cycles_of n other) x y f_named x_below y_below merge) g respects) respects) in
           subst (λ (cs : List ℕ).
           parts_in n cs name (cycles_of n f) + parts_in n cs name (cycles_of n other) ≡ 2 + one_if (is_in cs name x)) (sym are)
           (merged-sum n (cycles_of n f) (cycles_of n other) x y name f_named x_below y_below merge below

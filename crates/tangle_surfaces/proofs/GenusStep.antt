@@ -1,14 +1,18 @@
 -- One exchange of images: where two classes become one, or one stays one, its parts still have a genus.
+--
+-- The classes of two numbers become one, or were one. Their parts of one kind become one too, and those of the other kind become one or
+-- part in two. The faces, the parts of both kinds and the classes are counted before and after: in each case the sums of Euler's formula
+-- change by an even number that the genus takes up.
 use Rattle.std.proofs.Common.{◌≡◌, ◌≢◌, ℕ, ◌⊎◌, inl, inr, ◌+◌, ◌*◌, ◌<◌, ◌∙◌, List, sym, ap, subst, arith, Bool, true, eq-eqb}
 use Rattle.std.specs.Prelude.{slice_index, min, max}
 use Rattle.std.proofs.lemmas.Bool.{cases_eq, false_from_ne_true, eqb-true}
 use Rattle.std.proofs.lemmas.Bool.Decides.{nat_tests}
 use Rattle.kh_types.specs.Classes.{merged, joined, is_least, IsNamed}
 use Rattle.kh_types.specs.Permutations.{AreJoined}
-use Rattle.kh_types.proofs.ClassLemmas.{slice_index-joined, merged-both}
-use Rattle.kh_types.proofs.JoinedClasses.{joined-together}
+use Rattle.kh_types.proofs.ClassLemmas.{slice_index-joined, merged-both, merged-first}
+use Rattle.kh_types.proofs.JoinedClasses.{joined-together, max-fixed}
+use Rattle.kh_types.proofs.RangeCounts.{counted}
 use Rattle.tangle_surfaces.specs.Orbits.{is_in, count_in, parts_in, size_in, HasGenus}
-use Rattle.tangle_surfaces.proofs.Counts.{counted}
 use Rattle.tangle_surfaces.proofs.PartCounts.{AreFiner, parts_in-joined, count_in-one, count_in-other}
 
 -- the classes of two numbers become one; so do their parts of one kind, and of another kind too, or else one part becomes two
@@ -50,12 +54,6 @@ not_greater a b class name apart own is = grind (arith, nat_tests)
 
 was_name : (a b class name : ℕ) → merged a b class ≡ name → name ≢ min a b → class ≡ name
 was_name a b class name is other = grind (arith, nat_tests)
-
-merged-first : (a b : ℕ) → merged a b a ≡ min a b
-merged-first a b = grind (arith, nat_tests)
-
-max-either : (a b : ℕ) → (max a b ≡ a) ⊎ (max a b ≡ b)
-max-either a b = grind (arith, nat_tests)
 
 -- the two numbers were in one class
 HaveGenus-together : (n : ℕ) (before after f old_g new_g old_h new_h : List ℕ) (x y : ℕ)
@@ -142,7 +140,7 @@ HaveGenus-apart n before after f old_g new_g old_h new_h x y step merge apart ha
       | inr other ↦
           let is_name = sym (at name below) ∙ own in
           let own_max : name ≡ max a b → slice_index before name ≡ name =
-          λ is_max. ap (λ z. slice_index before z) is_max ∙ max_own (λ z. slice_index before z) a b
+          λ is_max. ap (λ z. slice_index before z) is_max ∙ max-fixed (λ z. slice_index before z) a b
           (named.own x step.x_below) (named.own y step.y_below) ∙ sym is_max in
           let not_max : name ≢ max a b = not_greater a b (slice_index before name) name apart own_max is_name in
           let was = have name below (was_name a b (slice_index before name) name is_name other) in
@@ -160,10 +158,6 @@ HaveGenus-apart n before after f old_g new_g old_h new_h x y step merge apart ha
           }
     ])
   where
-    max_own : (f : ℕ → ℕ) (a b : ℕ) → f a ≡ a → f b ≡ b → f (max a b) ≡ max a b
-    max_own f a b at_a at_b =
-        elim (max-either a b) [ inl is ↦ ap f is ∙ at_a ∙ sym is | inr is ↦ ap f is ∙ at_b ∙ sym is ]
-
     both : (f g1 g h1 h s d fa ga ha sa fb gb hb sb genus genus_too : ℕ) → g1 ≡ g + d → h1 ≡ h + d → d ≡ 1
         → f ≡ fa + fb → g1 ≡ ga + gb → h1 ≡ ha + hb → s ≡ sa + sb
         → fa + (ga + ha) + 2 * genus ≡ sa + 2 → fb + (gb + hb) + 2 * genus_too ≡ sb + 2

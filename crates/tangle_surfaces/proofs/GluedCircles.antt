@@ -1,24 +1,23 @@
 -- The circles of two parts that meet in open points: the closed ones of the first part, and those of what it joins the open points to
 -- and of the second part.
+--
+-- A circle of the whole has an open point or has none. With none it is closed in the first part, or lies in the second. With one, its open
+-- points are joined in the first part by paths, and each path may be replaced by a pair of its two ends: so these circles are those of the
+-- pairing and of the second part.
 use Rattle.std.proofs.Common.{◌≡◌, ℕ, suc, inl, inr, ◌+◌, ◌<◌, ◌∙◌, List, [], ◌∷◌, ◌++◌, refl, sym, ap, ap₂, arith, Bool, true, false, not, ◌&&◌, cond, eq-eqb}
 use Rattle.std.specs.Prelude.{nat_eq, slice_index, unwrap_or}
 use Rattle.std.specs.List.{find, list_any, range_with_len}
-use Rattle.std.proofs.lemmas.Bool.{cases_Bool, eqb-true, false_from_ne_true}
+use Rattle.std.proofs.lemmas.Bool.{cases_Bool, eqb-true, false_from_ne_true, and_parts}
 use Rattle.kh_types.specs.Classes.{classes_of, is_least, Respects, AreBelow, IsNamed}
-use Rattle.kh_types.proofs.ClassLemmas.{classes-together, classes-finest}
+use Rattle.kh_types.proofs.ClassLemmas.{classes-together, classes-finest, Respects-append, Respects-first, Respects-second, AreBelow-append}
 use Rattle.kh_types.proofs.JoinedClasses.{IsNamed-classes_of}
-use Rattle.kh_types.proofs.RangeCounts.{list_any-at, list_any-one, count_by-alike}
+use Rattle.kh_types.proofs.RangeCounts.{list_any-at, list_any-one, count_by-alike, counted}
 use Rattle.tangle_surfaces.specs.Orbits.{is_in, count_in, parts_in}
 use Rattle.tangle_surfaces.specs.Pairings.{JoinOpen, seek, JoinOpenAlone, has_open, is_closed}
-use Rattle.tangle_surfaces.proofs.Counts.{counted, count_by-matched, count_by-either}
+use Rattle.tangle_surfaces.proofs.Counts.{count_by-matched, count_by-either, counted-one}
 use Rattle.tangle_surfaces.proofs.PartCounts.{AreFiner}
-use Rattle.tangle_surfaces.proofs.OrbitLemmas.{Respects-append, Respects-first, Respects-second, AreBelow-append}
 use Rattle.tangle_surfaces.proofs.DiscCounts.{all_three, both_pass}
 use Rattle.tangle_surfaces.proofs.Paths.{false_true, IsSought, IsSought-seek}
-
-two_pass : (s t : Bool) → (s && t) ≡ true → (s ≡ true) × (t ≡ true)
-two_pass true t both = (refl, both)
-two_pass false t both = absurd (false_true both)
 
 -- what depends on a class alone
 Respects-after : (f c : ℕ → ℕ) (pairs : List (ℕ × ℕ)) → Respects c pairs → Respects (λ x. f (c x)) pairs
@@ -42,7 +41,7 @@ open_found : (n : ℕ) (opened : ℕ → Bool) (classes : List ℕ) (x : ℕ) �
     → (y : ℕ) × IsSought n classes opened x y
 open_found n opened classes x has =
     let found = list_any-one (λ z. opened z && nat_eq (slice_index classes z) (slice_index classes x)) 0 n has in
-    let passes = two_pass (opened found.0) (nat_eq (slice_index classes found.0) (slice_index classes x)) found.3 in (
+    let passes = and_parts (opened found.0) (nat_eq (slice_index classes found.0) (slice_index classes x)) found.3 in (
       found.0,
       record {
         below = omega (arith, found.2);
@@ -121,7 +120,7 @@ AreGlued-parts n opened xs ys m xs_below ys_below are join =
           Respects-open n opened d_of (λ z. here (c_of z)) ys ys_below are d_ys
           (λ z w z_below w_below z_open w_open _. ap counted (outside z z_below z_open ∙ sym (outside w w_below w_open))) in
           eqb-true (c_of y) (c_of x)
-          (one_counted (nat_eq (c_of y) (c_of x))
+          (counted-one (nat_eq (c_of y) (c_of x))
           (classes-finest (λ z. here (c_of z)) n (xs ++ ys)
           (Respects-append (λ z. here (c_of z)) xs ys (Respects-after here c_of xs c_respects) here_ys) a_below y x y_below x_below same
           ∙ ap counted (eq-eqb (c_of x) (c_of x) refl)));
@@ -133,16 +132,12 @@ AreGlued-parts n opened xs ys m xs_below ys_below are join =
           x_below y_below same
           ∙ at_open y y_below y_open);
       kept = λ x below is.
-          one_counted (opened (d_of x))
+          counted-one (opened (d_of x))
           (classes-finest one_open n (m ++ ys) (Respects-append one_open m ys open_m open_ys) d_below (d_of x) x
           (omega (arith, d_named.least x below, below)) below (d_named.own x below)
           ∙ ap counted is);
     }
   where
-    one_counted : (b : Bool) → counted b ≡ 1 → b ≡ true
-    one_counted true is = refl
-    one_counted false is = absurd (omega (arith, is))
-
     suc_one : (x y : ℕ) → suc x ≡ suc y → x ≡ y
     suc_one x y same = omega (arith, same)
 

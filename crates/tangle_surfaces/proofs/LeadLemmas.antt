@@ -1,13 +1,18 @@
 -- Pairs that lead from points of a kind to points of another, put together.
+--
+-- `Lead n from to pairs`: the pairs join each point of one kind with one point of the other, one to one, and whatever respects the pairs
+-- agrees on both. Two such lists for kinds that have no point in common make one for both kinds (`Lead-append`), and the other kinds close
+-- what is led.
 use Rattle.std.proofs.Common.{◌≡◌, ℕ, inl, inr, ◌<◌, ◌∙◌, List, [], ◌∷◌, ◌++◌, refl, sym, ap, subst, Bool, true, false, not, ◌&&◌, ◌||◌, eq-eqb}
 use Rattle.std.specs.Prelude.{nat_eq, slice_index, unwrap_or}
 use Rattle.std.specs.List.{find, range_with_len}
-use Rattle.std.proofs.lemmas.Bool.{cases_Bool, eqb-true}
+use Rattle.std.proofs.lemmas.Bool.{cases_Bool, eqb-true, or_left, or_right, not-true}
+use Rattle.kh_types.proofs.ClassLemmas.{Respects-append, Respects-first, Respects-second, AreBelow-append}
 use Rattle.tangle_surfaces.specs.Surfaces.{Lead, other_than, IsSurface}
 use Rattle.tangle_surfaces.specs.Pairings.{JoinOpen, seek, joins_of}
-use Rattle.tangle_surfaces.proofs.OrbitLemmas.{Respects-steps, Keeps-steps, Respects-append, Respects-first, Respects-second, AreBelow-append, steps-below}
-use Rattle.tangle_surfaces.proofs.Leading.{not-true, led, led-inside, led-outside}
-use Rattle.tangle_surfaces.proofs.Paths.{false_true, IsSought, IsSought-seek}
+use Rattle.tangle_surfaces.proofs.OrbitLemmas.{Respects-steps, Keeps-steps, steps-below}
+use Rattle.tangle_surfaces.proofs.Leading.{led, led-inside, led-outside}
+use Rattle.tangle_surfaces.proofs.Paths.{false_true, IsSought, IsSought-seek, or_else}
 
 -- no point is of both kinds
 abbrev pub AreApart : ℕ → (ℕ → Bool) → (ℕ → Bool) → Type 0
@@ -22,16 +27,6 @@ AreApart-turned n kind other apart x below is = elim (cases_Bool (kind x)) [
 -- of one kind or of another
 abbrev pub either : (ℕ → Bool) → (ℕ → Bool) → ℕ → Bool
 either kind other x = kind x || other x
-
-pub either-first : (b c : Bool) → b ≡ true → (b || c) ≡ true
-either-first b c is = ap (λ d. d || c) is
-
-pub either-second : (b c : Bool) → c ≡ true → (b || c) ≡ true
-either-second true c is = refl
-either-second false c is = is
-
-pub either-other : (b c : Bool) → (b || c) ≡ true → b ≡ false → c ≡ true
-either-other b c is none = sym (ap (λ d. d || c) none) ∙ is
 
 -- pairs that lead from one kind to another close what they lead: at the other points they lead back, or nowhere
 pub Lead-closing : (n : ℕ) (from to : ℕ → Bool) (pairs : List (ℕ × ℕ)) → AreApart n from to → Lead n from to pairs
@@ -112,37 +107,37 @@ Lead-append n from to from_too to_too xs ys from_apart to_apart first second =
       next_below = λ x below is. elim (cases_Bool (from x)) [
         | inl here ↦ subst (λ (z : ℕ). z < n) (sym (inside x here)) (first.next_below x below here)
         | inr there ↦
-            subst (λ (z : ℕ). z < n) (sym (outside x there)) (second.next_below x below (either-other (from x) (from_too x) is there))
+            subst (λ (z : ℕ). z < n) (sym (outside x there)) (second.next_below x below (or_else (from x) (from_too x) is there))
       ];
       next_to = λ x below is. elim (cases_Bool (from x)) [
         | inl here ↦
             ap (either to to_too) (inside x here)
-            ∙ either-first (to (first.next x)) (to_too (first.next x)) (first.next_to x below here)
+            ∙ or_left (to (first.next x)) (to_too (first.next x)) (first.next_to x below here)
         | inr there ↦
-            let is_too = either-other (from x) (from_too x) is there in
+            let is_too = or_else (from x) (from_too x) is there in
             ap (either to to_too) (outside x there)
-            ∙ either-second (to (second.next x)) (to_too (second.next x)) (second.next_to x below is_too)
+            ∙ or_right (to (second.next x)) (to_too (second.next x)) (second.next_to x below is_too)
       ];
       back_below = λ x below is. elim (cases_Bool (to x)) [
         | inl here ↦ subst (λ (z : ℕ). z < n) (sym (back_inside x here)) (first.back_below x below here)
         | inr there ↦
-            subst (λ (z : ℕ). z < n) (sym (back_outside x there)) (second.back_below x below (either-other (to x) (to_too x) is there))
+            subst (λ (z : ℕ). z < n) (sym (back_outside x there)) (second.back_below x below (or_else (to x) (to_too x) is there))
       ];
       back_from = λ x below is. elim (cases_Bool (to x)) [
         | inl here ↦
             ap (either from from_too) (back_inside x here)
-            ∙ either-first (from (first.back x)) (from_too (first.back x)) (first.back_from x below here)
+            ∙ or_left (from (first.back x)) (from_too (first.back x)) (first.back_from x below here)
         | inr there ↦
-            let is_too = either-other (to x) (to_too x) is there in
+            let is_too = or_else (to x) (to_too x) is there in
             ap (either from from_too) (back_outside x there)
-            ∙ either-second (from (second.back x)) (from_too (second.back x)) (second.back_from x below is_too)
+            ∙ or_right (from (second.back x)) (from_too (second.back x)) (second.back_from x below is_too)
       ];
       back_next = λ x below is. elim (cases_Bool (from x)) [
         | inl here ↦
             ap (led to first.back second.back) (inside x here) ∙ back_inside (first.next x) (first.next_to x below here)
             ∙ first.back_next x below here
         | inr there ↦
-            let is_too = either-other (from x) (from_too x) is there in
+            let is_too = or_else (from x) (from_too x) is there in
             ap (led to first.back second.back) (outside x there)
             ∙ back_outside (second.next x) (to_other (second.next x) (second.next_below x below is_too) (second.next_to x below is_too))
             ∙ second.back_next x below is_too
@@ -152,7 +147,7 @@ Lead-append n from to from_too to_too xs ys from_apart to_apart first second =
             ap (led from first.next second.next) (back_inside x here) ∙ inside (first.back x) (first.back_from x below here)
             ∙ first.next_back x below here
         | inr there ↦
-            let is_too = either-other (to x) (to_too x) is there in
+            let is_too = or_else (to x) (to_too x) is there in
             ap (led from first.next second.next) (back_outside x there)
             ∙ outside (second.back x) (from_other (second.back x) (second.back_below x below is_too) (second.back_from x below is_too))
             ∙ second.next_back x below is_too
@@ -160,14 +155,14 @@ Lead-append n from to from_too to_too xs ys from_apart to_apart first second =
       joins = λ g respects x below is. elim (cases_Bool (from x)) [
         | inl here ↦ first.joins g (Respects-first g xs ys respects) x below here ∙ ap g (sym (inside x here))
         | inr there ↦
-            second.joins g (Respects-second g xs ys respects) x below (either-other (from x) (from_too x) is there)
+            second.joins g (Respects-second g xs ys respects) x below (or_else (from x) (from_too x) is there)
             ∙ ap g (sym (outside x there))
       ];
       only = λ g keeps.
           Respects-append g xs ys
-          (first.only g (λ x below here. keeps x below (either-first (from x) (from_too x) here) ∙ ap g (inside x here)))
+          (first.only g (λ x below here. keeps x below (or_left (from x) (from_too x) here) ∙ ap g (inside x here)))
           (second.only g (λ x below here.
-          keeps x below (either-second (from x) (from_too x) here) ∙ ap g (outside x (from_other x below here))));
+          keeps x below (or_right (from x) (from_too x) here) ∙ ap g (outside x (from_other x below here))));
     }
 
 -- no pairs lead each point to itself

@@ -1,16 +1,16 @@
 -- What leads from ends to starts, with what leads back outside, is a permutation, and its cycles are the classes of the pairs.
-use Rattle.std.proofs.Common.{◌≡◌, ℕ, inl, inr, ◌<◌, ◌∙◌, List, ◌++◌, refl, sym, ap, subst, Bool, true, false, not, cond}
-use Rattle.std.proofs.lemmas.Bool.{cases_Bool}
+--
+-- What leads from ends to starts inside, and back from starts to ends outside, is a function that takes each end to a start and each other
+-- point on, one to one: a permutation. Respecting the pairs of both is being kept by each of its steps, so that the classes are its cycles.
+use Rattle.std.proofs.Common.{◌≡◌, ℕ, inl, inr, ◌<◌, ◌∙◌, List, ◌++◌, sym, ap, subst, Bool, true, false, not, cond}
+use Rattle.std.proofs.lemmas.Bool.{cases_Bool, not-true}
 use Rattle.kh_types.specs.Classes.{classes_of, Respects, AreBelow}
 use Rattle.kh_types.specs.Permutations.{IsPermutation, cycles_of}
 use Rattle.kh_types.proofs.JoinedClasses.{classes_of-same}
+use Rattle.kh_types.proofs.ClassLemmas.{Respects-append, Respects-first, Respects-second, AreBelow-append}
 use Rattle.tangle_surfaces.specs.Orbits.{steps_of, orbits_of}
 use Rattle.tangle_surfaces.specs.Surfaces.{Lead, other_than, IsSurface, components}
-use Rattle.tangle_surfaces.proofs.OrbitLemmas.{Keeps, Respects-steps, Keeps-steps, Respects-append, Respects-first, Respects-second, AreBelow-append, steps-below, orbit_steps-below}
-
-pub not-true : (b : Bool) → not b ≡ true → b ≡ false
-not-true true is = sym is
-not-true false is = refl
+use Rattle.tangle_surfaces.proofs.OrbitLemmas.{Keeps, Respects-steps, Keeps-steps, steps-below, orbit_steps-below}
 
 -- inside at points of a kind, and outside at the others
 abbrev pub led : (ℕ → Bool) → (ℕ → ℕ) → (ℕ → ℕ) → ℕ → ℕ

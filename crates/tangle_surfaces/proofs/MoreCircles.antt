@@ -1,4 +1,8 @@
 -- With one crossing more: the circles at an outer state are the closed ones and those of the new pairing.
+--
+-- The circles at a state of all outer crossings are those of the pairing and of outer pairs. With one crossing more inside, its pairs move
+-- over to the pairing, whose paths become new pairs and whose circles are closed (GluedCircles); the rest is the same state on fewer
+-- crossings.
 use Rattle.std.proofs.Common.{◌≡◌, ℕ, ◌⊎◌, inl, inr, zero, suc, ◌+◌, ◌*◌, ◌/◌, ◌%◌, ◌<◌, ◌≤◌, ◌∙◌, List, [], ◌∷◌, ◌++◌, refl, sym, ap, subst, length, drop, arith, IsTrue, Bool, true, false, not, ◌&&◌, ◌||◌, eq-eqb, append_assoc}
 use Rattle.std.specs.Prelude.{nat_eq, slice_index, slice_index_or}
 use Rattle.std.proofs.lemmas.Bool.{cases_Bool, eqb-true, false_from_ne_true}
@@ -9,20 +13,20 @@ use Rattle.kh_types.specs.Classes.{classes_of, is_least, Respects, AreBelow}
 use Rattle.kh_types.specs.Circles.{smoothing_of}
 use Rattle.kh_types.specs.Colours.{IsColoured}
 use Rattle.kh_types.specs.CircleSteps.{arc_at, across}
-use Rattle.kh_types.proofs.ClassLemmas.{classes-together, classes-finest}
+use Rattle.kh_types.proofs.ClassLemmas.{classes-together, classes-finest, Respects-append, AreBelow-append}
 use Rattle.kh_types.proofs.JoinedSlots.{smoothings_from, across-below, across-crossing}
 use Rattle.kh_types.proofs.CircleCycles.{arc-at_place}
+use Rattle.kh_types.proofs.RangeCounts.{counted}
 use Rattle.tangle_surfaces.specs.Orbits.{count_in, parts_in}
 use Rattle.tangle_surfaces.specs.Surfaces.{Lead, is_open}
 use Rattle.tangle_surfaces.specs.CutCodes.{colour_at, is_inside, ends_there, starts_there, is_alive, outer_smoothings}
 use Rattle.tangle_surfaces.specs.Pairings.{JoinOpen, JoinOpenAlone, is_closed}
-use Rattle.tangle_surfaces.proofs.Counts.{counted}
-use Rattle.tangle_surfaces.proofs.OrbitLemmas.{Respects-append, AreBelow-append}
 use Rattle.tangle_surfaces.proofs.Paths.{false_true}
 use Rattle.tangle_surfaces.proofs.CutCodes.{Lead-outside, is_inside-at, inside-found, behind-outside}
 use Rattle.tangle_surfaces.proofs.CutSurfaces.{size_of, pairs_at, smoothing-at}
 use Rattle.tangle_surfaces.proofs.LaterSlots.{across-later, later-across}
 use Rattle.tangle_surfaces.proofs.GluedCircles.{circles-glued}
+use Rattle.tangle_surfaces.proofs.Counts.{counted-one}
 
 -- pairs that join the open points of each class join those of a wider kind too, if the others of it are alone
 pub JoinOpen-wider : (n : ℕ) (opened wider : ℕ → Bool) (classes : List ℕ) (pairs : List (ℕ × ℕ)) → JoinOpen n opened classes pairs
@@ -129,14 +133,10 @@ outside-alone code choice k smoothing m s_below lead x y x_below y_below out sam
     subst (λ (pairs : List (ℕ × ℕ)). Respects here pairs) (sym (smoothing-at code k smoothing))
     (outside-respects (nat_eq smoothing 0) code choice k x out) in
     eqb-true y x
-    (one_counted (nat_eq y x)
+    (counted-one (nat_eq y x)
     (classes-finest here n (m ++ s) (Respects-append here m s here_m here_s) (AreBelow-append n m s lead.below s_below) y x
     y_below x_below same
     ∙ ap counted (eq-eqb x x refl)))
-  where
-    one_counted : (b : Bool) → counted b ≡ 1 → b ≡ true
-    one_counted true is = refl
-    one_counted false is = absurd (omega (arith, is))
 
 -- the smoothings behind join arcs that are alive
 alive-behind : (crossings : List (List ℕ)) (choice k place : ℕ) → IsColoured crossings choice → k ≤ length crossings → 4 * k ≤ place

@@ -1,18 +1,20 @@
 -- Two permutations have a genus on each orbit, by induction on how far they differ.
-use Rattle.std.proofs.Common.{◌≡◌, ◌≢◌, ℕ, zero, suc, ◌⊎◌, inl, inr, ◌+◌, ◌*◌, ◌<◌, ◌≤◌, ◌∙◌, List, ◌++◌, refl, sym, ap, ap₂, subst, arith, true, false, ◌&&◌, eq-eqb}
+use Rattle.std.proofs.Common.{◌≡◌, ◌≢◌, ℕ, zero, suc, inl, inr, ◌+◌, ◌*◌, ◌<◌, ◌≤◌, ◌∙◌, List, ◌++◌, refl, sym, ap, ap₂, subst, arith, true, false, ◌&&◌, eq-eqb}
 use Rattle.std.specs.Prelude.{nat_eq, slice_index}
-use Rattle.std.proofs.lemmas.Bool.{cases_eq}
+use Rattle.std.proofs.lemmas.Bool.{cases_eq, cases_lt}
 use Rattle.std.proofs.lemmas.Bool.Decides.{nat_tests}
 use Rattle.kh_types.specs.Classes.{is_least, Respects}
 use Rattle.kh_types.specs.Permutations.{IsPermutation, cycles_of}
 use Rattle.kh_types.proofs.Cycles.{AreCycles-cycles_of, IsNamed-cycles_of}
 use Rattle.kh_types.proofs.JoinedClasses.{classes_of-same}
 use Rattle.kh_types.proofs.ListSums.{sum_by-none}
-use Rattle.kh_types.proofs.RangeCounts.{count_by-alike}
+use Rattle.kh_types.proofs.RangeCounts.{count_by-alike, counted}
+use Rattle.kh_types.proofs.ClassLemmas.{Respects-append, Respects-first}
+use Rattle.kh_types.proofs.ExchangedCycles.{exchange_back}
 use Rattle.tangle_surfaces.specs.Orbits.{is_in, parts_in, size_in, steps_of, orbits_of, between, cycles_in, HasGenus}
-use Rattle.tangle_surfaces.proofs.Counts.{counted, count_by-one_less}
+use Rattle.tangle_surfaces.proofs.Counts.{count_by-one_less}
 use Rattle.tangle_surfaces.proofs.GenusStep.{HaveGenus, HaveGenus-step}
-use Rattle.tangle_surfaces.proofs.OrbitLemmas.{Respects-steps, Keeps-steps, Respects-append, Respects-first, steps-below, orbit_steps-below, IsPermutation-between, exchanged, exchanged_back, IsExchange-exchanged, IsPermutation-exchanged, IsStep-exchanged}
+use Rattle.tangle_surfaces.proofs.OrbitLemmas.{Respects-steps, Keeps-steps, steps-below, orbit_steps-below, IsPermutation-between, exchanged, IsExchange-exchanged, IsPermutation-exchanged, IsStep-exchanged}
 
 -- a class has one name, and so it is one part of itself
 pub parts_in-self : (n : ℕ) (classes : List ℕ) (name : ℕ) → name < n → slice_index classes name ≡ name
@@ -70,16 +72,13 @@ HaveGenus-alike n f f_back g g_back f_permutes g_permutes alike =
     sphere : (c h s : ℕ) → c ≡ 1 → h ≡ s → c + (c + h) + 2 * 0 ≡ s + 2
     sphere c h s one whole = omega (arith, one, whole)
 
-less_or : (x n : ℕ) → (x < n) ⊎ (n ≤ x)
-less_or x n = grind (arith, nat_tests)
-
 -- two permutations that do not differ from d on
 pub HaveGenus-orbits : (d n : ℕ) (f f_back g g_back : ℕ → ℕ) → IsPermutation n f f_back → IsPermutation n g g_back
     → ((x : ℕ) → d ≤ x → x < n → f x ≡ g x)
     → HaveGenus n (orbits_of n f g) (cycles_of n f) (cycles_of n g) (cycles_of n (between f_back g))
 HaveGenus-orbits zero n f f_back g g_back f_permutes g_permutes agree =
     HaveGenus-alike n f f_back g g_back f_permutes g_permutes (λ x below. agree x (omega arith) below)
-HaveGenus-orbits (suc d) n f f_back g g_back f_permutes g_permutes agree = elim (less_or d n) [
+HaveGenus-orbits (suc d) n f f_back g g_back f_permutes g_permutes agree = elim (cases_lt d n) [
   | inr past ↦ HaveGenus-orbits d n f f_back g g_back f_permutes g_permutes (λ x from below. absurd (omega (arith, past, from, below)))
   | inl d_below ↦ elim (cases_eq (f d) (g d)) [
     | inl same ↦
@@ -96,7 +95,7 @@ HaveGenus-orbits (suc d) n f f_back g g_back f_permutes g_permutes agree = elim 
         let not_later : suc d ≤ y → ⊥ = λ later.
         apart (sym (f_permutes.back_f d d_below) ∙ ap f_back (sym meets ∙ sym (agree y later y_below)) ∙ f_permutes.back_f y y_below) in
         let other = exchanged g d y in
-        let other_back = exchanged_back g g_back d y in
+        let other_back = exchange_back g g_back d y in
         let exchange = IsExchange-exchanged n g d y d_below y_below apart in
         let permutes = IsPermutation-exchanged n g g_back d y g_permutes d_below y_below apart in
         HaveGenus-step n (orbits_of n f other) (orbits_of n f g) (cycles_of n f) (cycles_of n other) (cycles_of n g)

@@ -1,16 +1,20 @@
 -- The orbits of two permutations, and two images exchanged.
+--
+-- Orbits of two permutations are classes under the steps of both, so whatever both keep is one on an orbit. An exchange of two images
+-- changes the cycles of the one permutation by joining two or parting one, and orbits likewise; and a step of the exchanged permutation
+-- stays in the classes that hold the two numbers together.
 use Rattle.std.proofs.Common.{◌≡◌, ◌≢◌, ℕ, inl, inr, ◌<◌, ◌∙◌, List, [], ◌∷◌, ◌++◌, refl, sym, ap, subst, arith, cond}
 use Rattle.std.specs.Prelude.{nat_eq, slice_index}
 use Rattle.std.proofs.lemmas.Bool.{cases_eq}
 use Rattle.std.proofs.lemmas.Bool.Decides.{nat_tests}
 use Rattle.kh_types.specs.Classes.{joined, Respects, AreBelow, IsNamed}
 use Rattle.kh_types.specs.Permutations.{IsPermutation, IsExchange, step_pair, cycles_of}
-use Rattle.kh_types.proofs.Lists.{AllByRecursion-append, AllByRecursion-first, AllByRecursion-second}
-use Rattle.kh_types.proofs.ClassLemmas.{classes-together}
+use Rattle.kh_types.proofs.ClassLemmas.{classes-together, Respects-append, Respects-first, Respects-second, AreBelow-append}
 use Rattle.kh_types.proofs.JoinedClasses.{IsNamed-classes_of, classes_of-same, classes_of-more}
 use Rattle.kh_types.proofs.RangeImages.{all-map_range, map_range-at}
 use Rattle.kh_types.proofs.Cycles.{AreCycles-cycles_of, IsNamed-cycles_of, step_pairs-below}
-use Rattle.kh_types.proofs.ExchangedCycles.{IsPermutation-exchange, AreJoined-apart, AreJoined-split}
+use Rattle.kh_types.proofs.ExchangedCycles.{IsPermutation-exchange, AreJoined-apart, AreJoined-split, exchange_back}
+use Rattle.kh_types.proofs.Exchanges.{IsExchange-back}
 use Rattle.tangle_surfaces.specs.Orbits.{steps_of, orbits_of, between}
 use Rattle.tangle_surfaces.proofs.PartCounts.{AreFiner}
 use Rattle.tangle_surfaces.proofs.GenusStep.{IsStep}
@@ -26,18 +30,6 @@ Respects-steps n f g keeps =
 pub Keeps-steps : (n : ℕ) (f g : ℕ → ℕ) → Respects g (steps_of n f) → Keeps n f g
 Keeps-steps n f g respects x below =
     map_range-at (λ (pair : ℕ × ℕ). g pair.0 ≡ g pair.1) (step_pair f) 0 n x respects (omega arith) (omega (arith, below))
-
-pub AreBelow-append : (n : ℕ) (xs ys : List (ℕ × ℕ)) → AreBelow n xs → AreBelow n ys → AreBelow n (xs ++ ys)
-AreBelow-append n xs ys = AllByRecursion-append (λ (pair : ℕ × ℕ). (pair.0 < n) × (pair.1 < n)) xs ys
-
-pub Respects-append : (g : ℕ → ℕ) (xs ys : List (ℕ × ℕ)) → Respects g xs → Respects g ys → Respects g (xs ++ ys)
-Respects-append g xs ys = AllByRecursion-append (λ (pair : ℕ × ℕ). g pair.0 ≡ g pair.1) xs ys
-
-pub Respects-first : (g : ℕ → ℕ) (xs ys : List (ℕ × ℕ)) → Respects g (xs ++ ys) → Respects g xs
-Respects-first g xs ys = AllByRecursion-first (λ (pair : ℕ × ℕ). g pair.0 ≡ g pair.1) xs ys
-
-pub Respects-second : (g : ℕ → ℕ) (xs ys : List (ℕ × ℕ)) → Respects g (xs ++ ys) → Respects g ys
-Respects-second g xs ys = AllByRecursion-second (λ (pair : ℕ × ℕ). g pair.0 ≡ g pair.1) xs ys
 
 pub steps-below : (n : ℕ) (f : ℕ → ℕ) → ((x : ℕ) → x < n → f x < n) → AreBelow n (steps_of n f)
 steps-below n f below = step_pairs-below n f below
@@ -101,10 +93,6 @@ Keeps-between n f f_back g class g_below back_below f_back_is f_keeps g_keeps x 
 abbrev pub exchanged : (ℕ → ℕ) → ℕ → ℕ → ℕ → ℕ
 exchanged g x y z = cond (nat_eq z x) (g y) (cond (nat_eq z y) (g x) (g z))
 
--- and the way back
-abbrev pub exchanged_back : (ℕ → ℕ) → (ℕ → ℕ) → ℕ → ℕ → ℕ → ℕ
-exchanged_back g back x y z = cond (nat_eq z (g x)) y (cond (nat_eq z (g y)) x (back z))
-
 chosen-first : (a b z u v w : ℕ) → z ≡ a → cond (nat_eq z a) u (cond (nat_eq z b) v w) ≡ u
 chosen-first a b z u v w same = grind (arith, nat_tests)
 
@@ -124,16 +112,6 @@ IsExchange-exchanged n g x y x_below y_below apart = record {
   others = λ z below not_x not_y. chosen-third x y z (g y) (g x) (g z) not_x not_y;
 }
 
-pub IsExchange-turned : (n : ℕ) (g other : ℕ → ℕ) (x y : ℕ) → IsExchange n g other x y → IsExchange n other g x y
-IsExchange-turned n g other x y exchange = record {
-  x_below = exchange.x_below;
-  y_below = exchange.y_below;
-  apart = exchange.apart;
-  at_x = sym exchange.at_y;
-  at_y = sym exchange.at_x;
-  others = λ z below not_x not_y. sym (exchange.others z below not_x not_y);
-}
-
 IsExchange-between : (n : ℕ) (f_back g other : ℕ → ℕ) (x y : ℕ) → IsExchange n g other x y
     → IsExchange n (between f_back g) (between f_back other) x y
 IsExchange-between n f_back g other x y exchange = record {
@@ -146,7 +124,7 @@ IsExchange-between n f_back g other x y exchange = record {
 }
 
 pub IsPermutation-exchanged : (n : ℕ) (g back : ℕ → ℕ) (x y : ℕ) → IsPermutation n g back → x < n → y < n → x ≢ y
-    → IsPermutation n (exchanged g x y) (exchanged_back g back x y)
+    → IsPermutation n (exchanged g x y) (exchange_back g back x y)
 IsPermutation-exchanged n g back x y permutes x_below y_below apart =
     IsPermutation-exchange n g back (exchanged g x y) x y permutes (IsExchange-exchanged n g x y x_below y_below apart)
 
@@ -202,10 +180,10 @@ pub IsStep-exchanged : (n : ℕ) (f f_back g g_back : ℕ → ℕ) (x y : ℕ) �
     (cycles_of n (between f_back (exchanged g x y))) (cycles_of n (between f_back g)) x y
 IsStep-exchanged n f f_back g g_back x y f_permutes g_permutes x_below y_below apart meets =
     let other = exchanged g x y in
-    let other_back = exchanged_back g g_back x y in
+    let other_back = exchange_back g g_back x y in
     let exchange = IsExchange-exchanged n g x y x_below y_below apart in
     let permutes = IsPermutation-exchanged n g g_back x y g_permutes x_below y_below apart in
-    let turned = IsExchange-turned n g other x y exchange in
+    let turned = IsExchange-back n g other x y exchange in
     let h_permutes = IsPermutation-between n f f_back g g_back f_permutes g_permutes in
     let old_h_permutes = IsPermutation-between n f f_back other other_back f_permutes permutes in
     let before = orbits_of n f other in

@@ -7,9 +7,9 @@ use Rattle.kh_types.specs.Classes.{merged, joined, is_least, IsNamed}
 use Rattle.kh_types.specs.Permutations.{AreJoined}
 use Rattle.kh_types.proofs.ClassLemmas.{slice_index-joined}
 use Rattle.kh_types.proofs.JoinedClasses.{greater_fails, max-fixed, min-fixed, other_same}
-use Rattle.kh_types.proofs.RangeCounts.{count_by-alike}
+use Rattle.kh_types.proofs.RangeCounts.{count_by-alike, counted}
 use Rattle.tangle_surfaces.specs.Orbits.{is_in, count_in, parts_in}
-use Rattle.tangle_surfaces.proofs.Counts.{counted, count_by-one_less, count_by-either}
+use Rattle.tangle_surfaces.proofs.Counts.{count_by-one_less, count_by-either}
 
 -- parts are finer than classes: a part's name is in the class of each of its numbers
 abbrev pub AreFiner : ℕ → List ℕ → List ℕ → Type 0

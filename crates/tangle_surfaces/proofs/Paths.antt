@@ -1,16 +1,14 @@
 -- Where pairs lead from ends to starts, the classes are paths and circles: a class has at most one point whose end is free, and then
 -- one whose start is free. One more pair of a free end and a free start keeps that.
-use Rattle.std.proofs.Common.{◌≡◌, ◌≢◌, ℕ, ◌⊎◌, inl, inr, ◌<◌, ◌∙◌, List, refl, sym, ap, subst, length, arith, Bool, true, false, not, ◌&&◌, cond, eq-eqb}
+use Rattle.std.proofs.Common.{◌≡◌, ◌≢◌, ℕ, ◌⊎◌, inl, inr, ◌<◌, ◌∙◌, List, refl, sym, ap, subst, length, arith, Bool, true, false, not, ◌&&◌, cond, eq-eqb, ◌||◌}
 use Rattle.std.specs.Prelude.{nat_eq, slice_index, unwrap_or}
-use Rattle.std.proofs.lemmas.Bool.{cases_Bool, cases_eq, eqb-true, false_from_ne_true}
+use Rattle.std.proofs.lemmas.Bool.{cases_Bool, cases_eq, eqb-true, false_from_ne_true, or_left, or_right, not-true, and_parts, and_from}
 use Rattle.kh_types.specs.Classes.{merged, joined, classes_of, Respects}
 use Rattle.kh_types.proofs.ClassLemmas.{slice_index-joined, merged-both, classes-together, classes-finest}
 use Rattle.kh_types.proofs.Exchanges.{merged-same}
 use Rattle.kh_types.proofs.RangeCounts.{but, count_by-but, found-counted}
 use Rattle.tangle_surfaces.specs.Surfaces.{Lead, other_than, is_open}
 use Rattle.tangle_surfaces.specs.Pairings.{JoinOpen, seek}
-use Rattle.tangle_surfaces.proofs.Leading.{not-true}
-use Rattle.tangle_surfaces.proofs.DiscCounts.{or_else, or_first, or_second}
 
 -- a class has at most one point of a free kind, and then it has one of the other free kind
 pub record ArePaths (n : ℕ) (classes : List ℕ) (free other : ℕ → Bool) : Type 0 where
@@ -122,27 +120,23 @@ ArePaths-lead n from to pairs lead from_to to_from =
       ];
     }
 
+pub or_else : (b c : Bool) → (b || c) ≡ true → b ≡ false → c ≡ true
+or_else b c is none = sym (ap (λ d. d || c) none) ∙ is
+
 pub record IsSought (n : ℕ) (classes : List ℕ) (kind : ℕ → Bool) (x y : ℕ) : Type 0 where
   pub below : y < n
   pub is : kind y ≡ true
   pub together : slice_index classes y ≡ slice_index classes x
-
-two_pass : (s t : Bool) → (s && t) ≡ true → (s ≡ true) × (t ≡ true)
-two_pass true t both = (refl, both)
-two_pass false t both = absurd (false_true both)
-
-two_hold : (s t : Bool) → s ≡ true → t ≡ true → (s && t) ≡ true
-two_hold s t is_s is_t = ap (λ b. b && t) is_s ∙ is_t
 
 pub IsSought-seek : (n : ℕ) (classes : List ℕ) (kind : ℕ → Bool) (x y : ℕ) → IsSought n classes kind x y
     → IsSought n classes kind x (seek n classes kind x)
 IsSought-seek n classes kind x y there =
     let test : ℕ → Bool = λ z. kind z && nat_eq (slice_index classes z) (slice_index classes x) in
     let passes : test y ≡ true =
-    two_hold (kind y) (nat_eq (slice_index classes y) (slice_index classes x)) there.is
+    and_from (kind y) (nat_eq (slice_index classes y) (slice_index classes x)) there.is
     (eq-eqb (slice_index classes y) (slice_index classes x) there.together) in
     let found = found-counted test 0 n (omega (arith, count_by-but test 0 n y (omega arith) (omega (arith, there.below)) passes)) in
-    let is = two_pass (kind found.0) (nat_eq (slice_index classes found.0) (slice_index classes x)) found.1.passes in
+    let is = and_parts (kind found.0) (nat_eq (slice_index classes found.0) (slice_index classes x)) found.1.passes in
     subst (λ (z : ℕ). IsSought n classes kind x z) (sym (ap (λ o. unwrap_or o 0) found.1.first))
     (record {
       below = omega (arith, found.1.below);
@@ -158,14 +152,14 @@ only_one kind other x = kind x && not (other x)
 pub met : (n : ℕ) (classes : List ℕ) (free other : ℕ → Bool) → ArePaths n classes free other → (x : ℕ) → x < n
     → only_one free other x ≡ true → (y : ℕ) × IsSought n classes (only_one other free) x y
 met n classes free other paths x below is =
-    let x_is = two_pass (free x) (not (other x)) is in
+    let x_is = and_parts (free x) (not (other x)) is in
     let found = paths.meets x below x_is.0 in
     elim (cases_Bool (free found.0)) [
       | inr not_free ↦ (
         found.0,
         record {
           below = found.1;
-          is = two_hold (other found.0) (not (free found.0)) found.2 (ap not not_free);
+          is = and_from (other found.0) (not (free found.0)) found.2 (ap not not_free);
           together = found.3;
         },
       )
@@ -175,7 +169,7 @@ met n classes free other paths x below is =
     ]
 
 only_one-free : (free other : ℕ → Bool) (x : ℕ) → only_one free other x ≡ true → free x ≡ true
-only_one-free free other x is = (two_pass (free x) (not (other x)) is).0
+only_one-free free other x is = (and_parts (free x) (not (other x)) is).0
 
 -- pairs that join the open points of paths lead from those with a free start to those with a free end
 pub Lead-paths : (n : ℕ) (classes : List ℕ) (free other : ℕ → Bool) (pairs : List (ℕ × ℕ))
@@ -217,8 +211,8 @@ Lead-paths n classes free other pairs paths back_paths join =
       joins = λ g respects x below is.
           let there = onward x below is in
           let next = seek n classes starts x in
-          join.joins g respects x next below there.below (or_first (ends x) (starts x) is)
-          (or_second (ends next) (starts next) there.is) (sym there.together);
+          join.joins g respects x next below there.below (or_left (ends x) (starts x) is)
+          (or_right (ends next) (starts next) there.is) (sym there.together);
       only = λ g keeps.
           let across : (x y : ℕ) → x < n → y < n → ends x ≡ true → starts y ≡ true → class x ≡ class y → g x ≡ g y =
           λ x y x_below y_below x_is y_is same.

@@ -1,26 +1,31 @@
 -- The saddle at a crossing of a code: the closed circles of its two smoothings with a pairing, and the discs of the new pairings.
+--
+-- The two smoothings of a crossing of an accepted code join its four slots in two ways, from the same starts to the two ends exchanged:
+-- this is the exchange of SaddleCounts. So with a pairing the closed circles and the discs of the two new pairings differ by one, on the
+-- component of the crossing, and the saddle between them has no genus.
 use Rattle.std.proofs.Common.{◌≡◌, ℕ, inl, inr, ◌+◌, ◌*◌, ◌%◌, ◌<◌, ◌∙◌, List, [], ◌∷◌, ◌++◌, sym, ap, ap₂, subst, length, arith, Bool, true, false, not, ◌&&◌, ◌||◌}
 use Rattle.std.specs.Prelude.{nat_eq, slice_index, slice_index_or}
 use Rattle.std.proofs.Math.Path.{fun_ext}
+use Rattle.std.proofs.lemmas.Bool.{or_left, or_right}
 use Rattle.kh_types.specs.Code.{Code, arc_in}
 use Rattle.kh_types.specs.Classes.{classes_of, Respects, AreBelow}
 use Rattle.kh_types.specs.Circles.{smoothing_of}
 use Rattle.kh_types.specs.Colours.{IsColoured}
 use Rattle.kh_types.specs.CircleSteps.{arc_at}
-use Rattle.kh_types.proofs.ClassLemmas.{classes-together, classes-finest}
+use Rattle.kh_types.proofs.ClassLemmas.{classes-together, classes-finest, Respects-append, Respects-first, Respects-second, AreBelow-append}
 use Rattle.kh_types.proofs.JoinedClasses.{classes_of-same, IsNamed-classes_of}
 use Rattle.kh_types.proofs.JoinedSlots.{arc_at-slot}
+use Rattle.kh_types.proofs.BitLemmas.{bit-cases}
 use Rattle.tangle_surfaces.specs.Orbits.{is_in, count_in, parts_in, one_if}
 use Rattle.tangle_surfaces.specs.Surfaces.{Lead, other_than, is_open, is_disc}
 use Rattle.tangle_surfaces.specs.CutCodes.{is_inside, ends_there, starts_there}
 use Rattle.tangle_surfaces.specs.Pairings.{JoinOpen, JoinOpenAlone, is_closed}
 use Rattle.tangle_surfaces.specs.Saddles.{JoinTwo}
 use Rattle.tangle_surfaces.proofs.PartCounts.{AreFiner}
-use Rattle.tangle_surfaces.proofs.OrbitLemmas.{Respects-append, Respects-first, Respects-second, AreBelow-append}
 use Rattle.tangle_surfaces.proofs.Paths.{Lead-turned}
-use Rattle.tangle_surfaces.proofs.LeadLemmas.{AreApart, either, either-first, either-second, Lead-append, Lead-none}
+use Rattle.tangle_surfaces.proofs.LeadLemmas.{AreApart, either, Lead-append, Lead-none}
 use Rattle.tangle_surfaces.proofs.CutTests.{stays, rounds, rounds_ends, rounds_starts, stays_ends, stays_starts, before_after}
-use Rattle.tangle_surfaces.proofs.CutSteps.{IsNext, IsPairAt, IsPairAt-turned, IsPairAt-slots, pair-below, pair-apart, inside-more, new-outside, bit-cases, Lead-more}
+use Rattle.tangle_surfaces.proofs.CutSteps.{IsNext, IsPairAt, IsPairAt-turned, IsPairAt-slots, pair-below, pair-apart, inside-more, new-outside, Lead-more}
 use Rattle.tangle_surfaces.proofs.CutSurfaces.{size_of, is_either, pairs_at, smoothing-at}
 use Rattle.tangle_surfaces.proofs.GluedCircles.{circles-glued}
 use Rattle.tangle_surfaces.proofs.SaddleCounts.{saddle-counted}
@@ -82,8 +87,8 @@ alone-lead : (n : ℕ) (ends starts : ℕ → Bool) (pairs : List (ℕ × ℕ)) 
 alone-lead n ends starts pairs lead g same =
     lead.only g (λ x below end.
     let next = lead.next x in
-    same x next below (lead.next_below x below end) (either-first (ends x) (starts x) end)
-    (either-second (ends next) (starts next) (lead.next_to x below end))
+    same x next below (lead.next_below x below end) (or_left (ends x) (starts x) end)
+    (or_right (ends next) (starts next) (lead.next_to x below end))
     (lead.joins (λ z. slice_index (classes_of n pairs) z) (classes-together n pairs lead.below) x below end))
 
 -- the count, for two smoothings s and t that join ends a and a' with starts b and b', and with these exchanged

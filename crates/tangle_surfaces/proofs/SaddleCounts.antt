@@ -1,35 +1,17 @@
 -- The two smoothings of a crossing, with whatever leads back from their starts to their ends: on each component they have three circles
 -- together, or two where the crossing is not.
-use Rattle.std.proofs.Common.{◌≡◌, ◌≢◌, ℕ, ◌+◌, ◌<◌, ◌∙◌, List, [], ◌∷◌, ◌++◌, refl, sym, ap, ap₂, subst, Bool, true, false, not, ◌||◌, eq-eqb}
-use Rattle.std.specs.Prelude.{nat_eq, slice_index}
-use Rattle.std.proofs.lemmas.Bool.{false_from_ne_true, eqb-true}
-use Rattle.kh_types.specs.Classes.{classes_of, Respects, AreBelow}
-use Rattle.kh_types.specs.Permutations.{cycles_of}
+use Rattle.std.proofs.Common.{◌≡◌, ◌≢◌, ℕ, ◌+◌, ◌<◌, ◌∙◌, List, ◌++◌, sym, ap, ap₂, subst}
+use Rattle.std.specs.Prelude.{slice_index}
+use Rattle.kh_types.specs.Classes.{classes_of, AreBelow}
 use Rattle.kh_types.proofs.JoinedClasses.{classes_of-same}
+use Rattle.kh_types.proofs.ClassLemmas.{Respects-append, Respects-first, Respects-second, AreBelow-append}
 use Rattle.tangle_surfaces.specs.Orbits.{is_in, parts_in, steps_of, orbits_of, one_if}
 use Rattle.tangle_surfaces.specs.Surfaces.{Lead, other_than}
 use Rattle.tangle_surfaces.specs.Saddles.{JoinTwo}
-use Rattle.tangle_surfaces.proofs.OrbitLemmas.{Keeps, Respects-steps, Keeps-steps, Respects-append, Respects-first, Respects-second, AreBelow-append, steps-below, orbit_steps-below, each, exchanged, exchanged_back, IsExchange-exchanged, IsPermutation-exchanged}
-use Rattle.tangle_surfaces.proofs.Leading.{led, led-inside, led-outside, IsPermutation-led, Keeps-led, Respects-outer, not-true}
-use Rattle.tangle_surfaces.proofs.Paths.{false_true}
-use Rattle.tangle_surfaces.proofs.LeadLemmas.{either, is_one, Lead-append, Lead-one}
-use Rattle.tangle_surfaces.proofs.CutSurfaces.{are_apart}
+use Rattle.tangle_surfaces.proofs.OrbitLemmas.{Respects-steps, Keeps-steps, orbit_steps-below}
+use Rattle.tangle_surfaces.proofs.LeadLemmas.{either, is_one}
 use Rattle.tangle_surfaces.proofs.ExchangeCounts.{exchange-counted}
-
-neither : (x a b : ℕ) → (nat_eq x a || nat_eq x b) ≡ false → (x ≢ a) × (x ≢ b)
-neither x a b none = (
-  λ same. false_true (sym none ∙ ap (λ t. t || nat_eq x b) (eq-eqb x a same)),
-  λ same. false_true (sym none ∙ last (nat_eq x a) (nat_eq x b) (eq-eqb x b same)),
-)
-  where
-    last : (s t : Bool) → t ≡ true → (s || t) ≡ true
-    last true t is = refl
-    last false t is = is
-
-one_of_two : (x a b : ℕ) → x ≢ a → x ≢ b → (nat_eq x a || nat_eq x b) ≡ false
-one_of_two x a b not_a not_b =
-    ap₂ (λ s t. s || t) (false_from_ne_true (nat_eq x a) (λ same. not_a (eqb-true x a same)))
-    (false_from_ne_true (nat_eq x b) (λ same. not_b (eqb-true x b same)))
+use Rattle.tangle_surfaces.proofs.SaddleExchanges.{saddle-exchanged}
 
 pub saddle-counted : (n a b a_too b_too : ℕ) (s t w : List (ℕ × ℕ)) → a < n → b < n → a_too < n → b_too < n → a ≢ a_too → b ≢ b_too
     → AreBelow n s → AreBelow n t → JoinTwo s a b a_too b_too → JoinTwo t a b_too a_too b
@@ -40,82 +22,26 @@ pub saddle-counted : (n a b a_too b_too : ℕ) (s t w : List (ℕ × ℕ)) → a
     ≡ 2 + one_if (is_in (classes_of n (s ++ (t ++ w))) name a)
 saddle-counted n a b a_too b_too s t w a_below b_below a_too_below b_too_below a_apart b_apart s_below t_below s_two t_two outer
     name below own =
-    let heads = either (is_one a) (is_one a_too) in
-    let tails = either (is_one b) (is_one b_too) in
-    let pairs : List (ℕ × ℕ) = (a, b) ∷ (a_too, b_too) ∷ [] in
-    let inner : Lead n heads tails pairs =
-    Lead-append n (is_one a) (is_one b) (is_one a_too) (is_one b_too) ((a, b) ∷ []) ((a_too, b_too) ∷ [])
-    (are_apart n a a_too (λ same. a_apart (sym same))) (are_apart n b b_too (λ same. b_apart (sym same))) (Lead-one n a b a_below b_below)
-    (Lead-one n a_too b_too a_too_below b_too_below) in
-    let f = led heads inner.next outer.next in
-    let f_back = led tails inner.back outer.back in
-    let permutes = IsPermutation-led n heads tails pairs w inner outer in
-    let other = exchanged f a a_too in
-    let other_back = exchanged_back f f_back a a_too in
-    let exchange = IsExchange-exchanged n f a a_too a_below a_too_below a_apart in
-    let other_permutes = IsPermutation-exchanged n f f_back a a_too permutes a_below a_too_below a_apart in
-    let head_a : heads a ≡ true = ap (λ c. c || nat_eq a a_too) (eq-eqb a a refl) in
-    let head_a_too : heads a_too ≡ true = second_true (nat_eq a_too a) (nat_eq a_too a_too) (eq-eqb a_too a_too refl) in
-    let f_a : f a ≡ b =
-    led-inside heads inner.next outer.next a head_a ∙ led-inside (is_one a) (λ x. b) (λ x. b_too) a (eq-eqb a a refl) in
-    let f_a_too : f a_too ≡ b_too =
-    led-inside heads inner.next outer.next a_too head_a_too
-    ∙ led-outside (is_one a) (λ x. b) (λ x. b_too) a_too
-    (false_from_ne_true (nat_eq a_too a) (λ same. a_apart (sym (eqb-true a_too a same)))) in
-    let other_a : other a ≡ b_too = exchange.at_x ∙ f_a_too in
-    let other_a_too : other a_too ≡ b = exchange.at_y ∙ f_a in
-    -- what is respected is kept, and back
-    let keep_f : (g : ℕ → ℕ) → Respects g s → Respects g w → Keeps n f g =
-    λ g inside outside.
-    let two = s_two.joins g inside in
-    Keeps-led n heads tails pairs w inner outer g (two.0, (two.1, tt)) outside in
-    let respect_s : (g : ℕ → ℕ) → Keeps n f g → Respects g s =
-    λ g keeps. s_two.only g (keeps a a_below ∙ ap g f_a) (keeps a_too a_too_below ∙ ap g f_a_too) in
-    let respect_w : (g : ℕ → ℕ) → Keeps n f g → Respects g w =
-    λ g keeps. Respects-outer n heads tails pairs w inner outer g keeps in
-    let keep_other : (g : ℕ → ℕ) → Respects g t → Respects g w → Keeps n other g =
-    λ g inside outside.
-    let two = t_two.joins g inside in
-    each n a a_too (λ z. g z ≡ g (other z)) (two.0 ∙ ap g (sym other_a)) (two.1 ∙ ap g (sym other_a_too))
-    (λ z z_below not_a not_a_too.
-    let none = one_of_two z a a_too not_a not_a_too in
-    outer.joins g outside z z_below (ap not none)
-    ∙ ap g (sym (exchange.others z z_below not_a not_a_too ∙ led-outside heads inner.next outer.next z none))) in
-    let respect_t : (g : ℕ → ℕ) → Keeps n other g → Respects g t =
-    λ g keeps. t_two.only g (keeps a a_below ∙ ap g other_a) (keeps a_too a_too_below ∙ ap g other_a_too) in
-    let respect_w_too : (g : ℕ → ℕ) → Keeps n other g → Respects g w =
-    λ g keeps. outer.only g (λ z z_below is.
-    let none = not-true (heads z) is in
-    let apart = neither z a a_too none in
-    keeps z z_below ∙ ap g (exchange.others z z_below apart.0 apart.1 ∙ led-outside heads inner.next outer.next z none)) in
-    let s_are : classes_of n (s ++ w) ≡ cycles_of n f =
-    classes_of-same n (s ++ w) (steps_of n f) (AreBelow-append n s w s_below outer.below) (steps-below n f permutes.below)
-    (λ g respects. Respects-steps n f g (keep_f g (Respects-first g s w respects) (Respects-second g s w respects)))
-    (λ g respects. let keeps = Keeps-steps n f g respects in Respects-append g s w (respect_s g keeps) (respect_w g keeps)) in
-    let t_are : classes_of n (t ++ w) ≡ cycles_of n other =
-    classes_of-same n (t ++ w) (steps_of n other) (AreBelow-append n t w t_below outer.below) (steps-below n other other_permutes.below)
-    (λ g respects. Respects-steps n other g (keep_other g (Respects-first g t w respects) (Respects-second g t w respects)))
-    (λ g respects. let keeps = Keeps-steps n other g respects in Respects-append g t w (respect_t g keeps) (respect_w_too g keeps)) in
+    let saddle = saddle-exchanged n a b a_too b_too s t w a_below b_below a_too_below b_too_below a_apart b_apart s_below t_below s_two t_two
+    outer in
+    let f = saddle.f in
+    let other = saddle.other in
     let all_are : classes_of n (s ++ (t ++ w)) ≡ orbits_of n f other =
     classes_of-same n (s ++ (t ++ w)) (steps_of n f ++ steps_of n other)
     (AreBelow-append n s (t ++ w) s_below (AreBelow-append n t w t_below outer.below))
-    (orbit_steps-below n f other permutes.below other_permutes.below)
+    (orbit_steps-below n f other saddle.permutes.below saddle.other_permutes.below)
     (λ g respects.
     let rest = Respects-second g s (t ++ w) respects in
     let last = Respects-second g t w rest in
     Respects-append g (steps_of n f) (steps_of n other)
-    (Respects-steps n f g (keep_f g (Respects-first g s (t ++ w) respects) last))
-    (Respects-steps n other g (keep_other g (Respects-first g t w rest) last)))
+    (Respects-steps n f g (saddle.keep_f g (Respects-first g s (t ++ w) respects) last))
+    (Respects-steps n other g (saddle.keep_other g (Respects-first g t w rest) last)))
     (λ g respects.
     let keeps = Keeps-steps n f g (Respects-first g (steps_of n f) (steps_of n other) respects) in
     let other_keeps = Keeps-steps n other g (Respects-second g (steps_of n f) (steps_of n other) respects) in
-    Respects-append g s (t ++ w) (respect_s g keeps) (Respects-append g t w (respect_t g other_keeps) (respect_w g keeps))) in
+    Respects-append g s (t ++ w) (saddle.respect_s g keeps) (Respects-append g t w (saddle.respect_t g other_keeps) (saddle.respect_w g keeps))) in
     subst (λ (cs : List ℕ).
     parts_in n cs name (classes_of n (s ++ w)) + parts_in n cs name (classes_of n (t ++ w)) ≡ 2 + one_if (is_in cs name a)) (sym all_are)
-    (ap₂ (λ p q. parts_in n (orbits_of n f other) name p + parts_in n (orbits_of n f other) name q) s_are t_are
-    ∙ exchange-counted n f f_back other other_back a a_too permutes other_permutes exchange name below
+    (ap₂ (λ p q. parts_in n (orbits_of n f other) name p + parts_in n (orbits_of n f other) name q) saddle.s_are saddle.t_are
+    ∙ exchange-counted n f saddle.f_back other saddle.other_back a a_too saddle.permutes saddle.other_permutes saddle.exchange name below
     (ap (λ cs. slice_index cs name) (sym all_are) ∙ own))
-  where
-    second_true : (s t : Bool) → t ≡ true → (s || t) ≡ true
-    second_true true t is = refl
-    second_true false t is = is

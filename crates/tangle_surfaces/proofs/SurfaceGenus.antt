@@ -1,17 +1,21 @@
 -- Each component of a surface has a genus, and its open points are twice its strips.
+--
+-- A surface of discs has a component for each orbit of two permutations. Its strips are the open points with an end, and each strip has an
+-- end and a start, so that open points are twice the strips. Discs are cycles (DiscCounts), so Euler's formula for orbits (OrbitGenus)
+-- gives each component a genus.
 use Rattle.std.proofs.Common.{◌≡◌, ◌≢◌, ℕ, inl, inr, ◌+◌, ◌*◌, ◌<◌, ◌∙◌, List, ◌++◌, refl, sym, ap, ap₂, subst, arith, Bool, true, false, not, ◌&&◌, ◌||◌, eq-eqb}
 use Rattle.std.specs.Prelude.{nat_eq, slice_index}
-use Rattle.std.proofs.lemmas.Bool.{cases_Bool, cases_eq}
+use Rattle.std.proofs.lemmas.Bool.{cases_Bool, cases_eq, and_parts}
 use Rattle.std.proofs.lemmas.Bool.Decides.{nat_tests}
 use Rattle.kh_types.specs.Classes.{classes_of, is_least}
 use Rattle.kh_types.specs.Permutations.{IsPermutation, cycles_of}
-use Rattle.kh_types.proofs.ClassLemmas.{classes-together}
+use Rattle.kh_types.proofs.ClassLemmas.{classes-together, Respects-first}
 use Rattle.kh_types.proofs.Cycles.{AreCycles-cycles_of, IsNamed-cycles_of}
-use Rattle.kh_types.proofs.RangeCounts.{count_by-alike}
+use Rattle.kh_types.proofs.RangeCounts.{count_by-alike, counted}
 use Rattle.tangle_surfaces.specs.Orbits.{is_in, count_in, parts_in, size_in, between, HasGenus}
 use Rattle.tangle_surfaces.specs.Surfaces.{IsSurface, components, is_open, is_disc, faces_in, strips_in}
-use Rattle.tangle_surfaces.proofs.Counts.{counted, count_by-matched, count_by-either}
-use Rattle.tangle_surfaces.proofs.OrbitLemmas.{IsPermutation-between, Respects-first}
+use Rattle.tangle_surfaces.proofs.Counts.{count_by-matched, count_by-either, counted-split}
+use Rattle.tangle_surfaces.proofs.OrbitLemmas.{IsPermutation-between}
 use Rattle.tangle_surfaces.proofs.Leading.{led-outside, IsPermutation-led, circles-led, components-orbits, first_next, first_back, second_next, second_back, components-below}
 use Rattle.tangle_surfaces.proofs.DiscCounts.{discs-cycles}
 use Rattle.tangle_surfaces.proofs.OrbitGenus.{HasGenus-orbits}
@@ -121,16 +125,16 @@ starts-counted n ends starts m k w is name =
     let respects = Respects-first class m (k ++ w) (classes-together n (m ++ (k ++ w)) (components-below n ends starts m k w is)) in
     count_by-matched (λ x. is_in all name x && ends x) (λ x. is_in all name x && starts x) first.next first.back n
     (λ x below holds.
-    let passes = two (is_in all name x) (ends x) holds in (
+    let passes = and_parts (is_in all name x) (ends x) holds in (
       first.next_below x below passes.1,
       ap₂ (λ s t. s && t) (ap (λ c. nat_eq c name) (sym (first.joins class respects x below passes.1)) ∙ passes.0)
           (first.next_to x below passes.1),
     ))
     (λ x y x_below y_below x_holds y_holds same.
-    sym (first.back_next x x_below (two (is_in all name x) (ends x) x_holds).1) ∙ ap first.back same
-    ∙ first.back_next y y_below (two (is_in all name y) (ends y) y_holds).1)
+    sym (first.back_next x x_below (and_parts (is_in all name x) (ends x) x_holds).1) ∙ ap first.back same
+    ∙ first.back_next y y_below (and_parts (is_in all name y) (ends y) y_holds).1)
     (λ y below holds.
-    let passes = two (is_in all name y) (starts y) holds in
+    let passes = and_parts (is_in all name y) (starts y) holds in
     let from = first.back_from y below passes.1 in
     let from_below = first.back_below y below passes.1 in (
       from_below,
@@ -140,15 +144,8 @@ starts-counted n ends starts m k w is name =
           ∙ passes.0) from,
     ))
     (λ x y x_below y_below x_holds y_holds same.
-    sym (first.next_back x x_below (two (is_in all name x) (starts x) x_holds).1) ∙ ap first.next same
-    ∙ first.next_back y y_below (two (is_in all name y) (starts y) y_holds).1)
-  where
-    two : (s t : Bool) → (s && t) ≡ true → (s ≡ true) × (t ≡ true)
-    two true t both = (refl, both)
-    two false t both = (both, absurd (no both))
-      where
-        no : false ≡ true → ⊥
-        no same = cc same
+    sym (first.next_back x x_below (and_parts (is_in all name x) (starts x) x_holds).1) ∙ ap first.next same
+    ∙ first.next_back y y_below (and_parts (is_in all name y) (starts y) y_holds).1)
 
 pub open-counted : (n : ℕ) (ends starts : ℕ → Bool) (m k w : List (ℕ × ℕ)) → IsSurface n ends starts m k w → (name : ℕ)
     → count_in n (components n m k w) name (is_open ends starts) ≡ 2 * strips_in n ends m k w name
@@ -157,15 +154,9 @@ open-counted n ends starts m k w is name =
     let sum : count_in n all name (is_open ends starts) ≡ count_in n all name ends + count_in n all name starts =
     count_by-either (λ x. is_in all name x && ends x) (λ x. is_in all name x && starts x)
     (λ x. is_in all name x && (ends x || starts x)) n
-    (λ x below. either (is_in all name x) (ends x) (starts x) (is.apart x below)) in
+    (λ x below. counted-split (is_in all name x) (ends x) (starts x) (is.apart x below)) in
     twice (count_in n all name (is_open ends starts)) (count_in n all name ends) (count_in n all name starts) sum
     (starts-counted n ends starts m k w is name)
   where
-    either : (s e t : Bool) → (e ≡ true → t ≡ false) → counted (s && (e || t)) ≡ counted (s && e) + counted (s && t)
-    either false e t apart = refl
-    either true false false apart = refl
-    either true false true apart = refl
-    either true true t apart = ap (λ b. 1 + counted b) (sym (apart refl))
-
     twice : (o e s : ℕ) → o ≡ e + s → e ≡ s → o ≡ 2 * e
     twice o e s sum same = omega (arith, sum, same)

@@ -14,13 +14,13 @@ use Rattle.link_algebra.proofs.turns.reverse.Goals as goal
 pub renumber-requires : goal.renumber-requires
 renumber-requires c =
     subst (λ (parts : Parts). ArePaired parts) (sym c.reversal_parts.ensures)
-    (paired (λ crossing. 2) c.args.diagram.now c.crossings-crossings.ensures.accepted
-    (reversal_parts c.args.diagram.now) (IsTurnOf-reversal c.args.diagram.now c.crossings-crossings.ensures.accepted))
+    (paired (λ crossing. 2) c.args.diagram.now c.diagram_laws.ensures.accepted
+    (reversal_parts c.args.diagram.now) (IsTurnOf-reversal c.args.diagram.now c.diagram_laws.ensures.accepted))
 
 pub of_accepted-requires : goal.of_accepted-requires
 of_accepted-requires c =
     subst (λ (code : Code). IsTrue (accepted code)) (sym (c.renumber.ensures.code ∙ ap renumber c.reversal_parts.ensures))
-    (reversal-accepted c.args.diagram.now c.crossings-crossings.ensures.accepted)
+    (reversal-accepted c.args.diagram.now c.diagram_laws.ensures.accepted)
 
 pub returns-clause-code : goal.returns-clause-code
 returns-clause-code c = c.of_accepted.ensures ∙ c.renumber.ensures.code ∙ ap renumber c.reversal_parts.ensures
@@ -28,9 +28,9 @@ returns-clause-code c = c.of_accepted.ensures ∙ c.renumber.ensures.code ∙ ap
 pub returns-clause-dimensions : goal.returns-clause-dimensions
 returns-clause-dimensions c = λ p prime i j.
     ap (λ (code : Code). dimension p code i j) (returns-clause-code c)
-    ∙ reversal-dimension c.args.diagram.now c.crossings-crossings.ensures.accepted p i j (small_prime-inverses p prime)
+    ∙ reversal-dimension c.args.diagram.now c.diagram_laws.ensures.accepted p i j (small_prime-inverses p prime)
 
 pub returns-clause-sum : goal.returns-clause-sum
 returns-clause-sum c = λ exponent.
     ap (λ (code : Code). state_sum code exponent) (returns-clause-code c)
-    ∙ reversal-sum c.args.diagram.now c.crossings-crossings.ensures.accepted exponent
+    ∙ reversal-sum c.args.diagram.now c.diagram_laws.ensures.accepted exponent

@@ -1,6 +1,6 @@
 use Rattle.std.proofs.Common.{◌∙◌, ◌+◌, ◌-◌, ◌++◌, ap, ap₂, arith, lit<, length, length-append}
+use Rattle.std.proofs.lemmas.Bool.{ne_eqb}
 use Rattle.orient_arcs.specs.Renumbered.{follows, walk}
-use Rattle.orient_arcs.proofs.Members.{neq-eqb}
 use Rattle.orient_arcs.proofs.StepLemmas.{walk_step, length_walk}
 use Rattle.orient_arcs.proofs.renumbering.push_walk.Goals as goal
 
@@ -27,5 +27,5 @@ steps-preserved c =
     ap₂ (λ os x. os ++ walk next c.args.first (size - (c.steps.counter + 1)) x) c.push.ensures.items c.follows-name.ensures
     ∙ walk_step c.steps.order.items next c.args.first (size - c.steps.counter) (size - (c.steps.counter + 1)) c.steps.name
     (omega (arith, c.steps-test.true))
-    (neq-eqb (next c.steps.name) c.args.first (λ same. c.if-name-first.false (c.follows-name.ensures ∙ same)))
+    (ne_eqb (next c.steps.name) c.args.first (λ same. c.if-name-first.false (c.follows-name.ensures ∙ same)))
     ∙ c.steps.invariant
