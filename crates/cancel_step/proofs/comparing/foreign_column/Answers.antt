@@ -2,24 +2,38 @@ use Rattle.std.proofs.Common.{◌≡◌, ◌∙◌, ℤ, List, ap, sym, subst, s
 use Rattle.std.proofs.lemmas.Int.{ints}
 use Rattle.kh_types.specs.Complex.{Pivot}
 use Rattle.sparse_block.specs.Changes.{PlacedLine}
-use Rattle.sparse_block.specs.Complexes.{place_count}
 use Rattle.cancel_step.specs.Copies.{Copied}
 use Rattle.cancel_step.specs.Foreign.{FindsLeast, ShowsBetween}
 use Rattle.cancel_step.specs.Lines.{AreLines}
-use Rattle.cancel_step.proofs.CopiedLemmas.{rows-lines}
+use Rattle.cancel_step.specs.declared.side.Side.{Side}
+use Rattle.cancel_step.proofs.CopiedLemmas.{across-lines}
+use Rattle.cancel_step.proofs.SideLemmas.{size_on}
 use Rattle.cancel_step.proofs.comparing.foreign_column.Goals as goal
 
-pub other_line-requires : goal.other_line-requires
-other_line-requires g c =
+pub other_line-requires-clause-columns : goal.other_line-requires-clause-columns
+other_line-requires-clause-columns g c =
     let p = g.F.PrimeField.P in
     let was = c.look.invariant in
     let pivot = c.look.inside.pivot in
-    let size = place_count was.complex pivot.degree in
+    let size = size_on Side.Columns was.complex pivot.degree in
+    let are : AreLines p size c.columns.result =
+    subst (AreLines p size)
+    (sym (c.columns.ensures ∙ sym (ap (λ (parts : Copied). parts.columns) c.look.view_is)
+    ∙ ap (λ (parts : Copied). parts.columns) was.are_copied))
+    (across-lines Side.Columns p was.complex pivot was.is_complex) in
+    (p, size, are)
+
+pub other_line-requires-clause-rows : goal.other_line-requires-clause-rows
+other_line-requires-clause-rows g c =
+    let p = g.F.PrimeField.P in
+    let was = c.look.invariant in
+    let pivot = c.look.inside.pivot in
+    let size = size_on Side.Rows was.complex pivot.degree in
     let are : AreLines p size c.rows.result =
     subst (AreLines p size)
     (sym (c.rows.ensures ∙ sym (ap (λ (parts : Copied). parts.rows) c.look.view_is)
     ∙ ap (λ (parts : Copied). parts.rows) was.are_copied))
-    (rows-lines p was.complex pivot was.is_complex) in
+    (across-lines Side.Rows p was.complex pivot was.is_complex) in
     (p, size, are)
 
 pub returns : goal.returns

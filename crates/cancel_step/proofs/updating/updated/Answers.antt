@@ -5,7 +5,8 @@ use Rattle.sparse_block.specs.Complexes.{place_count}
 use Rattle.sparse_block.specs.Entries.{value_at}
 use Rattle.cancel_step.specs.Copies.{Copied, WasPatched, columns_across, rows_across}
 use Rattle.cancel_step.specs.Lines.{AreLines, entries_with, line_cleared}
-use Rattle.cancel_step.proofs.CopiedLemmas.{columns-cleared, columns-lines, pivot-in_column, pivot-in_row, rows-cleared, rows-lines}
+use Rattle.cancel_step.specs.declared.side.Side.{Side}
+use Rattle.cancel_step.proofs.CopiedLemmas.{across-cleared, across-lines, pivot-in_line}
 use Rattle.cancel_step.proofs.updating.updated.Goals as goal
 
 pub lines_cleared-requires-clause-entries : goal.lines_cleared-requires-clause-entries
@@ -18,7 +19,7 @@ lines_cleared-requires-clause-entries g c =
     subst (AreLines p size)
     (sym (c.columns.ensures ∙ sym (ap (λ (parts : Copied). parts.columns) c.look.view_is)
     ∙ ap (λ (parts : Copied). parts.columns) was.are_copied))
-    (columns-lines p was.complex pivot was.is_complex) in
+    (across-lines Side.Columns p was.complex pivot was.is_complex) in
     (size, are)
 
 pub lines_cleared-requires-clause-pivot : goal.lines_cleared-requires-clause-pivot
@@ -30,7 +31,7 @@ lines_cleared-requires-clause-pivot g c =
     c.columns.ensures ∙ sym (ap (λ (parts : Copied). parts.columns) c.look.view_is)
     ∙ ap (λ (parts : Copied). parts.columns) was.are_copied in
     subst₂ (λ (pivot : Pivot) (lines : List PlacedLine). value_at (entries_with lines pivot.column) pivot.row ≢ 0) (sym c.pivot.view_is)
-    (sym are) (pivot-in_column p was.complex pivot was.is_complex was.is_pivot)
+    (sym are) (pivot-in_line Side.Columns p was.complex pivot was.is_complex was.is_pivot)
 
 pub lines_cleared-requires-2-clause-entries : goal.lines_cleared-requires-2-clause-entries
 lines_cleared-requires-2-clause-entries g c =
@@ -42,7 +43,7 @@ lines_cleared-requires-2-clause-entries g c =
     subst (AreLines p size)
     (sym (c.rows.ensures ∙ sym (ap (λ (parts : Copied). parts.rows) c.look.view_is)
     ∙ ap (λ (parts : Copied). parts.rows) was.are_copied))
-    (rows-lines p was.complex pivot was.is_complex) in
+    (across-lines Side.Rows p was.complex pivot was.is_complex) in
     (size, are)
 
 pub lines_cleared-requires-2-clause-pivot : goal.lines_cleared-requires-2-clause-pivot
@@ -54,7 +55,7 @@ lines_cleared-requires-2-clause-pivot g c =
     c.rows.ensures ∙ sym (ap (λ (parts : Copied). parts.rows) c.look.view_is)
     ∙ ap (λ (parts : Copied). parts.rows) was.are_copied in
     subst₂ (λ (pivot : Pivot) (lines : List PlacedLine). value_at (entries_with lines pivot.row) pivot.column ≢ 0) (sym c.pivot.view_is)
-    (sym are) (pivot-in_row p was.complex pivot was.is_complex was.is_pivot)
+    (sym are) (pivot-in_line Side.Rows p was.complex pivot was.is_complex was.is_pivot)
 
 pub returns : goal.returns
 returns g c =
@@ -65,7 +66,7 @@ returns g c =
     let columns_are =
     c.columns.ensures ∙ sym (ap (λ (parts : Copied). parts.columns) c.look.view_is)
     ∙ ap (λ (parts : Copied). parts.columns) was.are_copied in
-    let columns_lines = columns-lines p was.complex pivot was.is_complex in
+    let columns_lines = across-lines Side.Columns p was.complex pivot was.is_complex in
     let made = c.in_ok-columns.columns.items in
     let are_columns : made ≡ columns_across was.complex pivot (cancel p was.complex pivot) =
     subst₂
@@ -73,12 +74,12 @@ returns g c =
     made ≡ map (line_cleared p columns_size (entries_with lines pivot.column) pivot.row) lines)
     c.pivot.view_is columns_are
     (c.in_ok-columns.ensures columns_size (subst (AreLines p columns_size) (sym columns_are) columns_lines))
-    ∙ columns-cleared p was.complex pivot was.is_complex was.is_pivot c.element_laws.ensures.field columns_size columns_lines in
+    ∙ across-cleared Side.Columns p was.complex pivot was.is_complex was.is_pivot c.element_laws.ensures.field columns_size columns_lines in
     let rows_size = place_count was.complex pivot.degree in
     let rows_are =
     c.rows.ensures ∙ sym (ap (λ (parts : Copied). parts.rows) c.look.view_is)
     ∙ ap (λ (parts : Copied). parts.rows) was.are_copied in
-    let rows_lines = rows-lines p was.complex pivot was.is_complex in
+    let rows_lines = across-lines Side.Rows p was.complex pivot was.is_complex in
     let made_rows = c.in_ok-rows.rows.items in
     let are_rows : made_rows ≡ rows_across was.complex pivot (cancel p was.complex pivot) =
     subst₂
@@ -86,6 +87,6 @@ returns g c =
     made_rows ≡ map (line_cleared p rows_size (entries_with lines pivot.row) pivot.column) lines)
     c.pivot.view_is rows_are
     (c.in_ok-rows.ensures rows_size (subst (AreLines p rows_size) (sym rows_are) rows_lines))
-    ∙ rows-cleared p was.complex pivot was.is_complex was.is_pivot c.element_laws.ensures.field rows_size rows_lines in
+    ∙ across-cleared Side.Rows p was.complex pivot was.is_complex was.is_pivot c.element_laws.ensures.field rows_size rows_lines in
     subst (λ (look : Copied). WasPatched p look made made_rows) c.look.view_is
     (record { from = was; are_columns = are_columns; are_rows = are_rows })

@@ -1,9 +1,9 @@
 use Rattle.std.proofs.Common.{◌≡◌, pos, ◌+ℤ◌, ap, sym, arith, to_z, of_z, w16}
 use Rattle.std.proofs.lemmas.Int.{ints}
 use Rattle.sparse_block.specs.Complexes.{place_count}
-use Rattle.cancel_step.proofs.ReadingLemmas.{places-outside, row-outside, row-past}
-use Rattle.cancel_step.proofs.reading.row_at.Goals as goal
-use Rattle.cancel_step.proofs.reading.row_at.Goals.{then-i-low-via-then-i-low, then-i-low-via-else-i-low+then-high-i}
+use Rattle.sparse_block.proofs.PastLemmas.{places-outside, row-outside, row-past}
+use Rattle.sparse_block.proofs.reading.row_at.Goals as goal
+use Rattle.sparse_block.proofs.reading.row_at.Goals.{then-i-low-via-then-i-low, then-i-low-via-else-i-low+then-high-i}
 
 pub returns-then-i-low : goal.returns-then-i-low
 returns-then-i-low g c =

@@ -4,7 +4,7 @@ use Rattle.std.specs.Option.{option_map, option_map_or}
 use Rattle.std.proofs.lemmas.Iterator.{YieldsList-from_slice}
 use Rattle.std.proofs.lemmas.Iterator.Search.{find_from_yields_List}
 use Rattle.sparse_block.specs.declared.entry.Entry.{Entry}
-use Rattle.sparse_block.proofs.lines.value_at.Goals as goal
+use Rattle.sparse_block.proofs.reading.value_at.Goals as goal
 
 pub returns-in-Some : goal.returns-in-Some
 returns-in-Some c =

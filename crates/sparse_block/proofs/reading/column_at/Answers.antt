@@ -1,8 +1,8 @@
 use Rattle.std.proofs.Common.{◌≡◌, ap, sym, arith, to_z, of_z, w16}
 use Rattle.std.proofs.lemmas.Int.{ints}
 use Rattle.sparse_block.specs.Complexes.{place_count}
-use Rattle.cancel_step.proofs.ReadingLemmas.{column-past}
-use Rattle.cancel_step.proofs.reading.column_at.Goals as goal
+use Rattle.sparse_block.proofs.PastLemmas.{column-past}
+use Rattle.sparse_block.proofs.reading.column_at.Goals as goal
 
 pub returns-then-places-place : goal.returns-then-places-place
 returns-then-places-place g c =
