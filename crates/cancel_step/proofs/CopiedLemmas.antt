@@ -12,7 +12,7 @@ use Rattle.prime_field.specs.Residues.{IsField, inverse_mod, product_mod}
 use Rattle.sparse_block.specs.declared.entry.Entry.{Entry}
 use Rattle.sparse_block.specs.Entries.{AreEntries, entries_of, value_at}
 use Rattle.sparse_block.specs.Changes.{PlacedLine}
-use Rattle.cancel_step.specs.Copies.{line_across}
+use Rattle.cancel_step.specs.Copies.{Copied, WasCopied, line_across}
 use Rattle.cancel_step.specs.Lines.{AreLines, entries_with, factor_at, line_cleared}
 use Rattle.cancel_step.specs.Sides.{line_on, lines_across, other_side, place_on}
 use Rattle.cancel_step.specs.declared.side.Side.{Side}
@@ -132,3 +132,43 @@ module _ (side : Side) (p : ℕ) (complex : Complex) (pivot : Pivot) (is : IsCom
         (entries_of (before place)) own refl pivot-line (are_at k d within) are_own
         (ap₂ (λ x y. product_mod p x (inverse_mod p y)) (value-on side complex i place at)
         (ap (λ (es : List Entry). value_at es at) pivot-line ∙ pivot-on side complex pivot))))
+
+-- the copied lines of a side are those of the complex that was copied from
+
+abbrev pub parts_on : Side → Copied → List PlacedLine
+parts_on Side.Columns parts = parts.columns
+parts_on Side.Rows parts = parts.rows
+
+pub parts-copied : (side : Side) (p : ℕ) (parts : Copied) (was : WasCopied p parts)
+    → parts_on side parts ≡ lines_across side was.complex parts.pivot was.complex
+parts-copied Side.Columns p parts was = ap (λ (parts : Copied). parts.columns) was.are_copied
+parts-copied Side.Rows p parts was = ap (λ (parts : Copied). parts.rows) was.are_copied
+
+module _ (side : Side) (p : ℕ) (parts : Copied) (was : WasCopied p parts) (lines : List PlacedLine) (are : lines ≡ parts_on side parts)
+  where
+    pub copied-lines : AreLines p (size_on side was.complex parts.pivot.degree) lines
+    copied-lines =
+        subst (AreLines p (size_on side was.complex parts.pivot.degree)) (sym (are ∙ parts-copied side p parts was))
+        (across-lines side p was.complex parts.pivot was.is_complex)
+
+    pub copied-pivot : value_at (entries_with lines (place_on side parts.pivot)) (place_on (other_side side) parts.pivot) ≢ 0
+    copied-pivot =
+        subst
+        (λ (lines : List PlacedLine).
+        value_at (entries_with lines (place_on side parts.pivot)) (place_on (other_side side) parts.pivot) ≢ 0)
+        (sym (are ∙ parts-copied side p parts was))
+        (pivot-in_line side p was.complex parts.pivot was.is_complex was.is_pivot)
+
+    pub copied-cleared : IsField p → (made : List PlacedLine)
+        → ((size : ℕ) → AreLines p size lines
+        → made ≡ map (line_cleared p size (entries_with lines (place_on side parts.pivot)) (place_on (other_side side) parts.pivot)) lines)
+        → made ≡ lines_across side was.complex parts.pivot (cancel p was.complex parts.pivot)
+    copied-cleared field made cleared =
+        let size = size_on side was.complex parts.pivot.degree in
+        cleared size copied-lines
+        ∙ ap
+        (λ (lines : List PlacedLine).
+        map (line_cleared p size (entries_with lines (place_on side parts.pivot)) (place_on (other_side side) parts.pivot)) lines)
+        (are ∙ parts-copied side p parts was)
+        ∙ across-cleared side p was.complex parts.pivot was.is_complex was.is_pivot field size
+        (across-lines side p was.complex parts.pivot was.is_complex)

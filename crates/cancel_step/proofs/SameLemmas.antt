@@ -18,22 +18,13 @@ use Rattle.cancel_step.specs.declared.patched.Update.{Update}
 use Rattle.cancel_step.specs.declared.side.Side.{Side}
 use Rattle.cancel_step.proofs.EntryValues.{entries-agree, numbers-agree}
 use Rattle.cancel_step.proofs.ForeignLemmas.{none-shows, number-unless_other, same-unless_other}
-use Rattle.cancel_step.proofs.CopiedLemmas.{across-cleared, across-lines, blank, entries_across, in-across, line-across_at, map-alike}
+use Rattle.cancel_step.proofs.CopiedLemmas.{across-cleared, across-lines, blank, entries_across, in-across, line-across_at, map-alike, parts-copied, parts_on}
 use Rattle.cancel_step.proofs.SideLemmas.{size_on}
-
--- the copied lines of a side
-abbrev parts_on : Side → Copied → List PlacedLine
-parts_on Side.Columns parts = parts.columns
-parts_on Side.Rows parts = parts.rows
 
 -- a complex in which no difference shows has the copied parts
 
 module _ (p : ℕ) (complex : Complex) (parts : Copied) (is : IsComplex p complex) (was : WasCopied p parts)
     (same : (column : ℕ) → ShowsAt parts complex column → ⊥) where
-  parts-copied : (side : Side) → parts_on side parts ≡ lines_across side was.complex parts.pivot was.complex
-  parts-copied Side.Columns = ap (λ (parts : Copied). parts.columns) was.are_copied
-  parts-copied Side.Rows = ap (λ (parts : Copied). parts.rows) was.are_copied
-
   copy-same : (side : Side) (e : Entry) (k : ℕ) (d : PlacedLine) → k < length (parts_on side parts)
       → get_or (parts_on side parts) k d ≡ line_across (line_on side was.complex parts.pivot.degree) e
       → entries_of (line_on side was.complex parts.pivot.degree e.place)
@@ -66,10 +57,10 @@ module _ (p : ℕ) (complex : Complex) (parts : Copied) (is : IsComplex p comple
       (omega (
         arith,
         within,
-        ap (λ (lines : List PlacedLine). length lines) (parts-copied side),
+        ap (λ (lines : List PlacedLine). length lines) (parts-copied side p parts was),
         length-map es (line_across line),
       ))
-      (ap (λ (lines : List PlacedLine). get_or lines k e) (parts-copied side) ∙ line-across_at line es k d e within)
+      (ap (λ (lines : List PlacedLine). get_or lines k e) (parts-copied side p parts was) ∙ line-across_at line es k d e within)
 
   pivot_line-same : (side : Side) → entries_of (line_on side was.complex parts.pivot.degree (place_on side parts.pivot))
       ≡ entries_of (line_on side complex parts.pivot.degree (place_on side parts.pivot))
@@ -114,7 +105,7 @@ module _ (p : ℕ) (complex : Complex) (parts : Copied) (is : IsComplex p comple
 
   parts-count : (side : Side) → length (parts_on side parts) ≡ length (entries_across side complex parts.pivot)
   parts-count side =
-      ap (λ (lines : List PlacedLine). length lines) (parts-copied side ∙ across-same side)
+      ap (λ (lines : List PlacedLine). length lines) (parts-copied side p parts was ∙ across-same side)
       ∙ length-map (entries_across side complex parts.pivot) (line_across (line_on side complex parts.pivot.degree))
 
   pub alone-same : IsAlone parts → (length (entries_of (column_of complex parts.pivot.degree parts.pivot.column)) ≡ 1)
