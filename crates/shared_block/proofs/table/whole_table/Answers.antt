@@ -5,7 +5,7 @@ use Rattle.shared_block.proofs.table.whole_table.Goals as goal
 pub of_rows-requires : goal.of_rows-requires
 of_rows-requires g c =
     IsTable-all g.F.PrimeField.P c.P.result c.args.diagram.now c.args.rows.items c.element_laws.ensures.prime c.P.ensures
-    c.crossings.ensures.accepted (omega (arith, c.crossings.ensures.few, ap length c.crossings.ensures.crossings)) c.requires.size
+    (omega (arith, c.crossings.ensures.few, ap length c.crossings.ensures.crossings)) c.requires.size
     c.requires.rows
 
 pub returns : goal.returns
