@@ -1,17 +1,13 @@
 -- The rows of a table stand block by block, since quantum degrees without a block have no rows.
-use Rattle.std.proofs.Common.{◌≡◌, ℕ, ◌+◌, ◌<◌, ◌≤◌, ◌∙◌, List, [], ◌∷◌, ◌++◌, ℤ, pos, length, map, take, take_all, get_or, sym, ap, ap₂, arith, subst, Bool, false}
+use Rattle.std.proofs.Common.{◌≡◌, ℕ, ◌+◌, ◌<◌, ◌≤◌, ◌∙◌, List, [], ◌∷◌, ◌++◌, ℤ, pos, length, map, take, take_all, get_or, sym, ap, ap₂, arith, Bool, false}
 use Rattle.std.specs.Prelude.{nat_lt}
 use Rattle.std.specs.List.{filter, flat_map}
 use Rattle.std.proofs.lemmas.Grind.{flat_map-append}
 use Rattle.std.proofs.lemmas.List.{append-nil, get_or-map, length-map, take_more}
-use Rattle.prime_field.specs.Residues.{IsSmallPrime}
 use Rattle.kh_types.specs.Table.{Row, Table, from_minus, is_shown}
-use Rattle.kh_types.specs.declared.limits.TheConstants.{CROSSINGS, EXPONENT}
+use Rattle.kh_types.specs.declared.limits.TheConstants.{EXPONENT}
 use Rattle.kh_types.proofs.FilteredLists.{filter-none, flat_map-filter}
 use Rattle.kh_types.proofs.RowSums.{row_by, rows_by}
-use Rattle.circle_smoothing.specs.declared.limits.TheConstants.{GENERATORS}
-use Rattle.jones_sum.specs.Tables.{IsTable}
-use Rattle.jones_sum.proofs.TableLemmas.{IsTable-dims}
 
 module _ (rows : ℤ → List Row) where
   -- the rows of one block more; a degree that is read from memory and kept there is the same
@@ -51,9 +47,3 @@ module _ (n : ℕ) (dims : ℤ → ℤ → ℕ) (has : ℤ → Bool) (without : 
   pub table-whole : (p field : ℕ) (rows : List Row) → field ≡ p → rows ≡ flat_map (rows_by n dims) (filter has (from_minus EXPONENT))
       → table_with field rows ≡ table_with p (flat_map (rows_by n dims) (from_minus EXPONENT))
   table-whole p field rows is_field is_rows = ap₂ table_with is_field (is_rows ∙ sym (rows-blocks EXPONENT))
-
-  pub IsTable-whole : (p field : ℕ) (rows : List Row) → IsSmallPrime p → field ≡ p → n ≤ CROSSINGS
-      → ((i j : ℤ) → dims i j ≤ GENERATORS) → rows ≡ flat_map (rows_by n dims) (filter has (from_minus EXPONENT))
-      → IsTable (table_with field rows)
-  IsTable-whole p field rows prime is_field few small is_rows =
-      subst (λ (made : Table). IsTable made) (sym (table-whole p field rows is_field is_rows)) (IsTable-dims p n dims few small prime)

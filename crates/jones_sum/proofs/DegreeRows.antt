@@ -9,20 +9,16 @@ use Rattle.kh_types.specs.Table.{Row, is_shown}
 use Rattle.kh_types.proofs.Ranges.{map_from_zero}
 use Rattle.jones_sum.specs.DegreeRows.{row_with, rows_with}
 
--- the row of the homological degree at a place of those from -n to n
-abbrev pub row_number : ℕ → ℤ → (ℤ → ℕ) → ℕ → Row
-row_number n j dims k = row_with j dims (pos k -ℤ pos n)
-
 -- the rows of the first of these degrees
 abbrev pub rows_to : ℕ → ℤ → (ℤ → ℕ) → ℕ → List Row
-rows_to n j dims count = filter is_shown (map (row_number n j dims) (range_with_len 0 count))
+rows_to n j dims count = filter is_shown (map (λ k. row_with j dims (pos k -ℤ pos n)) (range_with_len 0 count))
 
 -- one row more
 pub rows-next : (n : ℕ) (j : ℤ) (dims : ℤ → ℕ) (k : ℕ) (start made next : List Row) (row : Row)
-    → made ≡ start ++ rows_to n j dims k → row ≡ row_number n j dims k → next ≡ made ++ filter is_shown (row ∷ [])
+    → made ≡ start ++ rows_to n j dims k → row ≡ row_with j dims (pos k -ℤ pos n) → next ≡ made ++ filter is_shown (row ∷ [])
     → next ≡ start ++ rows_to n j dims (k + 1)
 rows-next n j dims k start made next row is_made is_row is_next =
-    let number : ℕ → Row = row_number n j dims in
+    let number : ℕ → Row = λ k. row_with j dims (pos k -ℤ pos n) in
     let more : rows_to n j dims (k + 1) ≡ rows_to n j dims k ++ filter is_shown (number k ∷ []) =
     ap (filter is_shown) (map_from_zero number k) ∙ filter-append is_shown (map number (range_with_len 0 k)) (number k ∷ []) in
     is_next ∙ ap₂ (λ (xs : List Row) (r : Row). xs ++ filter is_shown (r ∷ [])) is_made is_row

@@ -14,6 +14,7 @@ use Rattle.circle_smoothing.specs.GeneratorCounts.{generator_count}
 use Rattle.circle_smoothing.specs.declared.limits.TheConstants.{GENERATORS}
 use Rattle.jones_sum.specs.Tables.{IsTable}
 use Rattle.jones_sum.proofs.BlockTables as tables
+use Rattle.jones_sum.proofs.TableLemmas.{IsTable-dims}
 use Rattle.cube_signs.proofs.GeneratorPlaces.{length-generators_at}
 use Rattle.reduced_cube.specs.Reduced.{has_reduced, is_reduced, reduced_degrees, reduced_dimension, reduced_generators, reduced_rows, reduced_table}
 
@@ -74,10 +75,6 @@ module _ (p : ℕ) (code : Code) (mark : ℕ) where
   table-whole field rows is_field is_rows =
       tables.table-whole (length code.crossings) dims (has_reduced code mark) (dimension-none p code mark) p field rows is_field is_rows
 
-  pub IsTable-whole : (field : ℕ) (rows : List Row) → IsSmallPrime p → field ≡ p → length code.crossings ≤ CROSSINGS
-      → generator_count code ≤ GENERATORS → rows ≡ flat_map (reduced_rows p code mark) (reduced_degrees code mark)
-      → IsTable (tables.table_with field rows)
-  unfolding reduced_degrees
-  IsTable-whole field rows prime is_field few size is_rows =
-      tables.IsTable-whole (length code.crossings) dims (has_reduced code mark) (dimension-none p code mark) p field rows prime is_field
-      few (λ i j. reduced_dimension-le p code mark i j size) is_rows
+  pub IsTable-reduced : length code.crossings ≤ CROSSINGS → generator_count code ≤ GENERATORS → IsSmallPrime p
+      → IsTable (reduced_table p code mark)
+  IsTable-reduced few size = IsTable-dims p (length code.crossings) dims few (λ i j. reduced_dimension-le p code mark i j size)

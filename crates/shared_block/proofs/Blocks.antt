@@ -1,19 +1,13 @@
 -- The rows of a table stand block by block.
-use Rattle.std.proofs.Common.{◌≡◌, ℕ, ◌+◌, ◌<◌, ◌≤◌, ◌∙◌, List, [], ◌++◌, ℤ, length, take, get_or, refl, sym, ap, arith, subst, Bool, true, false, ◌&&◌}
+use Rattle.std.proofs.Common.{◌≡◌, ℕ, ◌+◌, ◌<◌, ◌≤◌, ◌∙◌, List, [], ◌++◌, ℤ, length, take, get_or, refl, sym, ap, arith, Bool, true, false, ◌&&◌}
 use Rattle.std.specs.Prelude.{All}
 use Rattle.std.specs.List.{filter, flat_map}
 use Rattle.std.specs.Ordering.{int_eq}
 use Rattle.std.proofs.lemmas.List.{get_or-map, length-map}
 use Rattle.kh_types.specs.Code.{Code}
 use Rattle.kh_types.specs.Generators.{generators, generators_at, has_degrees, homological_degree, quantum_degree}
-use Rattle.kh_types.specs.Table.{Row, Table, dimension, from_minus, rows_at, rows_within, table}
-use Rattle.kh_types.specs.declared.limits.TheConstants.{CROSSINGS}
-use Rattle.prime_field.specs.Residues.{IsSmallPrime}
-use Rattle.circle_smoothing.specs.GeneratorCounts.{generator_count}
-use Rattle.circle_smoothing.specs.declared.limits.TheConstants.{GENERATORS}
-use Rattle.jones_sum.specs.Tables.{IsTable}
+use Rattle.kh_types.specs.Table.{Row, dimension, from_minus, rows_at, rows_within, table}
 use Rattle.jones_sum.proofs.BlockTables as tables
-use Rattle.jones_sum.proofs.TableLemmas.{IsTable-table}
 use Rattle.cube_signs.specs.Blocks.{block_degrees, has_block}
 use Rattle.shared_block.specs.BlockHistories.{BlockHistory}
 use Rattle.shared_block.specs.AllBlocks.{degrees_of_blocks}
@@ -76,9 +70,3 @@ unfolding block_degrees
 table-all p field code rows is_field is_rows =
     tables.table-whole (length code.crossings) (dimension p code) (has_block code) (dimension-no_block p code) p field rows is_field
     is_rows
-
-pub IsTable-all : (p field : ℕ) (code : Code) (rows : List Row) → IsSmallPrime p → field ≡ p → length code.crossings ≤ CROSSINGS
-    → generator_count code ≤ GENERATORS → rows ≡ flat_map (rows_at p code) (block_degrees code)
-    → IsTable (tables.table_with field rows)
-IsTable-all p field code rows prime is_field few size is_rows =
-    subst (λ (made : Table). IsTable made) (sym (table-all p field code rows is_field is_rows)) (IsTable-table p code few size prime)
