@@ -12,9 +12,6 @@ pub record BeginAlike (first wanted old left : LinesLeft) : Type 0 where
   pub others : wanted.rest ≡ front ++ left.rest
   pub numbered : old.number ≡ first.number + length front
 
-pub BeginAlike-first : (first wanted : LinesLeft) → BeginAlike first wanted first wanted
-BeginAlike-first first wanted = record { front = []; lines = refl; others = refl; numbered = omega arith }
-
 pub BeginAlike-next : (first wanted old left new after : LinesLeft) (line : List ℕ) → BeginAlike first wanted old left
     → TakesLine old line new → TakesLine left line after → BeginAlike first wanted new after
 BeginAlike-next first wanted old left new after line alike takes also = record {
@@ -59,11 +56,6 @@ pub differ-end : (first wanted old left : LinesLeft) (number : ℕ) → BeginAli
 differ-end first wanted old left number alike end other same =
     let at = differ first wanted old left alike (λ is. other (is ∙ ap (λ (ls : List (List ℕ)). slice_get ls 0) end)) in
     (at.0, same ∙ at.1, at.2)
-
-pub same-end : (first wanted old left : LinesLeft) → BeginAlike first wanted old left → old.rest ≡ [] → left.rest ≡ []
-    → first.rest ≡ wanted.rest
-same-end first wanted old left alike end none =
-    alike.lines ∙ ap (λ (ls : List (List ℕ)). alike.front ++ ls) (end ∙ sym none) ∙ sym alike.others
 
 -- the next line
 

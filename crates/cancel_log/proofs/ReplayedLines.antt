@@ -1,13 +1,10 @@
 -- What the loop over the lines of blocks keeps, and what it comes to.
 use Rattle.std.proofs.Common.{◌≡◌, ℕ, ◌+◌, ◌≤◌, ◌∙◌, true, false, List, [], ◌∷◌, ◌++◌, length, inl, inr, refl, sym, ap, arith}
 use Rattle.std.specs.Prelude.{None, Some, Err}
-use Rattle.std.specs.List.{flat_map}
 use Rattle.std.proofs.lemmas.List.{append_assoc, length-append}
 use Rattle.kh_types.specs.Code.{Code}
-use Rattle.kh_types.specs.Table.{rows_at}
 use Rattle.circle_smoothing.specs.GeneratorCounts.{generator_count}
 use Rattle.circle_smoothing.specs.declared.limits.TheConstants.{GENERATORS}
-use Rattle.cube_signs.specs.Blocks.{block_degrees}
 use Rattle.shared_block.specs.BlockHistories.{BlockHistory}
 use Rattle.cancel_log.specs.LinesLeft.{AreFew, LinesLeft, TakesLine}
 use Rattle.cancel_log.specs.LogBlocks.{IsWrong, lines_of_blocks}
@@ -89,13 +86,6 @@ closes-with p code others old new line Close before after read says does closes 
   says,
 )
 closes-with p code others old new line Other before after read says does closes = absurd (cc)
-
-pub replayed-rows : (p : ℕ) (code : Code) (others : List (List ℕ)) (old new : LinesLeft) (line : List ℕ) (said : LogLine)
-    (before after : Standing) → IsReplayed p code others old before → Says line said
-    → Does (step p code before said) before None after → is_close said ≡ true
-    → after.rows ≡ flat_map (rows_at p code) (block_degrees code)
-replayed-rows p code others old new line said before after read says does closes =
-    (closes-with p code others old new line said before after read says does closes).0.rows
 
 pub replayed-proved : (p : ℕ) (code : Code) (others : List (List ℕ)) (old new : LinesLeft) (line : List ℕ) (said : LogLine)
     (before after : Standing) → IsReplayed p code others old before → TakesLine old line new → Says line said

@@ -1,5 +1,5 @@
 -- The verdicts on texts whose lines are given with what they say.
-use Rattle.std.proofs.Common.{◌≡◌, ℕ, ◌+◌, ◌∙◌, Bool, false, cond, List, [], ◌∷◌, inl, inr, refl, sym, ap, subst, arith, codes}
+use Rattle.std.proofs.Common.{◌≡◌, ℕ, ◌+◌, ◌∙◌, Bool, false, cond, List, [], ◌∷◌, inl, refl, sym, ap, subst, arith, codes}
 use Rattle.std.specs.Prelude.{None, Some, Result, Ok, Err, nat_lt}
 use Rattle.kh_types.specs.Acceptance.{accepted, first_fault}
 use Rattle.kh_types.specs.Code.{Code}

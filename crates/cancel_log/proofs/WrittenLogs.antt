@@ -144,24 +144,6 @@ block_to-none held j start line bytes text degree is same is_text =
     ∙ ap (λ (xs : List ℕ). start ++ xs)
     (same ∙ block-text j line is ∙ ap (λ (i : ℤ). with_feed (block_line i)) degree ∙ sym (append-nil (with_feed (block_line held.degree))))
 
-pub block_to-more : (held : BlockHistory) (k : ℕ) (pivot : Pivot) (start text next : List ℕ) → text ≡ start ++ block_to held k
-    → k < length held.history → pivot ≡ get_or held.history k pivot → next ≡ text ++ with_feed (cancel_line pivot)
-    → next ≡ start ++ block_to held (k + 1)
-block_to-more held k pivot start text next is below is_pivot is_next =
-    let done = map cancel_line (take k held.history) in
-    let line = with_feed (cancel_line pivot) in
-    let more : map cancel_line (take (k + 1) held.history) ≡ done ++ cancel_line pivot ∷ [] =
-    ap (map cancel_line) (take_more held.history k pivot below)
-    ∙ map_push cancel_line (take k held.history) (get_or held.history k pivot)
-    ∙ ap (λ (v : Pivot). done ++ cancel_line v ∷ []) (sym is_pivot) in
-    let text_more : text_of_lines (map cancel_line (take (k + 1) held.history)) ≡ text_of_lines done ++ line =
-    ap text_of_lines more ∙ flat_map-append with_feed done (cancel_line pivot ∷ [])
-    ∙ ap (λ (xs : List ℕ). text_of_lines done ++ xs) (append-nil line) in
-    is_next ∙ ap (λ (xs : List ℕ). xs ++ line) is
-    ∙ append_assoc start (block_to held k) line
-    ∙ ap (λ (xs : List ℕ). start ++ xs) (append_assoc (with_feed (block_line held.degree)) (text_of_lines done) line)
-    ∙ ap (λ (xs : List ℕ). start ++ (with_feed (block_line held.degree) ++ xs)) (sym text_more)
-
 pub block_to-all : (held : BlockHistory) (k : ℕ) → length held.history ≤ k → block_to held k ≡ text_of_lines (block_lines held)
 block_to-all held k all =
     ap (λ (ps : List Pivot). with_feed (block_line held.degree) ++ text_of_lines (map cancel_line ps)) (take_all k held.history all)

@@ -1,5 +1,5 @@
 -- One line more of those that the code makes.
-use Rattle.std.proofs.Common.{◌≡◌, ℕ, ◌+◌, ◌<◌, ◌∙◌, inl, inr, List, [], ◌∷◌, ◌++◌, pos, ◌+ℤ◌, length, map, take, get_or, ap, ap₂, sym, subst, arith, Bool}
+use Rattle.std.proofs.Common.{◌≡◌, ℕ, ◌+◌, ◌<◌, ◌∙◌, inl, inr, List, [], ◌∷◌, ◌++◌, length, map, take, get_or, ap, ap₂, sym, subst, arith, Bool}
 use Rattle.std.specs.Prelude.{nat_eq, slice_index, Some, cond}
 use Rattle.std.specs.List.{find}
 use Rattle.std.specs.Option.{option_map_or}
@@ -11,14 +11,14 @@ use Rattle.prime_field.specs.Residues.{IsField, inverse_mod, product_mod}
 use Rattle.sparse_block.specs.declared.entry.Entry.{Entry}
 use Rattle.sparse_block.specs.Entries.{AreEntries, entries_of, value_at}
 use Rattle.sparse_block.specs.Changes.{PlacedLine}
-use Rattle.sparse_block.specs.Complexes.{column_of, place_count, row_of}
 use Rattle.sparse_block.proofs.AscendingLemmas.{entries-ascend, entries-from_ascend}
-use Rattle.sparse_block.proofs.EntryLemmas.{value_at-below, value_at-entries_of}
-use Rattle.sparse_block.proofs.ReadingLemmas.{column-entries, number-column_of, row-entries}
+use Rattle.sparse_block.proofs.EntryLemmas.{value_at-below}
 use Rattle.cancel_step.specs.Copies.{line_across}
 use Rattle.cancel_step.specs.Lines.{AreLines, entries_with, line_cleared, line_less}
+use Rattle.cancel_step.specs.Sides.{line_on, other_side, place_on}
+use Rattle.cancel_step.specs.declared.side.Side.{Side}
 use Rattle.cancel_step.proofs.EntryValues.{entry-of_line}
-use Rattle.cancel_step.proofs.UpdateLemmas.{column-less, row-less}
+use Rattle.cancel_step.proofs.SideLemmas.{entries-on, entry-across, entry_on, line-less, number-on, pivot-on, size_on}
 
 -- a list with one element more, each made by the same function
 one_more : {X Y : Type 0} (f : X → Y) (xs : List X) (k : ℕ) (d : X) (made made_more : List Y) (y : Y) → k < length xs
@@ -44,68 +44,39 @@ entry-below p size k es d are within = (are.values k d within).1
 
 module _ (p : ℕ) (complex : Complex) (pivot : Pivot) (field : IsField p) (is : IsComplex p complex) (is_pivot : IsPivot complex pivot)
   where
-    -- one column more, at the place of an entry of the pivot's row
-
-    pub column_more : (row column own made : List Entry) (k factor value : ℕ) (d : Entry) (lines lines_more : List PlacedLine)
-        → row ≡ entries_of (row_of complex pivot.degree pivot.row) → k < length row
-        → column ≡ entries_of (column_of complex pivot.degree (get_or row k d).place)
-        → own ≡ entries_of (column_of complex pivot.degree pivot.column) → value ≡ value_at own pivot.row
-        → factor ≡ product_mod p (get_or row k d).value (inverse_mod p value)
-        → ((size : ℕ) → AreEntries p size column → AreEntries p size own → made ≡ entries_of (line_less p size column factor own))
-        → lines ≡ map (line_across (column_of (cancel p complex pivot) pivot.degree)) (take k row)
-        → lines_more ≡ lines ++ record { place = (get_or row k d).place; entries = made } ∷ []
-        → lines_more ≡ map (line_across (column_of (cancel p complex pivot) pivot.degree)) (take (k + 1) row)
-    column_more row column own made k factor value d lines lines_more is_row within is_column is_own is_value is_factor merged so_far
-        is_more =
+    -- one line more of a side, at the place of an entry of the pivot's line across
+    pub line_more : (side : Side) (across line own made : List Entry) (k factor value : ℕ) (d : Entry)
+        (lines lines_more : List PlacedLine)
+        → across ≡ entries_of (line_on (other_side side) complex pivot.degree (place_on (other_side side) pivot)) → k < length across
+        → line ≡ entries_of (line_on side complex pivot.degree (get_or across k d).place)
+        → own ≡ entries_of (line_on side complex pivot.degree (place_on side pivot))
+        → value ≡ value_at own (place_on (other_side side) pivot)
+        → factor ≡ product_mod p (get_or across k d).value (inverse_mod p value)
+        → ((size : ℕ) → AreEntries p size line → AreEntries p size own → made ≡ entries_of (line_less p size line factor own))
+        → lines ≡ map (line_across (line_on side (cancel p complex pivot) pivot.degree)) (take k across)
+        → lines_more ≡ lines ++ record { place = (get_or across k d).place; entries = made } ∷ []
+        → lines_more ≡ map (line_across (line_on side (cancel p complex pivot) pivot.degree)) (take (k + 1) across)
+    line_more side across line own made k factor value d lines lines_more is_across within is_line is_own is_value is_factor merged
+        so_far is_more =
         let i = pivot.degree in
-        let size = place_count complex (i +ℤ pos 1) in
-        let e : Entry = get_or row k d in
-        let are : AreEntries p size column =
-        subst (AreEntries p size) (sym is_column) (column-entries p complex i e.place is) in
-        let are_own : AreEntries p size own = subst (AreEntries p size) (sym is_own) (column-entries p complex i pivot.column is) in
-        let entry : e.value ≡ entry_of complex i pivot.row e.place =
-        entry-value p (place_count complex i) k row (row_of complex i pivot.row) d is_row (row-entries p complex i pivot.row is) within in
+        let other = other_side side in
+        let at = place_on other pivot in
+        let size = size_on side complex i in
+        let e : Entry = get_or across k d in
+        let are : AreEntries p size line = subst (AreEntries p size) (sym is_line) (entries-on side p complex i e.place is) in
+        let are_own : AreEntries p size own =
+        subst (AreEntries p size) (sym is_own) (entries-on side p complex i (place_on side pivot) is) in
+        let entry : e.value ≡ entry_on side complex i e.place at =
+        entry-value p (size_on other complex i) k across (line_on other complex i at) d is_across (entries-on other p complex i at is)
+        within
+        ∙ number-on other complex i at e.place ∙ entry-across side complex i e.place at in
         let pivot_value : value ≡ entry_of complex i pivot.row pivot.column =
-        is_value ∙ ap (λ (es : List Entry). value_at es pivot.row) is_own
-        ∙ value_at-entries_of (column_of complex i pivot.column) pivot.row ∙ number-column_of complex i pivot.row pivot.column in
-        let line : PlacedLine = record { place = e.place; entries = made } in
-        one_more (line_across (column_of (cancel p complex pivot) i)) row k d lines lines_more line within so_far
+        is_value ∙ ap (λ (es : List Entry). value_at es at) is_own ∙ pivot-on side complex pivot in
+        let next : PlacedLine = record { place = e.place; entries = made } in
+        one_more (line_across (line_on side (cancel p complex pivot) i)) across k d lines lines_more next within so_far
         (ap (λ (es : List Entry). let line : PlacedLine = record { place = e.place; entries = es } in line)
         (merged size are are_own
-        ∙ column-less p complex pivot field is is_pivot size e.place factor column own is_column is_own are are_own
-        (is_factor ∙ ap₂ (λ x y. product_mod p x (inverse_mod p y)) entry pivot_value)))
-        is_more
-
-    -- one row more, at the place of an entry of the pivot's column
-
-    pub row_more : (column row own made : List Entry) (k factor value : ℕ) (d : Entry) (lines lines_more : List PlacedLine)
-        → column ≡ entries_of (column_of complex pivot.degree pivot.column) → k < length column
-        → row ≡ entries_of (row_of complex pivot.degree (get_or column k d).place)
-        → own ≡ entries_of (row_of complex pivot.degree pivot.row) → value ≡ value_at own pivot.column
-        → factor ≡ product_mod p (get_or column k d).value (inverse_mod p value)
-        → ((size : ℕ) → AreEntries p size row → AreEntries p size own → made ≡ entries_of (line_less p size row factor own))
-        → lines ≡ map (line_across (row_of (cancel p complex pivot) pivot.degree)) (take k column)
-        → lines_more ≡ lines ++ record { place = (get_or column k d).place; entries = made } ∷ []
-        → lines_more ≡ map (line_across (row_of (cancel p complex pivot) pivot.degree)) (take (k + 1) column)
-    row_more column row own made k factor value d lines lines_more is_column within is_row is_own is_value is_factor merged so_far
-        is_more =
-        let i = pivot.degree in
-        let size = place_count complex i in
-        let e : Entry = get_or column k d in
-        let are : AreEntries p size row = subst (AreEntries p size) (sym is_row) (row-entries p complex i e.place is) in
-        let are_own : AreEntries p size own = subst (AreEntries p size) (sym is_own) (row-entries p complex i pivot.row is) in
-        let entry : e.value ≡ entry_of complex i e.place pivot.column =
-        entry-value p (place_count complex (i +ℤ pos 1)) k column (column_of complex i pivot.column) d is_column
-        (column-entries p complex i pivot.column is) within
-        ∙ number-column_of complex i e.place pivot.column in
-        let pivot_value : value ≡ entry_of complex i pivot.row pivot.column =
-        is_value ∙ ap (λ (es : List Entry). value_at es pivot.column) is_own
-        ∙ value_at-entries_of (row_of complex i pivot.row) pivot.column in
-        let line : PlacedLine = record { place = e.place; entries = made } in
-        one_more (line_across (row_of (cancel p complex pivot) i)) column k d lines lines_more line within so_far
-        (ap (λ (es : List Entry). let line : PlacedLine = record { place = e.place; entries = es } in line)
-        (merged size are are_own
-        ∙ row-less p complex pivot field is is_pivot size e.place factor row own is_row is_own are are_own
+        ∙ line-less p complex pivot field is is_pivot side size e.place factor line own is_line is_own are are_own
         (is_factor ∙ ap₂ (λ x y. product_mod p x (inverse_mod p y)) entry pivot_value)))
         is_more
 

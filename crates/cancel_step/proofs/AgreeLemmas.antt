@@ -1,5 +1,5 @@
 -- Two lists of entries that agree up to a place, and the first place at which they differ.
-use Rattle.std.proofs.Common.{◌≡◌, ◌≢◌, ℕ, ◌+◌, ◌<◌, ◌≤◌, ◌∙◌, inl, inr, List, [], ap, sym, subst, subst₂, arith}
+use Rattle.std.proofs.Common.{◌≡◌, ◌≢◌, ℕ, ◌+◌, ◌<◌, ◌≤◌, ◌∙◌, inl, inr, List, sym, subst, subst₂, arith}
 use Rattle.std.proofs.lemmas.Bool.Decides.{eqb_tells, leb_tells}
 use Rattle.sparse_block.specs.declared.entry.Entry.{Entry}
 use Rattle.sparse_block.specs.Entries.{AreEntries, value_at}
@@ -97,16 +97,6 @@ agree_ends place left right rest_left rest_right agree more is_first differ =
       first = λ k other.
           elim (leb_tells place k) [ inl later ↦ later.1 | inr before ↦ absurd (other (up.same k before.1)) ];
     }
-
-pub agree_all : (left right rest_left rest_right : List Entry) → Agree left right rest_left rest_right → rest_left ≡ []
-    → rest_right ≡ [] → (place : ℕ) → value_at left place ≡ value_at right place
-agree_all left right rest_left rest_right agree none none_right place =
-    elim (leb_tells agree.bound place) [
-      | inl from ↦
-          sym (agree.in_left.values place from.1) ∙ ap (λ (es : List Entry). value_at es place) (none ∙ sym none_right)
-          ∙ agree.in_right.values place from.1
-      | inr before ↦ agree.same place before.1
-    ]
 
 pub agree_step : (place here there : ℕ) (left right rest_left rest_right next_left next_right : List Entry)
     → Agree left right rest_left rest_right → HasMore rest_left rest_right → place ≡ first_place_of rest_left rest_right

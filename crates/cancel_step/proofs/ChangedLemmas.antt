@@ -1,5 +1,5 @@
 -- The lines across a pivot are those that its cancellation changes.
-use Rattle.std.proofs.Common.{◌≡◌, ℕ, suc, ◌+◌, ◌-◌, ◌*◌, ◌%◌, ◌<◌, ◌∙◌, ◌⊎◌, inl, inr, List, [], ◌∷◌, pos, ◌+ℤ◌, length, map, get_or, ap, ap₂, sym, subst, refl, arith}
+use Rattle.std.proofs.Common.{◌≡◌, ℕ, suc, ◌+◌, ◌-◌, ◌*◌, ◌%◌, ◌<◌, ◌∙◌, ◌⊎◌, inl, inr, List, [], ◌∷◌, length, map, get_or, ap, ap₂, sym, subst, refl, arith}
 use Rattle.std.specs.Prelude.{slice_index}
 use Rattle.std.proofs.Math.ListN as plain
 use Rattle.std.proofs.Math.Nat.{add-mod_right, mod-eq_of_lt, zero-mod}
@@ -14,11 +14,13 @@ use Rattle.prime_field.specs.Residues.{IsField, inverse_mod, product_mod}
 use Rattle.sparse_block.specs.declared.entry.Entry.{Entry}
 use Rattle.sparse_block.specs.Entries.{AreEntries, entries_of}
 use Rattle.sparse_block.specs.Changes.{AreChanged, PlacedLine, places_of}
-use Rattle.sparse_block.specs.Complexes.{column_of, place_count, row_of}
-use Rattle.sparse_block.proofs.ReadingLemmas.{column-entries, number-column_of, row-entries}
-use Rattle.cancel_step.specs.Copies.{columns_across, line_across, rows_across}
+use Rattle.sparse_block.specs.Complexes.{column_of, row_of}
+use Rattle.cancel_step.specs.Copies.{line_across}
+use Rattle.cancel_step.specs.Sides.{line_on, lines_across, other_side, place_on}
+use Rattle.cancel_step.specs.declared.side.Side.{Side}
 use Rattle.cancel_step.proofs.EntryValues.{HasEntry, entry-at_number}
 use Rattle.cancel_step.proofs.UpdateLemmas.{entry-along_column, entry-cancel}
+use Rattle.cancel_step.proofs.SideLemmas.{entries-on, entry_on, number-on, size_on}
 use Rattle.cancel_step.proofs.CopiedLemmas.{blank, line-across_at}
 
 -- they are the lines that the cancellation changes
@@ -111,25 +113,29 @@ module _ (p : ℕ) (complex : Complex) (pivot : Pivot) (field : IsField p) (is :
         ∙ sym (ap (λ (sizes : List ℕ). get_or sizes place 0) (sizes-cancel p complex pivot pivot.degree))
         ∙ plain.get_or-map length (degree_of (cancel p complex pivot) pivot.degree).matrix place []
 
-    pub columns-changed : AreChanged (place_count complex pivot.degree) (column_of complex pivot.degree)
-        (column_of (cancel p complex pivot) pivot.degree) (columns_across complex pivot (cancel p complex pivot))
-    columns-changed =
-        let i = pivot.degree in
-        changed-across p (place_count complex i) (column_of complex i) (column_of (cancel p complex pivot) i) (row_of complex i pivot.row)
-        (entries_of (row_of complex i pivot.row)) refl (row-entries p complex i pivot.row is)
-        (λ place none.
-        lists-alike (column_of complex i place) (column_of (cancel p complex pivot) i place) (column-size place)
-        (λ k.
-        number-column_of complex i k place ∙ entry-stays k place (inl none)
-        ∙ sym (number-column_of (cancel p complex pivot) i k place)))
+    line-size : (side : Side) (line : ℕ)
+        → length (line_on side complex pivot.degree line) ≡ length (line_on side (cancel p complex pivot) pivot.degree line)
+    line-size Side.Columns line = column-size line
+    line-size Side.Rows line = row-size line
 
-    pub rows-changed : AreChanged (place_count complex (pivot.degree +ℤ pos 1)) (row_of complex pivot.degree)
-        (row_of (cancel p complex pivot) pivot.degree) (rows_across complex pivot (cancel p complex pivot))
-    rows-changed =
+    line-stays : (side : Side) (line place : ℕ)
+        → entry_on (other_side side) complex pivot.degree (place_on (other_side side) pivot) line ≡ 0
+        → entry_on side complex pivot.degree line place ≡ entry_on side (cancel p complex pivot) pivot.degree line place
+    line-stays Side.Columns line place none = entry-stays place line (inl none)
+    line-stays Side.Rows line place none = entry-stays line place (inr none)
+
+    pub lines-changed : (side : Side)
+        → AreChanged (size_on (other_side side) complex pivot.degree) (line_on side complex pivot.degree)
+        (line_on side (cancel p complex pivot) pivot.degree) (lines_across side complex pivot (cancel p complex pivot))
+    lines-changed side =
         let i = pivot.degree in
-        changed-across p (place_count complex (i +ℤ pos 1)) (row_of complex i) (row_of (cancel p complex pivot) i)
-        (column_of complex i pivot.column) (entries_of (column_of complex i pivot.column)) refl
-        (column-entries p complex i pivot.column is)
-        (λ place none.
-        lists-alike (row_of complex i place) (row_of (cancel p complex pivot) i place) (row-size place)
-        (λ k. entry-stays place k (inr (sym (number-column_of complex i place pivot.column) ∙ none))))
+        let other = other_side side in
+        let at = place_on other pivot in
+        let after = cancel p complex pivot in
+        changed-across p (size_on other complex i) (line_on side complex i) (line_on side after i) (line_on other complex i at)
+        (entries_of (line_on other complex i at)) refl (entries-on other p complex i at is)
+        (λ line none.
+        lists-alike (line_on side complex i line) (line_on side after i line) (line-size side line)
+        (λ k.
+        number-on side complex i line k ∙ line-stays side line k (sym (number-on other complex i at line) ∙ none)
+        ∙ sym (number-on side after i line k)))

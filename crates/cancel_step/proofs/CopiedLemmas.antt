@@ -1,5 +1,5 @@
 -- Lines across a pivot's row or column: copies of them, and what the cancellation makes of them.
-use Rattle.std.proofs.Common.{◌≡◌, ◌≢◌, ℕ, zero, suc, ◌<◌, ◌∙◌, inl, inr, List, [], ◌∷◌, pos, ◌+ℤ◌, length, map, get_or, ap, ap₂, sym, subst, refl, arith, Bool}
+use Rattle.std.proofs.Common.{◌≡◌, ◌≢◌, ℕ, zero, suc, ◌<◌, ◌∙◌, inl, inr, List, [], ◌∷◌, length, map, get_or, ap, ap₂, sym, subst, refl, arith, Bool}
 use Rattle.std.specs.Prelude.{nat_eq}
 use Rattle.std.specs.List.{find}
 use Rattle.std.specs.Option.{option_map_or}
@@ -7,18 +7,17 @@ use Rattle.std.specs.Prelude.{Option, Some, cond}
 use Rattle.std.proofs.lemmas.Bool.Decides.{eqb_tells}
 use Rattle.std.proofs.lemmas.Simd.{map-map}
 use Rattle.std.proofs.lemmas.List.{get_or-map, length-map}
-use Rattle.kh_types.specs.Complex.{Complex, IsComplex, IsPivot, Pivot, cancel, entry_of}
+use Rattle.kh_types.specs.Complex.{Complex, IsComplex, IsPivot, Pivot, cancel}
 use Rattle.prime_field.specs.Residues.{IsField, inverse_mod, product_mod}
 use Rattle.sparse_block.specs.declared.entry.Entry.{Entry}
 use Rattle.sparse_block.specs.Entries.{AreEntries, entries_of, value_at}
 use Rattle.sparse_block.specs.Changes.{PlacedLine}
-use Rattle.sparse_block.specs.Complexes.{column_of, place_count, row_of}
-use Rattle.sparse_block.proofs.EntryLemmas.{value_at-entries_of}
-use Rattle.sparse_block.proofs.ReadingLemmas.{column-entries, number-column_of, row-entries}
-use Rattle.cancel_step.specs.Copies.{columns_across, line_across, rows_across}
+use Rattle.cancel_step.specs.Copies.{Copied, WasCopied, line_across}
 use Rattle.cancel_step.specs.Lines.{AreLines, entries_with, factor_at, line_cleared}
+use Rattle.cancel_step.specs.Sides.{line_on, lines_across, other_side, place_on}
+use Rattle.cancel_step.specs.declared.side.Side.{Side}
 use Rattle.cancel_step.proofs.EntryValues.{HasEntry, entry-at_number}
-use Rattle.cancel_step.proofs.UpdateLemmas.{column-less, row-less}
+use Rattle.cancel_step.proofs.SideLemmas.{entries-on, entry-across, entry-pivot, line-less, number-on, pivot-on, size_on, value-on}
 
 pub blank : Entry
 blank = record { place = 0; value = 0 }
@@ -61,117 +60,115 @@ entries_with-across line (e ∷ es) place d has =
         behind zero within is_place = absurd (differs is_place)
         behind (suc at) within is_place = record { at = at; within = omega (arith, within); is_place = is_place }
 
-module _ (p : ℕ) (complex : Complex) (pivot : Pivot) (is : IsComplex p complex) where
+-- the entries of the pivot's line across
+abbrev pub entries_across : Side → Complex → Pivot → List Entry
+entries_across side complex pivot =
+    entries_of (line_on (other_side side) complex pivot.degree (place_on (other_side side) pivot))
+
+module _ (side : Side) (p : ℕ) (complex : Complex) (pivot : Pivot) (is : IsComplex p complex) where
   -- the lines copied from a complex have entries
 
-  pub columns-lines : AreLines p (place_count complex (pivot.degree +ℤ pos 1)) (columns_across complex pivot complex)
-  columns-lines k d within =
-      let i = pivot.degree in
-      let es : List Entry = entries_of (row_of complex i pivot.row) in
-      let inside : k < length es = omega (arith, within, length-map es (line_across (column_of complex i))) in
-      subst (λ (line : PlacedLine). AreEntries p (place_count complex (i +ℤ pos 1)) line.entries)
-      (sym (line-across_at (column_of complex i) es k blank d inside))
-      (column-entries p complex i (get_or es k blank).place is)
-
-  pub rows-lines : AreLines p (place_count complex pivot.degree) (rows_across complex pivot complex)
-  rows-lines k d within =
-      let i = pivot.degree in
-      let es : List Entry = entries_of (column_of complex i pivot.column) in
-      let inside : k < length es = omega (arith, within, length-map es (line_across (row_of complex i))) in
-      subst (λ (line : PlacedLine). AreEntries p (place_count complex i) line.entries)
-      (sym (line-across_at (row_of complex i) es k blank d inside)) (row-entries p complex i (get_or es k blank).place is)
+  pub across-lines : AreLines p (size_on side complex pivot.degree) (lines_across side complex pivot complex)
+  across-lines k d within =
+      let line : ℕ → List ℕ = line_on side complex pivot.degree in
+      let es : List Entry = entries_across side complex pivot in
+      let inside : k < length es = omega (arith, within, length-map es (line_across line)) in
+      subst (λ (line : PlacedLine). AreEntries p (size_on side complex pivot.degree) line.entries)
+      (sym (line-across_at line es k blank d inside))
+      (entries-on side p complex pivot.degree (get_or es k blank).place is)
 
   module _ (is_pivot : IsPivot complex pivot) where
-    -- and the pivot's own lines are among them
+    -- and the pivot's own line is among them
 
-    pub in-row : HasEntry (entries_of (row_of complex pivot.degree pivot.row)) pivot.column blank
-    in-row = entry-at_number (row_of complex pivot.degree pivot.row) pivot.column blank is_pivot
-
-    pub in-column : HasEntry (entries_of (column_of complex pivot.degree pivot.column)) pivot.row blank
-    in-column =
-        entry-at_number (column_of complex pivot.degree pivot.column) pivot.row blank
-        (λ none. is_pivot (sym (number-column_of complex pivot.degree pivot.row pivot.column) ∙ none))
-
-    pub pivot-column : entries_with (columns_across complex pivot complex) pivot.column
-        ≡ entries_of (column_of complex pivot.degree pivot.column)
-    pivot-column =
-        entries_with-across (column_of complex pivot.degree) (entries_of (row_of complex pivot.degree pivot.row)) pivot.column blank in-row
-
-    pub pivot-row : entries_with (rows_across complex pivot complex) pivot.row ≡ entries_of (row_of complex pivot.degree pivot.row)
-    pivot-row =
-        entries_with-across (row_of complex pivot.degree) (entries_of (column_of complex pivot.degree pivot.column)) pivot.row blank in-column
-
-    pub value-column : (place row : ℕ) → value_at (entries_of (column_of complex pivot.degree place)) row
-        ≡ entry_of complex pivot.degree row place
-    value-column place row =
-        value_at-entries_of (column_of complex pivot.degree place) row ∙ number-column_of complex pivot.degree row place
-
-    pub pivot-in_column : value_at (entries_with (columns_across complex pivot complex) pivot.column) pivot.row ≢ 0
-    pivot-in_column none =
+    pub in-across : HasEntry (entries_across side complex pivot) (place_on side pivot) blank
+    in-across =
+        let i = pivot.degree in
+        let at = place_on (other_side side) pivot in
+        entry-at_number (line_on (other_side side) complex i at) (place_on side pivot) blank
+        (λ none.
         is_pivot
-        (sym (value-column pivot.column pivot.row) ∙ ap (λ (es : List Entry). value_at es pivot.row) (sym pivot-column) ∙ none)
+        (sym (number-on (other_side side) complex i at (place_on side pivot)
+        ∙ entry-across side complex i (place_on side pivot) at ∙ entry-pivot side complex pivot)
+        ∙ none))
 
-    pub pivot-in_row : value_at (entries_with (rows_across complex pivot complex) pivot.row) pivot.column ≢ 0
-    pivot-in_row none =
+    pub pivot-line : entries_with (lines_across side complex pivot complex) (place_on side pivot)
+        ≡ entries_of (line_on side complex pivot.degree (place_on side pivot))
+    pivot-line =
+        entries_with-across (line_on side complex pivot.degree) (entries_across side complex pivot) (place_on side pivot) blank in-across
+
+    pub pivot-in_line : value_at (entries_with (lines_across side complex pivot complex) (place_on side pivot))
+        (place_on (other_side side) pivot) ≢ 0
+    pivot-in_line none =
         is_pivot
-        (sym (value_at-entries_of (row_of complex pivot.degree pivot.row) pivot.column)
-        ∙ ap (λ (es : List Entry). value_at es pivot.column) (sym pivot-row) ∙ none)
+        (sym (pivot-on side complex pivot)
+        ∙ ap (λ (es : List Entry). value_at es (place_on (other_side side) pivot)) (sym pivot-line) ∙ none)
 
     -- cleared by the pivot's own, they are the lines after the cancellation
+    pub across-cleared : IsField p → (size : ℕ) → AreLines p size (lines_across side complex pivot complex)
+        → map (line_cleared p size (entries_with (lines_across side complex pivot complex) (place_on side pivot))
+        (place_on (other_side side) pivot)) (lines_across side complex pivot complex)
+        ≡ lines_across side complex pivot (cancel p complex pivot)
+    across-cleared field size are =
+        let i = pivot.degree in
+        let at = place_on (other_side side) pivot in
+        let before : ℕ → List ℕ = line_on side complex i in
+        let after : ℕ → List ℕ = line_on side (cancel p complex pivot) i in
+        let es : List Entry = entries_across side complex pivot in
+        let own : List Entry = entries_with (lines_across side complex pivot complex) (place_on side pivot) in
+        let are_at : (k : ℕ) (d : Entry) → k < length es → AreEntries p size (entries_of (before (get_or es k d).place)) =
+        λ k d within.
+        subst (λ (line : PlacedLine). AreEntries p size line.entries) (line-across_at before es k d (line_across before blank) within)
+        (are k (line_across before blank) (omega (arith, within, length-map es (line_across before)))) in
+        let are_own : AreEntries p size own =
+        subst (AreEntries p size) (sym pivot-line)
+        (subst (λ (place : ℕ). AreEntries p size (entries_of (before place))) in-across.is_place
+        (are_at in-across.at blank in-across.within)) in
+        map-map (line_cleared p size own at) (line_across before) es
+        ∙ map-alike (λ (e : Entry). line_cleared p size own at (line_across before e)) (line_across after) es
+        (λ k d within.
+        let place = (get_or es k d).place in
+        ap (λ (es : List Entry). let line : PlacedLine = record { place = place; entries = es } in line)
+        (line-less p complex pivot field is is_pivot side size place (factor_at p own (entries_of (before place)) at)
+        (entries_of (before place)) own refl pivot-line (are_at k d within) are_own
+        (ap₂ (λ x y. product_mod p x (inverse_mod p y)) (value-on side complex i place at)
+        (ap (λ (es : List Entry). value_at es at) pivot-line ∙ pivot-on side complex pivot))))
 
-    module _ (field : IsField p) where
-      pub columns-cleared : (size : ℕ) → AreLines p size (columns_across complex pivot complex)
-          → map (line_cleared p size (entries_with (columns_across complex pivot complex) pivot.column) pivot.row)
-          (columns_across complex pivot complex)
-          ≡ columns_across complex pivot (cancel p complex pivot)
-      columns-cleared size are =
-          let i = pivot.degree in
-          let before : ℕ → List ℕ = column_of complex i in
-          let after : ℕ → List ℕ = column_of (cancel p complex pivot) i in
-          let es : List Entry = entries_of (row_of complex i pivot.row) in
-          let own : List Entry = entries_with (columns_across complex pivot complex) pivot.column in
-          let are_at : (k : ℕ) (d : Entry) → k < length es → AreEntries p size (entries_of (before (get_or es k d).place)) =
-          λ k d within.
-          subst (λ (line : PlacedLine). AreEntries p size line.entries) (line-across_at before es k d (line_across before blank) within)
-          (are k (line_across before blank) (omega (arith, within, length-map es (line_across before)))) in
-          let are_own : AreEntries p size own =
-          subst (AreEntries p size) (sym pivot-column)
-          (subst (λ (place : ℕ). AreEntries p size (entries_of (before place))) in-row.is_place
-          (are_at in-row.at blank in-row.within)) in
-          map-map (line_cleared p size own pivot.row) (line_across before) es
-          ∙ map-alike (λ (e : Entry). line_cleared p size own pivot.row (line_across before e)) (line_across after) es
-          (λ k d within.
-          let place = (get_or es k d).place in
-          ap (λ (es : List Entry). let line : PlacedLine = record { place = place; entries = es } in line)
-          (column-less p complex pivot field is is_pivot size place (factor_at p own (entries_of (before place)) pivot.row)
-          (entries_of (before place)) own refl pivot-column (are_at k d within) are_own
-          (ap₂ (λ x y. product_mod p x (inverse_mod p y)) (value-column place pivot.row)
-          (ap (λ (es : List Entry). value_at es pivot.row) pivot-column ∙ value-column pivot.column pivot.row))))
+-- the copied lines of a side are those of the complex that was copied from
 
-      pub rows-cleared : (size : ℕ) → AreLines p size (rows_across complex pivot complex)
-          → map (line_cleared p size (entries_with (rows_across complex pivot complex) pivot.row) pivot.column)
-          (rows_across complex pivot complex)
-          ≡ rows_across complex pivot (cancel p complex pivot)
-      rows-cleared size are =
-          let i = pivot.degree in
-          let before : ℕ → List ℕ = row_of complex i in
-          let after : ℕ → List ℕ = row_of (cancel p complex pivot) i in
-          let es : List Entry = entries_of (column_of complex i pivot.column) in
-          let own : List Entry = entries_with (rows_across complex pivot complex) pivot.row in
-          let are_at : (k : ℕ) (d : Entry) → k < length es → AreEntries p size (entries_of (before (get_or es k d).place)) =
-          λ k d within.
-          subst (λ (line : PlacedLine). AreEntries p size line.entries) (line-across_at before es k d (line_across before blank) within)
-          (are k (line_across before blank) (omega (arith, within, length-map es (line_across before)))) in
-          let are_own : AreEntries p size own =
-          subst (AreEntries p size) (sym pivot-row)
-          (subst (λ (place : ℕ). AreEntries p size (entries_of (before place))) in-column.is_place
-          (are_at in-column.at blank in-column.within)) in
-          map-map (line_cleared p size own pivot.column) (line_across before) es
-          ∙ map-alike (λ (e : Entry). line_cleared p size own pivot.column (line_across before e)) (line_across after) es
-          (λ k d within.
-          let place = (get_or es k d).place in
-          ap (λ (es : List Entry). let line : PlacedLine = record { place = place; entries = es } in line)
-          (row-less p complex pivot field is is_pivot size place (factor_at p own (entries_of (before place)) pivot.column)
-          (entries_of (before place)) own refl pivot-row (are_at k d within) are_own
-          (ap₂ (λ x y. product_mod p x (inverse_mod p y)) (value_at-entries_of (before place) pivot.column)
-          (ap (λ (es : List Entry). value_at es pivot.column) pivot-row ∙ value_at-entries_of (before pivot.row) pivot.column))))
+abbrev pub parts_on : Side → Copied → List PlacedLine
+parts_on Side.Columns parts = parts.columns
+parts_on Side.Rows parts = parts.rows
+
+pub parts-copied : (side : Side) (p : ℕ) (parts : Copied) (was : WasCopied p parts)
+    → parts_on side parts ≡ lines_across side was.complex parts.pivot was.complex
+parts-copied Side.Columns p parts was = ap (λ (parts : Copied). parts.columns) was.are_copied
+parts-copied Side.Rows p parts was = ap (λ (parts : Copied). parts.rows) was.are_copied
+
+module _ (side : Side) (p : ℕ) (parts : Copied) (was : WasCopied p parts) (lines : List PlacedLine) (are : lines ≡ parts_on side parts)
+  where
+    pub copied-lines : AreLines p (size_on side was.complex parts.pivot.degree) lines
+    copied-lines =
+        subst (AreLines p (size_on side was.complex parts.pivot.degree)) (sym (are ∙ parts-copied side p parts was))
+        (across-lines side p was.complex parts.pivot was.is_complex)
+
+    pub copied-pivot : value_at (entries_with lines (place_on side parts.pivot)) (place_on (other_side side) parts.pivot) ≢ 0
+    copied-pivot =
+        subst
+        (λ (lines : List PlacedLine).
+        value_at (entries_with lines (place_on side parts.pivot)) (place_on (other_side side) parts.pivot) ≢ 0)
+        (sym (are ∙ parts-copied side p parts was))
+        (pivot-in_line side p was.complex parts.pivot was.is_complex was.is_pivot)
+
+    pub copied-cleared : IsField p → (made : List PlacedLine)
+        → ((size : ℕ) → AreLines p size lines
+        → made ≡ map (line_cleared p size (entries_with lines (place_on side parts.pivot)) (place_on (other_side side) parts.pivot)) lines)
+        → made ≡ lines_across side was.complex parts.pivot (cancel p was.complex parts.pivot)
+    copied-cleared field made cleared =
+        let size = size_on side was.complex parts.pivot.degree in
+        cleared size copied-lines
+        ∙ ap
+        (λ (lines : List PlacedLine).
+        map (line_cleared p size (entries_with lines (place_on side parts.pivot)) (place_on (other_side side) parts.pivot)) lines)
+        (are ∙ parts-copied side p parts was)
+        ∙ across-cleared side p was.complex parts.pivot was.is_complex was.is_pivot field size
+        (across-lines side p was.complex parts.pivot was.is_complex)

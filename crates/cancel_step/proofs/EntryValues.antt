@@ -5,7 +5,8 @@ use Rattle.std.proofs.lemmas.Bool.Decides.{eqb_tells}
 use Rattle.sparse_block.specs.declared.entry.Entry.{Entry}
 use Rattle.sparse_block.specs.Entries.{AreEntries, entries_from, entries_of, value_at}
 use Rattle.sparse_block.proofs.AscendingLemmas.{Ascend, entries-ascend, ascend-place}
-use Rattle.sparse_block.proofs.EntryLemmas.{entries_from-zero, entries_from-other, value_at-here, value_at-later, value_at-entries_of}
+use Rattle.sparse_block.proofs.EntryLemmas.{entries_from-other, value_at-here, value_at-later, value_at-entries_of}
+use Rattle.sparse_block.proofs.PastLemmas.{entries_from-zeros}
 
 -- lines with the same numbers, 0 past their ends, have the same entries
 
@@ -17,11 +18,6 @@ entries_from-cons a (suc v) xs ys rest =
     entries_from-other a (suc v) xs (omega arith) ∙ ap (λ (es : List Entry). e ∷ es) rest
     ∙ sym (entries_from-other a (suc v) ys (omega arith))
 
-entries_from-zeros : (a : ℕ) (xs : List ℕ) → ((k : ℕ) → slice_index xs k ≡ 0) → entries_from a xs ≡ []
-entries_from-zeros a [] zeros = refl
-entries_from-zeros a (x ∷ xs) zeros =
-    entries_from-zero a x xs (zeros 0) ∙ entries_from-zeros (a + 1) xs (λ k. zeros (suc k))
-
 entries_from-agree : (a : ℕ) (xs ys : List ℕ) → ((k : ℕ) → slice_index xs k ≡ slice_index ys k)
     → entries_from a xs ≡ entries_from a ys
 entries_from-agree a [] ys same = sym (entries_from-zeros a ys (λ k. sym (same k)))
@@ -32,9 +28,6 @@ entries_from-agree a (x ∷ xs) (y ∷ ys) same =
 
 pub entries-agree : (xs ys : List ℕ) → ((k : ℕ) → slice_index xs k ≡ slice_index ys k) → entries_of xs ≡ entries_of ys
 entries-agree xs ys same = entries_from-agree 0 xs ys same
-
-pub entries-zeros : (xs : List ℕ) → ((k : ℕ) → slice_index xs k ≡ 0) → entries_of xs ≡ []
-entries-zeros xs zeros = entries_from-zeros 0 xs zeros
 
 -- and back
 pub numbers-agree : (xs ys : List ℕ) (k : ℕ) → entries_of xs ≡ entries_of ys → slice_index xs k ≡ slice_index ys k

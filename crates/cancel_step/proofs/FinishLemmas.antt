@@ -13,7 +13,8 @@ use Rattle.sparse_block.proofs.CancelledMatrices.{pivot_column-cancel}
 use Rattle.sparse_block.proofs.CancelledComplexes.{complex-cancel}
 use Rattle.cancel_step.specs.Histories.{ComesByCancelling}
 use Rattle.cancel_step.proofs.HistoryLemmas.{complex-replay, degrees-replay, legal-append, low-replay, places-replay, replay-append}
-use Rattle.cancel_step.proofs.EntryValues.{entries-zeros, number-none}
+use Rattle.sparse_block.proofs.PastLemmas.{entries-zeros}
+use Rattle.cancel_step.proofs.EntryValues.{number-none}
 use Rattle.cancel_step.proofs.ChangedLemmas.{entry-stays}
 use Rattle.cancel_step.proofs.ReadingLemmas.{AreEmptyDown}
 

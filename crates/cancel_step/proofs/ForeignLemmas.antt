@@ -107,9 +107,6 @@ any-push_left P lines line any =
       any.4,
     )
 
-pub finds-none : (Shows : PlacedLine → ℕ → Type 0) → FindsLeast (ShowsIn Shows []) None
-finds-none Shows n any = omega (arith, any.2)
-
 pub finds-more : (Shows : PlacedLine → ℕ → Type 0) (lines : List PlacedLine) (k : ℕ) (line d : PlacedLine) (least found : Option ℕ)
     → k < length lines → line ≡ get_or lines k d → FindsLeast (ShowsIn Shows (take k lines)) least → FindsLeast (Shows line) found
     → FindsLeast (ShowsIn Shows (take (k + 1) lines)) (lesser_of least found)

@@ -8,6 +8,7 @@ pub mod HistoryEnds
 pub mod EntryValues
 pub mod ReadingLemmas
 pub mod UpdateLemmas
+pub mod SideLemmas
 pub mod RestLemmas
 pub mod PairLemmas
 pub mod AgreeLemmas
@@ -17,5 +18,4 @@ pub mod ChangedLemmas
 pub mod SameLemmas
 pub mod FinishLemmas
 pub mod AcrossLemmas
-pub mod SideLemmas
 pub mod SpanLemmas

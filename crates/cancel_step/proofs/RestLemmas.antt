@@ -61,14 +61,6 @@ value_first-value p a b (x ∷ xs) ascend =
           ∙ value_at-before p (x.place + 1) b a xs ascend.4 (omega (arith, ascend.0)))
     ]
 
-pub value_first-below : (p a b place : ℕ) (xs : List Entry) → 0 < p → Ascend p a b xs → value_first xs place < p
-value_first-below p a b place [] positive ascend = positive
-value_first-below p a b place (x ∷ xs) positive ascend =
-    elim (eqb_tells x.place place) [
-      | inl here ↦ subst (λ (test : Bool). (if test then x.value else 0) < p) (sym here.0) ascend.3
-      | inr other ↦ subst (λ (test : Bool). (if test then x.value else 0) < p) (sym other.0) positive
-    ]
-
 ascend-rest_after : (p a b : ℕ) (xs : List Entry) → Ascend p a b xs → Ascend p (a + 1) b (rest_after xs a)
 ascend-rest_after p a b [] ascend = tt
 ascend-rest_after p a b (x ∷ xs) ascend =

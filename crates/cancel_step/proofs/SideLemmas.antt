@@ -1,49 +1,99 @@
--- The columns and the rows of a complex, by their side.
-use Rattle.std.proofs.Common.{◌≡◌, ℕ, ◌+◌, ◌<◌, ◌∙◌, List, [], ◌∷◌, ◌++◌, ℤ, pos, ◌+ℤ◌, length, map, take, get_or}
+-- A column and a row are one thing seen from two sides: what is said here of a line of a side holds of both.
+use Rattle.std.proofs.Common.{◌≡◌, ℕ, ◌*◌, ◌∙◌, List, ℤ, pos, ◌+ℤ◌, ap, refl, sym}
+use Rattle.std.specs.Prelude.{slice_index}
 use Rattle.kh_types.specs.Complex.{Complex, IsComplex, IsPivot, Pivot, cancel, entry_of}
+use Rattle.kh_types.specs.Rank.{minus_mod}
 use Rattle.prime_field.specs.Residues.{IsField, inverse_mod, product_mod}
 use Rattle.sparse_block.specs.declared.entry.Entry.{Entry}
-use Rattle.sparse_block.specs.Changes.{PlacedLine}
-use Rattle.sparse_block.specs.Complexes.{column_of, place_count, row_of}
+use Rattle.sparse_block.specs.Complexes.{place_count}
 use Rattle.sparse_block.specs.Entries.{AreEntries, entries_of, value_at}
 use Rattle.sparse_block.proofs.EntryLemmas.{value_at-entries_of}
 use Rattle.sparse_block.proofs.ReadingLemmas.{column-entries, number-column_of, row-entries}
-use Rattle.cancel_step.specs.Copies.{line_across}
 use Rattle.cancel_step.specs.Lines.{line_less}
 use Rattle.cancel_step.specs.Sides.{line_on, other_side, place_on}
 use Rattle.cancel_step.specs.declared.side.Side.{Side}
-use Rattle.cancel_step.proofs.AcrossLemmas.{column_more, row_more}
+use Rattle.cancel_step.proofs.EntryValues.{entries-agree}
+use Rattle.cancel_step.proofs.UpdateLemmas.{entry-along_column, entry-along_row, entry-cancel, number-line_less}
 
 -- how many places a line of a side has
 abbrev pub size_on : Side → Complex → ℤ → ℕ
 size_on Side.Columns complex i = place_count complex (i +ℤ pos 1)
 size_on Side.Rows complex i = place_count complex i
 
-pub entries-on : (side : Side) (p : ℕ) (complex : Complex) (i : ℤ) (place : ℕ) → IsComplex p complex
-    → AreEntries p (size_on side complex i) (entries_of (line_on side complex i place))
-entries-on Side.Columns p complex i place is = column-entries p complex i place is
-entries-on Side.Rows p complex i place is = row-entries p complex i place is
+-- the entry of a line at a place
+abbrev pub entry_on : Side → Complex → ℤ → ℕ → ℕ → ℕ
+entry_on Side.Columns complex i line place = entry_of complex i place line
+entry_on Side.Rows complex i line place = entry_of complex i line place
+
+pub entries-on : (side : Side) (p : ℕ) (complex : Complex) (i : ℤ) (line : ℕ) → IsComplex p complex
+    → AreEntries p (size_on side complex i) (entries_of (line_on side complex i line))
+entries-on Side.Columns p complex i line is = column-entries p complex i line is
+entries-on Side.Rows p complex i line is = row-entries p complex i line is
+
+pub number-on : (side : Side) (complex : Complex) (i : ℤ) (line place : ℕ)
+    → slice_index (line_on side complex i line) place ≡ entry_on side complex i line place
+number-on Side.Columns complex i line place = number-column_of complex i place line
+number-on Side.Rows complex i line place = refl
+
+pub value-on : (side : Side) (complex : Complex) (i : ℤ) (line place : ℕ)
+    → value_at (entries_of (line_on side complex i line)) place ≡ entry_on side complex i line place
+value-on side complex i line place =
+    value_at-entries_of (line_on side complex i line) place ∙ number-on side complex i line place
+
+pub entry-across : (side : Side) (complex : Complex) (i : ℤ) (line place : ℕ)
+    → entry_on (other_side side) complex i place line ≡ entry_on side complex i line place
+entry-across Side.Columns complex i line place = refl
+entry-across Side.Rows complex i line place = refl
+
+pub entry-pivot : (side : Side) (complex : Complex) (pivot : Pivot)
+    → entry_on side complex pivot.degree (place_on side pivot) (place_on (other_side side) pivot)
+    ≡ entry_of complex pivot.degree pivot.row pivot.column
+entry-pivot Side.Columns complex pivot = refl
+entry-pivot Side.Rows complex pivot = refl
 
 -- the pivot stands in its own line of a side
 pub pivot-on : (side : Side) (complex : Complex) (pivot : Pivot)
     → value_at (entries_of (line_on side complex pivot.degree (place_on side pivot))) (place_on (other_side side) pivot)
     ≡ entry_of complex pivot.degree pivot.row pivot.column
-pivot-on Side.Columns complex pivot =
-    value_at-entries_of (column_of complex pivot.degree pivot.column) pivot.row
-    ∙ number-column_of complex pivot.degree pivot.row pivot.column
-pivot-on Side.Rows complex pivot = value_at-entries_of (row_of complex pivot.degree pivot.row) pivot.column
+pivot-on side complex pivot =
+    value-on side complex pivot.degree (place_on side pivot) (place_on (other_side side) pivot) ∙ entry-pivot side complex pivot
 
--- one line more, at the place of an entry of the pivot's line across
-pub line_more : (side : Side) (p : ℕ) (complex : Complex) (pivot : Pivot) → IsField p → IsComplex p complex → IsPivot complex pivot
-    → (across line own made : List Entry) (k factor value : ℕ) (d : Entry) (lines lines_more : List PlacedLine)
-    → across ≡ entries_of (line_on (other_side side) complex pivot.degree (place_on (other_side side) pivot)) → k < length across
-    → line ≡ entries_of (line_on side complex pivot.degree (get_or across k d).place)
-    → own ≡ entries_of (line_on side complex pivot.degree (place_on side pivot))
-    → value ≡ value_at own (place_on (other_side side) pivot)
-    → factor ≡ product_mod p (get_or across k d).value (inverse_mod p value)
-    → ((size : ℕ) → AreEntries p size line → AreEntries p size own → made ≡ entries_of (line_less p size line factor own))
-    → lines ≡ map (line_across (line_on side (cancel p complex pivot) pivot.degree)) (take k across)
-    → lines_more ≡ lines ++ record { place = (get_or across k d).place; entries = made } ∷ []
-    → lines_more ≡ map (line_across (line_on side (cancel p complex pivot) pivot.degree)) (take (k + 1) across)
-line_more Side.Columns p complex pivot field is is_pivot = column_more p complex pivot field is is_pivot
-line_more Side.Rows p complex pivot field is is_pivot = row_more p complex pivot field is is_pivot
+-- a line less the multiple of the pivot's line that clears the place of the pivot is the line after the cancellation
+
+module _ (p : ℕ) (complex : Complex) (pivot : Pivot) (field : IsField p) (is : IsComplex p complex) (is_pivot : IsPivot complex pivot)
+  where
+    entry-along : (side : Side) (line place : ℕ)
+        → minus_mod p (entry_on side complex pivot.degree line place)
+        (product_mod p (entry_on side complex pivot.degree line (place_on (other_side side) pivot))
+        (inverse_mod p (entry_of complex pivot.degree pivot.row pivot.column))
+        * entry_on side complex pivot.degree (place_on side pivot) place)
+        ≡ entry_on side (cancel p complex pivot) pivot.degree line place
+    entry-along Side.Columns line place =
+        entry-along_column p pivot.row pivot.column (entry_of complex pivot.degree) field (is.below pivot.degree) is_pivot place line
+        ∙ sym (entry-cancel p complex pivot place line is is_pivot)
+    entry-along Side.Rows line place =
+        entry-along_row p pivot.row pivot.column (entry_of complex pivot.degree) field (is.below pivot.degree) is_pivot line place
+        ∙ sym (entry-cancel p complex pivot line place is is_pivot)
+
+    pub line-less : (side : Side) (size line factor : ℕ) (entries others : List Entry)
+        → entries ≡ entries_of (line_on side complex pivot.degree line)
+        → others ≡ entries_of (line_on side complex pivot.degree (place_on side pivot))
+        → AreEntries p size entries → AreEntries p size others
+        → factor ≡ product_mod p (entry_on side complex pivot.degree line (place_on (other_side side) pivot))
+        (inverse_mod p (entry_of complex pivot.degree pivot.row pivot.column))
+        → entries_of (line_less p size entries factor others)
+        ≡ entries_of (line_on side (cancel p complex pivot) pivot.degree line)
+    line-less side size line factor entries others are_line are_pivot are are_others is_factor =
+        let i = pivot.degree in
+        let entry : ℕ → ℕ → ℕ = entry_on side complex i in
+        let value : (line : ℕ) (es : List Entry) (k : ℕ) → es ≡ entries_of (line_on side complex i line) → value_at es k ≡ entry line k =
+        λ line es k same. ap (λ (es : List Entry). value_at es k) same ∙ value-on side complex i line k in
+        let own = place_on side pivot in
+        entries-agree (line_less p size entries factor others) (line_on side (cancel p complex pivot) i line)
+        (λ k.
+        number-line_less p size entries others factor k are are_others
+        ∙ ap (λ (x : ℕ). minus_mod p x (factor * value_at others k)) (value line entries k are_line)
+        ∙ ap (λ (y : ℕ). minus_mod p (entry line k) (factor * y)) (value own others k are_pivot)
+        ∙ ap (λ (f : ℕ). minus_mod p (entry line k) (f * entry own k)) is_factor
+        ∙ entry-along side line k
+        ∙ sym (number-on side (cancel p complex pivot) i line k))

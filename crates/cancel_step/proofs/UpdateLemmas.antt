@@ -15,15 +15,12 @@ use Rattle.kh_types.proofs.PlainRank.{other-below}
 use Rattle.kh_types.proofs.MatrixEntries.{entry_cancelled, entry-cancelled_matrix}
 use Rattle.sparse_block.proofs.FieldInverses.{inverses-field}
 use Rattle.sparse_block.specs.declared.entry.Entry.{Entry}
-use Rattle.sparse_block.specs.Entries.{AreEntries, entries_of, value_at}
-use Rattle.sparse_block.specs.Complexes.{column_of, row_of}
+use Rattle.sparse_block.specs.Entries.{AreEntries, value_at}
 use Rattle.sparse_block.proofs.AscendingLemmas.{entries-ascend}
-use Rattle.sparse_block.proofs.EntryLemmas.{value_at-entries_of}
-use Rattle.sparse_block.proofs.ReadingLemmas.{number-column_of}
 use Rattle.sparse_block.proofs.ComplexMatrices.{matrix-of_degree, entry-stands}
 use Rattle.sparse_block.proofs.CancelledDegrees.{degree-at_pivot}
 use Rattle.cancel_step.specs.Lines.{line_less}
-use Rattle.cancel_step.proofs.EntryValues.{entries-agree, value_at-past}
+use Rattle.cancel_step.proofs.EntryValues.{value_at-past}
 
 -- numbers less others, modulo p
 
@@ -124,48 +121,3 @@ number-line_less p size entries others factor k are are_others =
           ∙ minus_mod-nothing p (factor * value_at others k) (ap (λ (value : ℕ). factor * value) none_other ∙ nothing))
       | inr within ↦ get_or-map-range_with_len number 0 size k k 0 within.1 (omega arith)
     ]
-
--- so the columns and rows of the pivot's matrix after the cancellation
-
-module _ (p : ℕ) (complex : Complex) (pivot : Pivot) (field : IsField p) (is : IsComplex p complex) (is_pivot : IsPivot complex pivot)
-  where
-    pub column-less : (size place factor : ℕ) (entries others : List Entry) → entries ≡ entries_of (column_of complex pivot.degree place)
-        → others ≡ entries_of (column_of complex pivot.degree pivot.column) → AreEntries p size entries → AreEntries p size others
-        → factor ≡ product_mod p (entry_of complex pivot.degree pivot.row place)
-        (inverse_mod p (entry_of complex pivot.degree pivot.row pivot.column))
-        → entries_of (line_less p size entries factor others) ≡ entries_of (column_of (cancel p complex pivot) pivot.degree place)
-    column-less size place factor entries others are_column are_pivot are are_others is_factor =
-        let i = pivot.degree in
-        let M : ℕ → ℕ → ℕ = entry_of complex i in
-        let value : (column : ℕ) (es : List Entry) (k : ℕ) → es ≡ entries_of (column_of complex i column) → value_at es k ≡ M k column =
-        λ column es k same.
-        ap (λ (es : List Entry). value_at es k) same ∙ value_at-entries_of (column_of complex i column) k
-        ∙ number-column_of complex i k column in
-        entries-agree (line_less p size entries factor others) (column_of (cancel p complex pivot) i place)
-        (λ k.
-        number-line_less p size entries others factor k are are_others
-        ∙ ap (λ (x : ℕ). minus_mod p x (factor * value_at others k)) (value place entries k are_column)
-        ∙ ap (λ (y : ℕ). minus_mod p (M k place) (factor * y)) (value pivot.column others k are_pivot)
-        ∙ ap (λ (f : ℕ). minus_mod p (M k place) (f * M k pivot.column)) is_factor
-        ∙ entry-along_column p pivot.row pivot.column M field (is.below i) is_pivot k place
-        ∙ sym (entry-cancel p complex pivot k place is is_pivot)
-        ∙ sym (number-column_of (cancel p complex pivot) i k place))
-
-    pub row-less : (size place factor : ℕ) (entries others : List Entry) → entries ≡ entries_of (row_of complex pivot.degree place)
-        → others ≡ entries_of (row_of complex pivot.degree pivot.row) → AreEntries p size entries → AreEntries p size others
-        → factor ≡ product_mod p (entry_of complex pivot.degree place pivot.column)
-        (inverse_mod p (entry_of complex pivot.degree pivot.row pivot.column))
-        → entries_of (line_less p size entries factor others) ≡ entries_of (row_of (cancel p complex pivot) pivot.degree place)
-    row-less size place factor entries others are_row are_pivot are are_others is_factor =
-        let i = pivot.degree in
-        let M : ℕ → ℕ → ℕ = entry_of complex i in
-        let value : (row : ℕ) (es : List Entry) (k : ℕ) → es ≡ entries_of (row_of complex i row) → value_at es k ≡ M row k =
-        λ row es k same. ap (λ (es : List Entry). value_at es k) same ∙ value_at-entries_of (row_of complex i row) k in
-        entries-agree (line_less p size entries factor others) (row_of (cancel p complex pivot) i place)
-        (λ k.
-        number-line_less p size entries others factor k are are_others
-        ∙ ap (λ (x : ℕ). minus_mod p x (factor * value_at others k)) (value place entries k are_row)
-        ∙ ap (λ (y : ℕ). minus_mod p (M place k) (factor * y)) (value pivot.row others k are_pivot)
-        ∙ ap (λ (f : ℕ). minus_mod p (M place k) (f * M pivot.row k)) is_factor
-        ∙ entry-along_row p pivot.row pivot.column M field (is.below i) is_pivot place k
-        ∙ sym (entry-cancel p complex pivot place k is is_pivot))

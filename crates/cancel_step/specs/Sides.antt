@@ -6,6 +6,7 @@ use Rattle.sparse_block.specs.Complexes.{column_of, row_of}
 use Rattle.sparse_block.specs.Entries.{entries_of}
 use Rattle.cancel_step.specs.declared.side.Side.{Side}
 use Rattle.cancel_step.specs.Copies.{line_across}
+use Rattle.cancel_step.specs.Foreign.{IsOtherColumn, IsOtherRowAt}
 
 -- the side across
 abbrev pub other_side : Side → Side
@@ -27,3 +28,8 @@ abbrev pub lines_across : Side → Complex → Pivot → Complex → List Placed
 lines_across side complex pivot after =
     map (line_across (line_on side after pivot.degree))
     (entries_of (line_on (other_side side) complex pivot.degree (place_on (other_side side) pivot)))
+
+-- a line is not that of the complex at its place, and a column tells: a column itself, of a row one with another value
+abbrev pub IsOtherOn : Side → Complex → ℤ → PlacedLine → ℕ → Type 0
+IsOtherOn Side.Columns complex i line column = IsOtherColumn complex i line column
+IsOtherOn Side.Rows complex i line column = IsOtherRowAt complex i line column

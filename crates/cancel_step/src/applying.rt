@@ -11,14 +11,14 @@ ghost use Rattle.cancel_step.specs.Sides.{lines_across};
 use crate::comparing::foreign_column;
 use crate::line_pairs::subtract_into;
 use crate::patched::Update;
-use crate::reading::{column_at, entries_beside, own_entries, row_at, value_at};
+use crate::reading::{entries_beside, own_entries};
 use crate::side::{Side, other_side, place_on};
 use crate::{Foreign, Patch, Pivot};
 use kh_types::NoMemory;
 use prime_field::laws::element_laws;
 use prime_field::{PrimeField, quotient};
 use smallvec::SmallVec;
-use sparse_block::{Change, Complex, Entry, Line, complex_laws};
+use sparse_block::{Change, Complex, Entry, Line, column_at, complex_laws, row_at, value_at};
 use std::alloc::Global;
 
 /// Cancels the pivot of a patch. Foreign where a copied column or row is not that of the complex,

@@ -6,13 +6,14 @@ ghost use Rattle.sparse_block.specs.Entries.{AreEntries};
 ghost use Rattle.cancel_step.specs.Foreign.{FindsLeast, IsOtherColumn, IsOtherRowAt, ShowsAt};
 ghost use Rattle.cancel_step.specs.Foreign.{ShowsBetween, ShowsIn, lesser_of};
 ghost use Rattle.cancel_step.specs.Lines.{AreLines};
+ghost use Rattle.cancel_step.specs.Sides.{IsOtherOn};
 
 use crate::Look;
 use crate::copied_lines::SomeLines;
 use crate::line_pairs::first_difference;
-use crate::reading::{column_at, row_at};
+use crate::side::Side;
 use prime_field::PrimeField;
-use sparse_block::{Complex, Entry, complex_laws};
+use sparse_block::{Complex, Entry, column_at, complex_laws, row_at};
 
 /// The least column at which a difference between a look and a complex shows.
 pub(crate) fn foreign_column<F: PrimeField>(complex: &Complex<F>, look: &Look<F>) -> Option<u32>
@@ -29,29 +30,50 @@ fn other_line<F: PrimeField>(
     columns: &SomeLines<'_>,
     rows: &SomeLines<'_>,
 ) -> Option<u32>
-    requires { (p : ℕ) × (size : ℕ) × AreLines p size rows.now }
+    requires columns { (p : ℕ) × (size : ℕ) × AreLines p size columns.now }
+    requires rows { (p : ℕ) × (size : ℕ) × AreLines p size rows.now }
     ensures { FindsLeast (ShowsBetween complex.now.complex degree columns.now rows.now) result }
 {
     lesser(
-        in_columns(complex, degree, columns),
-        in_rows(complex, degree, rows),
+        in_lines(complex, Side::Columns, degree, columns),
+        in_lines(complex, Side::Rows, degree, rows),
     )
 }
 
-/// The least of the columns that are not those of the complex.
-fn in_columns<F: PrimeField>(
+/// The least column at which a difference between lines of a side and those of a complex shows.
+fn in_lines<F: PrimeField>(
     complex: &Complex<F>,
+    side: Side,
     degree: i16,
     lines: &SomeLines<'_>,
 ) -> Option<u32>
-    ensures { FindsLeast (ShowsIn (IsOtherColumn complex.now.complex degree) lines.now) result }
+    requires { (p : ℕ) × (size : ℕ) × AreLines p size lines.now }
+    ensures { FindsLeast (ShowsIn (IsOtherOn side complex.now.complex degree) lines.now) result }
 {
     let mut least = None;
     'lines: for k in 0..lines.len() {
         let (place, entries) = lines.at(k);
-        least = lesser(least, in_column(complex, degree, place, entries));
+        least = lesser(least, in_line(complex, side, degree, place, entries));
     }
     least
+}
+
+/// The least column at which a line of a side differs from that of the complex.
+fn in_line<F: PrimeField>(
+    complex: &Complex<F>,
+    side: Side,
+    degree: i16,
+    place: u32,
+    entries: &[Entry],
+) -> Option<u32>
+    requires { (p : ℕ) × (size : ℕ) × AreEntries p size entries.now }
+    ensures { FindsLeast
+        (IsOtherOn side complex.now.complex degree (placed place entries.now)) result }
+{
+    match side {
+        Side::Columns => in_column(complex, degree, place, entries),
+        Side::Rows => in_row(complex, degree, place, entries),
+    }
 }
 
 /// The place of a column, if it is not that of the complex.
@@ -68,19 +90,6 @@ fn in_column<F: PrimeField>(
         return None;
     }
     Some(place)
-}
-
-/// The least column at which one of the rows has another value than that of the complex.
-fn in_rows<F: PrimeField>(complex: &Complex<F>, degree: i16, lines: &SomeLines<'_>) -> Option<u32>
-    requires { (p : ℕ) × (size : ℕ) × AreLines p size lines.now }
-    ensures { FindsLeast (ShowsIn (IsOtherRowAt complex.now.complex degree) lines.now) result }
-{
-    let mut least = None;
-    'lines: for k in 0..lines.len() {
-        let (place, entries) = lines.at(k);
-        least = lesser(least, in_row(complex, degree, place, entries));
-    }
-    least
 }
 
 /// The least column at which a row has another value than that of the complex.

@@ -9,13 +9,12 @@ ghost use Rattle.cancel_step.specs.Updates.{IsAlone};
 use crate::copied_lines::SomeLines;
 use crate::line_pairs::subtract_into;
 use crate::patched::Update;
-use crate::reading::value_at;
 use crate::{Look, Patch};
 use kh_types::NoMemory;
 use prime_field::laws::element_laws;
 use prime_field::{PrimeField, quotient};
 use smallvec::SmallVec;
-use sparse_block::{Entry, Line};
+use sparse_block::{Entry, Line, value_at};
 use std::alloc::Global;
 
 /// For how many entries of a line there is room from the first. Few lines have more.

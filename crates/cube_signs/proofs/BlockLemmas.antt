@@ -1,5 +1,5 @@
 -- The columns of the generators of two degrees.
-use Rattle.std.proofs.Common.{◌≡◌, ℕ, ◌+◌, ◌^◌, ◌<◌, ◌≤◌, ◌∙◌, ℤ, pos, ◌+ℤ◌, List, [], ◌∷◌, ◌++◌, length, get_or, map, sym, ap, ap₂, subst, arith, true, IsTrue}
+use Rattle.std.proofs.Common.{◌≡◌, ℕ, ◌+◌, ◌^◌, ◌<◌, ◌≤◌, ◌∙◌, ℤ, pos, ◌+ℤ◌, List, [], ◌∷◌, ◌++◌, length, get_or, map, sym, ap, ap₂, subst, arith, IsTrue}
 use Rattle.std.specs.Prelude.{slice_index_or}
 use Rattle.std.specs.Global.{Vec}
 use Rattle.std.proofs.Math.Pow.{pow_mono}

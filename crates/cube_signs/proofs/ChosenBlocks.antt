@@ -1,5 +1,5 @@
 -- The block over chosen generators is a complex, and it is made of its names and its columns.
-use Rattle.std.proofs.Common.{◌≡◌, ℕ, inl, inr, ◌+◌, ◌-◌, ◌*◌, ◌%◌, ◌^◌, ◌<◌, ◌≤◌, ◌∙◌, ℤ, pos, neg_ℤ, ◌+ℤ◌, ◌-ℤ◌, List, [], ◌∷◌, ◌++◌, length, get_or, map, refl, sym, ap, ap₂, subst, arith, Bool, true, false, cond, IsTrue}
+use Rattle.std.proofs.Common.{◌≡◌, ℕ, inl, inr, ◌+◌, ◌*◌, ◌%◌, ◌^◌, ◌<◌, ◌≤◌, ◌∙◌, ℤ, pos, neg_ℤ, ◌+ℤ◌, ◌-ℤ◌, List, [], ◌∷◌, ◌++◌, length, get_or, map, refl, sym, ap, ap₂, subst, arith, Bool, true, cond, IsTrue}
 use Rattle.std.specs.Prelude.{slice_index_or}
 use Rattle.std.specs.List.{All, filter, range_with_len, sum_by}
 use Rattle.std.proofs.lemmas.Bool.{cases_Bool, cases_lt}
@@ -12,7 +12,7 @@ use Rattle.kh_types.specs.Acceptance.{accepted}
 use Rattle.kh_types.specs.Code.{Code}
 use Rattle.kh_types.specs.Complex.{Degree, IsComplex, product_entry}
 use Rattle.kh_types.specs.Differential.{coefficient}
-use Rattle.kh_types.specs.Generators.{Generator, generator_of, generators, generators_at, has_degrees, homological_degree, quantum_degree}
+use Rattle.kh_types.specs.Generators.{Generator, generator_of, generators_at, homological_degree, quantum_degree}
 use Rattle.kh_types.specs.Table.{IsWithin, from_minus}
 use Rattle.kh_types.proofs.ListSums.{sum_by-filter}
 use Rattle.kh_types.proofs.Lists.{All-some}

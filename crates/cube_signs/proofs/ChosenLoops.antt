@@ -1,6 +1,6 @@
 -- Lists on their way to their images, element by element, and the steps of the loops over chosen generators.
-use Rattle.std.proofs.Common.{◌≡◌, ℕ, ◌+◌, ◌*◌, ◌<◌, ◌≤◌, ◌∙◌, refl, List, [], ◌∷◌, ◌++◌, length, get_or, map, take, take_all, drop, sym, ap, ap₂, subst, arith, Bool, cond, ℤ, pos, neg_ℤ, ◌+ℤ◌, ◌-ℤ◌}
-use Rattle.std.specs.List.{All, filter, range_with_len}
+use Rattle.std.proofs.Common.{◌≡◌, ℕ, ◌+◌, ◌<◌, ◌≤◌, ◌∙◌, refl, List, [], ◌++◌, length, get_or, map, take, take_all, drop, sym, ap, ap₂, subst, arith, Bool, cond, ℤ, pos, neg_ℤ, ◌+ℤ◌, ◌-ℤ◌}
+use Rattle.std.specs.List.{All}
 use Rattle.std.specs.Global.{Vec}
 use Rattle.std.proofs.Math.ListN.{set}
 use Rattle.std.proofs.lemmas.List.{append-nil, drop_all, get_or-map, get_or_default, length-append, length-drop, length-map, length-take, map-set}

@@ -1,16 +1,14 @@
 -- The labels behind an edge are its heads, and the coefficients along an edge.
-use Rattle.std.proofs.Common.{◌≡◌, ◌≢◌, ℕ, zero, suc, ◌+◌, ◌^◌, ◌<◌, ◌≤◌, ◌∙◌, inl, inr, List, get_or, length, map, refl, sym, ap, subst, arith, All, Bool, true, false, cond, ◌&&◌, IsTrue}
+use Rattle.std.proofs.Common.{◌≡◌, ◌≢◌, ℕ, ◌+◌, ◌^◌, ◌<◌, ◌∙◌, inl, inr, List, get_or, length, map, refl, sym, ap, subst, arith, All, Bool, true, false, cond, IsTrue}
 use Rattle.std.specs.Prelude.{nat_eq}
 use Rattle.std.specs.Bool.{Decides}
-use Rattle.std.specs.List.{Contains, list_any, range_with_len, sum_by}
+use Rattle.std.specs.List.{Contains, list_any}
 use Rattle.std.specs.List.Sorted.{IsStrictlyIncreasing}
-use Rattle.std.proofs.lemmas.Bool.{cases_eq, cases_lt, eqb-true, eq-eqb}
+use Rattle.std.proofs.lemmas.Bool.{eqb-true, eq-eqb}
 use Rattle.std.proofs.lemmas.Bool.Decides.{same_from_decides}
 use Rattle.std.proofs.lemmas.List.Elements.{All-contains, All-contains_itself}
 use Rattle.std.proofs.lemmas.List.Folds.{list_any_at}
-use Rattle.std.proofs.lemmas.List.Sums.{sum_by-cons}
 use Rattle.std.proofs.lemmas.Map.Views.{Contains-from_any}
-use Rattle.std.proofs.Math.Pow.{pow-lt}
 use Rattle.kh_types.specs.Acceptance.{accepted}
 use Rattle.kh_types.specs.Bits.{bit, ones}
 use Rattle.kh_types.specs.Code.{Code, IsCrossing, place_of}
@@ -25,10 +23,10 @@ use Rattle.circle_smoothing.specs.declared.change.Edge.TheVariants.{Merge, Split
 use Rattle.circle_smoothing.proofs.EdgeNumbers.{renumbers}
 use Rattle.cube_signs.specs.Heads.{labels_behind, merged_labels, minuses_gained, split_labels}
 use Rattle.cube_squares.proofs.Merges.{IsMerge, IsSwitch, switch-edge}
-use Rattle.kh_types.proofs.ListSums.{sum_by-single, sum_by-some}
+use Rattle.kh_types.proofs.ListSums.{sum_by-some}
 use Rattle.cube_squares.proofs.MarkedLabels.{labels-lower}
 use Rattle.cube_squares.proofs.TouchedCircles.{fits, fits-decides}
-use Rattle.cube_squares.proofs.Pairs.{IsStep, edge_or_zero, is_edge-decides, coefficient-one}
+use Rattle.cube_squares.proofs.Pairs.{edge_or_zero, coefficient-one}
 use Rattle.cube_signs.proofs.HeadBits.{Contains-merged, Contains-parted, IsMerged-contains, IsParted-contains, increasing-merged, increasing-split}
 use Rattle.cube_signs.proofs.HeadLabels.{AreNumbered, AreNumbered-edge, fits-merge, fits-split, greater-below}
 

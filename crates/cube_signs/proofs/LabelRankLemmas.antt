@@ -1,10 +1,10 @@
 -- Labels counted by their numbers of v-.
-use Rattle.std.proofs.Common.{◌≡◌, ℕ, ◌+◌, ◌<◌, ◌≤◌, ◌∙◌, inl, inr, List, [], ◌∷◌, ◌++◌, length, get_or, take, set, replicate, sym, ap, ap₂, arith}
+use Rattle.std.proofs.Common.{◌≡◌, ℕ, ◌+◌, ◌<◌, ◌∙◌, inl, inr, List, [], ◌∷◌, ◌++◌, length, get_or, take, set, replicate, sym, ap, ap₂, arith}
 use Rattle.std.specs.Prelude.{nat_eq, slice_index}
 use Rattle.std.specs.List.{count_by}
 use Rattle.std.proofs.lemmas.Bool.{cases_eq, eq-eqb, ne_eqb}
-use Rattle.std.proofs.lemmas.List.{get_or-replicate, length-replicate, get_or-set_same, get_or-set_other, length-set, length-take-le}
-use Rattle.std.proofs.lemmas.List.Sums.{count_by_more_yes, count_by_more_no, count_by-le-length}
+use Rattle.std.proofs.lemmas.List.{get_or-replicate, length-replicate, get_or-set_same, get_or-set_other, length-set}
+use Rattle.std.proofs.lemmas.List.Sums.{count_by_more_yes, count_by_more_no}
 use Rattle.kh_types.proofs.Ranges.{map_from_zero}
 use Rattle.cube_signs.specs.LabelRanks.{ranks_of, same_before}
 
@@ -19,16 +19,6 @@ counted-none weights counts is =
       size = ap length is ∙ length-replicate {A = ℕ} 256 0;
       each = λ weight small. ap (λ xs. slice_index xs weight) is ∙ get_or-replicate 256 weight 0 0 small;
     }
-
-pub counted-room : (weights counts : List ℕ) (count weight : ℕ) → AreCounted weights count counts → weight < 256
-    → count < length weights → slice_index counts weight ≤ count
-counted-room weights counts count weight are small below =
-    omega (
-      arith,
-      are.each weight small,
-      count_by-le-length (nat_eq weight) (take count weights),
-      length-take-le count weights (omega arith),
-    )
 
 pub counted-more : (weights counts next : List ℕ) (count weight : ℕ) → AreCounted weights count counts → count < length weights
     → weight ≡ slice_index weights count → weight < 256 → next ≡ set counts weight (slice_index counts weight + 1)

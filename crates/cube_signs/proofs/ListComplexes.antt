@@ -1,15 +1,13 @@
 -- Complexes whose places are lists of generators, one for each degree from -n to n, with the coefficients of the cube.
-use Rattle.std.proofs.Common.{◌≡◌, ℕ, ◌+◌, ◌-◌, ◌*◌, ◌%◌, ◌<◌, ◌≤◌, ◌∙◌, ◌⊎◌, inl, inr, ℤ, pos, negsuc, ◌+ℤ◌, ◌-ℤ◌, List, [], ◌∷◌, length, get_or, map, refl, sym, ap, ap₂, arith, true, false, zero, suc, cond}
+use Rattle.std.proofs.Common.{◌≡◌, ℕ, ◌+◌, ◌-◌, ◌*◌, ◌%◌, ◌<◌, ◌≤◌, ◌∙◌, ◌⊎◌, inl, inr, ℤ, pos, negsuc, ◌+ℤ◌, ◌-ℤ◌, List, [], ◌∷◌, length, map, refl, sym, ap, ap₂, arith, true, false}
 use Rattle.std.specs.Prelude.{slice_index_or}
 use Rattle.std.specs.List.{count_by, sum_by, range_with_len}
 use Rattle.std.proofs.lemmas.Bool.{cases_lt}
 use Rattle.std.proofs.lemmas.Int.{ints}
 use Rattle.std.proofs.lemmas.List.{get_or_past, get_or-map, length-map}
 use Rattle.std.proofs.lemmas.List.Elements.{All-nil}
-use Rattle.std.proofs.lemmas.List.FromFn.{length-map-range_with_len, get_or-map-range_with_len}
-use Rattle.std.proofs.lemmas.List.Sums.{sum_by-cons}
 use Rattle.kh_types.specs.Code.{Code}
-use Rattle.kh_types.specs.Complex.{Complex, Degree, IsComplex, alive_count, degree_from, degree_number, degree_of, dimension_of, empty_degree, entry_in, entry_of, product_entry}
+use Rattle.kh_types.specs.Complex.{IsComplex, alive_count, degree_from, degree_number, degree_of, dimension_of, empty_degree, entry_in, entry_of, product_entry}
 use Rattle.kh_types.specs.Generators.{Generator}
 use Rattle.kh_types.specs.Rank.{rank}
 use Rattle.kh_types.specs.Table.{IsWithin, from_minus}

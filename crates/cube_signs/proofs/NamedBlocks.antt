@@ -22,7 +22,6 @@ use Rattle.kh_types.proofs.Lists.{Contains-filter}
 use Rattle.kh_types.proofs.Ranges.{map_from_zero}
 use Rattle.circle_smoothing.specs.GeneratorCounts.{generator_count}
 use Rattle.circle_smoothing.specs.declared.limits.TheConstants.{GENERATORS}
-use Rattle.prime_field.specs.Residues.{IsSmallPrime}
 use Rattle.sparse_block.specs.declared.entry.Entry.{Entry}
 use Rattle.sparse_block.specs.Complexes.{NamedComplex, all_alive, degree_from_lists, degrees_from, matrix_from, sparse_complex}
 use Rattle.sparse_block.specs.Entries.{value_at, AreEntries}

@@ -1,10 +1,10 @@
 -- Where the generators of a quantum degree begin, state by state.
 use Rattle.std.proofs.Common.{◌≡◌, ◌≢◌, ℕ, zero, suc, ◌+◌, ◌^◌, ◌<◌, ◌≤◌, ◌∙◌, inl, inr, ℤ, pos, ◌-ℤ◌, List, length, get_or, map, sym, ap, subst, arith}
-use Rattle.std.specs.Prelude.{All, replicate, slice_index}
+use Rattle.std.specs.Prelude.{All, slice_index}
 use Rattle.std.proofs.Math.ListN.{set}
 use Rattle.std.proofs.lemmas.Bool.{cases_eq}
 use Rattle.std.proofs.lemmas.Int.{ints}
-use Rattle.std.proofs.lemmas.List.{get_or-set_other, get_or-set_same, length-replicate, length-set}
+use Rattle.std.proofs.lemmas.List.{get_or-set_other, get_or-set_same, length-set}
 use Rattle.std.proofs.lemmas.List.Elements.{All-map}
 use Rattle.std.proofs.lemmas.List.FromFn.{get_or-range_with_len, length-range_with_len}
 use Rattle.kh_types.specs.Code.{Code}
@@ -14,7 +14,6 @@ use Rattle.kh_types.specs.declared.limits.TheConstants.{CROSSINGS}
 use Rattle.kh_types.proofs.QuantumDegrees.{one_count-le}
 use Rattle.circle_smoothing.specs.GeneratorCounts.{generator_count}
 use Rattle.circle_smoothing.specs.declared.limits.TheConstants.{GENERATORS}
-use Rattle.circle_smoothing.proofs.KindLemmas.{slice_index-zeros}
 use Rattle.cube_signs.specs.Tables.{base_of, own_base, own_degree, state_generators, HaveSizes}
 use Rattle.cube_signs.proofs.GeneratorPlaces.{base-more, base-small, generators_at-below}
 use Rattle.cube_signs.proofs.LabelPlaces.{is_label-none, not-int_eq, state_generators-none}
@@ -25,13 +24,6 @@ none-of_other code i j state other =
     ap length
     (state_generators-none code i j state
     (λ label. is_label-none code i j state label (not-int_eq (own_degree code state) i other)))
-
--- no states yet
-pub HaveSizes-none : (code : Code) (j : ℤ) → HaveSizes code j 0 (replicate (CROSSINGS + 1) 0)
-HaveSizes-none code j = record {
-  size = length-replicate {A = ℕ} (CROSSINGS + 1) 0;
-  each = λ level few. slice_index-zeros (CROSSINGS + 1) level;
-}
 
 -- one state more
 pub HaveSizes-more : (code : Code) (j : ℤ) (state level more : ℕ) (sizes : List ℕ) → HaveSizes code j state sizes

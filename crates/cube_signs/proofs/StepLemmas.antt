@@ -2,7 +2,7 @@
 use Rattle.std.proofs.Common.{◌≡◌, ℕ, ◌+◌, ◌^◌, ◌<◌, ◌∙◌, inl, inr, List, [], ◌∷◌, ◌++◌, length, get_or, subst, sym, ap, arith, Option, None, Some}
 use Rattle.std.specs.Prelude.{slice_index_or}
 use Rattle.std.proofs.lemmas.Bool.{cases_lt}
-use Rattle.std.proofs.lemmas.List.{get_or-map, get_or_append_left, get_or_push, length-map, length_push}
+use Rattle.std.proofs.lemmas.List.{get_or-map, get_or_append_left, get_or_push, length-map}
 use Rattle.arrayvec.specs.ArrayVec.{ArrayVec}
 use Rattle.kh_types.specs.Bits.{bit}
 use Rattle.kh_types.specs.Code.{Code, IsCrossing, place_of}
@@ -20,26 +20,6 @@ each-more P xs x d count size holds more k below = elim (cases_lt k count) [
       let is : count ≡ k = omega arith in
       subst (λ m. P m (get_or (xs ++ x ∷ []) m d)) is (subst (P count) (sym (get_or_push xs x d count size)) more)
 ]
-
-pub HasSteps-none : (code : Code) (state : ℕ) → HasSteps code state 0 []
-HasSteps-none code state = record { size = omega arith; each = λ place below. absurd (omega arith) }
-
-pub HasSteps-more : (code : Code) (state place : ℕ) (steps next : List (Option Edge)) (step : Option Edge)
-    → HasSteps code state place steps → IsStep code state place step → next ≡ steps ++ step ∷ [] → HasSteps code state (place + 1) next
-HasSteps-more code state place steps next step has is is_next =
-    subst (HasSteps code state (place + 1)) (sym is_next) (record {
-      size = length_push steps step ∙ ap (λ n. n + 1) has.size;
-      each = each-more (IsStep code state) steps step None place has.size has.each is;
-    })
-
-pub HaveSteps-more : (code : Code) (state : ℕ) (rows next : List (List (Option Edge))) (row : List (Option Edge))
-    → HaveSteps code state rows → HasSteps code state (length code.crossings) row → next ≡ rows ++ row ∷ []
-    → HaveSteps code (state + 1) next
-HaveSteps-more code state rows next row have has is_next =
-    subst (HaveSteps code (state + 1)) (sym is_next) (record {
-      size = length_push rows row ∙ ap (λ n. n + 1) have.size;
-      each = each-more (λ state. HasSteps code state (length code.crossings)) rows row [] state have.size have.each has;
-    })
 
 -- the state behind an edge, by the place of its crossing
 pub state_behind-place : (state place : ℕ) → state_behind state (place + 1) ≡ state + 2 ^ place

@@ -1,5 +1,5 @@
 -- The blocks over some of the generators: those with v- on the circle that is chosen in each state.
-use Rattle.std.specs.Prelude.{◌≡◌, ℕ, ◌-◌, ◌^◌, ◌<◌, ℤ, pos, ◌+ℤ◌, ◌-ℤ◌, List, length, map, take, nat_eq, Bool, true, false, slice_index}
+use Rattle.std.specs.Prelude.{◌≡◌, ℕ, ◌^◌, ◌<◌, ℤ, pos, ◌+ℤ◌, ◌-ℤ◌, List, length, map, take, nat_eq, Bool, true, false, slice_index}
 use Rattle.std.specs.List.{filter}
 use Rattle.kh_types.specs.Bits.{bit}
 use Rattle.kh_types.specs.Code.{Code}

@@ -1,12 +1,11 @@
 -- The parts of a block over chosen generators, as they are found.
-use Rattle.std.specs.Prelude.{◌≡◌, ℕ, ◌+◌, ◌*◌, ◌<◌, ◌^◌, ℤ, pos, ◌+ℤ◌, ◌-ℤ◌, List, [], length, map, Bool, slice_index, slice_index_or, All}
+use Rattle.std.specs.Prelude.{◌≡◌, ℕ, ◌+◌, ◌*◌, ◌<◌, ◌^◌, ℤ, pos, ◌-ℤ◌, List, length, map, Bool, slice_index, All}
 use Rattle.std.specs.List.{range_with_len}
 use Rattle.kh_types.specs.Code.{Code}
-use Rattle.kh_types.specs.Differential.{coefficient}
-use Rattle.kh_types.specs.Generators.{Generator, generator_of, generators_at}
+use Rattle.kh_types.specs.Generators.{Generator, generators_at}
 use Rattle.sparse_block.specs.declared.entry.Entry.{Entry}
 use Rattle.sparse_block.specs.Complexes.{sparse_complex, HaveEntries, SquaresToZero}
-use Rattle.sparse_block.specs.Entries.{entry_at, value_at, AreEntries}
+use Rattle.sparse_block.specs.Entries.{entry_at}
 use Rattle.cube_signs.specs.Chosen.{chosen_at, chosen_before, chosen_block}
 use Rattle.cube_signs.specs.Columns.{AreColumns}
 

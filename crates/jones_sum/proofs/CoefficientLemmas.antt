@@ -1,5 +1,5 @@
 -- A polynomial and the list of its coefficients.
-use Rattle.std.proofs.Common.{◌≡◌, ℕ, zero, suc, ◌+◌, ◌*◌, ◌<◌, ◌≤◌, ◌∙◌, List, ◌∷◌, ◌++◌, map, length, get_or, ap, sym, refl, arith, ℤ, pos, neg_ℤ, ◌+ℤ◌, ◌-ℤ◌, ◌≤ℤ◌, codes}
+use Rattle.std.proofs.Common.{◌≡◌, ℕ, ◌+◌, ◌*◌, ◌<◌, ◌∙◌, List, ◌++◌, map, length, get_or, ap, sym, arith, ℤ, pos, neg_ℤ, ◌+ℤ◌, ◌-ℤ◌, ◌≤ℤ◌, codes}
 use Rattle.std.specs.Prelude.{not}
 use Rattle.std.specs.List.{range_with_len, filter}
 use Rattle.std.specs.Ordering.{int_eq}
@@ -9,7 +9,7 @@ use Rattle.std.proofs.lemmas.List.FromFn.{get_or-map-range_with_len, fill_by_all
 use Rattle.kh_types.specs.Table.{from_minus, IsWithin}
 use Rattle.kh_types.specs.StateSum.{Term, terms, terms_text, polynomial_text}
 use Rattle.kh_types.specs.declared.limits.TheConstants.{EXPONENT}
-use Rattle.kh_types.proofs.QuantumDegrees.{IsWithin-place, place-IsWithin, map-from_minus_agree}
+use Rattle.kh_types.proofs.QuantumDegrees.{place-IsWithin, map-from_minus_agree}
 use Rattle.jones_sum.specs.Coefficients.{coefficients_of, element_at, coefficient_in}
 
 -- what a function makes of the numbers from -n to n, at a place

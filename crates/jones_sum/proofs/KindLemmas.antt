@@ -33,9 +33,6 @@ int_sum-push (y ∷ xs) x = ap (λ (z : ℤ). y +ℤ z) (int_sum-push xs x) ∙ 
 
 -- one state more of a kind
 
-counted_term : (ℕ → ℤ) → ℕ × ℕ → ℤ
-counted_term value kind = pos kind.1 *ℤ value kind.0
-
 counted_from : (ℕ → ℤ) → ℕ → List ℕ → ℤ
 counted_from value from counts = int_sum (map (λ kind. pos kind.1 *ℤ value kind.0) (enumerate_from from counts))
 

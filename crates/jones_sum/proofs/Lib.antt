@@ -4,4 +4,6 @@ pub mod StateSumLemmas
 pub mod TermLemmas
 pub mod KindLemmas
 pub mod TableLemmas
+pub mod DegreeRows
+pub mod BlockTables
 pub mod EulerLemmas

@@ -1,11 +1,12 @@
 -- The rows of tables: how many there are, and those of diagrams.
-use Rattle.std.proofs.Common.{◌≡◌, ℕ, zero, suc, ◌+◌, ◌-◌, ◌*◌, ◌<◌, ◌≤◌, ◌∙◌, List, [], ◌∷◌, ◌++◌, map, length, get_or, ap, sym, refl, inl, inr, arith, ℤ, pos, ◌+ℤ◌, ◌-ℤ◌}
-use Rattle.std.specs.Prelude.{unsigned_abs, ◌≤ℤ◌}
-use Rattle.std.specs.List.{All, AllPairs, flat_map, range_with_len}
+use Rattle.std.proofs.Common.{◌≡◌, ℕ, zero, suc, ◌+◌, ◌-◌, ◌*◌, ◌<◌, ◌≤◌, ◌∙◌, List, [], ◌∷◌, ◌++◌, map, length, get_or, ap, sym, subst, refl, inl, inr, arith, true, ℤ, pos, ◌+ℤ◌, ◌-ℤ◌}
+use Rattle.std.specs.Prelude.{nat_lt, unsigned_abs, ◌≤ℤ◌}
+use Rattle.std.specs.List.{All, AllPairs, filter, flat_map, range_with_len}
 use Rattle.std.proofs.lemmas.Bool.{cases_lt}
+use Rattle.std.proofs.lemmas.Bool.Decides.{nat_tests}
 use Rattle.std.proofs.lemmas.Int.{ints}
-use Rattle.std.proofs.lemmas.List.{get_or_append_left, get_or-append_right, length-append, length-map}
-use Rattle.std.proofs.lemmas.List.Elements.{All-append, All-nil, All-map, All-filter, All-weaker}
+use Rattle.std.proofs.lemmas.List.{get_or_append_left, get_or-append_right, get_or_default, length-append, length-map}
+use Rattle.std.proofs.lemmas.List.Elements.{All-append, All-nil, All-map, All-filter, All-weaker, filter_passes}
 use Rattle.std.proofs.lemmas.List.FromFn.{length-map-range_with_len}
 use Rattle.std.proofs.lemmas.List.Kept.{AllPairs-filter}
 use Rattle.std.proofs.lemmas.List.Sums.{sum_by-le, count_by-le-length, length-filter}
@@ -13,11 +14,10 @@ use Rattle.std.proofs.Math.Nat.{mul-le-mul_left}
 use Rattle.prime_field.specs.Residues.{IsSmallPrime}
 use Rattle.kh_types.specs.declared.limits.TheConstants.{CROSSINGS, EXPONENT}
 use Rattle.kh_types.specs.Code.{Code}
-use Rattle.kh_types.specs.Accepted.{IsAccepted}
-use Rattle.kh_types.specs.Generators.{generators, generators_at, has_degrees}
-use Rattle.kh_types.specs.Table.{Row, Table, IsWithin, from_minus, dimension, row_at, is_shown, rows_at, rows_within, table}
-use Rattle.kh_types.proofs.QuantumDegrees.{IsWithin-place, place-IsWithin, generators_at-within}
-use Rattle.kh_types.proofs.TableRows.{rows_within-are}
+use Rattle.kh_types.specs.Generators.{generators, has_degrees}
+use Rattle.kh_types.specs.Table.{Row, Table, IsWithin, from_minus, dimension, is_shown, rows_within, table}
+use Rattle.kh_types.proofs.QuantumDegrees.{IsWithin-place, place-IsWithin}
+use Rattle.kh_types.proofs.RowSums.{row_by, rows_by}
 use Rattle.circle_smoothing.specs.declared.limits.TheConstants.{GENERATORS}
 use Rattle.circle_smoothing.specs.GeneratorCounts.{generator_count}
 use Rattle.circle_smoothing.proofs.GeneratorLemmas.{length-generators}
@@ -95,7 +95,7 @@ total_of-le homology is =
       mul-le-mul_left GENERATORS (length-rows rows is.rows is.ascending),
     )
 
--- the rows of a diagram are within the limits
+-- what is within a bound is within a greater one
 
 pub IsWithin-le : (n m : ℕ) (i : ℤ) → n ≤ m → IsWithin n i → IsWithin m i
 IsWithin-le n m i few within =
@@ -112,20 +112,7 @@ dimension-le p code i j =
       length-generators code,
     )
 
-row_at-within : (p : ℕ) (code : Code) (row : Row) → IsAccepted code → length code.crossings ≤ CROSSINGS
-    → generator_count code ≤ GENERATORS → (0 < row.dim) × (row ≡ row_at p code row.j row.i) → IsRow row
-row_at-within p code row is few small (some, same) =
-    let dim : row.dim ≡ dimension p code row.i row.j = ap (λ (r : Row). r.dim) same in
-    let inhabited : 0 < length (generators_at code row.i row.j) = omega (arith, some, dim) in
-    let within = generators_at-within code row.i row.j is few inhabited in
-    record {
-      j = within.1;
-      i = IsWithin-le (length code.crossings) CROSSINGS row.i few within.0;
-      some = omega (arith, some);
-      few = omega (arith, dim, dimension-le p code row.i row.j, small);
-    }
-
--- the rows of a diagram ascend
+-- the rows of some dimensions ascend
 
 -- a list behind another, where each element of the one is related to each of the other
 pub AllPairs-append : {X : Type 0} (R : X → X → Type 0) (xs ys : List X) → AllPairs R xs → AllPairs R ys
@@ -147,52 +134,94 @@ AllPairs-append R xs ys first second across i j d less below =
           ]
     ]
 
-AllPairs-row_at : (p : ℕ) (code : Code) (j : ℤ) (n : ℕ) → AllPairs IsBefore (map (row_at p code j) (from_minus n))
-AllPairs-row_at p code j n a b d less below =
-    let size : length (map (row_at p code j) (from_minus n)) ≡ 2 * n + 1 =
-    length-map (from_minus n) (row_at p code j) ∙ length-map-range_with_len (λ k. pos k -ℤ pos n) 0 (2 * n + 1) in
+AllPairs-row_by : (dims : ℤ → ℤ → ℕ) (j : ℤ) (n : ℕ) → AllPairs IsBefore (map (row_by dims j) (from_minus n))
+AllPairs-row_by dims j n a b d less below =
+    let size : length (map (row_by dims j) (from_minus n)) ≡ 2 * n + 1 =
+    length-map (from_minus n) (row_by dims j) ∙ length-map-range_with_len (λ k. pos k -ℤ pos n) 0 (2 * n + 1) in
     rw (
-      get_or-map-from_minus (row_at p code j) n a d (omega (arith, less, below, size)),
-      get_or-map-from_minus (row_at p code j) n b d (omega (arith, below, size)),
+      get_or-map-from_minus (row_by dims j) n a d (omega (arith, less, below, size)),
+      get_or-map-from_minus (row_by dims j) n b d (omega (arith, below, size)),
     ) (inr (refl, omega (arith, ints, less)))
 
-rows_at-j : (p : ℕ) (code : Code) (j : ℤ) → All (λ row. row.j ≡ j) (rows_at p code j)
-rows_at-j p code j =
-    All-filter is_shown (λ row. row.j ≡ j) (map (row_at p code j) (from_minus (length code.crossings)))
-    (All-map (λ row. row.j ≡ j) (row_at p code j) (from_minus (length code.crossings)) (λ place i within. refl))
+rows_by-j : (n : ℕ) (dims : ℤ → ℤ → ℕ) (j : ℤ) → All (λ row. row.j ≡ j) (rows_by n dims j)
+rows_by-j n dims j =
+    All-filter is_shown (λ row. row.j ≡ j) (map (row_by dims j) (from_minus n))
+    (All-map (λ row. row.j ≡ j) (row_by dims j) (from_minus n) (λ place i within. refl))
 
 -- the rows of some quantum degrees that follow one another
-abbrev rows_from : ℕ → ℕ → Code → ℕ → ℕ → List Row
-rows_from most p code a n = flat_map (rows_at p code) (map (λ k. pos k -ℤ pos most) (range_with_len a n))
+abbrev rows_from : ℕ → ℕ → (ℤ → ℤ → ℕ) → ℕ → ℕ → List Row
+rows_from most n dims a count = flat_map (rows_by n dims) (map (λ k. pos k -ℤ pos most) (range_with_len a count))
 
-ascending-from : (most p : ℕ) (code : Code) (a n : ℕ) → AllPairs IsBefore (rows_from most p code a n)
-    × All (λ row. (pos a -ℤ pos most) ≤ℤ row.j) (rows_from most p code a n)
-ascending-from most p code a zero = ((λ i j d less below. absurd (omega (arith, below))), All-nil (λ row. (pos a -ℤ pos most) ≤ℤ row.j))
-ascending-from most p code a (suc n) =
+ascending-from : (most n : ℕ) (dims : ℤ → ℤ → ℕ) (a count : ℕ) → AllPairs IsBefore (rows_from most n dims a count)
+    × All (λ row. (pos a -ℤ pos most) ≤ℤ row.j) (rows_from most n dims a count)
+ascending-from most n dims a zero =
+    ((λ i j d less below. absurd (omega (arith, below))), All-nil (λ row. (pos a -ℤ pos most) ≤ℤ row.j))
+ascending-from most n dims a (suc count) =
     let j : ℤ = pos a -ℤ pos most in
-    let first : List Row = rows_at p code j in
-    let later : List Row = rows_from most p code (a + 1) n in
-    let known = ascending-from most p code (a + 1) n in (
+    let first : List Row = rows_by n dims j in
+    let later : List Row = rows_from most n dims (a + 1) count in
+    let known = ascending-from most n dims (a + 1) count in (
       AllPairs-append IsBefore first later
-          (AllPairs-filter IsBefore is_shown (map (row_at p code j) (from_minus (length code.crossings)))
-          (AllPairs-row_at p code j (length code.crossings)))
-          known.0
+          (AllPairs-filter IsBefore is_shown (map (row_by dims j) (from_minus n)) (AllPairs-row_by dims j n)) known.0
           (λ k l d k_below l_below.
-          inl (omega (arith, ints, rows_at-j p code j k d k_below, known.1 l d l_below))),
+          inl (omega (arith, ints, rows_by-j n dims j k d k_below, known.1 l d l_below))),
       All-append (λ row. j ≤ℤ row.j) first later
-          (All-weaker (λ row. row.j ≡ j) (λ row. j ≤ℤ row.j) (λ row same. omega (arith, ints, same)) first (rows_at-j p code j))
+          (All-weaker (λ row. row.j ≡ j) (λ row. j ≤ℤ row.j) (λ row same. omega (arith, ints, same)) first (rows_by-j n dims j))
           (All-weaker (λ row. (pos (a + 1) -ℤ pos most) ≤ℤ row.j) (λ row. j ≤ℤ row.j) (λ row above. omega (arith, ints, above)) later
           known.1),
     )
 
-pub AllPairs-rows_within : (most p : ℕ) (code : Code) → AllPairs IsBefore (rows_within most p code)
-AllPairs-rows_within most p code = (ascending-from most p code 0 (2 * most + 1)).0
+-- the rows are within the limits
 
-pub IsTable-table : (p : ℕ) (code : Code) → IsAccepted code → length code.crossings ≤ CROSSINGS
-    → generator_count code ≤ GENERATORS → IsSmallPrime p → IsTable (table p code)
-IsTable-table p code is few small prime = record {
-  field = prime;
-  rows = All-weaker (λ row. (0 < row.dim) × (row ≡ row_at p code row.j row.i)) IsRow
-      (λ row known. row_at-within p code row is few small known) (rows_within EXPONENT p code) (rows_within-are EXPONENT p code);
-  ascending = AllPairs-rows_within EXPONENT p code;
-}
+some-dimension : (dim : ℕ) → nat_lt 0 dim ≡ true → 1 ≤ dim
+some-dimension dim shown = grind (arith, nat_tests)
+
+IsRow-rows_by : (n : ℕ) (dims : ℤ → ℤ → ℕ) (j : ℤ) → n ≤ CROSSINGS → IsWithin EXPONENT j → ((i : ℤ) → dims i j ≤ GENERATORS)
+    → All IsRow (rows_by n dims j)
+IsRow-rows_by n dims j few within small k d below =
+    let is = from_minus n in
+    let rows = map (row_by dims j) is in
+    let IsPart : Row → Type 0 = λ row. IsWithin EXPONENT row.j × IsWithin CROSSINGS row.i × (row.dim ≤ GENERATORS) in
+    let parts : All IsPart rows =
+    All-map IsPart (row_by dims j) is
+    (λ place e place_below. (
+      within,
+      IsWithin-le n CROSSINGS (get_or is place e) few (place, place_below, get_or_default is place (get_or is place e) e place_below),
+      small (get_or is place e),
+    )) in
+    let part = All-filter is_shown IsPart rows parts k d below in
+    record {
+      j = part.0;
+      i = part.1;
+      some = some-dimension (get_or (filter is_shown rows) k d).dim (filter_passes is_shown rows k d below);
+      few = part.2;
+    }
+
+IsRow-from : (most n : ℕ) (dims : ℤ → ℤ → ℕ) (a count : ℕ) → most ≡ EXPONENT → a + count ≡ 2 * most + 1 → n ≤ CROSSINGS
+    → ((i j : ℤ) → dims i j ≤ GENERATORS) → All IsRow (rows_from most n dims a count)
+IsRow-from most n dims a zero is_most all few small = All-nil IsRow
+IsRow-from most n dims a (suc count) is_most all few small =
+    let j : ℤ = pos a -ℤ pos most in
+    let within : IsWithin EXPONENT j =
+    subst (λ (m : ℕ). IsWithin m j) is_most (IsWithin-place most a j (omega (arith, all)) refl) in
+    All-append IsRow (rows_by n dims j) (rows_from most n dims (a + 1) count)
+    (IsRow-rows_by n dims j few within (λ i. small i j))
+    (IsRow-from most n dims (a + 1) count is_most (omega (arith, all)) few small)
+
+-- the table of some dimensions
+pub IsTable-dims : (p n : ℕ) (dims : ℤ → ℤ → ℕ) → n ≤ CROSSINGS → ((i j : ℤ) → dims i j ≤ GENERATORS) → IsSmallPrime p
+    → IsTable (record { field = p; rows = flat_map (rows_by n dims) (from_minus EXPONENT) })
+IsTable-dims p n dims few small prime =
+    record {
+      field = prime;
+      rows = IsRow-from EXPONENT n dims 0 (2 * EXPONENT + 1) refl (omega arith) few small;
+      ascending = (ascending-from EXPONENT n dims 0 (2 * EXPONENT + 1)).0;
+    }
+
+pub AllPairs-rows_within : (most p : ℕ) (code : Code) → AllPairs IsBefore (rows_within most p code)
+AllPairs-rows_within most p code = (ascending-from most (length code.crossings) (dimension p code) 0 (2 * most + 1)).0
+
+pub IsTable-table : (p : ℕ) (code : Code) → length code.crossings ≤ CROSSINGS → generator_count code ≤ GENERATORS
+    → IsSmallPrime p → IsTable (table p code)
+IsTable-table p code few small prime =
+    IsTable-dims p (length code.crossings) (dimension p code) few (λ i j. omega (arith, dimension-le p code i j, small)) prime

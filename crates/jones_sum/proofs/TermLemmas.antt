@@ -1,7 +1,7 @@
 -- The terms of states.
-use Rattle.std.proofs.Common.{◌≡◌, ℕ, suc, ◌+◌, ◌-◌, ◌/◌, ◌%◌, ◌<◌, ◌≤◌, ◌∙◌, ap, refl, arith, ℤ, pos, negsuc, neg_ℤ, ◌+ℤ◌, ◌-ℤ◌, cond, nat_eq}
+use Rattle.std.proofs.Common.{◌≡◌, ℕ, ◌+◌, ◌-◌, ◌/◌, ◌%◌, ◌<◌, ◌≤◌, ◌∙◌, ap, refl, arith, ℤ, pos, neg_ℤ, ◌+ℤ◌, ◌-ℤ◌, cond, nat_eq}
 use Rattle.std.proofs.lemmas.Int.{ints}
-use Rattle.kh_types.specs.StateSum.{circle_coefficient, signed_by, signed_by_parity}
+use Rattle.kh_types.specs.StateSum.{circle_coefficient, signed_by}
 use Rattle.circle_smoothing.specs.Binomials.{binomial}
 use Rattle.jones_sum.proofs.CircleLemmas.{circle_coefficient-below, circle_coefficient-odd, circle_coefficient-even}
 use Rattle.kh_types.proofs.AlternatingSums.{signed_by-less}

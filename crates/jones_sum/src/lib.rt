@@ -8,6 +8,7 @@ mod kinds;
 mod laurent;
 pub mod laws;
 mod row;
+mod rows;
 mod table;
 mod terms;
 
@@ -16,4 +17,5 @@ pub use finding::{jones, state_sum};
 pub use laurent::{COEFFICIENTS, Laurent, exponent_at};
 pub use laws::table_laws;
 pub use row::{Row, push_row};
+pub use rows::push_rows;
 pub use table::Table;

@@ -2,7 +2,6 @@ pub mod MarkedMinus
 pub mod ReducedBlocks
 pub mod MarkedCounts
 pub mod ReducedSums
-pub mod ReducedRows
 pub mod LoopNumbers
 pub mod MarkLemmas
 pub mod DegreeLemmas

@@ -5,14 +5,11 @@ ghost use Rattle.std.specs.List.{Contains};
 ghost use Rattle.kh_types.specs.CircleNumbers.{IsName};
 ghost use Rattle.circle_smoothing.specs.GeneratorCounts.{generator_count};
 ghost use Rattle.circle_smoothing.specs.declared.limits.TheConstants.{GENERATORS};
-ghost use Rattle.reduced_cube.specs.Marks.{marked_circles};
 ghost use Rattle.reduced_cube.specs.Reduced.{reduced_block, reduced_degrees};
 
-use crate::marks::marked_circles;
-use cube_signs::Cube;
+use crate::marked_cube::MarkedCube;
 use kh_types::{Diagram, NoMemory};
 use prime_field::PrimeField;
-use prime_field::laws::element_laws;
 use sparse_block::Complex;
 use std::alloc::Global;
 
@@ -30,28 +27,6 @@ pub fn reduced_columns<F: PrimeField>(
     requires degree { Contains (reduced_degrees diagram.now mark) j }
     ensures { IfOk result (λ made. made ≡ reduced_block F.P diagram.now mark j) }
 {
-    let cube = Cube::new(alloc, diagram)?;
-    let circles = marked_circles(alloc, diagram, mark)?;
-    block_of(alloc, &cube, &circles, mark, j)
-}
-
-/// The same, of a cube that several blocks share, with the circle of the mark in each state.
-pub(crate) fn block_of<F: PrimeField>(
-    alloc: Global,
-    cube: &Cube,
-    circles: &[u8],
-    mark: u8,
-    j: i16,
-) -> Result<Complex<F>, NoMemory>
-    requires mark { IsName cube.now mark }
-    requires circles { circles.now ≡ marked_circles cube.now mark }
-    requires degree { Contains (reduced_degrees cube.now mark) j }
-    ensures { IfOk result (λ made. made ≡ reduced_block F.P cube.now mark j) }
-{
-    element_laws::<F>();
-    // (what the type of a diagram keeps)
-    let _ = cube.diagram().crossings();
-    // (the contract alone speaks of it)
-    let _ = mark;
-    cube.chosen_block(alloc, circles, j - 1)
+    let cube = MarkedCube::new(alloc, diagram, mark)?;
+    cube.block(alloc, j)
 }

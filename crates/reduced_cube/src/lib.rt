@@ -5,8 +5,8 @@
 mod blocks;
 mod degrees;
 pub mod laws;
+mod marked_cube;
 mod marks;
-mod rows;
 mod stop;
 mod table;
 

@@ -1,5 +1,5 @@
 -- The blocks of a diagram together, with what has been cancelled in each (this project's rule).
-use Rattle.std.specs.Prelude.{◌≡◌, ℕ, ℤ, List, [], ◌++◌, map, true, All, Result, Ok, Err}
+use Rattle.std.specs.Prelude.{◌≡◌, ℕ, ℤ, List, [], map, true, All}
 use mathlib.Core.List.{IsPrefix}
 use Rattle.kh_types.specs.Code.{Code}
 use Rattle.kh_types.specs.Complex.{is_zero}
@@ -29,8 +29,3 @@ pub record IsLaterOf (before after : BlockHistory) : Type 0 where
 -- the history leaves no entry other than 0 in the block
 abbrev pub IsFinished : ℕ → BlockHistory → Type 0
 IsFinished p held = is_zero (complex_of p held) ≡ true
-
--- all of these have gone to the end of a list, in their order, or, where memory ran out, none
-abbrev pub AddsAllOrNone : {A E R : Type 0} → Result A E → List R → List R → List R → Type 0
-AddsAllOrNone (Ok done) before after more = after ≡ before ++ more
-AddsAllOrNone (Err stop) before after more = after ≡ before

@@ -128,6 +128,13 @@ impl<F: PrimeField> SharedBlock<F> {
         self.history.push_reserved(pivot);
     }
 
+    /// The complex that the history leaves.
+    pub(crate) fn complex(&self) -> &Complex<F>
+        ensures { result.now.complex ≡ complex_of F.P self.now }
+    {
+        &self.complex
+    }
+
     /// How many generators are alive.
     pub fn alive(&self) -> usize
         ensures { result ≡ live_places (complex_of F.P self.now) }

@@ -1,11 +1,11 @@
 -- Over a field, the cancellation of an entry other than 0 leaves a complex of a complex.
-use Rattle.std.proofs.Common.{◌≡◌, ℕ, ◌+◌, ◌*◌, ◌%◌, ◌<◌, ◌∙◌, List, [], ℤ, pos, ◌+ℤ◌, ◌-ℤ◌, length, map, ap, ap₂, sym, arith}
+use Rattle.std.proofs.Common.{◌≡◌, ℕ, ◌+◌, ◌*◌, ◌%◌, ◌<◌, ◌∙◌, List, [], ℤ, pos, ◌+ℤ◌, length, map, ap, ap₂, sym, arith}
 use Rattle.std.specs.Prelude.{slice_index_or}
 use Rattle.std.proofs.Math.ListN.{get_or-map}
 use Rattle.std.proofs.Math.Nat.{zero-mod}
 use Rattle.std.proofs.lemmas.Int.{ints}
 use Rattle.std.proofs.lemmas.List.{length-map}
-use Rattle.kh_types.specs.Complex.{Complex, Pivot, IsComplex, IsPivot, degree_number, degree_from, degree_of, entry_in, entry_of, product_entry, cancelled_matrix, cancel}
+use Rattle.kh_types.specs.Complex.{Complex, Pivot, IsComplex, IsPivot, degree_number, degree_of, entry_in, entry_of, product_entry, cancelled_matrix, cancel}
 use Rattle.kh_types.proofs.CancelLemmas.{sizes-cancel, places-cancel, degrees-cancel}
 use Rattle.prime_field.specs.Residues.{IsField}
 use Rattle.kh_types.specs.Residues.{Same}

@@ -3,7 +3,7 @@ use Rattle.std.proofs.Common.{◌≡◌, ℕ, zero, suc, ◌+◌, ◌∙◌, ◌
 use Rattle.std.specs.Prelude.{◌≢◌, nat_eq, slice_index_or, if◌then◌else◌}
 use Rattle.std.specs.List.{enumerate_from}
 use Rattle.std.specs.Ordering.{int_eq}
-use Rattle.std.proofs.lemmas.Bool.{cases_Bool, cond-true, cond-false, false_from_ne_true}
+use Rattle.std.proofs.lemmas.Bool.{cases_Bool, cond-true, cond-false}
 use Rattle.std.proofs.lemmas.Bool.Decides.{Decides-int_eq, eqb_tells, not_from_Decides}
 use Rattle.std.proofs.lemmas.Int.{ints}
 use Rattle.kh_types.specs.Complex.{Complex, Degree, Pivot, empty_degree, degree_from, degree_of, without_place, without_row, without_column, cancelled_matrix, cancelled_degree, cancel}

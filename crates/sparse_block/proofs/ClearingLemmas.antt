@@ -29,10 +29,6 @@ list-same {X} xs ys d size same =
 
 -- lines are exchanged one by one
 
-pub exchanged-none : (lines : List (List Entry)) → AreExchanged [] lines lines
-exchanged-none lines =
-    record { size = refl; each = λ place. inr ((λ has. absurd (omega (arith, has.1))), refl) }
-
 contains-cons : {X : Type 0} (x : X) (xs : List X) (y : X) → Contains (x ∷ xs) y → (x ≡ y) ⊎ Contains xs y
 contains-cons x xs y (zero, below, is) = inl is
 contains-cons x xs y (suc k, below, is) = inr (k, omega arith, is)
@@ -132,9 +128,6 @@ pub record AreRemoved (place : ℕ) (entries : List Entry) (before after : List 
   pub size : length after ≡ length before
   pub each : (other : ℕ)
       → slice_index_or after other [] ≡ left_at place (value_at entries other) (slice_index_or before other [])
-
-pub removed-none : (place : ℕ) (lines : List (List Entry)) → AreRemoved place [] lines lines
-removed-none place lines = record { size = refl; each = λ other. refl }
 
 left_at-some : (place value : ℕ) (line : List Entry) → 0 < value → left_at place value line ≡ without place line
 left_at-some place zero line some = absurd (omega arith)

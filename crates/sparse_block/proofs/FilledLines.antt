@@ -1,13 +1,12 @@
 -- Lines in memory that are counted where they have an entry, and empty ones behind them.
 use Rattle.std.proofs.Common.{◌≡◌, ◌≢◌, ℕ, zero, suc, ◌+◌, ◌-◌, ◌<◌, ◌≤◌, ◌∙◌, inl, inr, List, [], ◌∷◌, ◌++◌, length, get_or, set, replicate, refl, ap, ap₂, sym, subst, arith, append-nil, Bool, true, false, cond, not}
 use Rattle.std.specs.Prelude.{slice_index_or, nat_eq, min, ◌&&◌}
-use Rattle.std.specs.List.{count_by, list_all}
+use Rattle.std.specs.List.{list_all}
 use Rattle.std.proofs.lemmas.Bool.{false≢true}
 use Rattle.std.proofs.lemmas.Bool.Decides.{eqb_tells}
-use Rattle.std.proofs.lemmas.List.{get_or_past, length-map, length-set, set-get_or}
+use Rattle.std.proofs.lemmas.List.{get_or_past, length-map, set-get_or}
 use Rattle.std.proofs.lemmas.List.Folds.{list_all-append, sum_by-zero}
-use Rattle.std.proofs.lemmas.List.Sums.{count_by-le-length, sum_by-set}
-use Rattle.kh_types.proofs.Lists.{count_by-map}
+use Rattle.std.proofs.lemmas.List.Sums.{sum_by-set}
 use Rattle.smallvec.specs.SmallVec.{SmallVec}
 use Rattle.sparse_block.specs.declared.entry.Entry.{Entry}
 use Rattle.sparse_block.specs.Changes.{PlacedLine}
@@ -31,13 +30,6 @@ one-length line =
       | inl none ↦ ap (λ (b : Bool). cond (not b) 1 0) none.0 ∙ omega (arith, none.1)
       | inr some ↦ ap (λ (b : Bool). cond (not b) 1 0) some.0 ∙ omega (arith, some.1)
     ]
-
-pub filled_count-within : (lines : List (List Entry)) → filled_count lines ≤ length lines
-filled_count-within lines = count_by-le-length has_entries lines
-
-pub filled_count-entries_in : (lines : List (SmallVec Entry))
-    → count_by (λ line. not (nat_eq (length line.items) 0)) lines ≡ filled_count (entries_in lines)
-filled_count-entries_in lines = sym (count_by-map has_entries (λ (line : SmallVec Entry). line.items) lines)
 
 not_one : (line : List Entry) → nat_eq (one line) 0 ≡ nat_eq (length line) 0
 not_one line =
@@ -132,17 +124,6 @@ pub padded-whole : (size : ℕ) (lines : List (List Entry)) → length lines ≡
 padded-whole size lines whole =
     let none : size - length lines ≡ 0 = omega (arith, whole) in
     ap (λ (n : ℕ). lines ++ replicate n []) none ∙ append-nil lines
-
--- a line changes, where the lines are in memory
-pub padded-set : {size count : ℕ} (lines : List (List Entry)) (place : ℕ) (line : List Entry) → AreHeld size lines count
-    → place < length lines → padded size (set lines place line) ≡ set (padded size lines) place line
-padded-set {size} {count} lines place line held within =
-    elim held.whole [
-      | inl whole ↦
-          padded-whole size (set lines place line) (length-set lines place line ∙ whole)
-          ∙ ap (λ (lines : List (List Entry)). set lines place line) (sym (padded-whole size lines whole))
-      | inr none ↦ absurd (omega (arith, within, ap length none))
-    ]
 
 -- an empty line is written where no line is in memory
 pub padded-unset : {size count : ℕ} (lines : List (List Entry)) (place : ℕ) (line : List Entry) → AreHeld size lines count

@@ -13,6 +13,7 @@ pub mod BuildLemmas
 pub mod ReadingLemmas
 pub mod WorkedLemmas
 pub mod ComplexMatrices
+pub mod PastLemmas
 pub mod CancelledDegrees
 pub mod CancelledProducts
 pub mod CancelledMatrices

@@ -60,10 +60,6 @@ length-row_entry : (column value : ℕ) (xs : List Entry) → value ≡ 0 → xs
 length-row_entry column value xs is_zero =
     ap (λ (v : ℕ). xs ++ entries_from column (v ∷ [])) is_zero ∙ append-nil xs
 
-pub column-none : (column : ℕ) (rows : List (List Entry)) → HaveColumn column [] rows rows
-column-none column rows =
-    record { height = refl; longer = λ row within. sym (append-nil (slice_index_or rows row [])) }
-
 pub column-more : (p column k : ℕ) (entries : List Entry) (e d : Entry) (initial before after : List (List Entry))
     → AreEntries p (length initial) entries → k < length entries → e ≡ get_or entries k d
     → HaveColumn column (take k entries) initial before

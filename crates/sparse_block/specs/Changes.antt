@@ -1,5 +1,5 @@
 -- What a cancellation changes in the pivot's own matrix, as whole new columns and rows (this project's rule).
-use Rattle.std.specs.Prelude.{◌≡◌, ◌≢◌, ℕ, ◌<◌, ℤ, List, map, All}
+use Rattle.std.specs.Prelude.{◌≡◌, ◌≢◌, ℕ, ◌<◌, List, map, All}
 use Rattle.std.specs.List.{Contains}
 use Rattle.kh_types.specs.Complex.{Pivot}
 use Rattle.sparse_block.specs.declared.entry.Entry.{Entry}

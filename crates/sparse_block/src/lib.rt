@@ -12,6 +12,7 @@ mod generator;
 mod held_lines;
 pub mod laws;
 mod lines;
+mod reading;
 
 pub use building::build;
 pub use change::{Change, Line};
@@ -19,3 +20,4 @@ pub use complex::Complex;
 pub use entry::{Entry, INLINE_ENTRIES};
 pub use generator::Generator;
 pub use laws::complex_laws;
+pub use reading::{column_at, row_at, value_at};

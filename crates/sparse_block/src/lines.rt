@@ -3,7 +3,7 @@
 ghost use Rattle.std.specs.Prelude.{◌≡◌, ℕ, ◌<◌, ◌≤◌, ◌^◌, [], ◌∷◌, ◌++◌, length, map, replicate};
 ghost use Rattle.std.specs.Prelude.{slice_set, slice_index_or, All, IfOk, OnOk};
 ghost use Rattle.sparse_block.specs.Complexes.{matrix_from};
-ghost use Rattle.sparse_block.specs.Entries.{AreEntries, entries_of, value_at};
+ghost use Rattle.sparse_block.specs.Entries.{AreEntries, entries_of};
 ghost use Rattle.sparse_block.specs.Inside.{entries_in, HaveColumn};
 
 use crate::held_lines::HeldLines;
@@ -11,16 +11,6 @@ use crate::{Entry, INLINE_ENTRIES};
 use kh_types::NoMemory;
 use smallvec::SmallVec;
 use std::alloc::Global;
-
-/// The value at a place: that of the entry which has it, and 0 where there is none.
-pub(crate) fn value_at(entries: &[Entry], place: u32) -> u8
-    ensures { result ≡ value_at entries.now place }
-{
-    match entries.iter().find(|entry| entry.place == place) {
-        Some(entry) => entry.value,
-        None => 0,
-    }
-}
 
 /// The entries of a column, or a row, of degree number `k`; none where there is no such line.
 pub(crate) fn line_at(degrees: &[HeldLines], k: usize, place: u32) -> &[Entry]

@@ -1,4 +1,13 @@
 -- Each step of a lock keeps its rule.
+--
+-- The rule says that there is one history: what a view has seen is a prefix of it, and the view that holds the turn has all of it. A step
+-- changes the view of one seat, perhaps a word, and takes the value from home or brings it back. So each proof has three parts. The sums:
+-- turns, shares and places are added up over all views, and where one view changes, a sum changes by what this view had and has
+-- (`total-set`); the turns add up to one at most, so nobody else holds the turn meanwhile. The other views: they stay, and what they know
+-- stays true, since a history only grows (`outgrown`). The seat's own view: after a commit it has seen the longer history and has the
+-- place at its end (`grows_own`); after another step it has the places that it had. A split deals no place anew, and a join puts the
+-- places of two views in one, so each place still stands in one view. Where all shares are in one view, it therefore has all places, and
+-- the value is at home with what it has seen (`ends`): this is what a close answers.
 use Rattle.std.proofs.Common.{◌≡◌, ◌≢◌, ℕ, ◌+◌, ◌-◌, ◌<◌, ◌≤◌, ◌^◌, ◌⊎◌, eqb, List, [], ◌∷◌, ◌++◌, length, get_or, set, sym, refl, ap, ◌∙◌, subst, inl, inr, ⊎_elim, arith, Some, None, Option, IfSome, nat_eq, eq-eqb, ne_eqb, le_refl, length-append, zero, suc, Bool, true, false, nat_le, if◌then◌else◌}
 use Rattle.std.proofs.lemmas.Bool.{leb-true, leb-false}
 use native.Mathlib.Decide.{dec_le}

@@ -36,6 +36,3 @@ blocks_stay code xs ys e h = record {
       (same_diagrams code xs ys e (recursion_from_All (λ held. held.diagram ≡ code) xs h.diagram));
   degrees = degrees xs ys e ∙ h.degrees;
 }
-
-pub blocks_opened : (code : Code) (xs ys : List BlockHistory) → xs ≡ opening_blocks code → map origin_of ys ≡ map origin_of xs → AreBlocksOf code ys
-blocks_opened code xs ys e f = blocks_stay code xs ys f (subst (AreBlocksOf code) (sym e) (AreBlocksOf-opening code))

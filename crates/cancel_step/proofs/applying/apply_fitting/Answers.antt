@@ -1,14 +1,14 @@
 use Rattle.std.proofs.Common.{◌≡◌, ◌∙◌, ◌⊎◌, ℤ, ap, sym, subst, length, arith, to_z, of_z, w16}
-use Rattle.std.specs.Prelude.{IfNone, IfSome, Option}
+use Rattle.std.specs.Prelude.{IfNone, Option}
 use Rattle.std.proofs.lemmas.Int.{ints}
 use Rattle.kh_types.specs.Complex.{IsPivot, Pivot, pivot_at}
 use Rattle.sparse_block.specs.Complexes.{column_of, row_of}
 use Rattle.sparse_block.specs.Entries.{entries_of}
-use Rattle.cancel_step.specs.Copies.{Copied, WasPatched, split_parts}
+use Rattle.cancel_step.specs.Copies.{Copied, split_parts}
 use Rattle.cancel_step.specs.Foreign.{IsForeign}
 use Rattle.cancel_step.specs.Updates.{IsAlone}
 use Rattle.cancel_step.specs.declared.patched.Update.{Update}
-use Rattle.cancel_step.proofs.SameLemmas.{alone-same, columns-patched, pivot-same, rows-patched}
+use Rattle.cancel_step.proofs.SameLemmas.{alone-same, pivot-same, updated-fits}
 use Rattle.cancel_step.proofs.applying.apply_fitting.Goals as goal
 
 pub drop_pair-requires-clause-pivot : goal.drop_pair-requires-clause-pivot
@@ -60,39 +60,21 @@ exchange-requires-clause-pivot g c =
 
 pub exchange-requires-clause-columns : goal.exchange-requires-clause-columns
 exchange-requires-clause-columns g c =
-    let p = g.F.PrimeField.P in
     let complex = c.args.complex.now.complex in
     let look : Copied = split_parts c.look.inside.pivot c.look.inside.count c.look.inside.lines in
     let fits =
     subst (λ (parts : Copied). ¬ IsForeign parts complex) (sym (c.look.view_is ∙ c.patch.view_is)) c.requires in
-    let made = c.in-Some.field-0 in
-    let patched : WasPatched p look made.columns.items made.rows.items =
-    subst (λ (parts : Copied). WasPatched p parts made.columns.items made.rows.items) (sym c.look.view_is)
-    (subst
-    (λ (update : Option Update).
-    IfSome update (λ made. WasPatched p c.patch.inside.look made.columns.items made.rows.items)) c.in-Some.is
-    c.patch.invariant.updated) in
-    patched.are_columns
-    ∙ columns-patched p complex look c.complex_laws.ensures.complex patched.from (λ column shows. fits (column, shows))
-    c.element_laws.ensures.field
+    (updated-fits g.F.PrimeField.P complex c.element_laws.ensures.field c.complex_laws.ensures.complex look c.patch.inside.look
+    c.patch.inside.update c.in-Some.field-0 c.look.view_is c.patch.invariant c.in-Some.is fits).0
 
 pub exchange-requires-clause-rows : goal.exchange-requires-clause-rows
 exchange-requires-clause-rows g c =
-    let p = g.F.PrimeField.P in
     let complex = c.args.complex.now.complex in
     let look : Copied = split_parts c.look.inside.pivot c.look.inside.count c.look.inside.lines in
     let fits =
     subst (λ (parts : Copied). ¬ IsForeign parts complex) (sym (c.look.view_is ∙ c.patch.view_is)) c.requires in
-    let made = c.in-Some.field-0 in
-    let patched : WasPatched p look made.columns.items made.rows.items =
-    subst (λ (parts : Copied). WasPatched p parts made.columns.items made.rows.items) (sym c.look.view_is)
-    (subst
-    (λ (update : Option Update).
-    IfSome update (λ made. WasPatched p c.patch.inside.look made.columns.items made.rows.items)) c.in-Some.is
-    c.patch.invariant.updated) in
-    patched.are_rows
-    ∙ rows-patched p complex look c.complex_laws.ensures.complex patched.from (λ column shows. fits (column, shows))
-    c.element_laws.ensures.field
+    (updated-fits g.F.PrimeField.P complex c.element_laws.ensures.field c.complex_laws.ensures.complex look c.patch.inside.look
+    c.patch.inside.update c.in-Some.field-0 c.look.view_is c.patch.invariant c.in-Some.is fits).1
 
 pub returns-clause-pivot : goal.returns-clause-pivot
 returns-clause-pivot g c =

@@ -7,8 +7,8 @@ use Rattle.sparse_block.specs.Entries.{AreEntries, entries_of, value_at}
 use Rattle.cancel_step.specs.Copies.{line_across}
 use Rattle.cancel_step.specs.Sides.{line_on, other_side, place_on}
 use Rattle.cancel_step.specs.declared.side.Side.{Side}
-use Rattle.cancel_step.proofs.AcrossLemmas.{entry-below, value-below}
-use Rattle.cancel_step.proofs.SideLemmas.{entries-on, line_more, pivot-on, size_on}
+use Rattle.cancel_step.proofs.AcrossLemmas.{entry-below, line_more, value-below}
+use Rattle.cancel_step.proofs.SideLemmas.{entries-on, pivot-on, size_on}
 use Rattle.cancel_step.proofs.applying.lines_after.Given.{Over}
 use Rattle.cancel_step.proofs.applying.lines_after.Goals.{After-place_on}
 use Rattle.cancel_step.proofs.applying.lines_after.Goals as goal
@@ -92,8 +92,8 @@ pub entries-preserved : goal.entries-preserved
 entries-preserved g c =
     let at = (goal.at.entries-preserved g c).After-place_on in
     let blank : Entry = record { place = 0; value = 0 } in
-    line_more c.args.side g.F.PrimeField.P c.args.complex.now.complex c.args.pivot c.element_laws.ensures.field
-    c.complex_laws.ensures.complex c.requires c.own_entries-across.result.now c.entries_beside-line.result.now
+    line_more g.F.PrimeField.P c.args.complex.now.complex c.args.pivot c.element_laws.ensures.field
+    c.complex_laws.ensures.complex c.requires c.args.side c.own_entries-across.result.now c.entries_beside-line.result.now
     c.own_entries-own.result.now c.in_ok-entries.entries.items c.entries.entry-index
     (g.F.PrimeField.value_of c.quotient-factor.result) c.value_at.result blank c.entries.lines.items c.push.new.self.items
     (is_across g at) c.entries-test.true c.entries_beside-line.ensures c.own_entries-own.ensures

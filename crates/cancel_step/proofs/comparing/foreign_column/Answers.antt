@@ -2,25 +2,34 @@ use Rattle.std.proofs.Common.{◌≡◌, ◌∙◌, ℤ, List, ap, sym, subst, s
 use Rattle.std.proofs.lemmas.Int.{ints}
 use Rattle.kh_types.specs.Complex.{Pivot}
 use Rattle.sparse_block.specs.Changes.{PlacedLine}
-use Rattle.sparse_block.specs.Complexes.{place_count}
-use Rattle.cancel_step.specs.Copies.{Copied}
+use Rattle.cancel_step.specs.Copies.{Copied, split_parts}
 use Rattle.cancel_step.specs.Foreign.{FindsLeast, ShowsBetween}
-use Rattle.cancel_step.specs.Lines.{AreLines}
-use Rattle.cancel_step.proofs.CopiedLemmas.{rows-lines}
+use Rattle.cancel_step.specs.declared.side.Side.{Side}
+use Rattle.cancel_step.proofs.CopiedLemmas.{copied-lines}
+use Rattle.cancel_step.proofs.SideLemmas.{size_on}
 use Rattle.cancel_step.proofs.comparing.foreign_column.Goals as goal
 
-pub other_line-requires : goal.other_line-requires
-other_line-requires g c =
+pub other_line-requires-clause-columns : goal.other_line-requires-clause-columns
+other_line-requires-clause-columns g c =
     let p = g.F.PrimeField.P in
     let was = c.look.invariant in
-    let pivot = c.look.inside.pivot in
-    let size = place_count was.complex pivot.degree in
-    let are : AreLines p size c.rows.result =
-    subst (AreLines p size)
-    (sym (c.rows.ensures ∙ sym (ap (λ (parts : Copied). parts.rows) c.look.view_is)
-    ∙ ap (λ (parts : Copied). parts.rows) was.are_copied))
-    (rows-lines p was.complex pivot was.is_complex) in
-    (p, size, are)
+    let look : Copied = split_parts c.look.inside.pivot c.look.inside.count c.look.inside.lines in (
+      p,
+      size_on Side.Columns was.complex look.pivot.degree,
+      copied-lines Side.Columns p look was c.columns.result
+          (c.columns.ensures ∙ sym (ap (λ (parts : Copied). parts.columns) c.look.view_is)),
+    )
+
+pub other_line-requires-clause-rows : goal.other_line-requires-clause-rows
+other_line-requires-clause-rows g c =
+    let p = g.F.PrimeField.P in
+    let was = c.look.invariant in
+    let look : Copied = split_parts c.look.inside.pivot c.look.inside.count c.look.inside.lines in (
+      p,
+      size_on Side.Rows was.complex look.pivot.degree,
+      copied-lines Side.Rows p look was c.rows.result
+          (c.rows.ensures ∙ sym (ap (λ (parts : Copied). parts.rows) c.look.view_is)),
+    )
 
 pub returns : goal.returns
 returns g c =

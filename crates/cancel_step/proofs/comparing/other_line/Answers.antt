@@ -13,4 +13,4 @@ returns g c =
     let same : i ≡ c.args.degree = omega (arith, ints, c.ranges.degree) in
     subst (λ (i : ℤ). FindsLeast (ShowsBetween complex i columns rows) c.lesser.result) same
     (subst (FindsLeast (ShowsBetween complex i columns rows)) (sym c.lesser.ensures)
-    (finds-between complex i columns rows c.in_columns.result c.in_rows.result c.in_columns.ensures c.in_rows.ensures))
+    (finds-between complex i columns rows c.in_lines.result c.in_lines-2.result c.in_lines.ensures c.in_lines-2.ensures))

@@ -3,7 +3,7 @@ use Rattle.std.proofs.lemmas.Int.{ints}
 use Rattle.std.proofs.lemmas.Bool.Decides.{leb_tells}
 use Rattle.sparse_block.specs.Complexes.{column_of, place_count}
 use Rattle.sparse_block.specs.Entries.{entries_of}
-use Rattle.cancel_step.proofs.ReadingLemmas.{column-past}
+use Rattle.sparse_block.proofs.PastLemmas.{column-past}
 use Rattle.cancel_step.proofs.search.search_degree.Goals as goal
 
 pub returns-clause-none : goal.returns-clause-none

@@ -1,4 +1,4 @@
-use Rattle.reduced_cube.proofs.ReducedRows.{rows-blocks, rows-none}
+use Rattle.reduced_cube.proofs.ReducedTables.{rows-blocks, rows-none}
 use Rattle.reduced_cube.proofs.laws.reduced_tables_are_their_blocks.Goals as goal
 
 pub returns-clause-rows : goal.returns-clause-rows

@@ -1,6 +1,8 @@
 use Rattle.std.proofs.Common.{rules, arith, to_z, of_z, w16, ◌∙◌, ap}
 use Rattle.cube_signs.specs.Blocks.{block_degrees}
-use Rattle.shared_block.proofs.Blocks.{rows-all, rows-more}
+use Rattle.kh_types.specs.Table.{rows_at}
+use Rattle.jones_sum.proofs.BlockTables as tables
+use Rattle.shared_block.proofs.Blocks.{rows-more}
 use Rattle.shared_block.proofs.table.homology_table.Goals as goal
 
 pub degrees-preserved : goal.degrees-preserved
@@ -12,5 +14,5 @@ degrees-preserved g c =
 
 pub whole_table-requires-clause-rows : goal.whole_table-requires-clause-rows
 whole_table-requires-clause-rows g c =
-    rows-all g.F.PrimeField.P c.args.diagram.now c.in_ok-degrees.degrees.items c.degrees.k c.degrees.rows.items c.degrees.invariant
+    tables.rows-all (rows_at g.F.PrimeField.P c.args.diagram.now) c.in_ok-degrees.degrees.items (block_degrees c.args.diagram.now) c.degrees.k c.degrees.rows.items c.degrees.invariant
     (omega (arith, c.degrees-test.false, c.len-k-end.ensures)) (c.in_ok-degrees.ensures ∙ ap block_degrees c.in_ok-cube.ensures)

@@ -1,12 +1,17 @@
-use Rattle.std.proofs.Common.{◌∙◌, ap, arith, length}
-use Rattle.shared_block.proofs.Blocks.{IsTable-all, table-all}
+use Rattle.std.proofs.Common.{◌∙◌, ap, arith, length, subst, sym}
+use Rattle.kh_types.specs.Table.{Table}
+use Rattle.jones_sum.specs.Tables.{IsTable}
+use Rattle.jones_sum.proofs.TableLemmas.{IsTable-table}
+use Rattle.shared_block.proofs.Blocks.{table-all}
 use Rattle.shared_block.proofs.table.whole_table.Goals as goal
 
 pub of_rows-requires : goal.of_rows-requires
 of_rows-requires g c =
-    IsTable-all g.F.PrimeField.P c.P.result c.args.diagram.now c.args.rows.items c.element_laws.ensures.prime c.P.ensures
-    c.crossings.ensures.accepted (omega (arith, c.crossings.ensures.few, ap length c.crossings.ensures.crossings)) c.requires.size
-    c.requires.rows
+    let p = g.F.PrimeField.P in
+    let code = c.args.diagram.now in
+    subst (λ (made : Table). IsTable made) (sym (table-all p c.P.result code c.args.rows.items c.P.ensures c.requires.rows))
+    (IsTable-table p code (omega (arith, c.crossings.ensures.few, ap length c.crossings.ensures.crossings)) c.requires.size
+    c.element_laws.ensures.prime)
 
 pub returns : goal.returns
 returns g c =

@@ -1,11 +1,10 @@
-use Rattle.std.proofs.Common.{◌≡◌, ℕ, ℤ, pos, neg_ℤ, ◌+ℤ◌, ◌-ℤ◌, ◌≤ℤ◌, ◌+◌, ◌*◌, ◌≤◌, ◌∙◌, length, sym, ap, subst, arith, to_z, of_z, w16, List}
+use Rattle.std.proofs.Common.{◌≡◌, ℕ, ℤ, pos, neg_ℤ, ◌+ℤ◌, ◌-ℤ◌, ◌≤ℤ◌, ◌+◌, ◌*◌, ◌≤◌, length, subst, arith, to_z, of_z, w16, List}
 use Rattle.std.proofs.lemmas.Int.{ints}
 use Rattle.std.specs.Global.{Vec}
 use Rattle.std.proofs.lemmas.List.{length-map}
 use Rattle.kh_types.specs.Generators.{Generator}
 use Rattle.sparse_block.specs.Complexes.{HaveEntries, SquaresToZero, sparse_complex}
 use Rattle.sparse_block.specs.Inside.{lines_in, lists_in}
-use Rattle.cube_signs.specs.Chosen.{has_minus}
 use Rattle.cube_signs.proofs.cube.Cube.chosen_block.Goals as goal
 
 fits : (n : ℕ) (low : ℤ) (names : List (Vec Generator)) → n ≤ 20 → low ≡ neg_ℤ (pos n) → length (lists_in names) ≡ 2 * n + 1

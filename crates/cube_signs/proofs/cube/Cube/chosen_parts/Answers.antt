@@ -1,4 +1,4 @@
-use Rattle.std.proofs.Common.{◌≡◌, ◌<◌, ◌+◌, ◌*◌, ◌∙◌, ℕ, ℤ, List, pos, ◌-ℤ◌, length, ap, subst, arith, w16}
+use Rattle.std.proofs.Common.{◌≡◌, ◌+◌, ◌*◌, ◌∙◌, ℕ, ℤ, List, length, ap, subst, arith, w16}
 use Rattle.std.specs.Prelude.{slice_index_or, []}
 use Rattle.std.specs.Global.{Vec}
 use Rattle.std.proofs.lemmas.Int.{to_z-of_z}
@@ -6,8 +6,8 @@ use Rattle.std.proofs.lemmas.List.{map_push}
 use Rattle.smallvec.specs.SmallVec.{SmallVec}
 use Rattle.sparse_block.specs.declared.entry.Entry.{Entry}
 use Rattle.sparse_block.specs.Inside.{entries_in, lines_in, lists_in}
-use Rattle.cube_signs.specs.Chosen.{chosen_at, has_minus}
-use Rattle.cube_signs.specs.ChosenParts.{all_places_to, chosen_to, AreChosenParts}
+use Rattle.cube_signs.specs.Chosen.{has_minus}
+use Rattle.cube_signs.specs.ChosenParts.{all_places_to, AreChosenParts}
 use Rattle.cube_signs.proofs.ChosenColumns.{AreChosenColumns}
 use Rattle.cube_signs.proofs.ChosenBlocks.{AreChosenParts-columns, chosen_columns-more, places-behind}
 use Rattle.cube_signs.proofs.ChosenLoops.{chosen-names, chosen-tails, length-chosen}

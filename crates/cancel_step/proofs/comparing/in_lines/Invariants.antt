@@ -1,0 +1,7 @@
+use Rattle.std.proofs.Common.{take}
+use Rattle.cancel_step.specs.Foreign.{FindsLeast, ShowsIn}
+use Rattle.cancel_step.specs.Sides.{IsOtherOn}
+use Rattle.cancel_step.proofs.comparing.in_lines.Given as goal
+
+abbrev pub invariant-lines : goal.invariant-lines
+invariant-lines g l = FindsLeast (ShowsIn (IsOtherOn l.side l.complex.complex l.degree) (take l.k l.lines)) l.least
