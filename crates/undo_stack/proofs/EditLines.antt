@@ -1,6 +1,6 @@
 -- Words spell a line of an edit exactly where it is read from them.
-use Rattle.std.proofs.Common.{◌≡◌, ℕ, ◌↔◌, ◌&&◌, Bool, true, false, cond, List, [], ◌∷◌, Option, Some, None, refl, ◌∙◌, ap, subst, codes, nat_le, sym}
-use Rattle.std.proofs.lemmas.Bool.{and_parts, le-leb, leb-true}
+use Rattle.std.proofs.Common.{◌≡◌, ℕ, ◌↔◌, Bool, true, false, cond, List, [], ◌∷◌, Option, Some, None, refl, ◌∙◌, ap, subst, codes, nat_le, sym}
+use Rattle.std.proofs.lemmas.Bool.{le-leb, leb-true}
 use Rattle.std.proofs.lemmas.Option.{cond_some, none-some, option_and_then_some}
 use Rattle.std.proofs.lemmas.Slice.Eq.{bytes_eq-Decides}
 use Rattle.std.specs.Option.{option_and_then, option_map}
@@ -14,7 +14,7 @@ use Rattle.undo_stack.specs.declared.edit_line.EditLine.{EditLine}
 use Rattle.undo_stack.specs.declared.edit_line.EditLine.TheVariants.{Change, Undo, Redo}
 use Rattle.undo_stack.specs.declared.limits.TheConstants.{NAMED_DIGITS, NAMED_LIMIT}
 use Rattle.undo_stack.specs.EditScript.{NamesPlace, SpellsEdit, pass_word, side_word, sign_word}
-use Rattle.undo_stack.specs.EditSteps.{edit_line_of, finger_drop_line, finger_line, kink_drop_line, kink_line, pass_named, place_named, side_named, sign_named, slide_line, told_by}
+use Rattle.undo_stack.specs.EditSteps.{edit_line_of, finger_drop_line, finger_line, kink_drop_line, kink_line, lone_line, move_line, pass_named, place_named, r1_line, r2_line, r3_line, side_named, sign_named, slide_line, told_by}
 
 -- a word names a place exactly where it is read from it
 NamesPlace-place_named : (word : List ℕ) (place : ℕ) → place_named word ≡ Some place → NamesPlace word place
@@ -66,14 +66,25 @@ sign_named-word : (plus : Bool) → sign_named (sign_word plus) ≡ Some plus
 sign_named-word true = refl
 sign_named-word false = refl
 
+-- a word that chooses what is read
+chosen : (word first : List ℕ) (Spells : List ℕ → Type 0) (read other : Option EditLine) (line : EditLine)
+    → (read ≡ Some line → Spells first) → (other ≡ Some line → Spells word)
+    → cond (bytes_eq word first) read other ≡ Some line → Spells word
+chosen word first Spells read other line here there same = go (bytes_eq word first) refl same
+  where
+    go : (b : Bool) → bytes_eq word first ≡ b → cond b read other ≡ Some line → Spells word
+    go true is so = subst Spells (sym ((bytes_eq-Decides word first).0 is)) (here so)
+    go false is so = there so
+
 -- one word
-SpellsEdit-lone : (name : List ℕ) (line : EditLine) (undo redo : Bool) → bytes_eq name (codes "undo") ≡ undo
-    → bytes_eq name (codes "redo") ≡ redo → cond undo (Some Undo) (cond redo (Some Redo) None) ≡ Some line → SpellsEdit (name ∷ []) line
-SpellsEdit-lone name line true redo is is_redo same =
-    subst (SpellsEdit (name ∷ [])) (cond_some true Undo line same).1 (ap (λ n. n ∷ []) ((bytes_eq-Decides name (codes "undo")).0 is))
-SpellsEdit-lone name line false true is is_redo same =
-    subst (SpellsEdit (name ∷ [])) (cond_some true Redo line same).1 (ap (λ n. n ∷ []) ((bytes_eq-Decides name (codes "redo")).0 is_redo))
-SpellsEdit-lone name line false false is is_redo same = absurd (none-some line same)
+SpellsEdit-lone : (name : List ℕ) (line : EditLine) → lone_line name ≡ Some line → SpellsEdit (name ∷ []) line
+SpellsEdit-lone name line =
+    chosen name (codes "undo") (λ n. SpellsEdit (n ∷ []) line) (Some Undo)
+    (cond (bytes_eq name (codes "redo")) (Some Redo) None) line
+    (λ so. subst (SpellsEdit (codes "undo" ∷ [])) (cond_some true Undo line so).1 refl)
+    (chosen name (codes "redo") (λ n. SpellsEdit (n ∷ []) line) (Some Redo) None line
+    (λ so. subst (SpellsEdit (codes "redo" ∷ [])) (cond_some true Redo line so).1 refl)
+    (λ so. absurd (none-some line so)))
 
 -- a kink that is dropped
 SpellsEdit-kink_drop : (c : List ℕ) (line : EditLine) → kink_drop_line c ≡ Some line
@@ -158,51 +169,59 @@ SpellsEdit-slide c d e line same =
       NamesPlace-place_named e third is_third,
     ))))
 
--- a line that begins with two words
-headed : (name verb first second : List ℕ) (more : List (List ℕ)) (read : Option EditLine) (line : EditLine)
-    → (read ≡ Some line → SpellsEdit (first ∷ second ∷ more) line)
-    → cond (bytes_eq name first && bytes_eq verb second) read None ≡ Some line → SpellsEdit (name ∷ verb ∷ more) line
-headed name verb first second more read line spells same = go (bytes_eq name first && bytes_eq verb second) refl same
-  where
-    go : (b : Bool) → (bytes_eq name first && bytes_eq verb second) ≡ b → cond b read None ≡ Some line
-        → SpellsEdit (name ∷ verb ∷ more) line
-    go true is so =
-        let both = and_parts (bytes_eq name first) (bytes_eq verb second) is in
-        subst (λ words. SpellsEdit words line)
-        (sym
-        (ap (λ n. n ∷ verb ∷ more) ((bytes_eq-Decides name first).0 both.0)
-        ∙ ap (λ v. first ∷ v ∷ more) ((bytes_eq-Decides verb second).0 both.1)))
-        (spells so)
-    go false is so = absurd (none-some line so)
+-- the words behind `r1`
+SpellsEdit-r1 : (words : List (List ℕ)) (line : EditLine) → r1_line words ≡ Some line → SpellsEdit (codes "r1" ∷ words) line
+SpellsEdit-r1 [] line same = absurd (none-some line same)
+SpellsEdit-r1 (verb ∷ []) line same = absurd (none-some line same)
+SpellsEdit-r1 (verb ∷ c ∷ []) line same =
+    chosen verb (codes "drop") (λ v. SpellsEdit (codes "r1" ∷ v ∷ c ∷ []) line) (kink_drop_line c) None line
+    (SpellsEdit-kink_drop c line) (λ so. absurd (none-some line so)) same
+SpellsEdit-r1 (verb ∷ a ∷ pass ∷ []) line same = absurd (none-some line same)
+SpellsEdit-r1 (verb ∷ a ∷ pass ∷ sign ∷ []) line same =
+    chosen verb (codes "add") (λ v. SpellsEdit (codes "r1" ∷ v ∷ a ∷ pass ∷ sign ∷ []) line) (kink_line a pass sign) None line
+    (SpellsEdit-kink a pass sign line) (λ so. absurd (none-some line so)) same
+SpellsEdit-r1 (verb ∷ a ∷ pass ∷ sign ∷ more ∷ others) line same = absurd (none-some line same)
 
--- a name and three words
-SpellsEdit-four : (name first second third : List ℕ) (line : EditLine) (slides : Bool) → bytes_eq name (codes "r3") ≡ slides
-    → cond slides (slide_line first second third)
-    (cond (bytes_eq name (codes "r2") && bytes_eq first (codes "drop")) (finger_drop_line second third) None) ≡ Some line
-    → SpellsEdit (name ∷ first ∷ second ∷ third ∷ []) line
-SpellsEdit-four name first second third line true is same =
-    subst (λ n. SpellsEdit (n ∷ first ∷ second ∷ third ∷ []) line) (sym ((bytes_eq-Decides name (codes "r3")).0 is))
-    (SpellsEdit-slide first second third line same)
-SpellsEdit-four name first second third line false is same =
-    headed name first (codes "r2") (codes "drop") (second ∷ third ∷ []) (finger_drop_line second third) line
-    (SpellsEdit-finger_drop second third line) same
+-- the words behind `r2`
+SpellsEdit-r2 : (words : List (List ℕ)) (line : EditLine) → r2_line words ≡ Some line → SpellsEdit (codes "r2" ∷ words) line
+SpellsEdit-r2 [] line same = absurd (none-some line same)
+SpellsEdit-r2 (verb ∷ []) line same = absurd (none-some line same)
+SpellsEdit-r2 (verb ∷ c ∷ []) line same = absurd (none-some line same)
+SpellsEdit-r2 (verb ∷ c ∷ d ∷ []) line same =
+    chosen verb (codes "drop") (λ v. SpellsEdit (codes "r2" ∷ v ∷ c ∷ d ∷ []) line) (finger_drop_line c d) None line
+    (SpellsEdit-finger_drop c d line) (λ so. absurd (none-some line so)) same
+SpellsEdit-r2 (verb ∷ a ∷ side ∷ b ∷ []) line same = absurd (none-some line same)
+SpellsEdit-r2 (verb ∷ a ∷ side ∷ b ∷ other ∷ []) line same =
+    chosen verb (codes "add") (λ v. SpellsEdit (codes "r2" ∷ v ∷ a ∷ side ∷ b ∷ other ∷ []) line) (finger_line a side b other) None line
+    (SpellsEdit-finger a side b other line) (λ so. absurd (none-some line so)) same
+SpellsEdit-r2 (verb ∷ a ∷ side ∷ b ∷ other ∷ more ∷ others) line same = absurd (none-some line same)
+
+-- the words behind `r3`
+SpellsEdit-r3 : (words : List (List ℕ)) (line : EditLine) → r3_line words ≡ Some line → SpellsEdit (codes "r3" ∷ words) line
+SpellsEdit-r3 [] line same = absurd (none-some line same)
+SpellsEdit-r3 (c ∷ []) line same = absurd (none-some line same)
+SpellsEdit-r3 (c ∷ d ∷ []) line same = absurd (none-some line same)
+SpellsEdit-r3 (c ∷ d ∷ e ∷ []) line same = SpellsEdit-slide c d e line same
+SpellsEdit-r3 (c ∷ d ∷ e ∷ more ∷ others) line same = absurd (none-some line same)
+
+-- a name and the words behind it
+SpellsEdit-move : (name : List ℕ) (words : List (List ℕ)) (line : EditLine) → move_line name words ≡ Some line
+    → SpellsEdit (name ∷ words) line
+SpellsEdit-move name words line =
+    chosen name (codes "r1") (λ n. SpellsEdit (n ∷ words) line) (r1_line words)
+    (cond (bytes_eq name (codes "r2")) (r2_line words) (cond (bytes_eq name (codes "r3")) (r3_line words) None)) line
+    (SpellsEdit-r1 words line)
+    (chosen name (codes "r2") (λ n. SpellsEdit (n ∷ words) line) (r2_line words)
+    (cond (bytes_eq name (codes "r3")) (r3_line words) None) line
+    (SpellsEdit-r2 words line)
+    (chosen name (codes "r3") (λ n. SpellsEdit (n ∷ words) line) (r3_line words) None line
+    (SpellsEdit-r3 words line) (λ so. absurd (none-some line so))))
 
 -- what is read from words, they spell
 SpellsEdit-edit_line_of : (words : List (List ℕ)) (line : EditLine) → edit_line_of words ≡ Some line → SpellsEdit words line
 SpellsEdit-edit_line_of [] line same = absurd (none-some line same)
-SpellsEdit-edit_line_of (name ∷ []) line same =
-    SpellsEdit-lone name line (bytes_eq name (codes "undo")) (bytes_eq name (codes "redo")) refl refl same
-SpellsEdit-edit_line_of (name ∷ verb ∷ []) line same = absurd (none-some line same)
-SpellsEdit-edit_line_of (name ∷ verb ∷ c ∷ []) line same =
-    headed name verb (codes "r1") (codes "drop") (c ∷ []) (kink_drop_line c) line (SpellsEdit-kink_drop c line) same
-SpellsEdit-edit_line_of (name ∷ first ∷ second ∷ third ∷ []) line same =
-    SpellsEdit-four name first second third line (bytes_eq name (codes "r3")) refl same
-SpellsEdit-edit_line_of (name ∷ verb ∷ a ∷ pass ∷ sign ∷ []) line same =
-    headed name verb (codes "r1") (codes "add") (a ∷ pass ∷ sign ∷ []) (kink_line a pass sign) line (SpellsEdit-kink a pass sign line) same
-SpellsEdit-edit_line_of (name ∷ verb ∷ a ∷ side ∷ b ∷ other ∷ []) line same =
-    headed name verb (codes "r2") (codes "add") (a ∷ side ∷ b ∷ other ∷ []) (finger_line a side b other) line
-    (SpellsEdit-finger a side b other line) same
-SpellsEdit-edit_line_of (name ∷ verb ∷ a ∷ side ∷ b ∷ other ∷ more ∷ others) line same = absurd (none-some line same)
+SpellsEdit-edit_line_of (name ∷ []) line same = SpellsEdit-lone name line same
+SpellsEdit-edit_line_of (name ∷ word ∷ words) line same = SpellsEdit-move name (word ∷ words) line same
 
 -- what words spell is read from them
 edit_line_of-SpellsEdit : (words : List (List ℕ)) (line : EditLine) → SpellsEdit words line → edit_line_of words ≡ Some line

@@ -1,5 +1,5 @@
 -- The reading of an edit, as the way of the code.
-use Rattle.std.specs.Prelude.{ℕ, nat_le, Bool, true, false, ◌&&◌, if◌then◌else◌, List, [], ◌∷◌, codes, Option, None, Some, Result, bytes_eq}
+use Rattle.std.specs.Prelude.{ℕ, nat_le, Bool, true, false, if◌then◌else◌, List, [], ◌∷◌, codes, Option, None, Some, Result, bytes_eq}
 use Rattle.std.specs.Option.{option_map, option_and_then}
 use Rattle.kh_lex.specs.Numerals.{numeral_of}
 use Rattle.diagram_moves.specs.declared.change.Move.TheVariants.{KinkAdd, KinkDrop, FingerAdd, FingerDrop, Slide}
@@ -69,35 +69,36 @@ slide_line c d e =
     (λ first. option_and_then (λ second. option_map (λ third. Change (Slide first second third)) (place_named e)) (place_named d))
     (place_named c)
 
--- the line of two words that head it and one behind them
-abbrev pub edit_of_three : List ℕ → List ℕ → List ℕ → Option EditLine
-edit_of_three name verb c = if bytes_eq name (codes "r1") && bytes_eq verb (codes "drop") then kink_drop_line c else None
+-- the line of the words behind `r1`
+abbrev pub r1_line : List (List ℕ) → Option EditLine
+r1_line (verb ∷ c ∷ []) = if bytes_eq verb (codes "drop") then kink_drop_line c else None
+r1_line (verb ∷ a ∷ pass ∷ sign ∷ []) = if bytes_eq verb (codes "add") then kink_line a pass sign else None
+r1_line _ = None
 
--- the line of a name and three words
-abbrev pub edit_of_four : List ℕ → List ℕ → List ℕ → List ℕ → Option EditLine
-edit_of_four name first second third =
-    if bytes_eq name (codes "r3") then slide_line first second third
-    else if bytes_eq name (codes "r2") && bytes_eq first (codes "drop") then finger_drop_line second third
+-- the line of the words behind `r2`
+abbrev pub r2_line : List (List ℕ) → Option EditLine
+r2_line (verb ∷ c ∷ d ∷ []) = if bytes_eq verb (codes "drop") then finger_drop_line c d else None
+r2_line (verb ∷ a ∷ side ∷ b ∷ other ∷ []) = if bytes_eq verb (codes "add") then finger_line a side b other else None
+r2_line _ = None
+
+-- the line of the words behind `r3`
+abbrev pub r3_line : List (List ℕ) → Option EditLine
+r3_line (c ∷ d ∷ e ∷ []) = slide_line c d e
+r3_line _ = None
+
+-- the line of a move: its name, and the words behind it
+abbrev pub move_line : List ℕ → List (List ℕ) → Option EditLine
+move_line name words =
+    if bytes_eq name (codes "r1") then r1_line words
+    else if bytes_eq name (codes "r2") then r2_line words
+    else if bytes_eq name (codes "r3") then r3_line words
     else None
-
--- the line of two words that head it and three behind them
-abbrev pub edit_of_five : List ℕ → List ℕ → List ℕ → List ℕ → List ℕ → Option EditLine
-edit_of_five name verb a pass sign =
-    if bytes_eq name (codes "r1") && bytes_eq verb (codes "add") then kink_line a pass sign else None
-
--- the line of two words that head it and four behind them
-abbrev pub edit_of_six : List ℕ → List ℕ → List ℕ → List ℕ → List ℕ → List ℕ → Option EditLine
-edit_of_six name verb a side b other =
-    if bytes_eq name (codes "r2") && bytes_eq verb (codes "add") then finger_line a side b other else None
 
 -- the line of an edit that words spell, if they spell one
 abbrev pub edit_line_of : List (List ℕ) → Option EditLine
+edit_line_of [] = None
 edit_line_of (name ∷ []) = lone_line name
-edit_line_of (name ∷ verb ∷ c ∷ []) = edit_of_three name verb c
-edit_line_of (name ∷ first ∷ second ∷ third ∷ []) = edit_of_four name first second third
-edit_line_of (name ∷ verb ∷ a ∷ pass ∷ sign ∷ []) = edit_of_five name verb a pass sign
-edit_line_of (name ∷ verb ∷ a ∷ side ∷ b ∷ other ∷ []) = edit_of_six name verb a side b other
-edit_line_of _ = None
+edit_line_of (name ∷ words) = move_line name words
 
 -- what the text of an edit reads as
 abbrev pub edit_of : List ℕ → Result (List (ℕ × EditLine)) ScriptStop

@@ -5,7 +5,7 @@ ghost use Rattle.undo_stack.specs.EditScript.{IsEdit};
 ghost use Rattle.undo_stack.specs.EditSteps.{edit_line_of};
 
 use crate::command::Command;
-use crate::edit_words::{edit_of_five, edit_of_four, edit_of_six, edit_of_three, lone_line};
+use crate::edit_words::{lone_line, move_line};
 use crate::limits::SCRIPT_LINES;
 use crate::reader::read_script;
 use crate::script::Script;
@@ -31,13 +31,8 @@ impl Command for EditLine {
     fn of_words(words: &[&[u8]]) -> Option<Self> {
         match words {
             [name] => lone_line(name),
-            [name, verb, crossing] => edit_of_three(name, verb, crossing),
-            [name, first, second, third] => edit_of_four(name, first, second, third),
-            [name, verb, arc, pass, sign] => edit_of_five(name, verb, arc, pass, sign),
-            [name, verb, over, over_side, under, under_side] => {
-                edit_of_six(name, verb, over, over_side, under, under_side)
-            }
-            _ => None,
+            [name, rest @ ..] => move_line(name, rest),
+            [] => None,
         }
     }
 }

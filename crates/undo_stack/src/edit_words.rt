@@ -1,7 +1,7 @@
 //! The words of the lines of an edit.
 
-ghost use Rattle.std.specs.Prelude.{◌≡◌, ◌&&◌, bytes_eq};
-ghost use Rattle.undo_stack.specs.EditSteps.{edit_of_five, edit_of_four, edit_of_six, edit_of_three, finger_drop_line, finger_line, kink_drop_line, kink_line, lone_line, pass_named, place_named, side_named, sign_named, slide_line};
+ghost use Rattle.std.specs.Prelude.{◌≡◌, map};
+ghost use Rattle.undo_stack.specs.EditSteps.{finger_drop_line, finger_line, kink_drop_line, kink_line, lone_line, move_line, pass_named, place_named, r1_line, r2_line, r3_line, side_named, sign_named, slide_line};
 
 use crate::edit_line::EditLine;
 use crate::limits::{NAMED_DIGITS, NAMED_LIMIT};
@@ -21,68 +21,52 @@ pub(crate) fn lone_line(name: &[u8]) -> Option<EditLine>
     }
 }
 
-/// The line of two words that head it and one behind them.
-pub(crate) fn edit_of_three(name: &[u8], verb: &[u8], crossing: &[u8]) -> Option<EditLine>
-    ensures { result ≡ edit_of_three name.now verb.now crossing.now }
+/// The line of a move: its name, and the words behind it.
+pub(crate) fn move_line(name: &[u8], words: &[&[u8]]) -> Option<EditLine>
+    ensures { result ≡ move_line name.now (map (λ word. word.now) words.now) }
 {
-    if is_head(name, verb, b"r1", b"drop") {
-        kink_drop_line(crossing)
+    if name == b"r1".as_slice() {
+        r1_line(words)
+    } else if name == b"r2".as_slice() {
+        r2_line(words)
+    } else if name == b"r3".as_slice() {
+        r3_line(words)
     } else {
         None
     }
 }
 
-/// The line of a name and three words.
-pub(crate) fn edit_of_four(
-    name: &[u8],
-    first: &[u8],
-    second: &[u8],
-    third: &[u8],
-) -> Option<EditLine>
-    ensures { result ≡ edit_of_four name.now first.now second.now third.now }
+/// The line of the words behind `r1`.
+fn r1_line(words: &[&[u8]]) -> Option<EditLine>
+    ensures { result ≡ r1_line (map (λ word. word.now) words.now) }
 {
-    if name == b"r3".as_slice() {
-        slide_line(first, second, third)
-    } else if is_head(name, first, b"r2", b"drop") {
-        finger_drop_line(second, third)
-    } else {
-        None
+    match words {
+        [verb, crossing] if *verb == b"drop".as_slice() => kink_drop_line(crossing),
+        [verb, arc, pass, sign] if *verb == b"add".as_slice() => kink_line(arc, pass, sign),
+        _ => None,
     }
 }
 
-/// The line of two words that head it and three behind them.
-pub(crate) fn edit_of_five(
-    name: &[u8],
-    verb: &[u8],
-    arc: &[u8],
-    pass: &[u8],
-    sign: &[u8],
-) -> Option<EditLine>
-    ensures { result ≡ edit_of_five name.now verb.now arc.now pass.now sign.now }
+/// The line of the words behind `r2`.
+fn r2_line(words: &[&[u8]]) -> Option<EditLine>
+    ensures { result ≡ r2_line (map (λ word. word.now) words.now) }
 {
-    if is_head(name, verb, b"r1", b"add") {
-        kink_line(arc, pass, sign)
-    } else {
-        None
+    match words {
+        [verb, first, second] if *verb == b"drop".as_slice() => finger_drop_line(first, second),
+        [verb, over, over_side, under, under_side] if *verb == b"add".as_slice() => {
+            finger_line(over, over_side, under, under_side)
+        }
+        _ => None,
     }
 }
 
-/// The line of two words that head it and four behind them.
-pub(crate) fn edit_of_six(
-    name: &[u8],
-    verb: &[u8],
-    over: &[u8],
-    over_side: &[u8],
-    under: &[u8],
-    under_side: &[u8],
-) -> Option<EditLine>
-    ensures { result
-        ≡ edit_of_six name.now verb.now over.now over_side.now under.now under_side.now }
+/// The line of the words behind `r3`.
+fn r3_line(words: &[&[u8]]) -> Option<EditLine>
+    ensures { result ≡ r3_line (map (λ word. word.now) words.now) }
 {
-    if is_head(name, verb, b"r2", b"add") {
-        finger_line(over, over_side, under, under_side)
-    } else {
-        None
+    match words {
+        [first, second, third] => slide_line(first, second, third),
+        _ => None,
     }
 }
 
@@ -145,13 +129,6 @@ fn slide_line(first: &[u8], second: &[u8], third: &[u8]) -> Option<EditLine>
         second,
         third,
     }))
-}
-
-/// Whether a line begins with two words.
-fn is_head(name: &[u8], verb: &[u8], first: &[u8], second: &[u8]) -> bool
-    ensures { result ≡ bytes_eq name.now first.now && bytes_eq verb.now second.now }
-{
-    name == first && verb == second
 }
 
 /// The arc or the crossing that a word names.
