@@ -140,7 +140,11 @@ fn has_smoothing(objects: &[Object], place: usize, smoothing: u8) -> bool
 /// How many ways lead through a pivot, at most.
 fn way_count(rowed: &Rowed, pivot: &Pivot) -> usize {
     let into = rowed.rows.get(pivot.head).map_or(0, |row| row.len());
-    let out = rowed.complex.columns.get(pivot.tail).map_or(0, |column| column.len());
+    let out = rowed
+        .complex
+        .columns
+        .get(pivot.tail)
+        .map_or(0, |column| column.len());
     into.saturating_sub(1).saturating_mul(out.saturating_sub(1))
 }
 
