@@ -2,7 +2,8 @@
 use Rattle.std.proofs.Common.{◌≡◌, ◌≢◌, ℕ, inl, inr, ◌+◌, ◌-◌, ◌*◌, ◌/◌, ◌%◌, ◌<◌, ◌≤◌, ◌∙◌, List, [], ◌∷◌, ◌++◌, length, map, get_or, set, take, drop, sym, ap, ap₂, subst, refl, arith, Bool, true, false, cond}
 use Rattle.std.specs.Prelude.{◌||◌, nat_eq}
 use Rattle.std.specs.List.{AllByRecursion}
-use Rattle.std.proofs.lemmas.Bool.{cases_eq, eq-eqb, ne_eqb}
+use Rattle.std.proofs.lemmas.Bool.{cases_eq}
+use Rattle.std.proofs.lemmas.Bool.Decides.{nat_tests}
 use Rattle.std.proofs.lemmas.List.{get_or-set_other, get_or-set_same, length-map, length-set, map-append, set-append_right}
 use Rattle.kh_types.proofs.Lists.{AllByRecursion-append}
 use Rattle.morse_drawing.proofs.NumberedEnds.{NumberedEnds, after_slice, relabelled, tied}
@@ -26,27 +27,7 @@ perm-or false false false false t = refl
 
 perm-chain : (d0 d1 d2 d3 a p q b w z : ℕ) → d0 ≢ d1 → d0 ≢ d2 → d0 ≢ d3 → d1 ≢ d2 → d1 ≢ d3 → d2 ≢ d3
     → chain d0 d1 d2 d3 a p q b w z ≡ chain d2 d1 d3 d0 q p b a w z
-perm-chain d0 d1 d2 d3 a p q b w z d01 d02 d03 d12 d13 d23 = elim (cases_eq d0 z) [
-  | inl is0 ↦
-      chain-zero d0 d1 d2 d3 a p q b w z is0
-      ∙ sym (chain-rest d2 d1 d3 d0 q p b a w z (λ e. d02 (is0 ∙ sym e)) (λ e. d01 (is0 ∙ sym e)) (λ e. d03 (is0 ∙ sym e))
-      ∙ ap (λ t. cond t a w) (eq-eqb d0 z is0))
-  | inr no0 ↦ elim (cases_eq d1 z) [
-    | inl is1 ↦
-        chain-one d0 d1 d2 d3 a p q b w z no0 is1 ∙ sym (chain-one d2 d1 d3 d0 q p b a w z (λ e. d12 (is1 ∙ sym e)) is1)
-    | inr no1 ↦ elim (cases_eq d2 z) [
-      | inl is2 ↦ chain-two d0 d1 d2 d3 a p q b w z no0 no1 is2 ∙ sym (chain-zero d2 d1 d3 d0 q p b a w z is2)
-      | inr no2 ↦ elim (cases_eq d3 z) [
-        | inl is3 ↦
-            chain-rest d0 d1 d2 d3 a p q b w z no0 no1 no2 ∙ ap (λ t. cond t b w) (eq-eqb d3 z is3)
-            ∙ sym (chain-two d2 d1 d3 d0 q p b a w z no2 no1 is3)
-        | inr no3 ↦
-            chain-rest d0 d1 d2 d3 a p q b w z no0 no1 no2 ∙ ap (λ t. cond t b w) (ne_eqb d3 z no3)
-            ∙ sym (chain-rest d2 d1 d3 d0 q p b a w z no2 no1 no3 ∙ ap (λ t. cond t a w) (ne_eqb d0 z no0))
-      ]
-    ]
-  ]
-]
+perm-chain d0 d1 d2 d3 a p q b w z d01 d02 d03 d12 d13 d23 = grind (arith, nat_tests)
 
 -- two neighbours of a row are put in place
 set-two : (front back : List ℕ) (u v x y place : ℕ) → length front ≡ place

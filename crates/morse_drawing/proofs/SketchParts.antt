@@ -148,15 +148,13 @@ all_both P Q (x ∷ xs) first second = ((first.0, second.0), all_both P Q xs fir
 
 -- a partner function with an arc more
 pub arc-first : (part : ℕ → ℕ) (x y : ℕ) → with_arc part x y x ≡ y
-arc-first part x y = ap (λ b. cond b y (cond (nat_eq x y) x (part x))) (eq-eqb x x refl)
+arc-first part x y = grind (arith, nat_tests)
 
 pub arc-second : (part : ℕ → ℕ) (x y : ℕ) → y ≢ x → with_arc part x y y ≡ x
-arc-second part x y apart =
-    ap (λ b. cond b y (cond (nat_eq y y) x (part y))) (ne_eqb y x apart) ∙ ap (λ b. cond b x (part y)) (eq-eqb y y refl)
+arc-second part x y apart = grind (arith, nat_tests)
 
 pub arc-other : (part : ℕ → ℕ) (x y z : ℕ) → z ≢ x → z ≢ y → with_arc part x y z ≡ part z
-arc-other part x y z not_x not_y =
-    ap (λ b. cond b y (cond (nat_eq z y) x (part z))) (ne_eqb z x not_x) ∙ ap (λ b. cond b x (part z)) (ne_eqb z y not_y)
+arc-other part x y z not_x not_y = grind (arith, nat_tests)
 
 pub min_swap : (x y : ℕ) → min x y ≡ min y x
 min_swap x y = omega arith
@@ -167,24 +165,16 @@ chain d0 d1 d2 d3 a p q b w z =
     cond (nat_eq d0 z) a (cond (nat_eq d1 z) p (cond (nat_eq d2 z) q (cond (nat_eq d3 z) b w)))
 
 pub chain-zero : (d0 d1 d2 d3 a p q b w z : ℕ) → d0 ≡ z → chain d0 d1 d2 d3 a p q b w z ≡ a
-chain-zero d0 d1 d2 d3 a p q b w z same = ap (λ t. cond t a (cond (nat_eq d1 z) p (cond (nat_eq d2 z) q (cond (nat_eq d3 z) b w)))) (eq-eqb d0 z same)
+chain-zero d0 d1 d2 d3 a p q b w z same = grind (arith, nat_tests)
 
 pub chain-one : (d0 d1 d2 d3 a p q b w z : ℕ) → d0 ≢ z → d1 ≡ z → chain d0 d1 d2 d3 a p q b w z ≡ p
-chain-one d0 d1 d2 d3 a p q b w z no0 same =
-    ap (λ t. cond t a (cond (nat_eq d1 z) p (cond (nat_eq d2 z) q (cond (nat_eq d3 z) b w)))) (ne_eqb d0 z no0)
-    ∙ ap (λ t. cond t p (cond (nat_eq d2 z) q (cond (nat_eq d3 z) b w))) (eq-eqb d1 z same)
+chain-one d0 d1 d2 d3 a p q b w z no0 same = grind (arith, nat_tests)
 
 pub chain-two : (d0 d1 d2 d3 a p q b w z : ℕ) → d0 ≢ z → d1 ≢ z → d2 ≡ z → chain d0 d1 d2 d3 a p q b w z ≡ q
-chain-two d0 d1 d2 d3 a p q b w z no0 no1 same =
-    ap (λ t. cond t a (cond (nat_eq d1 z) p (cond (nat_eq d2 z) q (cond (nat_eq d3 z) b w)))) (ne_eqb d0 z no0)
-    ∙ ap (λ t. cond t p (cond (nat_eq d2 z) q (cond (nat_eq d3 z) b w))) (ne_eqb d1 z no1)
-    ∙ ap (λ t. cond t q (cond (nat_eq d3 z) b w)) (eq-eqb d2 z same)
+chain-two d0 d1 d2 d3 a p q b w z no0 no1 same = grind (arith, nat_tests)
 
 pub chain-rest : (d0 d1 d2 d3 a p q b w z : ℕ) → d0 ≢ z → d1 ≢ z → d2 ≢ z → chain d0 d1 d2 d3 a p q b w z ≡ cond (nat_eq d3 z) b w
-chain-rest d0 d1 d2 d3 a p q b w z no0 no1 no2 =
-    ap (λ t. cond t a (cond (nat_eq d1 z) p (cond (nat_eq d2 z) q (cond (nat_eq d3 z) b w)))) (ne_eqb d0 z no0)
-    ∙ ap (λ t. cond t p (cond (nat_eq d2 z) q (cond (nat_eq d3 z) b w))) (ne_eqb d1 z no1)
-    ∙ ap (λ t. cond t q (cond (nat_eq d3 z) b w)) (ne_eqb d2 z no2)
+chain-rest d0 d1 d2 d3 a p q b w z no0 no1 no2 = grind (arith, nat_tests)
 
 abbrev pub turn_one : ℕ → ℕ
 turn_one o = turned_back o
@@ -352,17 +342,11 @@ painted colour next p q one two rest segment_is =
     cond (nat_lt segment_is next) (colour segment_is) (cond (nat_eq segment_is p) one (cond (nat_eq segment_is q) two rest))
 
 pub painted-old : (colour : ℕ → ℕ) (next p q one two rest x : ℕ) → x < next → painted colour next p q one two rest x ≡ colour x
-painted-old colour next p q one two rest x below = under (colour x) (cond (nat_eq x p) one (cond (nat_eq x q) two rest))
-  where
-    under : (old new : ℕ) → cond (nat_lt x next) old new ≡ old
-    under old new = grind (arith, nat_tests)
+painted-old colour next p q one two rest x below = grind (arith, nat_tests)
 
 pub painted-new : (colour : ℕ → ℕ) (next p q one two rest x : ℕ) → next ≤ x
     → painted colour next p q one two rest x ≡ cond (nat_eq x p) one (cond (nat_eq x q) two rest)
-painted-new colour next p q one two rest x from = over (colour x) (cond (nat_eq x p) one (cond (nat_eq x q) two rest))
-  where
-    over : (old new : ℕ) → cond (nat_lt x next) old new ≡ new
-    over old new = grind (arith, nat_tests)
+painted-new colour next p q one two rest x from = grind (arith, nat_tests)
 
 pub respects-old : (f g : ℕ → ℕ) (next : ℕ) (joins : List (ℕ × ℕ)) → ((x : ℕ) → x < next → g x ≡ f x) → AreBelow next joins
     → Respects f joins → Respects g joins
