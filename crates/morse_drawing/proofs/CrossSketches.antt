@@ -7,14 +7,14 @@ use Rattle.std.proofs.lemmas.List.{append_assoc, length-map, map-append}
 use Rattle.kh_types.specs.Classes.{Respects}
 use Rattle.kh_types.specs.Darts.{IsPairing}
 use Rattle.kh_types.proofs.ClassCounts.{AreBelow-wider}
-use Rattle.kh_types.proofs.Lists.{AllByRecursion-append, AllByRecursion-first, AllByRecursion-second}
+use Rattle.kh_types.proofs.Lists.{AllByRecursion-append, AllByRecursion-both, AllByRecursion-first, AllByRecursion-second, AllByRecursion-weaker}
 use Rattle.face_walk.specs.AddedArcs.{with_arc}
 use Rattle.morse_drawing.specs.Sketches.{IsSketched, Sketch, segment_met, sketched}
 use Rattle.morse_drawing.specs.DartRows.{IsDrawing, IsIn, other_three}
 use Rattle.morse_drawing.specs.declared.slice.Slice.TheVariants.{Cap, Cross}
 use Rattle.morse_drawing.proofs.SketchParts.Which.{is_one, is_other, is_three, is_two, is_zero}
 use Rattle.morse_drawing.proofs.SketchParts.FourNext.{next_one, next_three, next_two, next_zero}
-use Rattle.morse_drawing.proofs.SketchParts.{segment, dart, made, cross_met, cross-is, parted, all_change, all_both, arc-first, arc-second, arc-other, min_swap, turn_one, turn_two, turn_three, crossing-one, crossing-two, crossing-three, which, is-met, met-other, met-here, dart-there, painted, painted-old, painted-new, respects-old, before_or, four_next}
+use Rattle.morse_drawing.proofs.SketchParts.{segment, dart, made, cross_met, cross-is, parted, arc-first, arc-second, arc-other, min_swap, turn_one, turn_two, turn_three, crossing-one, crossing-two, crossing-three, which, is-met, met-other, met-here, dart-there, painted, painted-old, painted-new, respects-old, before_or, four_next}
 
 -- rule 2
 pub sketched-crossed : (n : ℕ) (part whole : ℕ → ℕ) (drawn front back : List ℕ) (x : ℕ) (r : Sketch)
@@ -65,9 +65,8 @@ sketched-crossed n part whole drawn front back x r is pairing drawing x_below x_
     let moved : (f : ℕ → ℕ) (xs : List (ℕ × ℕ)) → AllByRecursion (λ e. IsIn (e.1 / 4) drawn) xs
     → AllByRecursion (λ e. f e.0 ≡ f (segment_met r.met e.1)) xs → AllByRecursion (λ e. f e.0 ≡ f (segment_met met e.1)) xs =
     λ f xs first second.
-    all_change (λ e. IsIn (e.1 / 4) drawn × (f e.0 ≡ f (segment_met r.met e.1))) (λ e. f e.0 ≡ f (segment_met met e.1)) xs
-    (λ e both. both.1 ∙ ap f (sym (keeps e.1 both.0)))
-    (all_both (λ e. IsIn (e.1 / 4) drawn) (λ e. f e.0 ≡ f (segment_met r.met e.1)) xs first second) in
+    AllByRecursion-both (λ (e : ℕ × ℕ). IsIn (e.1 / 4) drawn) (λ (e : ℕ × ℕ). f e.0 ≡ f (segment_met r.met e.1))
+    (λ (e : ℕ × ℕ). f e.0 ≡ f (segment_met met e.1)) xs (λ e stands same. same ∙ ap f (sym (keeps e.1 stands))) first second in
     let o_below = pairing.below x x_below in
     let o_apart : o ≢ x = λ same. new (subst (λ (z : ℕ). IsIn (z / 4) drawn) (sym same) x_drawn) in
     let arc_ends : (f : ℕ → ℕ) → Respects f joins → f (segment_met met x) ≡ f (segment_met met o) =
@@ -98,9 +97,9 @@ sketched-crossed n part whole drawn front back x r is pairing drawing x_below x_
           ((omega arith, omega arith), tt);
       segments_below = AllByRecursion-append (λ (e : ℕ × ℕ). e.0 < next + 2 + 2) before
           ((next + 2, turn_one o) ∷ (next + 2 + 1, turn_two o) ∷ (next + 1, turn_three o) ∷ behind)
-          (all_change (λ e. e.0 < next) (λ e. e.0 < next + 2 + 2) before wider below_front) (
+          (AllByRecursion-weaker (λ (e : ℕ × ℕ). e.0 < next) (λ (e : ℕ × ℕ). e.0 < next + 2 + 2) before wider below_front) (
             omega arith,
-            (omega arith, (omega arith, all_change (λ e. e.0 < next) (λ e. e.0 < next + 2 + 2) behind wider below_back.1)),
+            (omega arith, (omega arith, AllByRecursion-weaker (λ (e : ℕ × ℕ). e.0 < next) (λ (e : ℕ × ℕ). e.0 < next + 2 + 2) behind wider below_back.1)),
           );
       met_below = λ z z_below z_drawn. elim (which o z) [
         | is_zero at ↦ omega (arith, ap (segment_met met) at, values.zero_is, below_back.0)

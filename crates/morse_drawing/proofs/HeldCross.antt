@@ -9,10 +9,10 @@ use Rattle.kh_types.proofs.Lists.{AllByRecursion-append}
 use Rattle.morse_drawing.proofs.NumberedEnds.{NumberedEnds, after_slice, relabelled, tied}
 use Rattle.morse_drawing.specs.Sketches.{Sketch, dart_after, is_met, segment_met, sketched}
 use Rattle.morse_drawing.specs.declared.slice.Slice.TheVariants.{Cross}
-use Rattle.morse_drawing.proofs.EndMoves.{Ends-moved, Ends-started, fresh, fresh-new, fresh-old, map-fresh, met-rest}
+use Rattle.morse_drawing.proofs.EndMoves.{Ends-moved, Ends-started, fresh, fresh-new, fresh-old, map-fresh, met-rest, wider}
 use Rattle.morse_drawing.proofs.EndTimes.{hit-same, times, times-other}
 use Rattle.morse_drawing.proofs.Ends.{Ends}
-use Rattle.morse_drawing.proofs.HeldEnds.{IsHeld, Middle, map-append_times, middle, row-after, row-at, wider}
+use Rattle.morse_drawing.proofs.HeldEnds.{IsHeld, Middle, map-append_times, middle, row-after, row-at}
 use Rattle.morse_drawing.proofs.MetEnds.{Ends-meets, bare-none, given_way, kept_label, map-met, met_name, others_found, tied-is, with_row}
 use Rattle.morse_drawing.proofs.SketchParts.{chain, chain-one, chain-rest, chain-two, chain-zero, cross_met, crossing-one, crossing-three, crossing-two, d-one, d-three, d-two, d-zero, dart-there, met-here, met-other, one-three, one-two, or_true_rest, two-three, zero-one, zero-three, zero-two}
 

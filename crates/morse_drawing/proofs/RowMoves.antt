@@ -6,14 +6,15 @@ use Rattle.kh_types.specs.Darts.{turned, face_step}
 use Rattle.face_walk.specs.AddedArcs.{HasArcMore}
 use Rattle.morse_drawing.specs.DartRows.{IsLink, AreLinked, AreRound, AreDifferent, IsDartRow, turned_back, other_three}
 use Rattle.morse_drawing.proofs.RowPlaces.{IsBare}
-use Rattle.morse_drawing.proofs.Links.{all_append, all_map, all_two, IsLink-through, IsLink-moved, AreLinked-append, AreLinked-from, AreLinked-moved}
+use Rattle.kh_types.proofs.Lists.{AllByRecursion-append, AllByRecursion-both, AllByRecursion-weaker}
+use Rattle.morse_drawing.proofs.Links.{IsLink-through, IsLink-moved, AreLinked-append, AreLinked-from, AreLinked-moved}
 
 -- a row is turned round: its first dart goes to its end
 
 different_more : (x : ℕ) (xs : List ℕ) → AreDifferent xs → AllByRecursion (λ z. z ≢ x) xs → AreDifferent (xs ++ x ∷ [])
 different_more x [] once beside = (tt, tt)
 different_more x (y ∷ ys) once beside =
-    (all_append (λ z. z ≢ y) ys (x ∷ []) once.0 (λ same. beside.0 (sym same), tt), different_more x ys once.1 beside.1)
+    (AllByRecursion-append (λ z. z ≢ y) ys (x ∷ []) once.0 (λ same. beside.0 (sym same), tt), different_more x ys once.1 beside.1)
 
 round_once : (n : ℕ) (partner : ℕ → ℕ) (x : ℕ) (xs : List ℕ) → AreRound n partner (x ∷ xs) → AreRound n partner (xs ++ x ∷ [])
 round_once n partner x [] round = round
@@ -22,7 +23,7 @@ round_once n partner x (y ∷ ys) round = AreLinked-append n partner y x y ys []
 row_once : (n : ℕ) (partner : ℕ → ℕ) (x : ℕ) (xs : List ℕ) → IsDartRow n partner (x ∷ xs) → IsDartRow n partner (xs ++ x ∷ [])
 row_once n partner x xs row = record {
   round = round_once n partner x xs row.round;
-  are_open = all_append (λ z. (z < 4 * n) × (partner z ≡ z)) xs (x ∷ []) row.are_open.1 (row.are_open.0, tt);
+  are_open = AllByRecursion-append (λ z. (z < 4 * n) × (partner z ≡ z)) xs (x ∷ []) row.are_open.1 (row.are_open.0, tt);
   once = different_more x xs row.once.1 row.once.0;
 }
 
@@ -42,21 +43,20 @@ AreLinked-to n partner left further right (b ∷ bs) below is_closed more linked
     (IsLink-through n partner b left further below is_closed linked.0 more, linked.1)
 
 -- the darts of a row that are neither of the two of a new arc are as open as before
-beside_two : (n : ℕ) (partner : ℕ → ℕ) (dart other : ℕ) (xs : List ℕ) → AllByRecursion (λ z. (z < 4 * n) × (partner z ≡ z)) xs
+pub beside_two : (n : ℕ) (partner : ℕ → ℕ) (dart other : ℕ) (xs : List ℕ) → AllByRecursion (λ z. (z < 4 * n) × (partner z ≡ z)) xs
     → AllByRecursion (λ z. z ≢ dart) xs → AllByRecursion (λ z. z ≢ other) xs
     → AllByRecursion (λ z. (z < 4 * n) × ((z ≢ dart) × (z ≢ other))) xs
 beside_two n partner dart other xs is_open one two =
-    all_map (λ z. ((z < 4 * n) × (partner z ≡ z)) × ((z ≢ dart) × (z ≢ other))) (λ z. (z < 4 * n) × ((z ≢ dart) × (z ≢ other))) xs
-    (λ z all. (all.0.0, all.1))
-    (all_two (λ z. (z < 4 * n) × (partner z ≡ z)) (λ z. (z ≢ dart) × (z ≢ other)) xs is_open (all_two (λ z. z ≢ dart) (λ z. z ≢ other) xs one two))
+    AllByRecursion-both (λ z. (z < 4 * n) × (partner z ≡ z)) (λ z. (z ≢ dart) × (z ≢ other)) (λ z. (z < 4 * n) × ((z ≢ dart) × (z ≢ other))) xs
+    (λ z here apart. (here.0, apart)) is_open
+    (AllByRecursion-both (λ z. z ≢ dart) (λ z. z ≢ other) (λ z. (z ≢ dart) × (z ≢ other)) xs (λ z first second. (first, second)) one two)
 
-open_after : (n : ℕ) (before after : ℕ → ℕ) (dart other : ℕ) (xs : List ℕ) → HasArcMore (4 * n) before after dart other
+pub open_after : (n : ℕ) (before after : ℕ → ℕ) (dart other : ℕ) (xs : List ℕ) → HasArcMore (4 * n) before after dart other
     → AllByRecursion (λ z. (z < 4 * n) × (before z ≡ z)) xs → AllByRecursion (λ z. (z < 4 * n) × ((z ≢ dart) × (z ≢ other))) xs
     → AllByRecursion (λ z. (z < 4 * n) × (after z ≡ z)) xs
 open_after n before after dart other xs more is_open beside =
-    all_map (λ z. ((z < 4 * n) × (before z ≡ z)) × ((z < 4 * n) × ((z ≢ dart) × (z ≢ other)))) (λ z. (z < 4 * n) × (after z ≡ z)) xs
-    (λ z all. (all.0.0, more.others z all.0.0 all.1.1.0 all.1.1.1 ∙ all.0.1))
-    (all_two (λ z. (z < 4 * n) × (before z ≡ z)) (λ z. (z < 4 * n) × ((z ≢ dart) × (z ≢ other))) xs is_open beside)
+    AllByRecursion-both (λ z. (z < 4 * n) × (before z ≡ z)) (λ z. (z < 4 * n) × ((z ≢ dart) × (z ≢ other))) (λ z. (z < 4 * n) × (after z ≡ z)) xs
+    (λ z here apart. (here.0, more.others z here.0 apart.1.0 apart.1.1 ∙ here.1)) is_open beside
 
 -- rule 3: two neighbours become partners, and leave the row
 
@@ -131,7 +131,7 @@ cross_first n before after dart other zs more bare row =
     let two_open = stays two two_below two_crossing (turned_back-twice other) in
     let three_open = stays three three_below three_crossing (turned_back-thrice other) in
     let not_at : (x : ℕ) → x / 4 ≡ other / 4 → AllByRecursion (λ z. z ≢ x) zs =
-    λ x at. all_map (λ z. z / 4 ≢ other / 4) (λ z. z ≢ x) zs (λ z differ same. differ (ap (λ w. w / 4) same ∙ at)) bare.beside.1 in
+    λ x at. AllByRecursion-weaker (λ z. z / 4 ≢ other / 4) (λ z. z ≢ x) zs (λ z differ same. differ (ap (λ w. w / 4) same ∙ at)) bare.beside.1 in
     let beside = beside_two n before dart other zs row.are_open.1 row.once.0 (not_at other refl) in
     let dart_closed : after dart ≢ dart = λ same. more.apart (sym same ∙ more.dart_after) in
     let other_closed : after other ≢ other = λ same. more.apart (sym more.other_after ∙ same) in
@@ -163,7 +163,7 @@ all_turned P [] ys holds = subst (λ (zs : List ℕ). AllByRecursion P zs) (sym 
 all_turned P (x ∷ xs) ys holds =
     subst (λ (zs : List ℕ). AllByRecursion P zs) (append_assoc ys (x ∷ []) xs)
     (all_turned P xs (ys ++ x ∷ [])
-    (subst (λ (zs : List ℕ). AllByRecursion P zs) (append_assoc xs ys (x ∷ [])) (all_append P (xs ++ ys) (x ∷ []) holds.1 (holds.0, tt))))
+    (subst (λ (zs : List ℕ). AllByRecursion P zs) (append_assoc xs ys (x ∷ [])) (AllByRecursion-append P (xs ++ ys) (x ∷ []) holds.1 (holds.0, tt))))
 
 pub IsDartRow-crossed : (n : ℕ) (before after : ℕ → ℕ) (dart other : ℕ) (front back : List ℕ) → HasArcMore (4 * n) before after dart other
     → IsBare n before (front ++ dart ∷ back) other → IsDartRow n before (front ++ dart ∷ back)

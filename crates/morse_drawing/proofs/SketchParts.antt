@@ -138,14 +138,6 @@ head_of [] y back same = absurd (never same)
 head_of (e ∷ zipped) y back same =
     (e.0, zipped, ap (λ d. pair_of e.0 d ∷ zipped) (ap (λ zs. get_or zs 0 0) same), ap (λ zs. drop 1 zs) same)
 
-pub all_change : (P Q : ℕ × ℕ → Type 0) (xs : List (ℕ × ℕ)) → ((e : ℕ × ℕ) → P e → Q e) → AllByRecursion P xs → AllByRecursion Q xs
-all_change P Q [] change holds = tt
-all_change P Q (x ∷ xs) change holds = (change x holds.0, all_change P Q xs change holds.1)
-
-pub all_both : (P Q : ℕ × ℕ → Type 0) (xs : List (ℕ × ℕ)) → AllByRecursion P xs → AllByRecursion Q xs → AllByRecursion (λ e. P e × Q e) xs
-all_both P Q [] first second = tt
-all_both P Q (x ∷ xs) first second = ((first.0, second.0), all_both P Q xs first.1 second.1)
-
 -- a partner function with an arc more
 pub arc-first : (part : ℕ → ℕ) (x y : ℕ) → with_arc part x y x ≡ y
 arc-first part x y = grind (arith, nat_tests)
