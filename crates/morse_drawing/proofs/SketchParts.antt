@@ -8,7 +8,7 @@ use Rattle.std.proofs.lemmas.Bool.Decides.{nat_tests}
 use Rattle.std.proofs.lemmas.List.{append_assoc, length-append}
 use Rattle.kh_types.specs.Classes.{AreBelow, Respects}
 use Rattle.face_walk.specs.AddedArcs.{with_arc}
-use Rattle.morse_drawing.specs.Sketches.{Sketch, dart_after, is_met, segment_met, sketched, with_cross, with_cup}
+use Rattle.morse_drawing.specs.Sketches.{IsReached, Sketch, dart_after, is_met, segment_met, sketched, with_cross, with_cup}
 use Rattle.morse_drawing.specs.DartRows.{turned_back}
 use Rattle.morse_drawing.specs.declared.slice.Slice.TheVariants.{Cap, Cup, Cross}
 
@@ -287,58 +287,45 @@ or_true_rest false = refl
 
 pub met-other : (o a b next z : ℕ) (met : List (ℕ × ℕ)) → z / 4 ≢ o / 4 → is_met (cross_met o a b next met) z ≡ is_met met z
 met-other o a b next z met apart =
-    let c = o / 4 + 1 in
-    let s = o % 4 in
-    let rest = is_met met z in
-    ap (λ t. t || (nat_eq (dart_after c s 1) z || (nat_eq (dart_after c s 2) z || (nat_eq (dart_after c s 3) z || rest))))
-    (ne_eqb (dart_after c s 0) z (λ same. apart (ap (λ w. w / 4) (sym same ∙ d-zero o))))
-    ∙ ap (λ t. t || (nat_eq (dart_after c s 2) z || (nat_eq (dart_after c s 3) z || rest)))
-    (ne_eqb (dart_after c s 1) z (λ same. apart (ap (λ w. w / 4) (sym same ∙ d-one o) ∙ crossing-one o)))
-    ∙ ap (λ t. t || (nat_eq (dart_after c s 3) z || rest))
-    (ne_eqb (dart_after c s 2) z (λ same. apart (ap (λ w. w / 4) (sym same ∙ d-two o) ∙ crossing-two o)))
-    ∙ ap (λ t. t || rest) (ne_eqb (dart_after c s 3) z (λ same. apart (ap (λ w. w / 4) (sym same ∙ d-three o) ∙ crossing-three o)))
+    let away : (more : ℕ) → dart_after (o / 4 + 1) (o % 4) more ≢ z = λ more same. apart (omega (arith, same)) in
+    grind (arith, nat_tests, away 0, away 1, away 2, away 3)
 
 pub met-here : (o a b next z : ℕ) (met : List (ℕ × ℕ)) → z / 4 ≡ o / 4 → is_met (cross_met o a b next met) z ≡ true
-met-here o a b next z met at =
-    let c = o / 4 + 1 in
-    let s = o % 4 in
-    let rest = is_met met z in
-    elim (which o z) [
-      | is_zero is ↦
-          ap (λ t. t || (nat_eq (dart_after c s 1) z || (nat_eq (dart_after c s 2) z || (nat_eq (dart_after c s 3) z || rest))))
-          (eq-eqb (dart_after c s 0) z (d-zero o ∙ sym is))
-      | is_one is ↦
-          ap (λ t. nat_eq (dart_after c s 0) z || (t || (nat_eq (dart_after c s 2) z || (nat_eq (dart_after c s 3) z || rest))))
-          (eq-eqb (dart_after c s 1) z (d-one o ∙ sym is))
-          ∙ or_true_rest (nat_eq (dart_after c s 0) z)
-      | is_two is ↦
-          ap (λ t. nat_eq (dart_after c s 0) z || (nat_eq (dart_after c s 1) z || (t || (nat_eq (dart_after c s 3) z || rest))))
-          (eq-eqb (dart_after c s 2) z (d-two o ∙ sym is))
-          ∙ ap (λ t. nat_eq (dart_after c s 0) z || t) (or_true_rest (nat_eq (dart_after c s 1) z))
-          ∙ or_true_rest (nat_eq (dart_after c s 0) z)
-      | is_three is ↦
-          ap (λ t. nat_eq (dart_after c s 0) z || (nat_eq (dart_after c s 1) z || (nat_eq (dart_after c s 2) z || (t || rest))))
-          (eq-eqb (dart_after c s 3) z (d-three o ∙ sym is))
-          ∙ ap (λ t. nat_eq (dart_after c s 0) z || (nat_eq (dart_after c s 1) z || t)) (or_true_rest (nat_eq (dart_after c s 2) z))
-          ∙ ap (λ t. nat_eq (dart_after c s 0) z || t) (or_true_rest (nat_eq (dart_after c s 1) z))
-          ∙ or_true_rest (nat_eq (dart_after c s 0) z)
-      | is_other apart ↦ absurd (apart at)
-    ]
+met-here o a b next z met at = elim (which o z) [
+  | is_zero is ↦ let here = d-zero o ∙ sym is in grind (arith, nat_tests, here)
+  | is_one is ↦ let here = d-one o ∙ sym is in grind (arith, nat_tests, here)
+  | is_two is ↦ let here = d-two o ∙ sym is in grind (arith, nat_tests, here)
+  | is_three is ↦ let here = d-three o ∙ sym is in grind (arith, nat_tests, here)
+  | is_other apart ↦ absurd (apart at)
+]
 
 pub dart-there : (n o z : ℕ) → o < 4 * n → z / 4 ≡ o / 4 → z < 4 * n
 dart-there n o z o_below at = omega (arith, o_below, at)
+
+-- a segment is of the class of one that a dart of the new crossing meets
+pub reached-here : (n o d q : ℕ) (drawn : List ℕ) (r : Sketch) → o < 4 * n → d / 4 ≡ o / 4
+    → ((f : ℕ → ℕ) → Respects f r.joins → f q ≡ f (segment_met r.met d)) → IsReached n (o / 4 ∷ drawn) r q
+reached-here n o d q drawn r o_below at same =
+    record { dart = d; below = dart-there n o d o_below at; is_drawn = inl at; same = same }
 
 -- colours of new segments
 abbrev pub painted : (ℕ → ℕ) → ℕ → ℕ → ℕ → ℕ → ℕ → ℕ → ℕ → ℕ
 painted colour next p q one two rest segment_is =
     cond (nat_lt segment_is next) (colour segment_is) (cond (nat_eq segment_is p) one (cond (nat_eq segment_is q) two rest))
 
-pub painted-old : (colour : ℕ → ℕ) (next p q one two rest x : ℕ) → x < next → painted colour next p q one two rest x ≡ colour x
-painted-old colour next p q one two rest x below = grind (arith, nat_tests)
+pub record IsPainted (colour : ℕ → ℕ) (next p q one two rest : ℕ) : Type 0 where
+  pub old : (x : ℕ) → x < next → painted colour next p q one two rest x ≡ colour x
+  pub first : painted colour next p q one two rest p ≡ one
+  pub second : painted colour next p q one two rest q ≡ two
+  pub others : (x : ℕ) → next ≤ x → x ≢ p → x ≢ q → painted colour next p q one two rest x ≡ rest
 
-pub painted-new : (colour : ℕ → ℕ) (next p q one two rest x : ℕ) → next ≤ x
-    → painted colour next p q one two rest x ≡ cond (nat_eq x p) one (cond (nat_eq x q) two rest)
-painted-new colour next p q one two rest x from = grind (arith, nat_tests)
+pub painted-is : (colour : ℕ → ℕ) (next p q one two rest : ℕ) → next ≤ p → p < q → IsPainted colour next p q one two rest
+painted-is colour next p q one two rest from less = record {
+  old = λ x below. grind (arith, nat_tests);
+  first = grind (arith, nat_tests);
+  second = grind (arith, nat_tests);
+  others = λ x late not_p not_q. grind (arith, nat_tests);
+}
 
 pub respects-old : (f g : ℕ → ℕ) (next : ℕ) (joins : List (ℕ × ℕ)) → ((x : ℕ) → x < next → g x ≡ f x) → AreBelow next joins
     → Respects f joins → Respects g joins
