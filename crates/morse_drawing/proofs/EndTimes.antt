@@ -29,7 +29,8 @@ pub relabelled-other : (old new n : ℕ) → n ≢ old → relabelled old new n 
 relabelled-other old new n apart = ap (λ b. cond b new n) (ne_eqb n old apart)
 
 -- labels that become one were one, or the old and the new
-pub relabelled-same : (old new u v : ℕ) → relabelled old new u ≡ relabelled old new v → (u ≡ v) ⊎ (((u ≡ old) × (v ≡ new)) ⊎ ((u ≡ new) × (v ≡ old)))
+pub relabelled-same : (old new u v : ℕ) → relabelled old new u ≡ relabelled old new v
+    → (u ≡ v) ⊎ (((u ≡ old) × (v ≡ new)) ⊎ ((u ≡ new) × (v ≡ old)))
 relabelled-same old new u v same = grind (arith, nat_tests)
 
 pub times-new : (old new : ℕ) (zs : List ℕ) → old ≢ new → times new (map (relabelled old new) zs) ≡ times new zs + times old zs
@@ -47,12 +48,9 @@ times-other old new n (z ∷ zs) one two = let later = times-other old new n zs 
 -- a label that does not stand there is not renamed
 pub map-relabelled_none : (old new : ℕ) (zs : List ℕ) → times old zs ≡ 0 → map (relabelled old new) zs ≡ zs
 map-relabelled_none old new [] none = refl
-map-relabelled_none old new (z ∷ zs) none = elim (cases_eq z old) [
-  | inl same ↦ absurd (omega (arith, none, hit-same z old same))
-  | inr other ↦
-      ap₂ (λ w ws. w ∷ ws) (relabelled-other old new z other)
-      (map-relabelled_none old new zs (omega (arith, none, hit-apart z old other)))
-]
+map-relabelled_none old new (z ∷ zs) none =
+    let apart : z ≢ old = λ same. omega (arith, none, hit-same z old same) in
+    ap₂ (λ w ws. w ∷ ws) (relabelled-other old new z apart) (map-relabelled_none old new zs (omega (arith, none)))
 
 pub times-append : (n : ℕ) (xs ys : List ℕ) → times n (xs ++ ys) ≡ times n xs + times n ys
 times-append n [] ys = omega arith

@@ -150,14 +150,8 @@ later-first limit others x is below = by_case (other_of others x) refl
     n = 4 * limit
 
     by_case : (o : Option ℕ) → other_of others x ≡ o → is_later x o ≡ (nat_lt x (unwrap_or o n) && nat_lt (unwrap_or o n) n)
-    by_case None none = never x n
-      where
-        never : (y m : ℕ) → false ≡ (nat_lt y m && nat_lt m m)
-        never y m = grind (arith, nat_tests)
-    by_case (Some y) some = known x y n (is x y below some).0
-      where
-        known : (z y m : ℕ) → y < m → nat_lt z y ≡ (nat_lt z y && nat_lt y m)
-        known z y m small = grind (arith, nat_tests)
+    by_case None none = grind (arith, nat_tests)
+    by_case (Some y) some = let small = (is x y below some).0 in grind (arith, nat_tests, small)
 
 pub pairs_room : (limit : ℕ) (others : List (Option ℕ)) (x : ℕ) → ArePaired limit others → x < 4 * limit → has_later others x ≡ true
     → length (pairs_before others x) < 2 * limit
