@@ -3,6 +3,7 @@ use Rattle.std.proofs.Common.{◌≡◌, ◌≢◌, ℕ, zero, suc, inl, inr, �
 use Rattle.std.specs.Prelude.{nat_eq, not, ◌||◌, Some, None}
 use Rattle.std.specs.List.{count_by, find, range_with_len}
 use Rattle.std.proofs.lemmas.Bool.{cases_Bool, cases_eq, both_ways, eq-eqb, eqb-true, ne_eqb, not-true}
+use Rattle.std.proofs.Math.Bool.{or-true}
 use Rattle.std.proofs.lemmas.List.Sums.{count_by-le-length, sum_by-append}
 use Rattle.std.proofs.lemmas.List.FromFn.{length-range_with_len}
 use Rattle.kh_types.proofs.RangeCounts.{count_by-one_more}
@@ -37,6 +38,12 @@ Search-is test a (suc n) = elim (cases_Bool (test a)) [
       ]
 ]
 
+-- two tests are one where each holds with the other
+pub alike : (a b : Bool) → (a ≡ true → b ≡ true) → (b ≡ true → a ≡ true) → a ≡ b
+alike true b to from = sym (to refl)
+alike false true to from = from refl
+alike false false to from = refl
+
 -- a number stands in a list where the test says so
 pub in-true : (y : ℕ) (xs : List ℕ) → is_in xs y ≡ true → IsIn y xs
 in-true y [] holds = absurd (both_ways false refl holds)
@@ -45,15 +52,11 @@ in-true y (x ∷ xs) holds = elim (cases_Bool (nat_eq y x)) [
   | inr apart ↦ inr (in-true y xs (sym (ap (λ b. b || is_in xs y) apart) ∙ holds))
 ]
 
-pub or_right : (b : Bool) → (b || true) ≡ true
-or_right true = refl
-or_right false = refl
-
 pub true-in : (y : ℕ) (xs : List ℕ) → IsIn y xs → is_in xs y ≡ true
 true-in y [] stands = absurd stands
 true-in y (x ∷ xs) stands = elim stands [
   | inl same ↦ ap (λ b. b || is_in xs y) (eq-eqb y x same)
-  | inr later ↦ ap (λ b. nat_eq y x || b) (true-in y xs later) ∙ or_right (nat_eq y x)
+  | inr later ↦ ap (λ b. nat_eq y x || b) (true-in y xs later) ∙ or-true (nat_eq y x)
 ]
 
 pub not-in : (y : ℕ) (xs : List ℕ) → not (is_in xs y) ≡ true → IsIn y xs → ⊥

@@ -281,10 +281,6 @@ is-met o a b next met =
     }
 
 -- the darts that are met after a crossing
-pub or_true_rest : (b : Bool) → (b || true) ≡ true
-or_true_rest true = refl
-or_true_rest false = refl
-
 pub met-other : (o a b next z : ℕ) (met : List (ℕ × ℕ)) → z / 4 ≢ o / 4 → is_met (cross_met o a b next met) z ≡ is_met met z
 met-other o a b next z met apart =
     let away : (more : ℕ) → dart_after (o / 4 + 1) (o % 4) more ≢ z = λ more same. apart (omega (arith, same)) in
