@@ -14,7 +14,7 @@ use Rattle.morse_drawing.proofs.EndTimes.{hit-same, times, times-other}
 use Rattle.morse_drawing.proofs.Ends.{Ends}
 use Rattle.morse_drawing.proofs.HeldEnds.{IsHeld, Middle, map-append_times, middle, row-after, row-at}
 use Rattle.morse_drawing.proofs.MetEnds.{Ends-meets, bare-none, given_way, kept_label, map-met, met_name, others_found, tied-is, with_row}
-use Rattle.morse_drawing.proofs.SketchParts.{chain, chain-one, chain-rest, chain-two, chain-zero, cross_met, crossing-one, crossing-three, crossing-two, d-one, d-three, d-two, d-zero, dart-there, met-here, met-other, one-three, one-two, two-three, zero-one, zero-three, zero-two}
+use Rattle.morse_drawing.proofs.SketchParts.{chain, cross_met, dart-there, met-here, met-other}
 
 -- four darts may come in another order
 perm-or : (p q r s t : Bool) → (p || (q || (r || (s || t)))) ≡ (r || (q || (s || (p || t))))

@@ -156,18 +156,6 @@ abbrev pub chain : ℕ → ℕ → ℕ → ℕ → ℕ → ℕ → ℕ → ℕ �
 chain d0 d1 d2 d3 a p q b w z =
     cond (nat_eq d0 z) a (cond (nat_eq d1 z) p (cond (nat_eq d2 z) q (cond (nat_eq d3 z) b w)))
 
-pub chain-zero : (d0 d1 d2 d3 a p q b w z : ℕ) → d0 ≡ z → chain d0 d1 d2 d3 a p q b w z ≡ a
-chain-zero d0 d1 d2 d3 a p q b w z same = grind (arith, nat_tests)
-
-pub chain-one : (d0 d1 d2 d3 a p q b w z : ℕ) → d0 ≢ z → d1 ≡ z → chain d0 d1 d2 d3 a p q b w z ≡ p
-chain-one d0 d1 d2 d3 a p q b w z no0 same = grind (arith, nat_tests)
-
-pub chain-two : (d0 d1 d2 d3 a p q b w z : ℕ) → d0 ≢ z → d1 ≢ z → d2 ≡ z → chain d0 d1 d2 d3 a p q b w z ≡ q
-chain-two d0 d1 d2 d3 a p q b w z no0 no1 same = grind (arith, nat_tests)
-
-pub chain-rest : (d0 d1 d2 d3 a p q b w z : ℕ) → d0 ≢ z → d1 ≢ z → d2 ≢ z → chain d0 d1 d2 d3 a p q b w z ≡ cond (nat_eq d3 z) b w
-chain-rest d0 d1 d2 d3 a p q b w z no0 no1 no2 = grind (arith, nat_tests)
-
 abbrev pub turn_one : ℕ → ℕ
 turn_one o = turned_back o
 
@@ -188,24 +176,6 @@ d-two o = omega arith
 
 pub d-three : (o : ℕ) → dart_after (o / 4 + 1) (o % 4) 3 ≡ turn_three o
 d-three o = omega arith
-
-pub zero-one : (o : ℕ) → o ≢ turn_one o
-zero-one o same = omega (arith, same)
-
-pub zero-two : (o : ℕ) → o ≢ turn_two o
-zero-two o same = omega (arith, same)
-
-pub zero-three : (o : ℕ) → o ≢ turn_three o
-zero-three o same = omega (arith, same)
-
-pub one-two : (o : ℕ) → turn_one o ≢ turn_two o
-one-two o same = omega (arith, same)
-
-pub one-three : (o : ℕ) → turn_one o ≢ turn_three o
-one-three o same = omega (arith, same)
-
-pub two-three : (o : ℕ) → turn_two o ≢ turn_three o
-two-three o same = omega (arith, same)
 
 pub crossing-one : (o : ℕ) → turn_one o / 4 ≡ o / 4
 crossing-one o = omega arith
@@ -252,32 +222,20 @@ pub record IsMet (o a b next : ℕ) (met : List (ℕ × ℕ)) : Type 0 where
 
 pub is-met : (o a b next : ℕ) (met : List (ℕ × ℕ)) → IsMet o a b next met
 is-met o a b next met =
-    let c = o / 4 + 1 in
-    let s = o % 4 in
-    let d0 = dart_after c s 0 in
-    let d1 = dart_after c s 1 in
-    let d2 = dart_after c s 2 in
-    let d3 = dart_after c s 3 in
-    let e0 = d-zero o in
-    let e1 = d-one o in
-    let e2 = d-two o in
-    let e3 = d-three o in
+    let d : ℕ → ℕ = λ more. dart_after (o / 4 + 1) (o % 4) more in
+    let zero_one : d 0 ≢ turn_one o = λ same. omega (arith, same) in
+    let zero_two : d 0 ≢ turn_two o = λ same. omega (arith, same) in
+    let one_two : d 1 ≢ turn_two o = λ same. omega (arith, same) in
+    let zero_three : d 0 ≢ turn_three o = λ same. omega (arith, same) in
+    let one_three : d 1 ≢ turn_three o = λ same. omega (arith, same) in
+    let two_three : d 2 ≢ turn_three o = λ same. omega (arith, same) in
+    let away : (z more : ℕ) → z / 4 ≢ o / 4 → d more ≢ z = λ z more apart same. apart (omega (arith, same)) in
     record {
-      zero_is = chain-zero d0 d1 d2 d3 a next (next + 1) b (segment_met met o) o e0;
-      one_is = chain-one d0 d1 d2 d3 a next (next + 1) b (segment_met met (turn_one o)) (turn_one o)
-          (λ same. zero-one o (sym e0 ∙ same)) e1;
-      two_is = chain-two d0 d1 d2 d3 a next (next + 1) b (segment_met met (turn_two o)) (turn_two o)
-          (λ same. zero-two o (sym e0 ∙ same)) (λ same. one-two o (sym e1 ∙ same)) e2;
-      three_is =
-          chain-rest d0 d1 d2 d3 a next (next + 1) b (segment_met met (turn_three o)) (turn_three o)
-          (λ same. zero-three o (sym e0 ∙ same)) (λ same. one-three o (sym e1 ∙ same)) (λ same. two-three o (sym e2 ∙ same))
-          ∙ ap (λ t. cond t b (segment_met met (turn_three o))) (eq-eqb d3 (turn_three o) e3);
-      other_is = λ z apart.
-          chain-rest d0 d1 d2 d3 a next (next + 1) b (segment_met met z) z
-          (λ same. apart (ap (λ w. w / 4) (sym same ∙ e0)))
-          (λ same. apart (ap (λ w. w / 4) (sym same ∙ e1) ∙ crossing-one o))
-          (λ same. apart (ap (λ w. w / 4) (sym same ∙ e2) ∙ crossing-two o))
-          ∙ ap (λ t. cond t b (segment_met met z)) (ne_eqb d3 z (λ same. apart (ap (λ w. w / 4) (sym same ∙ e3) ∙ crossing-three o)));
+      zero_is = grind (arith, nat_tests, d-zero o);
+      one_is = grind (arith, nat_tests, d-one o, zero_one);
+      two_is = grind (arith, nat_tests, d-two o, zero_two, one_two);
+      three_is = grind (arith, nat_tests, d-three o, zero_three, one_three, two_three);
+      other_is = λ z apart. grind (arith, nat_tests, away z 0 apart, away z 1 apart, away z 2 apart, away z 3 apart);
     }
 
 -- the darts that are met after a crossing
