@@ -1,5 +1,5 @@
 -- What is read of a drawing's slices, after a crossing has begun in an empty row.
-use Rattle.std.proofs.Common.{◌≡◌, ◌≢◌, ℕ, inl, inr, ◌+◌, ◌*◌, ◌/◌, ◌%◌, ◌<◌, ◌≤◌, ◌∙◌, List, [], ◌∷◌, ◌++◌, map, refl, sym, ap, ap₂, subst, arith, Bool, true, false, cond, min}
+use Rattle.std.proofs.Common.{◌≡◌, ◌≢◌, ℕ, inl, inr, ◌+◌, ◌*◌, ◌/◌, ◌%◌, ◌<◌, ◌≤◌, ◌∙◌, List, [], ◌∷◌, ◌++◌, length, map, refl, sym, ap, ap₂, subst, arith, Bool, true, false, cond, min}
 use Rattle.std.specs.Prelude.{nat_eq}
 use Rattle.std.proofs.lemmas.Bool.{cases_eq, eq-eqb, ne_eqb}
 use Rattle.kh_types.specs.Classes.{Respects}
@@ -173,7 +173,4 @@ sketched-begun n part whole drawn c r is drawing c_below new =
   where
     none_left : (zipped : List (ℕ × ℕ)) → map dart zipped ≡ [] → zipped ≡ []
     none_left [] same = refl
-    none_left (e ∷ zipped) same = absurd (never e.1 (map dart zipped) same)
-      where
-        never : (y : ℕ) (ys : List ℕ) → y ∷ ys ≡ [] → ⊥
-        never y ys h = cc
+    none_left (e ∷ zipped) same = absurd (omega (arith, ap (λ zs. length zs) same))

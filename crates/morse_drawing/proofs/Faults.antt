@@ -97,11 +97,12 @@ not-met n part whole drawn row r c is new = elim (cases_Bool (is_met r.met (4 * 
 pub none-counted : (p : ℕ → Bool) (xs : List ℕ) → ((x : ℕ) → IsIn x xs → p x ≡ false) → count_by p xs ≡ 0
 none-counted p [] fails = refl
 none-counted p (x ∷ xs) fails =
-    sum_by-cons (λ y. cond (p y) 1 0) x xs ∙ ap (λ b. cond b 1 0 + count_by p xs) (fails x (inl refl))
-    ∙ none_more (count_by p xs) (none-counted p xs (λ y is_in. fails y (inr is_in)))
-  where
-    none_more : (k : ℕ) → k ≡ 0 → 0 + k ≡ 0
-    none_more k none = omega (arith, none)
+    omega (
+      arith,
+      sum_by-cons (λ y. cond (p y) 1 0) x xs,
+      ap {B = ℕ} (λ b. cond b 1 0) (fails x (inl refl)),
+      none-counted p xs (λ y is_in. fails y (inr is_in)),
+    )
 
 pub in-range : (a n x : ℕ) → IsIn x (range_with_len a n) → (a ≤ x) × (x < a + n)
 in-range a zero x is_in = absurd is_in

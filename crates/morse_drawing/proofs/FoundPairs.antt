@@ -116,15 +116,7 @@ later-few n image is =
     ]
       where
         not-later : (x : ℕ) → image x < x → comes_first n image x ≡ false
-        not-later x less = elim (cases_Bool (comes_first n image x)) [
-          | inr fails ↦ fails
-          | inl later ↦
-              absurd (omega (
-                arith,
-                less,
-                lt-true x (image x) (and_first (nat_lt x (image x)) (nat_lt (image x) n) later),
-              ))
-        ]
+        not-later x less = grind (arith, nat_tests)
 
 -- darts that have found each other, as numbers
 abbrev other_in : ℕ → List (Option ℕ) → ℕ → ℕ

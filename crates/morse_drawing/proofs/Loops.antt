@@ -170,20 +170,15 @@ count-pages_on p k zero early first second =
 count-pages_on p k (suc loops) early first second =
     let m = k + 2 * loops in
     let e : k + 2 * suc loops ≡ m + 1 + 1 = omega arith in
-    ap (λ z. count_by p (range_with_len 0 z)) e
-    ∙ count_by-range_more p 0 (m + 1) (m + 1) (omega arith)
-    ∙ sum_two (count_by p (range_with_len 0 (m + 1))) (cond (p (m + 1)) 1 0) loops
-    (count_by-range_more p 0 m m (omega arith)
-    ∙ sum_one (count_by p (range_with_len 0 m)) (cond (p m) 1 0) loops
-    (count-pages_on p k loops early (λ j below. first j (omega (arith, below))) (λ j below. second j (omega (arith, below))))
-    (ap (λ b. cond b 1 0) (first loops (omega arith))))
-    (ap (λ b. cond b 1 0) (second loops (omega arith)))
-  where
-    sum_one : (a b c : ℕ) → a ≡ c → b ≡ 1 → a + b ≡ c + 1
-    sum_one a b c one two = omega (arith, one, two)
-
-    sum_two : (a b c : ℕ) → a ≡ c + 1 → b ≡ 0 → a + b ≡ suc c
-    sum_two a b c one two = omega (arith, one, two)
+    omega (
+      arith,
+      ap (λ z. count_by p (range_with_len 0 z)) e,
+      count_by-range_more p 0 (m + 1) (m + 1) (omega arith),
+      count_by-range_more p 0 m m (omega arith),
+      count-pages_on p k loops early (λ j below. first j (omega (arith, below))) (λ j below. second j (omega (arith, below))),
+      ap {B = ℕ} (λ b. cond b 1 0) (first loops (omega arith)),
+      ap {B = ℕ} (λ b. cond b 1 0) (second loops (omega arith)),
+    )
 
 pub loops-counted : (limit n : ℕ) (whole : ℕ → ℕ) (k loops : ℕ) (r : Sketch) → n ≤ limit → IsEnded n whole k loops r
     → loop_count limit r ≡ loops

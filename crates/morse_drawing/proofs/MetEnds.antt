@@ -40,7 +40,7 @@ tied-is limit s u v none = elim (cases_Bool (nat_le (4 * limit) u)) [
         ∙ sym (ap answer not_first
         ∙ ap (λ b. with_row s (map (relabelled v u) s.row) (cond b s.others (set (set s.others u v) v u))) neither
         ∙ ap (λ row. with_row s row (set (set s.others u v) v u))
-        (map-relabelled_none v u s.row (none (le-false (4 * limit) u not_first) (le-false (4 * limit) v neither))))
+        (map-relabelled_none v u s.row (none (grind (arith, nat_tests)) (grind (arith, nat_tests)))))
   ]
 ]
   where
@@ -59,9 +59,6 @@ tied-is limit s u v none = elim (cases_Bool (nat_le (4 * limit) u)) [
     answer : Bool → NumberedEnds
     answer b = with_row s (map (relabelled (cond b u v) (cond b v u)) s.row) (cond b s.others (found limit u v s.others))
 
-    le-false : (x y : ℕ) → nat_le x y ≡ false → y < x
-    le-false x y fails = grind (arith, nat_tests)
-
 -- two ends of different labels
 pub Ends-two : (limit : ℕ) (name : ℕ → ℕ) (next : ℕ) (joins met : List (ℕ × ℕ)) (a b : ℕ) (rest others : List ℕ) (loops u v : ℕ)
     → Ends limit name next joins met (a ∷ b ∷ rest) others loops → name a ≡ u → name b ≡ v → u ≢ v
@@ -72,11 +69,11 @@ Ends-two limit name next joins met a b rest others loops u v is at_a at_b apart 
       | inl first ↦
           subst (λ (c : Bool). Part c) (sym first)
           (Ends-tied limit name next joins met a b rest others others loops loops (name a) (name b) is
-          (tied-first limit name next joins met a b rest others loops two differ (le-true (4 * limit) (name a) first)))
+          (tied-first limit name next joins met a b rest others loops two differ (grind (arith, nat_tests))))
       | inr second ↦
           subst (λ (c : Bool). Part c) (sym second)
           (Ends-tied limit name next joins met a b rest others (found limit (name a) (name b) others) loops loops (name b) (name a) is
-          (tied-second limit name next joins met a b rest others loops two differ (le-false (4 * limit) (name a) second)))
+          (tied-second limit name next joins met a b rest others loops two differ (grind (arith, nat_tests))))
     ]))
   where
     Goal : ℕ → ℕ → Type 0
@@ -94,12 +91,6 @@ Ends-two limit name next joins met a b rest others loops u v is at_a at_b apart 
 
     differ : name a ≢ name b
     differ = λ same. apart (sym at_a ∙ same ∙ at_b)
-
-    le-true : (x y : ℕ) → nat_le x y ≡ true → x ≤ y
-    le-true x y holds = grind (arith, nat_tests)
-
-    le-false : (x y : ℕ) → nat_le x y ≡ false → y < x
-    le-false x y fails = grind (arith, nat_tests)
 
 -- the names after an end has met a dart
 abbrev pub met_name : ℕ → (ℕ → ℕ) → ℕ → ℕ → ℕ → ℕ → ℕ

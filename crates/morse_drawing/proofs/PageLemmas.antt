@@ -3,6 +3,7 @@ use Rattle.std.proofs.Common.{◌≡◌, ◌≢◌, ℕ, zero, suc, inl, inr, �
 use Rattle.std.specs.Prelude.{nat_eq, not, ◌||◌, Some, None}
 use Rattle.std.specs.List.{count_by, find, range_with_len}
 use Rattle.std.proofs.lemmas.Bool.{cases_Bool, cases_eq, both_ways, eq-eqb, eqb-true, ne_eqb, not-true}
+use Rattle.std.proofs.lemmas.Bool.Decides.{nat_tests}
 use Rattle.std.proofs.Math.Bool.{or-true}
 use Rattle.std.proofs.lemmas.List.Sums.{count_by-le-length, sum_by-append}
 use Rattle.std.proofs.lemmas.List.FromFn.{length-range_with_len}
@@ -76,17 +77,11 @@ pub in_next : (x y : ℕ) (front back : List ℕ) → IsIn y (front ++ x ∷ y �
 in_next x y [] back = inr (inl refl)
 in_next x y (z ∷ zs) back = inr (in_next x y zs back)
 
-pub drawn-here : (c : ℕ) (drawn : List ℕ) → not (nat_eq c c || is_in drawn c) ≡ false
-drawn-here c drawn = ap (λ b. not (b || is_in drawn c)) (eq-eqb c c refl)
-
-pub drawn-other : (c k : ℕ) (drawn : List ℕ) → k ≢ c → not (is_in drawn k) ≡ not (nat_eq k c || is_in drawn k)
-drawn-other c k drawn apart = sym (ap (λ b. not (b || is_in drawn k)) (ne_eqb k c apart))
-
 pub undrawn-fewer : (n c : ℕ) (drawn : List ℕ) → c < n → not (is_in drawn c) ≡ true
     → undrawn_count n drawn ≡ undrawn_count n (c ∷ drawn) + 1
 undrawn-fewer n c drawn below passes =
     count_by-one_more (λ k. not (is_in drawn k)) (λ k. not (is_in (c ∷ drawn) k)) 0 n c (omega arith) (omega (arith, below)) passes
-    (drawn-here c drawn) (λ k apart. drawn-other c k drawn apart)
+    (grind (arith, nat_tests)) (λ k apart. grind (arith, nat_tests))
 
 pub length-three : (x : ℕ) → length (other_three x) ≡ 3
 length-three x = refl

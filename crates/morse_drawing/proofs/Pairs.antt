@@ -224,12 +224,12 @@ length-slices n whole loops is_whole =
 no-crosses : (loops : ℕ) → count_by is_cross (loop_slices loops) ≡ 0
 no-crosses zero = refl
 no-crosses (suc loops) =
-    sum_by-cons (λ s. cond (is_cross s) 1 0) (Cap 1) (Cup 1 ∷ loop_slices loops)
-    ∙ ap (λ k. 0 + k) (sum_by-cons (λ s. cond (is_cross s) 1 0) (Cup 1) (loop_slices loops))
-    ∙ none (count_by is_cross (loop_slices loops)) (no-crosses loops)
-  where
-    none : (k : ℕ) → k ≡ 0 → 0 + (0 + k) ≡ 0
-    none k is = omega (arith, is)
+    omega (
+      arith,
+      sum_by-cons (λ s. cond (is_cross s) 1 0) (Cap 1) (Cup 1 ∷ loop_slices loops),
+      sum_by-cons (λ s. cond (is_cross s) 1 0) (Cup 1) (loop_slices loops),
+      no-crosses loops,
+    )
 
 -- the slices have each crossing once
 pub crosses-slices : (n : ℕ) (whole : ℕ → ℕ) (loops : ℕ) → IsWholeSphere n whole → count_by is_cross (slices_with n whole loops) ≡ n
@@ -243,14 +243,7 @@ crosses-slices n whole loops is_whole =
 
 -- the code that is read back
 joins-one : (r : Result JoinedDarts SliceFault) (one two : JoinedDarts) → r ≡ Ok one → r ≡ Ok two → two ≡ one
-joins-one r one two first second = inside (Ok two) one (sym second ∙ first) two refl
-  where
-    value : Result JoinedDarts SliceFault → JoinedDarts → JoinedDarts
-    value (Ok joins) other = joins
-    value (Err fault) other = other
-
-    inside : (s : Result JoinedDarts SliceFault) (a : JoinedDarts) → s ≡ Ok a → (b : JoinedDarts) → s ≡ Ok b → b ≡ a
-    inside s a to_a b to_b = ap (λ t. value t a) (sym to_b ∙ to_a)
+joins-one r one two first second = cc
 
 pub AreAlikeCodes-sketched : (limit : ℕ) (code : Code) (joins : JoinedDarts) → limit ≤ 31 → length code.crossings ≤ limit → IsTrue (accepted code)
     → joined_within limit (slices_with (length code.crossings) (partner_at code.crossings) code.loops) ≡ Ok joins

@@ -98,14 +98,8 @@ pub record Parted (zipped : List (ℕ × ℕ)) (front : List ℕ) (x : ℕ) (bac
 
 pub parted : (zipped : List (ℕ × ℕ)) (front : List ℕ) (x : ℕ) (back : List ℕ) → map dart zipped ≡ front ++ x ∷ back
     → Parted zipped front x back
-parted [] [] x back same = absurd (never same)
-  where
-    never : [] ≡ x ∷ back → ⊥
-    never h = cc
-parted [] (y ∷ front) x back same = absurd (never same)
-  where
-    never : [] ≡ y ∷ (front ++ x ∷ back) → ⊥
-    never h = cc
+parted [] [] x back same = absurd (omega (arith, ap (λ zs. length zs) same))
+parted [] (y ∷ front) x back same = absurd (omega (arith, ap (λ zs. length zs) same))
 parted (e ∷ zipped) [] x back same =
     let heads : e.1 ≡ x = ap (λ zs. get_or zs 0 0) same in
     let tails : map dart zipped ≡ back = ap (λ zs. drop 1 zs) same in
@@ -131,10 +125,7 @@ parted (e ∷ zipped) (y ∷ front) x back same =
 
 pub head_of : (zipped : List (ℕ × ℕ)) (y : ℕ) (back : List ℕ) → map dart zipped ≡ y ∷ back
     → (b : ℕ) × (behind : List (ℕ × ℕ)) × (zipped ≡ (b, y) ∷ behind) × (map dart behind ≡ back)
-head_of [] y back same = absurd (never same)
-  where
-    never : [] ≡ y ∷ back → ⊥
-    never h = cc
+head_of [] y back same = absurd (omega (arith, ap (λ zs. length zs) same))
 head_of (e ∷ zipped) y back same =
     (e.0, zipped, ap (λ d. pair_of e.0 d ∷ zipped) (ap (λ zs. get_or zs 0 0) same), ap (λ zs. drop 1 zs) same)
 
