@@ -1,10 +1,11 @@
 -- Searches in ranges, and lists of numbers, in the drawing of a code.
-use Rattle.std.proofs.Common.{◌≡◌, ◌≢◌, ℕ, zero, suc, inl, inr, ◌+◌, ◌<◌, ◌≤◌, ◌∙◌, List, [], ◌∷◌, ◌++◌, length, refl, sym, ap, arith, Bool, true, false, cond}
+use Rattle.std.proofs.Common.{◌≡◌, ◌≢◌, ℕ, zero, suc, inl, inr, ◌+◌, ◌<◌, ◌≤◌, ◌∙◌, List, [], ◌∷◌, ◌++◌, length, take, drop, refl, sym, ap, arith, Bool, true, false, cond}
 use Rattle.std.specs.Prelude.{nat_eq, not, ◌||◌, Some, None}
 use Rattle.std.specs.List.{count_by, find, range_with_len}
 use Rattle.std.proofs.lemmas.Bool.{cases_Bool, cases_eq, both_ways, eq-eqb, eqb-true, ne_eqb, not-true}
 use Rattle.std.proofs.lemmas.Bool.Decides.{nat_tests}
 use Rattle.std.proofs.Math.Bool.{or-true}
+use Rattle.std.proofs.lemmas.List.{length-append, length-drop, length-take-le}
 use Rattle.std.proofs.lemmas.List.Sums.{count_by-le-length, sum_by-append}
 use Rattle.std.proofs.lemmas.List.FromFn.{length-range_with_len}
 use Rattle.kh_types.proofs.RangeCounts.{count_by-one_more}
@@ -83,8 +84,32 @@ undrawn-fewer n c drawn below passes =
     count_by-one_more (λ k. not (is_in drawn k)) (λ k. not (is_in (c ∷ drawn) k)) 0 n c (omega arith) (omega (arith, below)) passes
     (grind (arith, nat_tests)) (λ k apart. grind (arith, nat_tests))
 
-pub length-three : (x : ℕ) → length (other_three x) ≡ 3
+length-three : (x : ℕ) → length (other_three x) ≡ 3
 length-three x = refl
+
+-- how long the row is after a crossing and after a cup
+pub length-crossed : (k dart : ℕ) (row : List ℕ) → k < length row
+    → length (take k row ++ other_three dart ++ drop (k + 1) row) ≡ length row + 2
+length-crossed k dart row within =
+    omega (
+      arith,
+      length-append (take k row ++ other_three dart) (drop (k + 1) row),
+      length-append (take k row) (other_three dart),
+      length-three dart,
+      length-take-le k row (omega (arith, within)),
+      length-drop (k + 1) row,
+      within,
+    )
+
+pub length-closed : (k : ℕ) (row : List ℕ) → k + 1 < length row → length (take k row ++ drop (k + 2) row) + 2 ≡ length row
+length-closed k row within =
+    omega (
+      arith,
+      length-append (take k row) (drop (k + 2) row),
+      length-take-le k row (omega (arith, within)),
+      length-drop (k + 2) row,
+      within,
+    )
 
 -- how many crossings the slices of the rules have
 pub crosses-append : (xs ys : List Slice) → count_by is_cross (xs ++ ys) ≡ count_by is_cross xs + count_by is_cross ys
