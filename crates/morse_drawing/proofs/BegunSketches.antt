@@ -1,7 +1,6 @@
 -- What is read of a drawing's slices, after a crossing has begun in an empty row.
-use Rattle.std.proofs.Common.{◌≡◌, ◌≢◌, ℕ, inl, inr, ◌+◌, ◌*◌, ◌/◌, ◌%◌, ◌<◌, ◌≤◌, ◌∙◌, List, [], ◌∷◌, ◌++◌, length, map, refl, sym, ap, ap₂, subst, arith, Bool, true, false, cond, min}
-use Rattle.std.specs.Prelude.{nat_eq}
-use Rattle.std.proofs.lemmas.Bool.{cases_eq, eq-eqb, ne_eqb}
+use Rattle.std.proofs.Common.{◌≡◌, ◌≢◌, ℕ, inl, inr, ◌+◌, ◌*◌, ◌/◌, ◌%◌, ◌<◌, ◌≤◌, ◌∙◌, List, [], ◌∷◌, ◌++◌, length, map, refl, sym, ap, ap₂, subst, arith, min}
+use Rattle.std.proofs.lemmas.Bool.{cases_eq}
 use Rattle.kh_types.specs.Classes.{Respects}
 use Rattle.kh_types.proofs.ClassCounts.{AreBelow-wider}
 use Rattle.kh_types.proofs.Lists.{AllByRecursion-append, AllByRecursion-first, AllByRecursion-second}
@@ -64,7 +63,8 @@ sketched-begun n part whole drawn c r is drawing c_below new =
     let second : paint (next + 1) ≡ rep o = paints.old (next + 1) (omega arith) ∙ bases.second in
     let third : (z : ℕ) → next + 2 ≤ z → z < next + 2 + 2 → paint z ≡ rep (turn_three o) =
     λ z from below. paints.others z from (λ same. omega (arith, same, below)) (λ same. omega (arith, same, below)) in
-    subst (λ (k : ℕ). IsSketched n part whole (k ∷ drawn) (o ∷ other_three o) (sketched (sketched (sketched r (Cap 1)) (Cap 3)) (Cross 2 (c + 1) 0))) o_is
+    subst (λ (k : ℕ). IsSketched n part whole (k ∷ drawn) (o ∷ other_three o)
+    (sketched (sketched (sketched r (Cap 1)) (Cap 3)) (Cross 2 (c + 1) 0))) o_is
     (subst (λ (w : Sketch). IsSketched n part whole (o / 4 ∷ drawn) (o ∷ other_three o) w) (sym end_is)
     (record {
       zipped = (next, o) ∷ (next + 2 + 2, turn_one o) ∷ (next + 2 + 2 + 1, turn_two o) ∷ (next + 2 + 1, turn_three o) ∷ [];
@@ -161,7 +161,8 @@ sketched-begun n part whole drawn c r is drawing c_below new =
         | is_one at ↦ ap (λ w. paint (segment_met met w)) at ∙ ap paint values.one_is ∙ paints.first ∙ sym (ap rep at)
         | is_two at ↦ ap (λ w. paint (segment_met met w)) at ∙ ap paint values.two_is ∙ paints.second ∙ sym (ap rep at)
         | is_three at ↦
-            ap (λ w. paint (segment_met met w)) at ∙ ap paint values.three_is ∙ third (next + 2) (omega arith) (omega arith) ∙ sym (ap rep at)
+            ap (λ w. paint (segment_met met w)) at ∙ ap paint values.three_is ∙ third (next + 2) (omega arith) (omega arith)
+            ∙ sym (ap rep at)
         | is_other apart ↦ elim z_drawn [
           | inl here ↦ absurd (apart here)
           | inr z_before ↦

@@ -1,8 +1,7 @@
 -- What is read of a drawing's slices, after a strand has met its crossing.
-use Rattle.std.proofs.Common.{◌≡◌, ◌≢◌, ℕ, inl, inr, ◌+◌, ◌*◌, ◌/◌, ◌%◌, ◌<◌, ◌≤◌, ◌∙◌, List, [], ◌∷◌, ◌++◌, length, map, refl, sym, ap, ap₂, subst, arith, cond, min}
-use Rattle.std.specs.Prelude.{nat_eq}
+use Rattle.std.proofs.Common.{◌≡◌, ◌≢◌, ℕ, inl, inr, ◌+◌, ◌*◌, ◌/◌, ◌%◌, ◌<◌, ◌≤◌, ◌∙◌, List, [], ◌∷◌, ◌++◌, length, map, sym, ap, ap₂, subst, arith, min}
 use Rattle.std.specs.List.{AllByRecursion}
-use Rattle.std.proofs.lemmas.Bool.{cases_eq, eq-eqb, ne_eqb}
+use Rattle.std.proofs.lemmas.Bool.{cases_eq}
 use Rattle.std.proofs.lemmas.List.{append_assoc, length-map, map-append}
 use Rattle.kh_types.specs.Classes.{Respects}
 use Rattle.kh_types.specs.Darts.{IsPairing}
@@ -75,7 +74,8 @@ sketched-crossed n part whole drawn front back x r is pairing drawing x_below x_
     λ z at z_below. drawing.others_bare z z_below (λ stands. new (subst (λ (c : ℕ). IsIn c drawn) at stands)) in
     let rep : ℕ → ℕ = λ z. min z (whole z) in
     let paint : ℕ → ℕ = painted is.colour next (next + 2) (next + 2 + 1) (rep (turn_one o)) (rep (turn_two o)) (rep (turn_three o)) in
-    let paints = painted-is is.colour next (next + 2) (next + 2 + 1) (rep (turn_one o)) (rep (turn_two o)) (rep (turn_three o)) (omega arith)
+    let paints = painted-is is.colour next (next + 2) (next + 2 + 1) (rep (turn_one o)) (rep (turn_two o)) (rep (turn_three o))
+    (omega arith)
     (omega arith) in
     let third : (z : ℕ) → next ≤ z → z < next + 2 → paint z ≡ rep (turn_three o) =
     λ z from below. paints.others z from (λ same. omega (arith, same, below)) (λ same. omega (arith, same, below)) in
@@ -93,7 +93,8 @@ sketched-crossed n part whole drawn front back x r is pairing drawing x_below x_
           ((next + 2, turn_one o) ∷ (next + 2 + 1, turn_two o) ∷ (next + 1, turn_three o) ∷ behind)
           (AllByRecursion-weaker (λ (e : ℕ × ℕ). e.0 < next) (λ (e : ℕ × ℕ). e.0 < next + 2 + 2) before wider below_front) (
             omega arith,
-            (omega arith, (omega arith, AllByRecursion-weaker (λ (e : ℕ × ℕ). e.0 < next) (λ (e : ℕ × ℕ). e.0 < next + 2 + 2) behind wider below_back.1)),
+            (omega arith, (omega arith,
+            AllByRecursion-weaker (λ (e : ℕ × ℕ). e.0 < next) (λ (e : ℕ × ℕ). e.0 < next + 2 + 2) behind wider below_back.1)),
           );
       met_below = λ z z_below z_drawn. elim (which o z) [
         | is_zero at ↦ omega (arith, ap (segment_met met) at, values.zero_is, below_back.0)

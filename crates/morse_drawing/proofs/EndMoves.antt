@@ -70,7 +70,8 @@ pub map-fresh : (next new : ℕ) (name : ℕ → ℕ) (segments : List ℕ) → 
 map-fresh next new name [] below = refl
 map-fresh next new name (p ∷ ps) below = ap₂ (λ x xs. x ∷ xs) (fresh-old next new name p below.0) (map-fresh next new name ps below.1)
 
-pub wider : (next more : ℕ) (segments : List ℕ) → next ≤ more → AllByRecursion (λ p. p < next) segments → AllByRecursion (λ p. p < more) segments
+pub wider : (next more : ℕ) (segments : List ℕ) → next ≤ more → AllByRecursion (λ p. p < next) segments
+    → AllByRecursion (λ p. p < more) segments
 wider next more segments wide below =
     AllByRecursion-weaker (λ p. p < next) (λ p. p < more) segments (λ p p_below. omega (arith, p_below, wide)) below
 

@@ -87,7 +87,8 @@ Ends-tied limit name next joins met a b rest others later loops more old new is 
   met_below = is.met_below;
   respects = AllByRecursion-append (λ (pair : ℕ × ℕ). new_name pair.0 ≡ new_name pair.1) joins ((a, b) ∷ []) (respects-after joins is.respects) (ties.pair, tt);
   apart = λ f holds p q p_below q_below same.
-      apart-after f (AllByRecursion-first (λ (pair : ℕ × ℕ). f pair.0 ≡ f pair.1) joins ((a, b) ∷ []) holds) (AllByRecursion-second (λ (pair : ℕ × ℕ). f pair.0 ≡ f pair.1) joins ((a, b) ∷ []) holds).0 p q p_below q_below same;
+      apart-after f (AllByRecursion-first (λ (pair : ℕ × ℕ). f pair.0 ≡ f pair.1) joins ((a, b) ∷ []) holds)
+      (AllByRecursion-second (λ (pair : ℕ × ℕ). f pair.0 ≡ f pair.1) joins ((a, b) ∷ []) holds).0 p q p_below q_below same;
   size = ties.size;
   darts = λ x below. dart-after x below (either x old new);
   named = λ p below. named-after p below (either (name p) old new);

@@ -14,7 +14,7 @@ use Rattle.morse_drawing.proofs.EndTimes.{hit-same, times, times-other}
 use Rattle.morse_drawing.proofs.Ends.{Ends}
 use Rattle.morse_drawing.proofs.HeldEnds.{IsHeld, Middle, map-append_times, middle, row-after, row-at}
 use Rattle.morse_drawing.proofs.MetEnds.{Ends-meets, bare-none, given_way, kept_label, map-met, met_name, others_found, tied-is, with_row}
-use Rattle.morse_drawing.proofs.SketchParts.{chain, cross_met, dart-there, met-here, met-other}
+use Rattle.morse_drawing.proofs.SketchParts.{chain, cross_met, met-here, met-other}
 
 -- four darts may come in another order
 perm-or : (p q r s t : Bool) → (p || (q || (r || (s || t)))) ≡ (r || (q || (s || (p || t))))
@@ -123,7 +123,8 @@ cross-held limit r s at o first last o_below fresh_crossing is = record {
     unmet : (more : ℕ) → is_met r.met (dart_after (o / 4 + 1) (o % 4) more) ≡ false
     unmet more =
         let here : dart_after (o / 4 + 1) (o % 4) more / 4 ≡ o / 4 = omega arith in
-        is.whole (dart_after (o / 4 + 1) (o % 4) more) ∙ ap (λ c. is_met r.met (4 * c)) here ∙ sym (is.drawn (o / 4) (omega (arith, o_below)))
+        is.whole (dart_after (o / 4 + 1) (o % 4) more) ∙ ap (λ c. is_met r.met (4 * c)) here
+        ∙ sym (is.drawn (o / 4) (omega (arith, o_below)))
         ∙ fresh_crossing
 
     there : (more : ℕ) → dart_after (o / 4 + 1) (o % 4) more < 4 * limit
@@ -171,7 +172,8 @@ cross-held limit r s at o first last o_below fresh_crossing is = record {
     ends4 =
         Ends-started limit name3 (next + 1) r.joins ((d1, next) ∷ met2) (next ∷ (front ++ back)) others2 s.loops d2 ends3
         (there 2)
-        (met-rest d1 next d2 met2 (λ e. omega (arith, e)) ∙ met-rest d3 b d2 ((d0, a) ∷ r.met) (λ e. omega (arith, e)) ∙ met-rest d0 a d2 r.met (λ e. omega (arith, e))
+        (met-rest d1 next d2 met2 (λ e. omega (arith, e)) ∙ met-rest d3 b d2 ((d0, a) ∷ r.met) (λ e. omega (arith, e))
+        ∙ met-rest d0 a d2 r.met (λ e. omega (arith, e))
         ∙ unmet 2)
 
     two_more : next + 1 + 1 ≡ next + 2
@@ -209,7 +211,8 @@ cross-held limit r s at o first last o_below fresh_crossing is = record {
     none_of : (more : ℕ) → times (dart_after (o / 4 + 1) (o % 4) more) s.row ≡ 0
     none_of more =
         ap (times (dart_after (o / 4 + 1) (o % 4) more)) is.labels
-        ∙ bare-none limit is.name next r.joins r.met r.row s.others s.loops (dart_after (o / 4 + 1) (o % 4) more) is.ends (there more) (unmet more)
+        ∙ bare-none limit is.name next r.joins r.met r.row s.others s.loops (dart_after (o / 4 + 1) (o % 4) more)
+        is.ends (there more) (unmet more)
 
     left_is : left ≡ with_row s row1 others1
     left_is =
@@ -224,7 +227,8 @@ cross-held limit r s at o first last o_below fresh_crossing is = record {
     shape1 =
         ap (map first_turn) it.shape ∙ map-append first_turn (map is.name front) (is.name a ∷ is.name b ∷ map is.name back)
         ∙ ap₂ (λ xs ys. xs ++ first_turn (is.name a) ∷ ys) (sym (map-met limit is.name next a d0 front it.front_below))
-        (ap₂ (λ x xs. first_turn x ∷ xs) (sym (fresh-old next d0 is.name b it.ends.segments_below.1.0)) (sym (map-met limit is.name next a d0 back it.back_below)))
+        (ap₂ (λ x xs. first_turn x ∷ xs) (sym (fresh-old next d0 is.name b it.ends.segments_below.1.0))
+        (sym (map-met limit is.name next a d0 back it.back_below)))
 
     size1 : length front1 ≡ place
     size1 = omega (arith, length-map front name1, length-map front is.name, it.size)

@@ -31,7 +31,8 @@ pub IsLink-through : (n : ℕ) (partner : ℕ → ℕ) (x y z : ℕ) → y < 4 *
 IsLink-through n partner x y z below is_closed one two = record {
   between = one.between ++ y ∷ two.between;
   way = way_append (face_step partner) x y z one.between two.between one.way two.way;
-  closed = AllByRecursion-append (λ z. (z < 4 * n) × (partner z ≢ z)) one.between (y ∷ two.between) one.closed ((below, is_closed), two.closed);
+  closed = AllByRecursion-append (λ z. (z < 4 * n) × (partner z ≢ z)) one.between (y ∷ two.between) one.closed
+      ((below, is_closed), two.closed);
 }
 
 -- with one more arc, the link of a dart that makes the same step as another did before

@@ -144,7 +144,8 @@ IsEnded-looped n whole k loops r is =
       respects = both paint
           (respects-old is.colour paint next r.joins (fresh-old next 0 is.colour) is.joins_below is.respects)
           (fresh-new next 0 is.colour next (omega arith) ∙ sym (fresh-new next 0 is.colour (next + 1) (omega arith)));
-      named = λ x below. fresh-old next 0 is.colour (segment_met r.met x) (omega (arith, is.met_below x below, is.next_is)) ∙ is.named x below;
+      named = λ x below. fresh-old next 0 is.colour (segment_met r.met x) (omega (arith, is.met_below x below, is.next_is))
+          ∙ is.named x below;
       are_loops = λ f holds j below. elim (cases_eq j loops) [
         | inl same ↦
             let here : k + 2 * j ≡ next = omega (arith, same, next_is) in

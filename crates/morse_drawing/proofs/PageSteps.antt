@@ -5,7 +5,7 @@ use Rattle.std.specs.Option.{IsSome}
 use Rattle.std.specs.List.{AllByRecursion}
 use Rattle.std.proofs.Math.Seq.{get_or-append_seam}
 use Rattle.std.proofs.lemmas.Bool.{both_ways, eq-eqb, eqb-true}
-use Rattle.std.proofs.lemmas.List.{get_or-append-add, length-append, length-drop, length-take-le}
+use Rattle.std.proofs.lemmas.List.{get_or-append-add, length-append, length-take-le}
 use Rattle.face_walk.specs.AddedArcs.{with_arc}
 use Rattle.morse_drawing.specs.DartRows.{IsDrawing, IsIn, other_three}
 use Rattle.morse_drawing.specs.Pages.{Page, are_paired, by_crossing, by_row, by_pair, is_in, leading, leads_on, paired, next_page, next_page_by, undrawn}

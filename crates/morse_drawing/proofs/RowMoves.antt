@@ -47,7 +47,8 @@ pub beside_two : (n : ℕ) (partner : ℕ → ℕ) (dart other : ℕ) (xs : List
     → AllByRecursion (λ z. z ≢ dart) xs → AllByRecursion (λ z. z ≢ other) xs
     → AllByRecursion (λ z. (z < 4 * n) × ((z ≢ dart) × (z ≢ other))) xs
 beside_two n partner dart other xs is_open one two =
-    AllByRecursion-both (λ z. (z < 4 * n) × (partner z ≡ z)) (λ z. (z ≢ dart) × (z ≢ other)) (λ z. (z < 4 * n) × ((z ≢ dart) × (z ≢ other))) xs
+    AllByRecursion-both (λ z. (z < 4 * n) × (partner z ≡ z)) (λ z. (z ≢ dart) × (z ≢ other))
+    (λ z. (z < 4 * n) × ((z ≢ dart) × (z ≢ other))) xs
     (λ z here apart. (here.0, apart)) is_open
     (AllByRecursion-both (λ z. z ≢ dart) (λ z. z ≢ other) (λ z. (z ≢ dart) × (z ≢ other)) xs (λ z first second. (first, second)) one two)
 
@@ -55,7 +56,8 @@ pub open_after : (n : ℕ) (before after : ℕ → ℕ) (dart other : ℕ) (xs :
     → AllByRecursion (λ z. (z < 4 * n) × (before z ≡ z)) xs → AllByRecursion (λ z. (z < 4 * n) × ((z ≢ dart) × (z ≢ other))) xs
     → AllByRecursion (λ z. (z < 4 * n) × (after z ≡ z)) xs
 open_after n before after dart other xs more is_open beside =
-    AllByRecursion-both (λ z. (z < 4 * n) × (before z ≡ z)) (λ z. (z < 4 * n) × ((z ≢ dart) × (z ≢ other))) (λ z. (z < 4 * n) × (after z ≡ z)) xs
+    AllByRecursion-both (λ z. (z < 4 * n) × (before z ≡ z)) (λ z. (z < 4 * n) × ((z ≢ dart) × (z ≢ other)))
+    (λ z. (z < 4 * n) × (after z ≡ z)) xs
     (λ z here apart. (here.0, more.others z here.0 apart.1.0 apart.1.1 ∙ here.1)) is_open beside
 
 -- rule 3: two neighbours become partners, and leave the row
@@ -116,7 +118,8 @@ cross_first n before after dart other zs more bare row =
     let two_open = stays two two_below two_crossing (λ same. omega (arith, same)) in
     let three_open = stays three three_below three_crossing (λ same. omega (arith, same)) in
     let not_at : (x : ℕ) → x / 4 ≡ other / 4 → AllByRecursion (λ z. z ≢ x) zs =
-    λ x at. AllByRecursion-weaker (λ z. z / 4 ≢ other / 4) (λ z. z ≢ x) zs (λ z differ same. differ (ap (λ w. w / 4) same ∙ at)) bare.beside.1 in
+    λ x at. AllByRecursion-weaker (λ z. z / 4 ≢ other / 4) (λ z. z ≢ x) zs (λ z differ same. differ (ap (λ w. w / 4) same ∙ at))
+    bare.beside.1 in
     let beside = beside_two n before dart other zs row.are_open.1 row.once.0 (not_at other refl) in
     let dart_closed : after dart ≢ dart = λ same. more.apart (sym same ∙ more.dart_after) in
     let other_closed : after other ≢ other = λ same. more.apart (sym more.other_after ∙ same) in
@@ -148,7 +151,8 @@ all_turned P [] ys holds = subst (λ (zs : List ℕ). AllByRecursion P zs) (sym 
 all_turned P (x ∷ xs) ys holds =
     subst (λ (zs : List ℕ). AllByRecursion P zs) (append_assoc ys (x ∷ []) xs)
     (all_turned P xs (ys ++ x ∷ [])
-    (subst (λ (zs : List ℕ). AllByRecursion P zs) (append_assoc xs ys (x ∷ [])) (AllByRecursion-append P (xs ++ ys) (x ∷ []) holds.1 (holds.0, tt))))
+    (subst (λ (zs : List ℕ). AllByRecursion P zs) (append_assoc xs ys (x ∷ []))
+    (AllByRecursion-append P (xs ++ ys) (x ∷ []) holds.1 (holds.0, tt))))
 
 pub IsDartRow-crossed : (n : ℕ) (before after : ℕ → ℕ) (dart other : ℕ) (front back : List ℕ) → HasArcMore (4 * n) before after dart other
     → IsBare n before (front ++ dart ∷ back) other → IsDartRow n before (front ++ dart ∷ back)

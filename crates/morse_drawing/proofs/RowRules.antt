@@ -65,7 +65,8 @@ IsDrawing-first n part whole drawn dart drawing below new = record {
       });
   at_drawn = (
     inl refl,
-    AllByRecursion-weaker (λ z. z / 4 ≡ dart / 4) (λ z. IsIn (z / 4) (dart / 4 ∷ drawn)) (other_three dart) (λ z at. inl at) (three_there dart),
+    AllByRecursion-weaker (λ z. z / 4 ≡ dart / 4) (λ z. IsIn (z / 4) (dart / 4 ∷ drawn)) (other_three dart)
+    (λ z at. inl at) (three_there dart),
   );
   all_open = λ x x_below is_open is_in. elim is_in [
     | inl here ↦ four_darts x dart here
@@ -104,7 +105,8 @@ IsDrawing-crossed n part whole drawn front back dart whole_partner drawing new =
           (AllByRecursion-append (λ z. IsIn (z / 4) (other / 4 ∷ drawn)) front (other_three other)
           (AllByRecursion-weaker (λ z. IsIn (z / 4) drawn) (λ z. IsIn (z / 4) (other / 4 ∷ drawn)) front (λ z is_in. inr is_in)
           (AllByRecursion-first (λ z. IsIn (z / 4) drawn) front (dart ∷ back) drawing.at_drawn))
-          (AllByRecursion-weaker (λ z. z / 4 ≡ other / 4) (λ z. IsIn (z / 4) (other / 4 ∷ drawn)) (other_three other) (λ z at. inl at) (three_there other)))
+          (AllByRecursion-weaker (λ z. z / 4 ≡ other / 4) (λ z. IsIn (z / 4) (other / 4 ∷ drawn)) (other_three other)
+          (λ z at. inl at) (three_there other)))
           (AllByRecursion-weaker (λ z. IsIn (z / 4) drawn) (λ z. IsIn (z / 4) (other / 4 ∷ drawn)) back (λ z is_in. inr is_in)
           (AllByRecursion-second (λ z. IsIn (z / 4) drawn) front (dart ∷ back) drawing.at_drawn).1);
       all_open = λ x x_below is_open is_in. elim is_in [

@@ -1,6 +1,6 @@
 -- Pages follow one another by the rules, and no others do.
 use Rattle.std.proofs.Common.{◌≡◌, ℕ, zero, suc, ◌⊎◌, inl, inr, ◌+◌, ◌-◌, ◌*◌, ◌/◌, ◌<◌, ◌≤◌, ◌∙◌, List, [], ◌∷◌, length, refl, sym, ap, ap₂, subst, arith, ◌++◌, Bool, true, false, cond, not, IsTrue, eq-eqb, eqb-true}
-use Rattle.std.specs.Prelude.{get_or, nat_eq, Some, None}
+use Rattle.std.specs.Prelude.{get_or, Some, None}
 use Rattle.std.specs.List.{find, range_with_len}
 use Rattle.std.proofs.lemmas.Bool.{both_ways, cases_Bool, cases_eq, ne_eqb}
 use Rattle.kh_types.specs.Acceptance.{accepted}
@@ -188,7 +188,8 @@ next-follows n partner page = by page.row refl
                 leading = record {
                   within = omega (arith, found.1.below);
                   leads = not-in (partner (get_or page.row found.0 0) / 4) page.drawn found.1.passes;
-                  leftmost = λ x below leads. leads (is-in (partner (get_or page.row x 0) / 4) page.drawn (found.1.earlier x (omega arith) below));
+                  leftmost = λ x below leads. leads (is-in (partner (get_or page.row x 0) / 4) page.drawn
+                      (found.1.earlier x (omega arith) below));
                 };
                 made = step
                     ∙ ap (by_row partner page) (first-found (leads_on partner page.drawn page.row) 0 (length page.row) found.0 found.1);

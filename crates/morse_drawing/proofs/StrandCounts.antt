@@ -2,7 +2,6 @@
 use Rattle.std.proofs.Common.{◌≡◌, ◌∙◌, ℕ, zero, suc, ◌+◌, ◌-◌, ◌*◌, ◌/◌, ◌%◌, ◌<◌, ◌≤◌, List, [], ◌∷◌, ◌++◌, length, get_or, take, drop, refl, sym, ap, subst, arith}
 use Rattle.std.specs.Prelude.{not, Option}
 use Rattle.std.specs.List.{fold}
-use Rattle.std.proofs.lemmas.List.{length-append, length-drop, length-take-le}
 use Rattle.std.proofs.lemmas.List.Sums.{fold-append}
 use Rattle.morse_drawing.specs.DartRows.{other_three}
 use Rattle.morse_drawing.specs.Pages.{Page, are_paired, begun, blank_page, by_crossing, by_pair, by_row, closed, crossed_by, is_in, leads_on, loop_slices, next_page, next_page_by, page_of, pages_on, paired, slices_with}

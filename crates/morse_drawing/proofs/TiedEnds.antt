@@ -188,9 +188,11 @@ tied-second limit name next joins met a b rest others loops two apart below_a = 
       let label_is : name_after v u name (segment_met met u) ≡ u =
       ap (relabelled v u) label_u ∙ relabelled-other v u u apart in
       let same_found : 4 * limit ≤ v → found limit u v others ≡ others =
-      λ from. let late : nat_le (4 * limit) v ≡ true = grind (arith, nat_tests) in ap (λ c. cond c others (set (set others u v) v u)) late in
+      λ from. let late : nat_le (4 * limit) v ≡ true = grind (arith, nat_tests) in
+      ap (λ c. cond c others (set (set others u v) v u)) late in
       let new_found : v < 4 * limit → found limit u v others ≡ set (set others u v) v u =
-      λ below. let early : nat_le (4 * limit) v ≡ false = grind (arith, nat_tests) in ap (λ c. cond c others (set (set others u v) v u)) early in
+      λ below. let early : nat_le (4 * limit) v ≡ false = grind (arith, nat_tests) in
+      ap (λ c. cond c others (set (set others u v) v u)) early in
       let size_two : length (set (set others u v) v u) ≡ 4 * limit =
       length-set (set others u v) v u ∙ length-set others u v ∙ two.is.size in
       let at_u : v < 4 * limit → get_or (found limit u v others) u 0 ≡ v =
@@ -255,7 +257,8 @@ tied-second limit name next joins met a b rest others loops two apart below_a = 
   where
     End : ℕ → Type 0
     End x =
-        DartEnd limit (is_met met) (λ y. name_after (name b) (name a) name (segment_met met y)) (map (name_after (name b) (name a) name) rest)
+        DartEnd limit (is_met met) (λ y. name_after (name b) (name a) name (segment_met met y))
+        (map (name_after (name b) (name a) name) rest)
         (found limit (name a) (name b) others) x
 
 -- what is left in the row: nothing of a line that is closed, nor of a dart
