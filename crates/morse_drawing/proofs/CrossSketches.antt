@@ -75,8 +75,7 @@ sketched-crossed n part whole drawn front back x r is pairing drawing x_below x_
     let rep : ℕ → ℕ = λ z. min z (whole z) in
     let paint : ℕ → ℕ = painted is.colour next (next + 2) (next + 2 + 1) (rep (turn_one o)) (rep (turn_two o)) (rep (turn_three o)) in
     let paints = painted-is is.colour next (next + 2) (next + 2 + 1) (rep (turn_one o)) (rep (turn_two o)) (rep (turn_three o))
-    (omega arith)
-    (omega arith) in
+    (omega arith) (omega arith) in
     let third : (z : ℕ) → next ≤ z → z < next + 2 → paint z ≡ rep (turn_three o) =
     λ z from below. paints.others z from (λ same. omega (arith, same, below)) (λ same. omega (arith, same, below)) in
     subst (λ (w : Sketch). IsSketched n (with_arc part x o) whole (o / 4 ∷ drawn) (front ++ other_three o ++ back) w) (sym end_is)

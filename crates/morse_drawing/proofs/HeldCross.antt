@@ -124,8 +124,7 @@ cross-held limit r s at o first last o_below fresh_crossing is = record {
     unmet more =
         let here : dart_after (o / 4 + 1) (o % 4) more / 4 ≡ o / 4 = omega arith in
         is.whole (dart_after (o / 4 + 1) (o % 4) more) ∙ ap (λ c. is_met r.met (4 * c)) here
-        ∙ sym (is.drawn (o / 4) (omega (arith, o_below)))
-        ∙ fresh_crossing
+        ∙ sym (is.drawn (o / 4) (omega (arith, o_below))) ∙ fresh_crossing
 
     there : (more : ℕ) → dart_after (o / 4 + 1) (o % 4) more < 4 * limit
     there more = omega (arith, o_below)
@@ -173,8 +172,7 @@ cross-held limit r s at o first last o_below fresh_crossing is = record {
         Ends-started limit name3 (next + 1) r.joins ((d1, next) ∷ met2) (next ∷ (front ++ back)) others2 s.loops d2 ends3
         (there 2)
         (met-rest d1 next d2 met2 (λ e. omega (arith, e)) ∙ met-rest d3 b d2 ((d0, a) ∷ r.met) (λ e. omega (arith, e))
-        ∙ met-rest d0 a d2 r.met (λ e. omega (arith, e))
-        ∙ unmet 2)
+        ∙ met-rest d0 a d2 r.met (λ e. omega (arith, e)) ∙ unmet 2)
 
     two_more : next + 1 + 1 ≡ next + 2
     two_more = omega arith

@@ -42,16 +42,12 @@ all-arcs : (n : ℕ) (whole : ℕ → ℕ) (p : ℕ → Bool) (a m : ℕ) → a 
     → AllByRecursion (IsArcPair n whole) (map (arc_from whole) (filter p (range_with_len a m)))
 all-arcs n whole p a zero within = tt
 all-arcs n whole p a (suc m) within =
-    let rest = range_with_len (a + 1) m in
-    let later = all-arcs n whole p (a + 1) m (omega (arith, within)) in
-    elim (cases_Bool (p a)) [
-      | inl holds ↦
-          subst (λ (zs : List ℕ). AllByRecursion (IsArcPair n whole) (map (arc_from whole) zs))
-          (sym (ap (λ b. cond b (a ∷ filter p rest) (filter p rest)) holds)) ((omega (arith, within), refl), later)
-      | inr fails ↦
-          subst (λ (zs : List ℕ). AllByRecursion (IsArcPair n whole) (map (arc_from whole) zs))
-          (sym (ap (λ b. cond b (a ∷ filter p rest) (filter p rest)) fails)) later
-    ]
+    by_case (p a) (filter p (range_with_len (a + 1) m)) (all-arcs n whole p (a + 1) m (omega (arith, within)))
+  where
+    by_case : (b : Bool) (rest : List ℕ) → AllByRecursion (IsArcPair n whole) (map (arc_from whole) rest)
+        → AllByRecursion (IsArcPair n whole) (map (arc_from whole) (cond b (a ∷ rest) rest))
+    by_case true rest later = ((omega (arith, within), refl), later)
+    by_case false rest later = later
 
 -- a pair stands in the list of arcs
 Stands : (ℕ × ℕ) → List (ℕ × ℕ) → Type 0

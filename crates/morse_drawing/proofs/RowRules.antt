@@ -4,7 +4,7 @@ use Rattle.std.specs.List.{AllByRecursion}
 use Rattle.std.proofs.lemmas.Bool.{cases_eq}
 use Rattle.kh_types.specs.Darts.{IsPairing}
 use Rattle.face_walk.specs.AddedArcs.{IsPlanar, with_arc, bare}
-use Rattle.morse_drawing.specs.DartRows.{IsIn, AreDifferent, IsDrawing, turned_back, other_three}
+use Rattle.morse_drawing.specs.DartRows.{IsIn, AreDifferent, IsDrawing, other_three}
 use Rattle.morse_drawing.proofs.RowPlaces.{HasNeighbours}
 use Rattle.face_walk.proofs.BareCrossings.{IsPairing-bare}
 use Rattle.face_walk.proofs.AddedArcs.{HasArcMore-with_arc, IsPairing-more}
@@ -19,20 +19,7 @@ in_back y (b ∷ bs) cs is_in = inr (in_back y bs cs is_in)
 
 -- the four darts of a crossing
 four_darts : (x dart : ℕ) → x / 4 ≡ dart / 4 → IsIn x (dart ∷ other_three dart)
-four_darts x dart at = elim (cases_eq x dart) [
-  | inl zero ↦ inl zero
-  | inr not_zero ↦ elim (cases_eq x (turned_back dart)) [
-    | inl one ↦ inr (inl one)
-    | inr not_one ↦ elim (cases_eq x (turned_back (turned_back dart))) [
-      | inl two ↦ inr (inr (inl two))
-      | inr not_two ↦ inr (inr (inr (inl (last x dart at not_zero not_one not_two))))
-    ]
-  ]
-]
-  where
-    last : (x dart : ℕ) → x / 4 ≡ dart / 4 → x ≢ dart → x ≢ turned_back dart → x ≢ turned_back (turned_back dart)
-        → x ≡ turned_back (turned_back (turned_back dart))
-    last x dart at not_zero not_one not_two = omega (arith, at, not_zero, not_one, not_two)
+four_darts x dart at = grind (arith)
 
 below_there : (n x dart : ℕ) → dart < 4 * n → x / 4 ≡ dart / 4 → x < 4 * n
 below_there n x dart below at = omega (arith, below, at)
