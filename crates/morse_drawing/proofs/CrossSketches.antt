@@ -92,8 +92,13 @@ sketched-crossed n part whole drawn front back x r is pairing drawing x_below x_
           ((next + 2, turn_one o) ∷ (next + 2 + 1, turn_two o) ∷ (next + 1, turn_three o) ∷ behind)
           (AllByRecursion-weaker (λ (e : ℕ × ℕ). e.0 < next) (λ (e : ℕ × ℕ). e.0 < next + 2 + 2) before wider below_front) (
             omega arith,
-            (omega arith, (omega arith,
-            AllByRecursion-weaker (λ (e : ℕ × ℕ). e.0 < next) (λ (e : ℕ × ℕ). e.0 < next + 2 + 2) behind wider below_back.1)),
+            (
+              omega arith,
+              (
+                omega arith,
+                AllByRecursion-weaker (λ (e : ℕ × ℕ). e.0 < next) (λ (e : ℕ × ℕ). e.0 < next + 2 + 2) behind wider below_back.1,
+              ),
+            ),
           );
       met_below = λ z z_below z_drawn. elim (which o z) [
         | is_zero at ↦ omega (arith, ap (segment_met met) at, values.zero_is, below_back.0)

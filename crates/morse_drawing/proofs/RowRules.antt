@@ -53,7 +53,7 @@ IsDrawing-first n part whole drawn dart drawing below new = record {
   at_drawn = (
     inl refl,
     AllByRecursion-weaker (λ z. z / 4 ≡ dart / 4) (λ z. IsIn (z / 4) (dart / 4 ∷ drawn)) (other_three dart)
-    (λ z at. inl at) (three_there dart),
+        (λ z at. inl at) (three_there dart),
   );
   all_open = λ x x_below is_open is_in. elim is_in [
     | inl here ↦ four_darts x dart here
