@@ -1,7 +1,6 @@
 -- What is read of a drawing's slices, after a crossing has begun in an empty row.
-use Rattle.std.proofs.Common.{◌≡◌, ◌≢◌, ℕ, inl, inr, ◌+◌, ◌*◌, ◌/◌, ◌%◌, ◌<◌, ◌≤◌, ◌∙◌, List, [], ◌∷◌, ◌++◌, map, refl, sym, ap, ap₂, subst, arith, Bool, true, false, cond, min}
-use Rattle.std.specs.Prelude.{nat_eq}
-use Rattle.std.proofs.lemmas.Bool.{cases_eq, eq-eqb, ne_eqb}
+use Rattle.std.proofs.Common.{◌≡◌, ◌≢◌, ℕ, inl, inr, ◌+◌, ◌*◌, ◌/◌, ◌%◌, ◌<◌, ◌≤◌, ◌∙◌, List, [], ◌∷◌, ◌++◌, length, map, refl, sym, ap, ap₂, subst, arith, min}
+use Rattle.std.proofs.lemmas.Bool.{cases_eq}
 use Rattle.kh_types.specs.Classes.{Respects}
 use Rattle.kh_types.proofs.ClassCounts.{AreBelow-wider}
 use Rattle.kh_types.proofs.Lists.{AllByRecursion-append, AllByRecursion-first, AllByRecursion-second}
@@ -10,7 +9,7 @@ use Rattle.morse_drawing.specs.DartRows.{IsDrawing, IsIn, other_three}
 use Rattle.morse_drawing.specs.declared.slice.Slice.TheVariants.{Cap, Cross}
 use Rattle.morse_drawing.proofs.SketchParts.Which.{is_one, is_other, is_three, is_two, is_zero}
 use Rattle.morse_drawing.proofs.SketchParts.FourNext.{next_one, next_three, next_two, next_zero}
-use Rattle.morse_drawing.proofs.SketchParts.{segment, dart, made, cross_met, turn_one, turn_two, turn_three, crossing-one, crossing-two, crossing-three, which, is-met, met-other, met-here, dart-there, painted, painted-old, painted-new, respects-old, before_or, four_next}
+use Rattle.morse_drawing.proofs.SketchParts.{segment, dart, made, cross_met, turn_one, turn_two, turn_three, crossing-one, crossing-two, crossing-three, which, is-met, met-other, met-here, dart-there, painted, painted-is, reached-here, respects-old, before_or, four_next}
 
 begun-is : (c next : ℕ) (joins met : List (ℕ × ℕ))
     → sketched (sketched (sketched (made [] next joins met) (Cap 1)) (Cap 3)) (Cross 2 (c + 1) 0)
@@ -54,25 +53,19 @@ sketched-begun n part whole drawn c r is drawing c_below new =
     let alone : (z : ℕ) → z / 4 ≡ o / 4 → z < 4 * n → part z ≡ z =
     λ z at z_below. drawing.others_bare z z_below (λ stands. new (subst (λ (k : ℕ). IsIn k drawn) (at ∙ o_is) stands)) in
     let rep : ℕ → ℕ = λ z. min z (whole z) in
-    let base : ℕ → ℕ = painted is.colour next next next (rep o) (rep o) (rep o) in
+    let base : ℕ → ℕ = painted is.colour next next (next + 1) (rep o) (rep o) (rep o) in
     let paint : ℕ → ℕ = painted base (next + 2) (next + 2 + 2) (next + 2 + 2 + 1) (rep (turn_one o)) (rep (turn_two o)) (rep (turn_three o)) in
-    let base_new : (z : ℕ) → next ≤ z → base z ≡ rep o =
-    λ z from. painted-new is.colour next next next (rep o) (rep o) (rep o) z from ∙ all_one (nat_eq z next) (rep o) in
-    let paint_base : (z : ℕ) → z < next + 2 → paint z ≡ base z =
-    painted-old base (next + 2) (next + 2 + 2) (next + 2 + 2 + 1) (rep (turn_one o)) (rep (turn_two o)) (rep (turn_three o)) in
+    let bases = painted-is is.colour next next (next + 1) (rep o) (rep o) (rep o) (omega arith) (omega arith) in
+    let paints = painted-is base (next + 2) (next + 2 + 2) (next + 2 + 2 + 1) (rep (turn_one o)) (rep (turn_two o)) (rep (turn_three o))
+    (omega arith) (omega arith) in
     let paint_old : (z : ℕ) → z < next → paint z ≡ is.colour z =
-    λ z z_below. paint_base z (omega (arith, z_below))
-    ∙ painted-old is.colour next next next (rep o) (rep o) (rep o) z z_below in
-    let paint_new : (z : ℕ) → next + 2 ≤ z
-    → paint z
-    ≡ cond (nat_eq z (next + 2 + 2)) (rep (turn_one o)) (cond (nat_eq z (next + 2 + 2 + 1)) (rep (turn_two o)) (rep (turn_three o))) =
-    painted-new base (next + 2) (next + 2 + 2) (next + 2 + 2 + 1) (rep (turn_one o)) (rep (turn_two o)) (rep (turn_three o)) in
-    let third : (z : ℕ) → next + 2 ≤ z → z ≢ next + 2 + 2 → z ≢ next + 2 + 2 + 1 → paint z ≡ rep (turn_three o) =
-    λ z from no2 no3.
-    paint_new z from
-    ∙ ap (λ t. cond t (rep (turn_one o)) (cond (nat_eq z (next + 2 + 2 + 1)) (rep (turn_two o)) (rep (turn_three o)))) (ne_eqb z (next + 2 + 2) no2)
-    ∙ ap (λ t. cond t (rep (turn_two o)) (rep (turn_three o))) (ne_eqb z (next + 2 + 2 + 1) no3) in
-    subst (λ (w : Sketch). IsSketched n part whole (c ∷ drawn) (o ∷ other_three o) w) (sym end_is)
+    λ z z_below. paints.old z (omega (arith, z_below)) ∙ bases.old z z_below in
+    let second : paint (next + 1) ≡ rep o = paints.old (next + 1) (omega arith) ∙ bases.second in
+    let third : (z : ℕ) → next + 2 ≤ z → z < next + 2 + 2 → paint z ≡ rep (turn_three o) =
+    λ z from below. paints.others z from (λ same. omega (arith, same, below)) (λ same. omega (arith, same, below)) in
+    subst (λ (k : ℕ). IsSketched n part whole (k ∷ drawn) (o ∷ other_three o)
+    (sketched (sketched (sketched r (Cap 1)) (Cap 3)) (Cross 2 (c + 1) 0))) o_is
+    (subst (λ (w : Sketch). IsSketched n part whole (o / 4 ∷ drawn) (o ∷ other_three o) w) (sym end_is)
     (record {
       zipped = (next, o) ∷ (next + 2 + 2, turn_one o) ∷ (next + 2 + 2 + 1, turn_two o) ∷ (next + 2 + 1, turn_three o) ∷ [];
       segments = refl;
@@ -89,12 +82,12 @@ sketched-begun n part whole drawn c r is drawing c_below new =
         | is_two at ↦ omega (arith, ap (segment_met met) at, values.two_is)
         | is_three at ↦ omega (arith, ap (segment_met met) at, values.three_is)
         | is_other apart ↦ elim z_drawn [
-          | inl here ↦ absurd (apart (here ∙ sym o_is))
+          | inl here ↦ absurd (apart here)
           | inr before_drawn ↦ omega (arith, values.other_is z apart, is.met_below z z_below before_drawn)
         ]
       ];
       known = λ z z_met. elim (cases_eq (z / 4) (o / 4)) [
-        | inl at ↦ (dart-there n o z o_below at, inl (at ∙ o_is))
+        | inl at ↦ (dart-there n o z o_below at, inl at)
         | inr apart ↦
             let old_known = is.known z (sym (met-other o (next + 1) (next + 2) (next + 2 + 2) z r.met apart) ∙ z_met) in
             (old_known.0, inr old_known.1)
@@ -102,7 +95,7 @@ sketched-begun n part whole drawn c r is drawing c_below new =
       all_met = λ z z_below z_drawn. elim (cases_eq (z / 4) (o / 4)) [
         | inl at ↦ met-here o (next + 1) (next + 2) (next + 2 + 2) z r.met at
         | inr apart ↦ elim z_drawn [
-          | inl here ↦ absurd (apart (here ∙ sym o_is))
+          | inl here ↦ absurd (apart here)
           | inr z_before ↦ met-other o (next + 1) (next + 2) (next + 2 + 2) z r.met apart ∙ is.all_met z z_below z_before
         ]
       ];
@@ -118,46 +111,19 @@ sketched-begun n part whole drawn c r is drawing c_below new =
             }
         | inr late ↦ elim (before_or q (next + 2 + 2)) [
           | inl middle ↦ elim (four_next q next middle late) [
-            | next_zero at ↦ record {
-              dart = o;
-              below = o_below;
-              is_drawn = inl o_is;
-              same = λ f holds. ap f at ∙ cap_one f holds ∙ ap f (sym values.zero_is);
-            }
-            | next_one at ↦ record {
-              dart = o;
-              below = o_below;
-              is_drawn = inl o_is;
-              same = λ f holds. ap f at ∙ ap f (sym values.zero_is);
-            }
-            | next_two at ↦ record {
-              dart = turn_three o;
-              below = dart-there n o (turn_three o) o_below (crossing-three o);
-              is_drawn = inl (crossing-three o ∙ o_is);
-              same = λ f holds. ap f at ∙ ap f (sym values.three_is);
-            }
-            | next_three at ↦ record {
-              dart = turn_three o;
-              below = dart-there n o (turn_three o) o_below (crossing-three o);
-              is_drawn = inl (crossing-three o ∙ o_is);
-              same = λ f holds. ap f at ∙ sym (cap_two f holds) ∙ ap f (sym values.three_is);
-            }
+            | next_zero at ↦ reached-here n o o q drawn end o_below refl (λ f holds. ap f at ∙ cap_one f holds ∙ ap f (sym values.zero_is))
+            | next_one at ↦ reached-here n o o q drawn end o_below refl (λ f holds. ap f at ∙ ap f (sym values.zero_is))
+            | next_two at ↦ reached-here n o (turn_three o) q drawn end o_below (crossing-three o)
+                (λ f holds. ap f at ∙ ap f (sym values.three_is))
+            | next_three at ↦ reached-here n o (turn_three o) q drawn end o_below (crossing-three o)
+                (λ f holds. ap f at ∙ sym (cap_two f holds) ∙ ap f (sym values.three_is))
           ]
           | inr last ↦ elim (cases_eq q (next + 2 + 2)) [
-            | inl at ↦ record {
-              dart = turn_one o;
-              below = dart-there n o (turn_one o) o_below (crossing-one o);
-              is_drawn = inl (crossing-one o ∙ o_is);
-              same = λ f holds. ap f at ∙ ap f (sym values.one_is);
-            }
+            | inl at ↦ reached-here n o (turn_one o) q drawn end o_below (crossing-one o)
+                (λ f holds. ap f at ∙ ap f (sym values.one_is))
             | inr not_first ↦
                 let at : q ≡ next + 2 + 2 + 1 = omega (arith, q_below, last, not_first) in
-                record {
-                  dart = turn_two o;
-                  below = dart-there n o (turn_two o) o_below (crossing-two o);
-                  is_drawn = inl (crossing-two o ∙ o_is);
-                  same = λ f holds. ap f at ∙ ap f (sym values.two_is);
-                }
+                reached-here n o (turn_two o) q drawn end o_below (crossing-two o) (λ f holds. ap f at ∙ ap f (sym values.two_is))
           ]
         ]
       ];
@@ -171,7 +137,7 @@ sketched-begun n part whole drawn c r is drawing c_below new =
       closed = λ f holds z z_below z_drawn. elim (cases_eq (z / 4) (o / 4)) [
         | inl at ↦ sym (ap (λ w. f (segment_met met w)) (alone z at z_below))
         | inr apart ↦ elim z_drawn [
-          | inl here ↦ absurd (apart (here ∙ sym o_is))
+          | inl here ↦ absurd (apart here)
           | inr z_before ↦
               let partner_far : part z / 4 ≢ o / 4 =
               λ at. apart (ap (λ w. w / 4) (sym (drawing.is_partner.back z z_below) ∙ alone (part z) at (drawing.is_partner.below z z_below))
@@ -184,48 +150,28 @@ sketched-begun n part whole drawn c r is drawing c_below new =
       respects = AllByRecursion-append (λ (pair : ℕ × ℕ). paint pair.0 ≡ paint pair.1) first_joins ((next + 2, next + 2 + 1) ∷ [])
           (AllByRecursion-append (λ (pair : ℕ × ℕ). paint pair.0 ≡ paint pair.1) r.joins ((next, next + 1) ∷ [])
           (respects-old is.colour paint next r.joins paint_old is.joins_below is.respects) (
-            paint_base next (omega arith) ∙ base_new next (omega arith)
-                ∙ sym (paint_base (next + 1) (omega arith) ∙ base_new (next + 1) (omega arith)),
+            paints.old next (omega arith) ∙ bases.first ∙ sym second,
             tt,
           )) (
-            third (next + 2) (omega arith) (λ same. omega (arith, same)) (λ same. omega (arith, same))
-                ∙ sym (third (next + 2 + 1) (omega arith) (λ same. omega (arith, same)) (λ same. omega (arith, same))),
+            third (next + 2) (omega arith) (omega arith) ∙ sym (third (next + 2 + 1) (omega arith) (omega arith)),
             tt,
           );
       named = λ z z_below z_drawn. elim (which o z) [
-        | is_zero at ↦
-            ap (λ w. paint (segment_met met w)) at ∙ ap paint values.zero_is ∙ paint_base (next + 1) (omega arith)
-            ∙ base_new (next + 1) (omega arith) ∙ sym (ap rep at)
-        | is_one at ↦
-            ap (λ w. paint (segment_met met w)) at ∙ ap paint values.one_is ∙ paint_new (next + 2 + 2) (omega arith)
-            ∙ ap (λ t. cond t (rep (turn_one o)) (cond (nat_eq (next + 2 + 2) (next + 2 + 2 + 1)) (rep (turn_two o)) (rep (turn_three o))))
-            (eq-eqb (next + 2 + 2) (next + 2 + 2) refl)
-            ∙ sym (ap rep at)
-        | is_two at ↦
-            ap (λ w. paint (segment_met met w)) at ∙ ap paint values.two_is ∙ paint_new (next + 2 + 2 + 1) (omega arith)
-            ∙ ap (λ t. cond t (rep (turn_one o)) (cond (nat_eq (next + 2 + 2 + 1) (next + 2 + 2 + 1)) (rep (turn_two o)) (rep (turn_three o))))
-            (ne_eqb (next + 2 + 2 + 1) (next + 2 + 2) (λ same. omega (arith, same)))
-            ∙ ap (λ t. cond t (rep (turn_two o)) (rep (turn_three o))) (eq-eqb (next + 2 + 2 + 1) (next + 2 + 2 + 1) refl)
-            ∙ sym (ap rep at)
+        | is_zero at ↦ ap (λ w. paint (segment_met met w)) at ∙ ap paint values.zero_is ∙ second ∙ sym (ap rep at)
+        | is_one at ↦ ap (λ w. paint (segment_met met w)) at ∙ ap paint values.one_is ∙ paints.first ∙ sym (ap rep at)
+        | is_two at ↦ ap (λ w. paint (segment_met met w)) at ∙ ap paint values.two_is ∙ paints.second ∙ sym (ap rep at)
         | is_three at ↦
-            ap (λ w. paint (segment_met met w)) at ∙ ap paint values.three_is
-            ∙ third (next + 2) (omega arith) (λ same. omega (arith, same)) (λ same. omega (arith, same)) ∙ sym (ap rep at)
+            ap (λ w. paint (segment_met met w)) at ∙ ap paint values.three_is ∙ third (next + 2) (omega arith) (omega arith)
+            ∙ sym (ap rep at)
         | is_other apart ↦ elim z_drawn [
-          | inl here ↦ absurd (apart (here ∙ sym o_is))
+          | inl here ↦ absurd (apart here)
           | inr z_before ↦
               ap paint (values.other_is z apart) ∙ paint_old (segment_met r.met z) (is.met_below z z_below z_before)
               ∙ is.named z z_below z_before
         ]
       ];
-    })
+    }))
   where
     none_left : (zipped : List (ℕ × ℕ)) → map dart zipped ≡ [] → zipped ≡ []
     none_left [] same = refl
-    none_left (e ∷ zipped) same = absurd (never e.1 (map dart zipped) same)
-      where
-        never : (y : ℕ) (ys : List ℕ) → y ∷ ys ≡ [] → ⊥
-        never y ys h = cc
-
-    all_one : (b : Bool) (x : ℕ) → cond b x (cond b x x) ≡ x
-    all_one true x = refl
-    all_one false x = refl
+    none_left (e ∷ zipped) same = absurd (omega (arith, ap (λ zs. length zs) same))

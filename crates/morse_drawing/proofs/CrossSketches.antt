@@ -1,20 +1,19 @@
 -- What is read of a drawing's slices, after a strand has met its crossing.
-use Rattle.std.proofs.Common.{◌≡◌, ◌≢◌, ℕ, inl, inr, ◌+◌, ◌*◌, ◌/◌, ◌%◌, ◌<◌, ◌≤◌, ◌∙◌, List, [], ◌∷◌, ◌++◌, length, map, refl, sym, ap, ap₂, subst, arith, cond, min}
-use Rattle.std.specs.Prelude.{nat_eq}
+use Rattle.std.proofs.Common.{◌≡◌, ◌≢◌, ℕ, inl, inr, ◌+◌, ◌*◌, ◌/◌, ◌%◌, ◌<◌, ◌≤◌, ◌∙◌, List, [], ◌∷◌, ◌++◌, length, map, sym, ap, ap₂, subst, arith, min}
 use Rattle.std.specs.List.{AllByRecursion}
-use Rattle.std.proofs.lemmas.Bool.{cases_eq, eq-eqb, ne_eqb}
+use Rattle.std.proofs.lemmas.Bool.{cases_eq}
 use Rattle.std.proofs.lemmas.List.{append_assoc, length-map, map-append}
 use Rattle.kh_types.specs.Classes.{Respects}
 use Rattle.kh_types.specs.Darts.{IsPairing}
 use Rattle.kh_types.proofs.ClassCounts.{AreBelow-wider}
-use Rattle.kh_types.proofs.Lists.{AllByRecursion-append, AllByRecursion-first, AllByRecursion-second}
+use Rattle.kh_types.proofs.Lists.{AllByRecursion-append, AllByRecursion-both, AllByRecursion-first, AllByRecursion-second, AllByRecursion-weaker}
 use Rattle.face_walk.specs.AddedArcs.{with_arc}
 use Rattle.morse_drawing.specs.Sketches.{IsSketched, Sketch, segment_met, sketched}
 use Rattle.morse_drawing.specs.DartRows.{IsDrawing, IsIn, other_three}
 use Rattle.morse_drawing.specs.declared.slice.Slice.TheVariants.{Cap, Cross}
 use Rattle.morse_drawing.proofs.SketchParts.Which.{is_one, is_other, is_three, is_two, is_zero}
 use Rattle.morse_drawing.proofs.SketchParts.FourNext.{next_one, next_three, next_two, next_zero}
-use Rattle.morse_drawing.proofs.SketchParts.{segment, dart, made, cross_met, cross-is, parted, all_change, all_both, arc-first, arc-second, arc-other, min_swap, turn_one, turn_two, turn_three, crossing-one, crossing-two, crossing-three, which, is-met, met-other, met-here, dart-there, painted, painted-old, painted-new, respects-old, before_or, four_next}
+use Rattle.morse_drawing.proofs.SketchParts.{segment, dart, made, cross_met, cross-is, parted, arc-first, arc-second, arc-other, min_swap, turn_one, turn_two, turn_three, crossing-one, crossing-two, crossing-three, which, is-met, met-other, met-here, dart-there, painted, painted-is, reached-here, respects-old, before_or, four_next}
 
 -- rule 2
 pub sketched-crossed : (n : ℕ) (part whole : ℕ → ℕ) (drawn front back : List ℕ) (x : ℕ) (r : Sketch)
@@ -65,9 +64,8 @@ sketched-crossed n part whole drawn front back x r is pairing drawing x_below x_
     let moved : (f : ℕ → ℕ) (xs : List (ℕ × ℕ)) → AllByRecursion (λ e. IsIn (e.1 / 4) drawn) xs
     → AllByRecursion (λ e. f e.0 ≡ f (segment_met r.met e.1)) xs → AllByRecursion (λ e. f e.0 ≡ f (segment_met met e.1)) xs =
     λ f xs first second.
-    all_change (λ e. IsIn (e.1 / 4) drawn × (f e.0 ≡ f (segment_met r.met e.1))) (λ e. f e.0 ≡ f (segment_met met e.1)) xs
-    (λ e both. both.1 ∙ ap f (sym (keeps e.1 both.0)))
-    (all_both (λ e. IsIn (e.1 / 4) drawn) (λ e. f e.0 ≡ f (segment_met r.met e.1)) xs first second) in
+    AllByRecursion-both (λ (e : ℕ × ℕ). IsIn (e.1 / 4) drawn) (λ (e : ℕ × ℕ). f e.0 ≡ f (segment_met r.met e.1))
+    (λ (e : ℕ × ℕ). f e.0 ≡ f (segment_met met e.1)) xs (λ e stands same. same ∙ ap f (sym (keeps e.1 stands))) first second in
     let o_below = pairing.below x x_below in
     let o_apart : o ≢ x = λ same. new (subst (λ (z : ℕ). IsIn (z / 4) drawn) (sym same) x_drawn) in
     let arc_ends : (f : ℕ → ℕ) → Respects f joins → f (segment_met met x) ≡ f (segment_met met o) =
@@ -76,16 +74,10 @@ sketched-crossed n part whole drawn front back x r is pairing drawing x_below x_
     λ z at z_below. drawing.others_bare z z_below (λ stands. new (subst (λ (c : ℕ). IsIn c drawn) at stands)) in
     let rep : ℕ → ℕ = λ z. min z (whole z) in
     let paint : ℕ → ℕ = painted is.colour next (next + 2) (next + 2 + 1) (rep (turn_one o)) (rep (turn_two o)) (rep (turn_three o)) in
-    let paint_old : (z : ℕ) → z < next → paint z ≡ is.colour z =
-    painted-old is.colour next (next + 2) (next + 2 + 1) (rep (turn_one o)) (rep (turn_two o)) (rep (turn_three o)) in
-    let paint_new : (z : ℕ) → next ≤ z
-    → paint z ≡ cond (nat_eq z (next + 2)) (rep (turn_one o)) (cond (nat_eq z (next + 2 + 1)) (rep (turn_two o)) (rep (turn_three o))) =
-    painted-new is.colour next (next + 2) (next + 2 + 1) (rep (turn_one o)) (rep (turn_two o)) (rep (turn_three o)) in
-    let third : (z : ℕ) → next ≤ z → z ≢ next + 2 → z ≢ next + 2 + 1 → paint z ≡ rep (turn_three o) =
-    λ z from no2 no3.
-    paint_new z from
-    ∙ ap (λ t. cond t (rep (turn_one o)) (cond (nat_eq z (next + 2 + 1)) (rep (turn_two o)) (rep (turn_three o)))) (ne_eqb z (next + 2) no2)
-    ∙ ap (λ t. cond t (rep (turn_two o)) (rep (turn_three o))) (ne_eqb z (next + 2 + 1) no3) in
+    let paints = painted-is is.colour next (next + 2) (next + 2 + 1) (rep (turn_one o)) (rep (turn_two o)) (rep (turn_three o))
+    (omega arith) (omega arith) in
+    let third : (z : ℕ) → next ≤ z → z < next + 2 → paint z ≡ rep (turn_three o) =
+    λ z from below. paints.others z from (λ same. omega (arith, same, below)) (λ same. omega (arith, same, below)) in
     subst (λ (w : Sketch). IsSketched n (with_arc part x o) whole (o / 4 ∷ drawn) (front ++ other_three o ++ back) w) (sym end_is)
     (record {
       zipped = before ++ (next + 2, turn_one o) ∷ (next + 2 + 1, turn_two o) ∷ (next + 1, turn_three o) ∷ behind;
@@ -98,9 +90,15 @@ sketched-crossed n part whole drawn front back x r is pairing drawing x_below x_
           ((omega arith, omega arith), tt);
       segments_below = AllByRecursion-append (λ (e : ℕ × ℕ). e.0 < next + 2 + 2) before
           ((next + 2, turn_one o) ∷ (next + 2 + 1, turn_two o) ∷ (next + 1, turn_three o) ∷ behind)
-          (all_change (λ e. e.0 < next) (λ e. e.0 < next + 2 + 2) before wider below_front) (
+          (AllByRecursion-weaker (λ (e : ℕ × ℕ). e.0 < next) (λ (e : ℕ × ℕ). e.0 < next + 2 + 2) before wider below_front) (
             omega arith,
-            (omega arith, (omega arith, all_change (λ e. e.0 < next) (λ e. e.0 < next + 2 + 2) behind wider below_back.1)),
+            (
+              omega arith,
+              (
+                omega arith,
+                AllByRecursion-weaker (λ (e : ℕ × ℕ). e.0 < next) (λ (e : ℕ × ℕ). e.0 < next + 2 + 2) behind wider below_back.1,
+              ),
+            ),
           );
       met_below = λ z z_below z_drawn. elim (which o z) [
         | is_zero at ↦ omega (arith, ap (segment_met met) at, values.zero_is, below_back.0)
@@ -135,30 +133,14 @@ sketched-crossed n part whole drawn front back x r is pairing drawing x_below x_
               same = λ f holds. old_reached.same f (old f holds) ∙ ap f (sym (keeps old_reached.dart old_reached.is_drawn));
             }
         | inr late ↦ elim (four_next q next q_below late) [
-          | next_zero at ↦ record {
-            dart = turn_three o;
-            below = dart-there n o (turn_three o) o_below (crossing-three o);
-            is_drawn = inl (crossing-three o);
-            same = λ f holds. ap f at ∙ ap f (sym values.three_is);
-          }
-          | next_one at ↦ record {
-            dart = turn_three o;
-            below = dart-there n o (turn_three o) o_below (crossing-three o);
-            is_drawn = inl (crossing-three o);
-            same = λ f holds. ap f at ∙ sym (cap f holds) ∙ ap f (sym values.three_is);
-          }
-          | next_two at ↦ record {
-            dart = turn_one o;
-            below = dart-there n o (turn_one o) o_below (crossing-one o);
-            is_drawn = inl (crossing-one o);
-            same = λ f holds. ap f at ∙ ap f (sym values.one_is);
-          }
-          | next_three at ↦ record {
-            dart = turn_two o;
-            below = dart-there n o (turn_two o) o_below (crossing-two o);
-            is_drawn = inl (crossing-two o);
-            same = λ f holds. ap f at ∙ ap f (sym values.two_is);
-          }
+          | next_zero at ↦ reached-here n o (turn_three o) q drawn end o_below (crossing-three o)
+              (λ f holds. ap f at ∙ ap f (sym values.three_is))
+          | next_one at ↦ reached-here n o (turn_three o) q drawn end o_below (crossing-three o)
+              (λ f holds. ap f at ∙ sym (cap f holds) ∙ ap f (sym values.three_is))
+          | next_two at ↦ reached-here n o (turn_one o) q drawn end o_below (crossing-one o)
+              (λ f holds. ap f at ∙ ap f (sym values.one_is))
+          | next_three at ↦ reached-here n o (turn_two o) q drawn end o_below (crossing-two o)
+              (λ f holds. ap f at ∙ ap f (sym values.two_is))
         ]
       ];
       along = λ f holds.
@@ -203,34 +185,23 @@ sketched-crossed n part whole drawn front back x r is pairing drawing x_below x_
       ];
       colour = paint;
       respects = AllByRecursion-append (λ (pair : ℕ × ℕ). paint pair.0 ≡ paint pair.1) r.joins ((next, next + 1) ∷ [])
-          (respects-old is.colour paint next r.joins paint_old is.joins_below is.respects) (
-            third next (omega arith) (λ same. omega (arith, same)) (λ same. omega (arith, same))
-                ∙ sym (third (next + 1) (omega arith) (λ same. omega (arith, same)) (λ same. omega (arith, same))),
+          (respects-old is.colour paint next r.joins paints.old is.joins_below is.respects) (
+            third next (omega arith) (omega arith) ∙ sym (third (next + 1) (omega arith) (omega arith)),
             tt,
           );
       named = λ z z_below z_drawn. elim (which o z) [
         | is_zero at ↦
-            ap (λ w. paint (segment_met met w)) at ∙ ap paint values.zero_is ∙ paint_old a below_back.0
+            ap (λ w. paint (segment_met met w)) at ∙ ap paint values.zero_is ∙ paints.old a below_back.0
             ∙ at_x is.colour is.respects ∙ is.named x x_below x_drawn
             ∙ min_swap x o ∙ ap (λ w. min o w) (sym (pairing.back x x_below)) ∙ sym (ap rep at)
-        | is_one at ↦
-            ap (λ w. paint (segment_met met w)) at ∙ ap paint values.one_is ∙ paint_new (next + 2) (omega arith)
-            ∙ ap (λ t. cond t (rep (turn_one o)) (cond (nat_eq (next + 2) (next + 2 + 1)) (rep (turn_two o)) (rep (turn_three o))))
-            (eq-eqb (next + 2) (next + 2) refl)
-            ∙ sym (ap rep at)
-        | is_two at ↦
-            ap (λ w. paint (segment_met met w)) at ∙ ap paint values.two_is ∙ paint_new (next + 2 + 1) (omega arith)
-            ∙ ap (λ t. cond t (rep (turn_one o)) (cond (nat_eq (next + 2 + 1) (next + 2 + 1)) (rep (turn_two o)) (rep (turn_three o))))
-            (ne_eqb (next + 2 + 1) (next + 2) (λ same. omega (arith, same)))
-            ∙ ap (λ t. cond t (rep (turn_two o)) (rep (turn_three o))) (eq-eqb (next + 2 + 1) (next + 2 + 1) refl)
-            ∙ sym (ap rep at)
+        | is_one at ↦ ap (λ w. paint (segment_met met w)) at ∙ ap paint values.one_is ∙ paints.first ∙ sym (ap rep at)
+        | is_two at ↦ ap (λ w. paint (segment_met met w)) at ∙ ap paint values.two_is ∙ paints.second ∙ sym (ap rep at)
         | is_three at ↦
-            ap (λ w. paint (segment_met met w)) at ∙ ap paint values.three_is
-            ∙ third next (omega arith) (λ same. omega (arith, same)) (λ same. omega (arith, same)) ∙ sym (ap rep at)
+            ap (λ w. paint (segment_met met w)) at ∙ ap paint values.three_is ∙ third next (omega arith) (omega arith) ∙ sym (ap rep at)
         | is_other apart ↦ elim z_drawn [
           | inl here ↦ absurd (apart here)
           | inr z_before ↦
-              ap paint (values.other_is z apart) ∙ paint_old (segment_met r.met z) (is.met_below z z_below z_before)
+              ap paint (values.other_is z apart) ∙ paints.old (segment_met r.met z) (is.met_below z z_below z_before)
               ∙ is.named z z_below z_before
         ]
       ];

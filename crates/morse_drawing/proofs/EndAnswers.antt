@@ -18,7 +18,7 @@ use Rattle.morse_drawing.proofs.EndTimes.{hit-apart, hit-same, times}
 use Rattle.morse_drawing.proofs.Ends.{Ends}
 use Rattle.morse_drawing.proofs.Ends.DartEnd.{bare, opened, paired_with}
 use Rattle.morse_drawing.proofs.Ends.SegmentEnd.{at_dart, in_row, on_loop}
-use Rattle.morse_drawing.proofs.Pairs.{and_both, and_first, and_second, flat-range, lt-true, true-lt}
+use Rattle.morse_drawing.proofs.Pairs.{and_both, and_first, and_four, and_second, flat-range, lt-true, true-lt}
 
 -- the ends of what is read of slices
 abbrev pub EndsOf : ℕ → (ℕ → ℕ) → Sketch → List ℕ → ℕ → Type 0
@@ -39,25 +39,22 @@ ends-found : (limit : ℕ) (name : ℕ → ℕ) (r : Sketch) (others : List ℕ)
     → are_ends r x y ≡ true → (x < y) × (y < 4 * limit) × (get_or others x 0 ≡ y)
 ends-found limit name r others loops x y is holds = (less, (is.met_below y met_y).1, there)
   where
-    rest : Bool
-    rest = is_met r.met y && nat_eq (class_met r x) (class_met r y)
+    parts : (nat_lt x y ≡ true) × (is_met r.met x ≡ true) × (is_met r.met y ≡ true) × (nat_eq (class_met r x) (class_met r y) ≡ true)
+    parts = and_four (nat_lt x y) (is_met r.met x) (is_met r.met y) (nat_eq (class_met r x) (class_met r y)) holds
 
     less : x < y
-    less = lt-true x y (and_first (nat_lt x y) (is_met r.met x && rest) holds)
+    less = lt-true x y parts.0
 
     met_x : is_met r.met x ≡ true
-    met_x = and_first (is_met r.met x) rest (and_second (nat_lt x y) (is_met r.met x && rest) holds)
-
-    rest_holds : rest ≡ true
-    rest_holds = and_second (is_met r.met x) rest (and_second (nat_lt x y) (is_met r.met x && rest) holds)
+    met_x = parts.1
 
     met_y : is_met r.met y ≡ true
-    met_y = and_first (is_met r.met y) (nat_eq (class_met r x) (class_met r y)) rest_holds
+    met_y = parts.2
 
     same : name (segment_met r.met x) ≡ name (segment_met r.met y)
     same =
         class-name limit name r others loops (segment_met r.met x) (segment_met r.met y) is (is.met_below x met_x).0 (is.met_below y met_y).0
-        (eqb-true (class_met r x) (class_met r y) (and_second (is_met r.met y) (nat_eq (class_met r x) (class_met r y)) rest_holds))
+        (eqb-true (class_met r x) (class_met r y) parts.3)
 
     there : get_or others x 0 ≡ y
     there = elim (is.darts x (is.met_below x met_x).1) [

@@ -7,13 +7,13 @@ use Rattle.std.proofs.lemmas.Bool.{both_ways, cases_eq, eq-eqb, ne_eqb}
 use Rattle.std.proofs.lemmas.Bool.Decides.{nat_tests}
 use Rattle.kh_types.specs.Classes.{AreBelow}
 use Rattle.kh_types.proofs.ClassCounts.{AreBelow-wider}
-use Rattle.kh_types.proofs.Lists.{AllByRecursion-append, AllByRecursion-first, AllByRecursion-second}
+use Rattle.kh_types.proofs.Lists.{AllByRecursion-append, AllByRecursion-first, AllByRecursion-second, AllByRecursion-weaker}
 use Rattle.morse_drawing.specs.Sketches.{is_met, segment_met}
 use Rattle.morse_drawing.proofs.EndTimes.{hit, hit-apart, hit-same, times}
 use Rattle.morse_drawing.proofs.Ends.{DartEnd, Ends, SegmentEnd}
 use Rattle.morse_drawing.proofs.Ends.DartEnd.{bare, opened, paired_with}
 use Rattle.morse_drawing.proofs.Ends.SegmentEnd.{at_dart, in_row, on_loop}
-use Rattle.morse_drawing.proofs.SketchParts.{respects-old}
+use Rattle.morse_drawing.proofs.SketchParts.{before_or, respects-old}
 
 DartEnd-same : (limit : ℕ) (met later : ℕ → Bool) (label new : ℕ → ℕ) (row moved others : List ℕ) (x : ℕ) → ((y : ℕ) → later y ≡ met y)
     → ((y : ℕ) → met y ≡ true → new y ≡ label y) → ((n : ℕ) → n < 4 * limit → met n ≡ true → times n moved ≡ times n row)
@@ -70,12 +70,10 @@ pub map-fresh : (next new : ℕ) (name : ℕ → ℕ) (segments : List ℕ) → 
 map-fresh next new name [] below = refl
 map-fresh next new name (p ∷ ps) below = ap₂ (λ x xs. x ∷ xs) (fresh-old next new name p below.0) (map-fresh next new name ps below.1)
 
-all-wider : (next more : ℕ) (segments : List ℕ) → next ≤ more → AllByRecursion (λ p. p < next) segments → AllByRecursion (λ p. p < more) segments
-all-wider next more [] wide below = tt
-all-wider next more (p ∷ ps) wide below = (omega (arith, below.0, wide), all-wider next more ps wide below.1)
-
-old_or_new : (p next : ℕ) → (p < next) ⊎ (next ≤ p)
-old_or_new p next = grind (arith)
+pub wider : (next more : ℕ) (segments : List ℕ) → next ≤ more → AllByRecursion (λ p. p < next) segments
+    → AllByRecursion (λ p. p < more) segments
+wider next more segments wide below =
+    AllByRecursion-weaker (λ p. p < next) (λ p. p < more) segments (λ p p_below. omega (arith, p_below, wide)) below
 
 met-one : (d p x : ℕ) (met : List (ℕ × ℕ)) → d ≡ x → is_met ((d, p) ∷ met) x ≡ true
 met-one d p x met same = ap (λ b. b || is_met met x) (eq-eqb d x same)
@@ -95,7 +93,7 @@ pub Ends-started : (limit : ℕ) (name : ℕ → ℕ) (next : ℕ) (joins met : 
     → Ends limit (fresh next d name) (next + 1) joins ((d, next) ∷ met) (next ∷ segments) others loops
 Ends-started limit name next joins met segments others loops d is d_below unmet = record {
   joins_below = AreBelow-wider next (next + 1) joins (omega arith) is.joins_below;
-  segments_below = (omega arith, all-wider next (next + 1) segments (omega arith) is.segments_below);
+  segments_below = (omega arith, wider next (next + 1) segments (omega arith) is.segments_below);
   met_below = λ x met_x. elim (cases_eq d x) [
     | inl same ↦ (omega (arith, segment-one d next x met same), omega (arith, same, d_below))
     | inr other ↦
@@ -103,12 +101,12 @@ Ends-started limit name next joins met segments others loops d is d_below unmet 
         (omega (arith, was.0, segment-rest d next x met other), was.1)
   ];
   respects = respects-old name (fresh next d name) next joins (λ x below. fresh-old next d name x below) is.joins_below is.respects;
-  apart = λ f holds p q p_below q_below same. elim (old_or_new p next) [
-    | inl p_old ↦ elim (old_or_new q next) [
+  apart = λ f holds p q p_below q_below same. elim (before_or p next) [
+    | inl p_old ↦ elim (before_or q next) [
       | inl q_old ↦ is.apart f holds p q p_old q_old (sym (fresh-old next d name p p_old) ∙ same ∙ fresh-old next d name q q_old)
       | inr q_new ↦ absurd (unnamed p p_old (sym (fresh-old next d name p p_old) ∙ same ∙ fresh-new next d name q q_new))
     ]
-    | inr p_new ↦ elim (old_or_new q next) [
+    | inr p_new ↦ elim (before_or q next) [
       | inl q_old ↦ absurd (unnamed q q_old (sym (fresh-old next d name q q_old) ∙ sym same ∙ fresh-new next d name p p_new))
       | inr q_new ↦ let one : p ≡ q = omega (arith, p_below, q_below, p_new, q_new) in ap f one
     ]
@@ -125,7 +123,7 @@ Ends-started limit name next joins met segments others loops d is d_below unmet 
     | inr other ↦
         dart-other x below other (is.darts x below)
   ];
-  named = λ p below. elim (old_or_new p next) [
+  named = λ p below. elim (before_or p next) [
     | inr new ↦
         subst
         (λ (n : ℕ). SegmentEnd limit (is_met ((d, next) ∷ met)) (λ y. fresh next d name (segment_met ((d, next) ∷ met) y))
@@ -207,7 +205,7 @@ pub Ends-capped : (limit : ℕ) (name : ℕ → ℕ) (next : ℕ) (joins met : L
 Ends-capped limit name next joins met segments others loops l is from below none = record {
   joins_below = AllByRecursion-append (λ (pair : ℕ × ℕ). (pair.0 < next + 2) × (pair.1 < next + 2)) joins ((next, next + 1) ∷ [])
       (AreBelow-wider next (next + 2) joins (omega arith) is.joins_below) ((omega arith, omega arith), tt);
-  segments_below = (omega arith, (omega arith, all-wider next (next + 2) segments (omega arith) is.segments_below));
+  segments_below = (omega arith, (omega arith, wider next (next + 2) segments (omega arith) is.segments_below));
   met_below = λ x met_x. let was = is.met_below x met_x in (omega (arith, was.0), was.1);
   respects = AllByRecursion-append (λ (pair : ℕ × ℕ). fresh next l name pair.0 ≡ fresh next l name pair.1) joins ((next, next + 1) ∷ [])
       (respects-old name (fresh next l name) next joins (λ x x_below. fresh-old next l name x x_below) is.joins_below is.respects)
@@ -215,12 +213,12 @@ Ends-capped limit name next joins met segments others loops l is from below none
   apart = λ f holds p q p_below q_below same.
       let old_holds = AllByRecursion-first (λ (pair : ℕ × ℕ). f pair.0 ≡ f pair.1) joins ((next, next + 1) ∷ []) holds in
       let new_holds = (AllByRecursion-second (λ (pair : ℕ × ℕ). f pair.0 ≡ f pair.1) joins ((next, next + 1) ∷ []) holds).0 in
-      elim (old_or_new p next) [
-        | inl p_old ↦ elim (old_or_new q next) [
+      elim (before_or p next) [
+        | inl p_old ↦ elim (before_or q next) [
           | inl q_old ↦ is.apart f old_holds p q p_old q_old (sym (fresh-old next l name p p_old) ∙ same ∙ fresh-old next l name q q_old)
           | inr q_new ↦ absurd (unnamed p p_old (sym (fresh-old next l name p p_old) ∙ same ∙ fresh-new next l name q q_new))
         ]
-        | inr p_new ↦ elim (old_or_new q next) [
+        | inr p_new ↦ elim (before_or q next) [
           | inl q_old ↦ absurd (unnamed q q_old (sym (fresh-old next l name q q_old) ∙ sym same ∙ fresh-new next l name p p_new))
           | inr q_new ↦ both-new f new_holds p q p_new p_below q_new q_below
         ]
@@ -232,7 +230,7 @@ Ends-capped limit name next joins met segments others loops l is from below none
       (λ y met_y. fresh-old next l name (segment_met met y) (is.met_below y met_y).0)
       (λ n n_below met_n. other-times n (λ same. absurd (omega (arith, same, n_below, from))))
       (other-times x (λ same. absurd (omega (arith, same, x_below, from)))) x_below (is.darts x x_below);
-  named = λ p p_below. elim (old_or_new p next) [
+  named = λ p p_below. elim (before_or p next) [
     | inr new ↦
         subst
         (λ (n : ℕ). SegmentEnd limit (is_met met) (λ z. fresh next l name (segment_met met z))
@@ -320,7 +318,7 @@ Ends-dropped limit name next joins met segments others loops d a is a_below join
   no_loops = is.no_loops;
   looped = λ loop below.
       let old = is.looped loop below in
-      elim (old_or_new old.segment next) [
+      elim (before_or old.segment next) [
         | inl early ↦ record { segment = old.segment; below = early; named = old.named }
         | inr late ↦
             let last : next ≡ old.segment = omega (arith, late, old.below) in

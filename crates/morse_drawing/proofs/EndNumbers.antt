@@ -1,8 +1,8 @@
 -- The row of open ends, and the same by numbers alone.
-use Rattle.std.proofs.Common.{◌≡◌, ℕ, zero, suc, inl, inr, ◌+◌, ◌-◌, ◌*◌, ◌<◌, ◌≤◌, ◌∙◌, List, [], ◌∷◌, ◌++◌, length, map, get_or, set, take, drop, sym, ap, ap₂, refl, arith, Bool, true, false, cond, not}
+use Rattle.std.proofs.Common.{◌≡◌, ℕ, zero, suc, ◌+◌, ◌-◌, ◌*◌, ◌<◌, ◌≤◌, ◌∙◌, List, [], ◌∷◌, ◌++◌, length, map, get_or, set, take, drop, sym, ap, ap₂, refl, arith, Bool, true, false, cond, not}
 use Rattle.std.specs.Prelude.{◌&&◌, ◌||◌, nat_eq, nat_le, nat_lt, unwrap_or, Option, Some, None}
 use Rattle.std.specs.List.{AllByRecursion, filter, find, insert, list_any, range_with_len, remove}
-use Rattle.std.proofs.lemmas.Bool.{both_ways, cases_Bool, cases_eq, eq-eqb, ne_eqb}
+use Rattle.std.proofs.lemmas.Bool.{both_ways, ne_eqb}
 use Rattle.std.proofs.lemmas.Bool.Decides.{nat_tests}
 use Rattle.std.proofs.lemmas.List.{drop-map, get_or-map, length-map, map-append, map-set, take-map}
 use Rattle.kh_types.proofs.Lists.{AllByRecursion-append, filter-range_agree, map-remove}
@@ -83,10 +83,7 @@ same-label : (limit : ℕ) (a b : End) → IsEnd limit a → IsEnd limit b → n
 same-label limit (AtDart dart) (AtDart other) one two = refl
 same-label limit (AtDart dart) (OnLine line) one two = ne_eqb dart (4 * limit + line) (λ same. absurd (omega (arith, same, one)))
 same-label limit (OnLine line) (AtDart dart) one two = ne_eqb (4 * limit + line) dart (λ same. absurd (omega (arith, same, two)))
-same-label limit (OnLine line) (OnLine other) one two = elim (cases_eq line other) [
-  | inl same ↦ eq-eqb (4 * limit + line) (4 * limit + other) (ap (λ k. 4 * limit + k) same) ∙ sym (eq-eqb line other same)
-  | inr apart ↦ ne_eqb (4 * limit + line) (4 * limit + other) (λ same. apart (omega (arith, same))) ∙ sym (ne_eqb line other apart)
-]
+same-label limit (OnLine line) (OnLine other) one two = grind (arith, nat_tests)
 
 label-cond : (limit : ℕ) (b : Bool) (x y : End) → cond b (label limit x) (label limit y) ≡ label limit (cond b x y)
 label-cond limit true x y = refl
@@ -360,14 +357,8 @@ later-same limit others x all below =
   where
     by_case : (o : Option ℕ) → IsOther limit o
         → is_later x o ≡ (nat_lt x (other_number limit o) && nat_lt (other_number limit o) (4 * limit))
-    by_case None small = never x (4 * limit)
-      where
-        never : (y m : ℕ) → false ≡ (nat_lt y m && nat_lt m m)
-        never y m = grind (arith, nat_tests)
-    by_case (Some y) small = known x y (4 * limit) small
-      where
-        known : (z y m : ℕ) → y < m → nat_lt z y ≡ (nat_lt z y && nat_lt y m)
-        known z y m less = grind (arith, nat_tests)
+    by_case None small = grind (arith, nat_tests)
+    by_case (Some y) small = grind (arith, nat_tests)
 
 pair-same : (limit : ℕ) (others : List (Option ℕ)) (x : ℕ) → x < length others → has_later others x ≡ true
     → found_pair others x ≡ pair_number (map (other_number limit) others) x
@@ -382,16 +373,13 @@ map-filter_range : {X : Type 0} (f g : ℕ → X) (p : ℕ → Bool) (a n : ℕ)
     → map f (filter p (range_with_len a n)) ≡ map g (filter p (range_with_len a n))
 map-filter_range f g p a zero alike = refl
 map-filter_range {X} f g p a (suc n) alike =
-    let rest = filter p (range_with_len (a + 1) n) in
-    let later = map-filter_range f g p (a + 1) n (λ k from below. alike k (omega (arith, from)) (omega (arith, below))) in
-    elim (cases_Bool (p a)) [
-      | inl passes ↦
-          ap (λ b. map f (cond b (a ∷ rest) rest)) passes
-          ∙ ap₂ (λ (x : X) (xs : List X). x ∷ xs) (alike a (omega arith) (omega arith) passes) later
-          ∙ sym (ap (λ b. map g (cond b (a ∷ rest) rest)) passes)
-      | inr fails ↦
-          ap (λ b. map f (cond b (a ∷ rest) rest)) fails ∙ later ∙ sym (ap (λ b. map g (cond b (a ∷ rest) rest)) fails)
-    ]
+    by_case (p a) (filter p (range_with_len (a + 1) n)) (λ passes. alike a (omega arith) (omega arith) passes)
+    (map-filter_range f g p (a + 1) n (λ k from below. alike k (omega (arith, from)) (omega (arith, below))))
+  where
+    by_case : (b : Bool) (rest : List ℕ) → (b ≡ true → f a ≡ g a) → map f rest ≡ map g rest
+        → map f (cond b (a ∷ rest) rest) ≡ map g (cond b (a ∷ rest) rest)
+    by_case true rest first later = ap₂ (λ (x : X) (xs : List X). x ∷ xs) (first refl) later
+    by_case false rest first later = later
 
 pub pairs-same : (limit : ℕ) (others : List (Option ℕ)) → AllByRecursion (IsOther limit) others → length others ≡ 4 * limit
     → pairs_before others (4 * limit)

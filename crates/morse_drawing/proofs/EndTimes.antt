@@ -1,8 +1,9 @@
 -- How often a label stands in a row, and rows whose labels are renamed.
-use Rattle.std.proofs.Common.{◌≡◌, ◌≢◌, ℕ, zero, suc, ◌+◌, ◌<◌, ◌≤◌, ◌∙◌, List, [], ◌∷◌, ◌++◌, inl, inr, length, map, sym, ap, ap₂, refl, arith, cond}
+use Rattle.std.proofs.Common.{◌≡◌, ◌≢◌, ℕ, zero, suc, ◌+◌, ◌<◌, ◌≤◌, List, [], ◌∷◌, ◌++◌, ◌⊎◌, inl, inr, length, map, sym, ap, ap₂, refl, arith, cond}
 use Rattle.std.specs.Prelude.{nat_eq}
 use Rattle.std.specs.List.{range_with_len, sum_by}
 use Rattle.std.proofs.lemmas.Bool.{cases_eq, eq-eqb, ne_eqb}
+use Rattle.std.proofs.lemmas.Bool.Decides.{nat_tests}
 use Rattle.kh_types.proofs.ListSums.{sum_by-none, sum_by-plus}
 use Rattle.std.proofs.lemmas.List.Sums.{sum_by-cons}
 use Rattle.morse_drawing.specs.DartRows.{IsIn}
@@ -27,55 +28,29 @@ relabelled-old old new n same = ap (λ b. cond b new n) (eq-eqb n old same)
 pub relabelled-other : (old new n : ℕ) → n ≢ old → relabelled old new n ≡ n
 relabelled-other old new n apart = ap (λ b. cond b new n) (ne_eqb n old apart)
 
+-- labels that become one were one, or the old and the new
+pub relabelled-same : (old new u v : ℕ) → relabelled old new u ≡ relabelled old new v
+    → (u ≡ v) ⊎ (((u ≡ old) × (v ≡ new)) ⊎ ((u ≡ new) × (v ≡ old)))
+relabelled-same old new u v same = grind (arith, nat_tests)
+
 pub times-new : (old new : ℕ) (zs : List ℕ) → old ≢ new → times new (map (relabelled old new) zs) ≡ times new zs + times old zs
 times-new old new [] apart = refl
-times-new old new (z ∷ zs) apart =
-    let later = times-new old new zs apart in
-    elim (cases_eq z old) [
-      | inl same ↦
-          omega (
-            arith,
-            later,
-            hit-same (relabelled old new z) new (relabelled-old old new z same),
-            hit-same z old same,
-            hit-apart z new (λ is. apart (sym same ∙ is)),
-          )
-      | inr other ↦ omega (arith, later, ap (λ w. hit w new) (relabelled-other old new z other), hit-apart z old other)
-    ]
+times-new old new (z ∷ zs) apart = let later = times-new old new zs apart in grind (arith, nat_tests, later)
 
 pub times-old : (old new : ℕ) (zs : List ℕ) → old ≢ new → times old (map (relabelled old new) zs) ≡ 0
 times-old old new [] apart = refl
-times-old old new (z ∷ zs) apart =
-    let later = times-old old new zs apart in
-    elim (cases_eq z old) [
-      | inl same ↦ omega (arith, later, hit-apart (relabelled old new z) old (λ is. apart (sym is ∙ relabelled-old old new z same)))
-      | inr other ↦ omega (arith, later, hit-apart (relabelled old new z) old (λ is. other (sym (relabelled-other old new z other) ∙ is)))
-    ]
+times-old old new (z ∷ zs) apart = let later = times-old old new zs apart in grind (arith, nat_tests, later)
 
 pub times-other : (old new n : ℕ) (zs : List ℕ) → n ≢ old → n ≢ new → times n (map (relabelled old new) zs) ≡ times n zs
 times-other old new n [] one two = refl
-times-other old new n (z ∷ zs) one two =
-    let later = times-other old new n zs one two in
-    elim (cases_eq z old) [
-      | inl same ↦
-          omega (
-            arith,
-            later,
-            hit-apart (relabelled old new z) n (λ is. two (sym is ∙ relabelled-old old new z same)),
-            hit-apart z n (λ is. one (sym is ∙ same)),
-          )
-      | inr other ↦ omega (arith, later, ap (λ w. hit w n) (relabelled-other old new z other))
-    ]
+times-other old new n (z ∷ zs) one two = let later = times-other old new n zs one two in grind (arith, nat_tests, later)
 
 -- a label that does not stand there is not renamed
 pub map-relabelled_none : (old new : ℕ) (zs : List ℕ) → times old zs ≡ 0 → map (relabelled old new) zs ≡ zs
 map-relabelled_none old new [] none = refl
-map-relabelled_none old new (z ∷ zs) none = elim (cases_eq z old) [
-  | inl same ↦ absurd (omega (arith, none, hit-same z old same))
-  | inr other ↦
-      ap₂ (λ w ws. w ∷ ws) (relabelled-other old new z other)
-      (map-relabelled_none old new zs (omega (arith, none, hit-apart z old other)))
-]
+map-relabelled_none old new (z ∷ zs) none =
+    let apart : z ≢ old = λ same. omega (arith, none, hit-same z old same) in
+    ap₂ (λ w ws. w ∷ ws) (relabelled-other old new z apart) (map-relabelled_none old new zs (omega (arith, none)))
 
 pub times-append : (n : ℕ) (xs ys : List ℕ) → times n (xs ++ ys) ≡ times n xs + times n ys
 times-append n [] ys = omega arith

@@ -6,7 +6,7 @@ use Rattle.kh_types.specs.Classes.{AreBelow, Respects}
 use Rattle.kh_types.proofs.Lists.{AllByRecursion-append, AllByRecursion-first, AllByRecursion-second}
 use Rattle.morse_drawing.proofs.NumberedEnds.{relabelled}
 use Rattle.morse_drawing.specs.Sketches.{is_met, segment_met}
-use Rattle.morse_drawing.proofs.EndTimes.{hit-apart, relabelled-old, relabelled-other, times, times-old, times-other}
+use Rattle.morse_drawing.proofs.EndTimes.{hit-apart, relabelled-old, relabelled-other, relabelled-same, times, times-old, times-other}
 
 -- the state of the dart at a place: its crossing is not drawn; it leads to the row, where its place is the label; or it leads to
 -- another dart
@@ -87,8 +87,8 @@ Ends-tied limit name next joins met a b rest others later loops more old new is 
   met_below = is.met_below;
   respects = AllByRecursion-append (λ (pair : ℕ × ℕ). new_name pair.0 ≡ new_name pair.1) joins ((a, b) ∷ []) (respects-after joins is.respects) (ties.pair, tt);
   apart = λ f holds p q p_below q_below same.
-      apart-after f (AllByRecursion-first (λ (pair : ℕ × ℕ). f pair.0 ≡ f pair.1) joins ((a, b) ∷ []) holds) (AllByRecursion-second (λ (pair : ℕ × ℕ). f pair.0 ≡ f pair.1) joins ((a, b) ∷ []) holds).0 p q p_below q_below
-      (either (name p) old new) (either (name q) old new) same;
+      apart-after f (AllByRecursion-first (λ (pair : ℕ × ℕ). f pair.0 ≡ f pair.1) joins ((a, b) ∷ []) holds)
+      (AllByRecursion-second (λ (pair : ℕ × ℕ). f pair.0 ≡ f pair.1) joins ((a, b) ∷ []) holds).0 p q p_below q_below same;
   size = ties.size;
   darts = λ x below. dart-after x below (either x old new);
   named = λ p below. named-after p below (either (name p) old new);
@@ -115,26 +115,14 @@ Ends-tied limit name next joins met a b rest others later loops more old new is 
           hit-apart (name b) x (λ same. elim ties.second [ inl is ↦ one (sym same ∙ is) | inr is ↦ two (sym same ∙ is) ]),
         )
 
-    apart-after : (f : ℕ → ℕ) → Respects f joins → f a ≡ f b → (p q : ℕ) → p < next → q < next
-        → (name p ≡ old) ⊎ ((name p ≡ new) ⊎ ((name p ≢ old) × (name p ≢ new)))
-        → (name q ≡ old) ⊎ ((name q ≡ new) ⊎ ((name q ≢ old) × (name q ≢ new))) → new_name p ≡ new_name q → f p ≡ f q
-    apart-after f holds one p q p_below q_below (inl x) (inl y) same = is.apart f holds p q p_below q_below (x ∙ sym y)
-    apart-after f holds one p q p_below q_below (inl x) (inr (inl y)) same = ties.joined f one holds p q p_below q_below x y
-    apart-after f holds one p q p_below q_below (inl x) (inr (inr y)) same =
-        absurd (y.1 (sym (relabelled-other old new (name q) y.0) ∙ sym same ∙ relabelled-old old new (name p) x))
-    apart-after f holds one p q p_below q_below (inr (inl x)) (inl y) same = sym (ties.joined f one holds q p q_below p_below y x)
-    apart-after f holds one p q p_below q_below (inr (inl x)) (inr (inl y)) same = is.apart f holds p q p_below q_below (x ∙ sym y)
-    apart-after f holds one p q p_below q_below (inr (inl x)) (inr (inr y)) same =
-        absurd (y.1 (sym (relabelled-other old new (name q) y.0) ∙ sym same
-        ∙ relabelled-other old new (name p) (λ was. ties.renamed (sym was ∙ x)) ∙ x))
-    apart-after f holds one p q p_below q_below (inr (inr x)) (inl y) same =
-        absurd (x.1 (sym (relabelled-other old new (name p) x.0) ∙ same ∙ relabelled-old old new (name q) y))
-    apart-after f holds one p q p_below q_below (inr (inr x)) (inr (inl y)) same =
-        absurd (x.1 (sym (relabelled-other old new (name p) x.0) ∙ same
-        ∙ relabelled-other old new (name q) (λ was. ties.renamed (sym was ∙ y)) ∙ y))
-    apart-after f holds one p q p_below q_below (inr (inr x)) (inr (inr y)) same =
-        is.apart f holds p q p_below q_below
-        (sym (relabelled-other old new (name p) x.0) ∙ same ∙ relabelled-other old new (name q) y.0)
+    apart-after : (f : ℕ → ℕ) → Respects f joins → f a ≡ f b → (p q : ℕ) → p < next → q < next → new_name p ≡ new_name q → f p ≡ f q
+    apart-after f holds one p q p_below q_below same = elim (relabelled-same old new (name p) (name q) same) [
+      | inl alike ↦ is.apart f holds p q p_below q_below alike
+      | inr either ↦ elim either [
+        | inl is ↦ ties.joined f one holds p q p_below q_below is.0 is.1
+        | inr is ↦ sym (ties.joined f one holds q p q_below p_below is.1 is.0)
+      ]
+    ]
 
     dart-after : (x : ℕ) → x < 4 * limit → (x ≡ old) ⊎ ((x ≡ new) ⊎ ((x ≢ old) × (x ≢ new)))
         → DartEnd limit (is_met met) (λ z. new_name (segment_met met z)) (map new_name rest) later x

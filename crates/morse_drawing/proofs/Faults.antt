@@ -51,37 +51,23 @@ two-none : (a b : Bool) (one two : SliceFault) → a ≡ false → b ≡ false �
 two-none a b one two first second =
     ap (λ t. option_or (fault_where t one) (fault_where b two)) first ∙ where-none b two second
 
-cap-test : (m at : ℕ) → 1 ≤ at → at ≤ m + 1 → m ≤ 62 → ((nat_lt at 1 || nat_lt (m + 1) at) || nat_lt 62 m) ≡ false
-cap-test m at from within few = grind (arith, nat_tests)
-
-place-test : (last at : ℕ) → 1 ≤ at → at ≤ last → (nat_lt at 1 || nat_lt last at) ≡ false
-place-test last at from within = grind (arith, nat_tests)
-
-loops-test : (count : ℕ) → count ≤ 255 → nat_lt 255 count ≡ false
-loops-test count few = grind (arith, nat_tests)
-
-slot-test : (slot : ℕ) → slot < 4 → nat_lt 3 slot ≡ false
-slot-test slot below = grind (arith, nat_tests)
-
 pub cap-right : (limit number at : ℕ) (r : Sketch) → 1 ≤ at → at ≤ length r.row + 1 → length r.row ≤ 62
     → slice_fault limit r number (Cap at) ≡ None
 cap-right limit number at r from within few =
-    where-none (is_outside (length r.row + 1) at || nat_lt 62 (length r.row)) (Place number) (cap-test (length r.row) at from within few)
+    where-none (is_outside (length r.row + 1) at || nat_lt 62 (length r.row)) (Place number) (grind (arith, nat_tests))
 
 pub cup-right : (limit number at : ℕ) (r : Sketch) → 1 ≤ at → at ≤ length r.row - 1 → loop_count limit (sketched r (Cup at)) ≤ 255
     → slice_fault limit r number (Cup at) ≡ None
 cup-right limit number at r from within few =
     two-none (is_outside (length r.row - 1) at) (nat_lt 255 (loop_count limit (sketched r (Cup at)))) (Place number) (Loops number)
-    (place-test (length r.row - 1) at from within) (loops-test (loop_count limit (sketched r (Cup at))) few)
+    (grind (arith, nat_tests)) (grind (arith, nat_tests))
 
 pub cross-right : (limit number at crossing slot : ℕ) (r : Sketch) → 1 ≤ at → at ≤ length r.row - 1 → 1 ≤ crossing → crossing ≤ limit
     → is_met r.met (4 * (crossing - 1)) ≡ false → slot < 4 → slice_fault limit r number (Cross at crossing slot) ≡ None
 cross-right limit number at crossing slot r from within positive least unmet below =
     two-none (is_outside (length r.row - 1) at)
     (is_outside limit crossing || (is_met r.met (4 * (crossing - 1)) || nat_lt 3 slot)) (Place number) (Label number)
-    (place-test (length r.row - 1) at from within)
-    (ap (λ t. t || (is_met r.met (4 * (crossing - 1)) || nat_lt 3 slot)) (place-test limit crossing positive least)
-    ∙ ap (λ t. t || nat_lt 3 slot) unmet ∙ slot-test slot below)
+    (grind (arith, nat_tests)) (grind (arith, nat_tests))
 
 -- the row that is read is as long as the row of darts
 pub row-length : (n : ℕ) (part whole : ℕ → ℕ) (drawn row : List ℕ) (r : Sketch) → IsSketched n part whole drawn row r
@@ -111,11 +97,12 @@ not-met n part whole drawn row r c is new = elim (cases_Bool (is_met r.met (4 * 
 pub none-counted : (p : ℕ → Bool) (xs : List ℕ) → ((x : ℕ) → IsIn x xs → p x ≡ false) → count_by p xs ≡ 0
 none-counted p [] fails = refl
 none-counted p (x ∷ xs) fails =
-    sum_by-cons (λ y. cond (p y) 1 0) x xs ∙ ap (λ b. cond b 1 0 + count_by p xs) (fails x (inl refl))
-    ∙ none_more (count_by p xs) (none-counted p xs (λ y is_in. fails y (inr is_in)))
-  where
-    none_more : (k : ℕ) → k ≡ 0 → 0 + k ≡ 0
-    none_more k none = omega (arith, none)
+    omega (
+      arith,
+      sum_by-cons (λ y. cond (p y) 1 0) x xs,
+      ap {B = ℕ} (λ b. cond b 1 0) (fails x (inl refl)),
+      none-counted p xs (λ y is_in. fails y (inr is_in)),
+    )
 
 pub in-range : (a n x : ℕ) → IsIn x (range_with_len a n) → (a ≤ x) × (x < a + n)
 in-range a zero x is_in = absurd is_in

@@ -116,15 +116,7 @@ later-few n image is =
     ]
       where
         not-later : (x : ℕ) → image x < x → comes_first n image x ≡ false
-        not-later x less = elim (cases_Bool (comes_first n image x)) [
-          | inr fails ↦ fails
-          | inl later ↦
-              absurd (omega (
-                arith,
-                less,
-                lt-true x (image x) (and_first (nat_lt x (image x)) (nat_lt (image x) n) later),
-              ))
-        ]
+        not-later x less = grind (arith, nat_tests)
 
 -- darts that have found each other, as numbers
 abbrev other_in : ℕ → List (Option ℕ) → ℕ → ℕ
@@ -150,14 +142,8 @@ later-first limit others x is below = by_case (other_of others x) refl
     n = 4 * limit
 
     by_case : (o : Option ℕ) → other_of others x ≡ o → is_later x o ≡ (nat_lt x (unwrap_or o n) && nat_lt (unwrap_or o n) n)
-    by_case None none = never x n
-      where
-        never : (y m : ℕ) → false ≡ (nat_lt y m && nat_lt m m)
-        never y m = grind (arith, nat_tests)
-    by_case (Some y) some = known x y n (is x y below some).0
-      where
-        known : (z y m : ℕ) → y < m → nat_lt z y ≡ (nat_lt z y && nat_lt y m)
-        known z y m small = grind (arith, nat_tests)
+    by_case None none = grind (arith, nat_tests)
+    by_case (Some y) some = let small = (is x y below some).0 in grind (arith, nat_tests, small)
 
 pub pairs_room : (limit : ℕ) (others : List (Option ℕ)) (x : ℕ) → ArePaired limit others → x < 4 * limit → has_later others x ≡ true
     → length (pairs_before others x) < 2 * limit

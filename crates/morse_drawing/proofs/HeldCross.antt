@@ -2,51 +2,30 @@
 use Rattle.std.proofs.Common.{◌≡◌, ◌≢◌, ℕ, inl, inr, ◌+◌, ◌-◌, ◌*◌, ◌/◌, ◌%◌, ◌<◌, ◌≤◌, ◌∙◌, List, [], ◌∷◌, ◌++◌, length, map, get_or, set, take, drop, sym, ap, ap₂, subst, refl, arith, Bool, true, false, cond}
 use Rattle.std.specs.Prelude.{◌||◌, nat_eq}
 use Rattle.std.specs.List.{AllByRecursion}
-use Rattle.std.proofs.lemmas.Bool.{cases_eq, eq-eqb, ne_eqb}
+use Rattle.std.proofs.lemmas.Bool.{cases_eq}
+use Rattle.std.proofs.lemmas.Bool.Decides.{nat_tests}
 use Rattle.std.proofs.lemmas.List.{get_or-set_other, get_or-set_same, length-map, length-set, map-append, set-append_right}
 use Rattle.kh_types.proofs.Lists.{AllByRecursion-append}
 use Rattle.morse_drawing.proofs.NumberedEnds.{NumberedEnds, after_slice, relabelled, tied}
 use Rattle.morse_drawing.specs.Sketches.{Sketch, dart_after, is_met, segment_met, sketched}
 use Rattle.morse_drawing.specs.declared.slice.Slice.TheVariants.{Cross}
-use Rattle.morse_drawing.proofs.EndMoves.{Ends-moved, Ends-started, fresh, fresh-new, fresh-old, map-fresh, met-rest}
+use Rattle.morse_drawing.proofs.EndMoves.{Ends-moved, Ends-started, fresh, fresh-new, fresh-old, map-fresh, met-rest, wider}
 use Rattle.morse_drawing.proofs.EndTimes.{hit-same, times, times-other}
 use Rattle.morse_drawing.proofs.Ends.{Ends}
-use Rattle.morse_drawing.proofs.HeldEnds.{IsHeld, Middle, map-append_times, middle, row-after, row-at, wider}
+use Rattle.morse_drawing.proofs.HeldEnds.{IsHeld, Middle, map-append_times, middle, row-after, row-at}
 use Rattle.morse_drawing.proofs.MetEnds.{Ends-meets, bare-none, given_way, kept_label, map-met, met_name, others_found, tied-is, with_row}
-use Rattle.morse_drawing.proofs.SketchParts.{chain, chain-one, chain-rest, chain-two, chain-zero, cross_met, crossing-one, crossing-three, crossing-two, d-one, d-three, d-two, d-zero, dart-there, met-here, met-other, one-three, one-two, or_true_rest, two-three, zero-one, zero-three, zero-two}
+use Rattle.morse_drawing.proofs.SketchParts.{chain, cross_met, met-here, met-other}
 
 -- four darts may come in another order
 perm-or : (p q r s t : Bool) → (p || (q || (r || (s || t)))) ≡ (r || (q || (s || (p || t))))
-perm-or true q r s t =
-    sym (ap (λ z. r || (q || z)) (or_true_rest s) ∙ ap (λ z. r || z) (or_true_rest q) ∙ or_true_rest r)
-perm-or false true r s t = sym (or_true_rest r)
+perm-or true q r s t = grind arith
+perm-or false true r s t = grind arith
 perm-or false false true s t = refl
-perm-or false false false true t = refl
-perm-or false false false false t = refl
+perm-or false false false s t = grind arith
 
 perm-chain : (d0 d1 d2 d3 a p q b w z : ℕ) → d0 ≢ d1 → d0 ≢ d2 → d0 ≢ d3 → d1 ≢ d2 → d1 ≢ d3 → d2 ≢ d3
     → chain d0 d1 d2 d3 a p q b w z ≡ chain d2 d1 d3 d0 q p b a w z
-perm-chain d0 d1 d2 d3 a p q b w z d01 d02 d03 d12 d13 d23 = elim (cases_eq d0 z) [
-  | inl is0 ↦
-      chain-zero d0 d1 d2 d3 a p q b w z is0
-      ∙ sym (chain-rest d2 d1 d3 d0 q p b a w z (λ e. d02 (is0 ∙ sym e)) (λ e. d01 (is0 ∙ sym e)) (λ e. d03 (is0 ∙ sym e))
-      ∙ ap (λ t. cond t a w) (eq-eqb d0 z is0))
-  | inr no0 ↦ elim (cases_eq d1 z) [
-    | inl is1 ↦
-        chain-one d0 d1 d2 d3 a p q b w z no0 is1 ∙ sym (chain-one d2 d1 d3 d0 q p b a w z (λ e. d12 (is1 ∙ sym e)) is1)
-    | inr no1 ↦ elim (cases_eq d2 z) [
-      | inl is2 ↦ chain-two d0 d1 d2 d3 a p q b w z no0 no1 is2 ∙ sym (chain-zero d2 d1 d3 d0 q p b a w z is2)
-      | inr no2 ↦ elim (cases_eq d3 z) [
-        | inl is3 ↦
-            chain-rest d0 d1 d2 d3 a p q b w z no0 no1 no2 ∙ ap (λ t. cond t b w) (eq-eqb d3 z is3)
-            ∙ sym (chain-two d2 d1 d3 d0 q p b a w z no2 no1 is3)
-        | inr no3 ↦
-            chain-rest d0 d1 d2 d3 a p q b w z no0 no1 no2 ∙ ap (λ t. cond t b w) (ne_eqb d3 z no3)
-            ∙ sym (chain-rest d2 d1 d3 d0 q p b a w z no2 no1 no3 ∙ ap (λ t. cond t a w) (ne_eqb d0 z no0))
-      ]
-    ]
-  ]
-]
+perm-chain d0 d1 d2 d3 a p q b w z d01 d02 d03 d12 d13 d23 = grind (arith, nat_tests)
 
 -- two neighbours of a row are put in place
 set-two : (front back : List ℕ) (u v x y place : ℕ) → length front ≡ place
@@ -138,42 +117,17 @@ cross-held limit r s at o first last o_below fresh_crossing is = record {
     it : Middle limit r s is.name place a b
     it = middle limit r s place (omega (arith, first, last)) is
 
-    at0 : d0 / 4 ≡ o / 4
-    at0 = ap (λ z. z / 4) (d-zero o)
-
-    at1 : d1 / 4 ≡ o / 4
-    at1 = ap (λ z. z / 4) (d-one o) ∙ crossing-one o
-
-    at2 : d2 / 4 ≡ o / 4
-    at2 = ap (λ z. z / 4) (d-two o) ∙ crossing-two o
-
-    at3 : d3 / 4 ≡ o / 4
-    at3 = ap (λ z. z / 4) (d-three o) ∙ crossing-three o
-
-    apart01 : d0 ≢ d1
-    apart01 = λ e. zero-one o (sym (d-zero o) ∙ e ∙ d-one o)
-
-    apart02 : d0 ≢ d2
-    apart02 = λ e. zero-two o (sym (d-zero o) ∙ e ∙ d-two o)
-
-    apart03 : d0 ≢ d3
-    apart03 = λ e. zero-three o (sym (d-zero o) ∙ e ∙ d-three o)
-
-    apart12 : d1 ≢ d2
-    apart12 = λ e. one-two o (sym (d-one o) ∙ e ∙ d-two o)
-
-    apart13 : d1 ≢ d3
-    apart13 = λ e. one-three o (sym (d-one o) ∙ e ∙ d-three o)
-
-    apart23 : d2 ≢ d3
-    apart23 = λ e. two-three o (sym (d-two o) ∙ e ∙ d-three o)
-
     one_less : o / 4 + 1 - 1 ≡ o / 4
     one_less = omega arith
 
-    unmet : (z : ℕ) → z / 4 ≡ o / 4 → is_met r.met z ≡ false
-    unmet z at_o =
-        is.whole z ∙ ap (λ c. is_met r.met (4 * c)) at_o ∙ sym (is.drawn (o / 4) (omega (arith, o_below))) ∙ fresh_crossing
+    unmet : (more : ℕ) → is_met r.met (dart_after (o / 4 + 1) (o % 4) more) ≡ false
+    unmet more =
+        let here : dart_after (o / 4 + 1) (o % 4) more / 4 ≡ o / 4 = omega arith in
+        is.whole (dart_after (o / 4 + 1) (o % 4) more) ∙ ap (λ c. is_met r.met (4 * c)) here
+        ∙ sym (is.drawn (o / 4) (omega (arith, o_below))) ∙ fresh_crossing
+
+    there : (more : ℕ) → dart_after (o / 4 + 1) (o % 4) more < 4 * limit
+    there more = omega (arith, o_below)
 
     -- the first end meets its dart, and then the second
     name1 : ℕ → ℕ
@@ -184,8 +138,8 @@ cross-held limit r s at o first last o_below fresh_crossing is = record {
 
     ends1 : Ends limit name1 next r.joins ((d0, a) ∷ r.met) (b ∷ (front ++ back)) others1 s.loops
     ends1 =
-        Ends-meets limit is.name next r.joins r.met a (b ∷ (front ++ back)) s.others s.loops d0 it.ends (dart-there limit o d0 o_below at0)
-        (unmet d0 at0)
+        Ends-meets limit is.name next r.joins r.met a (b ∷ (front ++ back)) s.others s.loops d0 it.ends (there 0)
+        (unmet 0)
 
     name2 : ℕ → ℕ
     name2 = met_name limit name1 next b d3
@@ -198,8 +152,8 @@ cross-held limit r s at o first last o_below fresh_crossing is = record {
 
     ends2 : Ends limit name2 next r.joins met2 (front ++ back) others2 s.loops
     ends2 =
-        Ends-meets limit name1 next r.joins ((d0, a) ∷ r.met) b (front ++ back) others1 s.loops d3 ends1 (dart-there limit o d3 o_below at3)
-        (met-rest d0 a d3 r.met apart03 ∙ unmet d3 at3)
+        Ends-meets limit name1 next r.joins ((d0, a) ∷ r.met) b (front ++ back) others1 s.loops d3 ends1 (there 3)
+        (met-rest d0 a d3 r.met (λ e. omega (arith, e)) ∙ unmet 3)
 
     -- and two segments begin
     name3 : ℕ → ℕ
@@ -207,8 +161,8 @@ cross-held limit r s at o first last o_below fresh_crossing is = record {
 
     ends3 : Ends limit name3 (next + 1) r.joins ((d1, next) ∷ met2) (next ∷ (front ++ back)) others2 s.loops
     ends3 =
-        Ends-started limit name2 next r.joins met2 (front ++ back) others2 s.loops d1 ends2 (dart-there limit o d1 o_below at1)
-        (met-rest d3 b d1 ((d0, a) ∷ r.met) (λ e. apart13 (sym e)) ∙ met-rest d0 a d1 r.met apart01 ∙ unmet d1 at1)
+        Ends-started limit name2 next r.joins met2 (front ++ back) others2 s.loops d1 ends2 (there 1)
+        (met-rest d3 b d1 ((d0, a) ∷ r.met) (λ e. omega (arith, e)) ∙ met-rest d0 a d1 r.met (λ e. omega (arith, e)) ∙ unmet 1)
 
     name5 : ℕ → ℕ
     name5 = fresh (next + 1) d2 name3
@@ -216,9 +170,9 @@ cross-held limit r s at o first last o_below fresh_crossing is = record {
     ends4 : Ends limit name5 (next + 1 + 1) r.joins ((d2, next + 1) ∷ (d1, next) ∷ met2) ((next + 1) ∷ next ∷ (front ++ back)) others2 s.loops
     ends4 =
         Ends-started limit name3 (next + 1) r.joins ((d1, next) ∷ met2) (next ∷ (front ++ back)) others2 s.loops d2 ends3
-        (dart-there limit o d2 o_below at2)
-        (met-rest d1 next d2 met2 apart12 ∙ met-rest d3 b d2 ((d0, a) ∷ r.met) (λ e. apart23 (sym e)) ∙ met-rest d0 a d2 r.met apart02
-        ∙ unmet d2 at2)
+        (there 2)
+        (met-rest d1 next d2 met2 (λ e. omega (arith, e)) ∙ met-rest d3 b d2 ((d0, a) ∷ r.met) (λ e. omega (arith, e))
+        ∙ met-rest d0 a d2 r.met (λ e. omega (arith, e)) ∙ unmet 2)
 
     two_more : next + 1 + 1 ≡ next + 2
     two_more = omega arith
@@ -234,11 +188,17 @@ cross-held limit r s at o first last o_below fresh_crossing is = record {
         omega (arith, map-append_times name5 n front (next ∷ (next + 1) ∷ back), map-append_times name5 n front back)
 
     -- the row by numbers
+    first_turn : ℕ → ℕ
+    first_turn = relabelled (given_way limit (is.name a) d0) (kept_label limit (is.name a) d0)
+
+    second_turn : ℕ → ℕ
+    second_turn = relabelled (given_way limit (name1 b) d3) (kept_label limit (name1 b) d3)
+
     row1 : List ℕ
-    row1 = map (relabelled (given_way limit (is.name a) d0) (kept_label limit (is.name a) d0)) s.row
+    row1 = map first_turn s.row
 
     row2 : List ℕ
-    row2 = map (relabelled (given_way limit (name1 b) d3) (kept_label limit (name1 b) d3)) row1
+    row2 = map second_turn row1
 
     left : NumberedEnds
     left = tied limit s (get_or s.row place 0) d0
@@ -246,29 +206,27 @@ cross-held limit r s at o first last o_below fresh_crossing is = record {
     both : NumberedEnds
     both = tied limit left (get_or left.row (place + 1) 0) d3
 
-    none_of : (z : ℕ) → z / 4 ≡ o / 4 → times z s.row ≡ 0
-    none_of z at_o =
-        ap (times z) is.labels
-        ∙ bare-none limit is.name next r.joins r.met r.row s.others s.loops z is.ends (dart-there limit o z o_below at_o) (unmet z at_o)
+    none_of : (more : ℕ) → times (dart_after (o / 4 + 1) (o % 4) more) s.row ≡ 0
+    none_of more =
+        ap (times (dart_after (o / 4 + 1) (o % 4) more)) is.labels
+        ∙ bare-none limit is.name next r.joins r.met r.row s.others s.loops (dart_after (o / 4 + 1) (o % 4) more)
+        is.ends (there more) (unmet more)
 
     left_is : left ≡ with_row s row1 others1
     left_is =
         ap (λ u. tied limit s u d0)
         (ap (λ row. get_or row place 0) it.shape ∙ row-at (map is.name front) (map is.name back) (is.name a) (is.name b) place it.size)
-        ∙ tied-is limit s (is.name a) d0 (λ u_below d_below. none_of d0 at0)
+        ∙ tied-is limit s (is.name a) d0 (λ u_below d_below. none_of 0)
 
     front1 : List ℕ
     front1 = map name1 front
 
-    shape1 : row1 ≡ front1 ++ relabelled (given_way limit (is.name a) d0) (kept_label limit (is.name a) d0) (is.name a) ∷ name1 b ∷ map name1 back
+    shape1 : row1 ≡ front1 ++ first_turn (is.name a) ∷ name1 b ∷ map name1 back
     shape1 =
-        ap (map (relabelled (given_way limit (is.name a) d0) (kept_label limit (is.name a) d0))) it.shape
-        ∙ map-append (relabelled (given_way limit (is.name a) d0) (kept_label limit (is.name a) d0)) (map is.name front)
-        (is.name a ∷ is.name b ∷ map is.name back)
-        ∙ ap₂ (λ xs ys. xs ++ relabelled (given_way limit (is.name a) d0) (kept_label limit (is.name a) d0) (is.name a) ∷ ys)
-        (sym (map-met limit is.name next a d0 front it.front_below))
-        (ap₂ (λ x xs. relabelled (given_way limit (is.name a) d0) (kept_label limit (is.name a) d0) x ∷ xs)
-        (sym (fresh-old next d0 is.name b it.ends.segments_below.1.0)) (sym (map-met limit is.name next a d0 back it.back_below)))
+        ap (map first_turn) it.shape ∙ map-append first_turn (map is.name front) (is.name a ∷ is.name b ∷ map is.name back)
+        ∙ ap₂ (λ xs ys. xs ++ first_turn (is.name a) ∷ ys) (sym (map-met limit is.name next a d0 front it.front_below))
+        (ap₂ (λ x xs. first_turn x ∷ xs) (sym (fresh-old next d0 is.name b it.ends.segments_below.1.0))
+        (sym (map-met limit is.name next a d0 back it.back_below)))
 
     size1 : length front1 ≡ place
     size1 = omega (arith, length-map front name1, length-map front is.name, it.size)
@@ -279,7 +237,7 @@ cross-held limit r s at o first last o_below fresh_crossing is = record {
         ∙ ap (λ v. tied limit (with_row s row1 others1) v d3)
         (ap (λ row. get_or row (place + 1) 0) shape1 ∙ row-after front1 (map name1 back) _ (name1 b) place size1)
         ∙ tied-is limit (with_row s row1 others1) (name1 b) d3
-        (λ v_below d_below. none-after limit (is.name a) d0 d3 s.row (none_of d3 at3) first_stands apart03)
+        (λ v_below d_below. none-after limit (is.name a) d0 d3 s.row (none_of 3) first_stands (λ e. omega (arith, e)))
       where
         first_stands : 1 ≤ times (is.name a) s.row
         first_stands =
@@ -297,7 +255,8 @@ cross-held limit r s at o first last o_below fresh_crossing is = record {
         (Ends-moved limit name5 (next + 1 + 1) r.joins ((d2, next + 1) ∷ (d1, next) ∷ met2) (cross_met o a b next r.met)
         ((next + 1) ∷ next ∷ (front ++ back)) (front ++ next ∷ (next + 1) ∷ back) others2 s.loops ends4
         (λ y. perm-or (nat_eq d0 y) (nat_eq d1 y) (nat_eq d2 y) (nat_eq d3 y) (is_met r.met y))
-        (λ y met_y. perm-chain d0 d1 d2 d3 a next (next + 1) b (segment_met r.met y) y apart01 apart02 apart03 apart12 apart13 apart23)
+        (λ y met_y. perm-chain d0 d1 d2 d3 a next (next + 1) b (segment_met r.met y) y (λ e. omega (arith, e)) (λ e. omega (arith, e))
+        (λ e. omega (arith, e)) (λ e. omega (arith, e)) (λ e. omega (arith, e)) (λ e. omega (arith, e)))
         moved_below same_times))
 
     both_drawn : both.drawn ≡ s.drawn
@@ -312,16 +271,11 @@ cross-held limit r s at o first last o_below fresh_crossing is = record {
     size2 : length front2 ≡ place
     size2 = omega (arith, length-map front name2, length-map front is.name, it.size)
 
-    both_row : both.row ≡ front2 ++ relabelled (given_way limit (name1 b) d3) (kept_label limit (name1 b) d3)
-        (relabelled (given_way limit (is.name a) d0) (kept_label limit (is.name a) d0) (is.name a))
-        ∷ relabelled (given_way limit (name1 b) d3) (kept_label limit (name1 b) d3) (name1 b) ∷ back2
+    both_row : both.row ≡ front2 ++ second_turn (first_turn (is.name a)) ∷ second_turn (name1 b) ∷ back2
     both_row =
-        ap (λ (t : NumberedEnds). t.row) both_is
-        ∙ ap (map (relabelled (given_way limit (name1 b) d3) (kept_label limit (name1 b) d3))) shape1
-        ∙ map-append (relabelled (given_way limit (name1 b) d3) (kept_label limit (name1 b) d3)) front1 (_ ∷ name1 b ∷ map name1 back)
-        ∙ ap₂ (λ xs ys. xs ++ relabelled (given_way limit (name1 b) d3) (kept_label limit (name1 b) d3)
-        (relabelled (given_way limit (is.name a) d0) (kept_label limit (is.name a) d0) (is.name a))
-        ∷ relabelled (given_way limit (name1 b) d3) (kept_label limit (name1 b) d3) (name1 b) ∷ ys)
+        ap (λ (t : NumberedEnds). t.row) both_is ∙ ap (map second_turn) shape1
+        ∙ map-append second_turn front1 (_ ∷ name1 b ∷ map name1 back)
+        ∙ ap₂ (λ xs ys. xs ++ second_turn (first_turn (is.name a)) ∷ second_turn (name1 b) ∷ ys)
         (sym (map-met limit name1 next b d3 front it.front_below)) (sym (map-met limit name1 next b d3 back it.back_below))
 
     same_old : (xs : List ℕ) → AllByRecursion (λ p. p < next) xs → map name5 xs ≡ map name2 xs

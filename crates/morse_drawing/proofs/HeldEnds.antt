@@ -11,7 +11,7 @@ use Rattle.morse_drawing.specs.Pages.{is_in}
 use Rattle.morse_drawing.specs.Sketches.{Sketch, is_met, sketched}
 use Rattle.morse_drawing.specs.declared.slice.Slice.TheVariants.{Cap, Cup}
 use Rattle.morse_drawing.proofs.EndAnswers.{EndsOf}
-use Rattle.morse_drawing.proofs.EndMoves.{Ends-capped, Ends-moved, fresh, fresh-new, map-fresh}
+use Rattle.morse_drawing.proofs.EndMoves.{Ends-capped, Ends-moved, fresh, fresh-new, map-fresh, wider}
 use Rattle.morse_drawing.proofs.EndTimes.{few-labels, map-relabelled_none, times, times-append, times-in, times-out}
 use Rattle.morse_drawing.proofs.Ends.{Ends, Ends-tied, map-after, name_after}
 use Rattle.morse_drawing.proofs.MetEnds.{Ends-two, given_way, kept_label, tied-is, with_row}
@@ -55,10 +55,6 @@ pub parts-below : (next k : ℕ) (xs : List ℕ) → AllByRecursion (λ p. p < n
 parts-below next k xs below =
     let both = subst (λ (ys : List ℕ). AllByRecursion (λ p. p < next) ys) (sym (take-append-drop k xs)) below in
     (AllByRecursion-first (λ p. p < next) (take k xs) (drop k xs) both, AllByRecursion-second (λ p. p < next) (take k xs) (drop k xs) both)
-
-pub wider : (next more : ℕ) (xs : List ℕ) → next ≤ more → AllByRecursion (λ p. p < next) xs → AllByRecursion (λ p. p < more) xs
-wider next more [] wide below = tt
-wider next more (p ∷ ps) wide below = (omega (arith, below.0, wide), wider next more ps wide below.1)
 
 -- a label that no strand has
 record IsUnused (limit l : ℕ) (row : List ℕ) : Type 0 where

@@ -1,5 +1,4 @@
 pub mod PlacedSlices
-pub mod JoinedSegments
 pub mod JoinedBySteps
 pub mod RowPlaces
 pub mod NextPages

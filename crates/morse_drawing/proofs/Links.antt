@@ -2,30 +2,9 @@
 use Rattle.std.proofs.Common.{◌≡◌, ◌≢◌, ℕ, ◌*◌, ◌<◌, ◌∙◌, List, [], ◌∷◌, ◌++◌, sym, ap}
 use Rattle.std.specs.List.{AllByRecursion}
 use Rattle.kh_types.specs.Darts.{turned, face_step}
+use Rattle.kh_types.proofs.Lists.{AllByRecursion-append, AllByRecursion-weaker}
 use Rattle.face_walk.specs.AddedArcs.{HasArcMore}
 use Rattle.morse_drawing.specs.DartRows.{IsWay, IsLink, AreLinked}
-
--- all of a list
-
-pub all_append : (P : ℕ → Type 0) (xs ys : List ℕ) → AllByRecursion P xs → AllByRecursion P ys → AllByRecursion P (xs ++ ys)
-all_append P [] ys holds later = later
-all_append P (x ∷ xs) ys holds later = (holds.0, all_append P xs ys holds.1 later)
-
-pub all_front : (P : ℕ → Type 0) (xs ys : List ℕ) → AllByRecursion P (xs ++ ys) → AllByRecursion P xs
-all_front P [] ys holds = tt
-all_front P (x ∷ xs) ys holds = (holds.0, all_front P xs ys holds.1)
-
-pub all_back : (P : ℕ → Type 0) (xs ys : List ℕ) → AllByRecursion P (xs ++ ys) → AllByRecursion P ys
-all_back P [] ys holds = holds
-all_back P (x ∷ xs) ys holds = all_back P xs ys holds.1
-
-pub all_map : (P Q : ℕ → Type 0) (xs : List ℕ) → ((x : ℕ) → P x → Q x) → AllByRecursion P xs → AllByRecursion Q xs
-all_map P Q [] turn holds = tt
-all_map P Q (x ∷ xs) turn holds = (turn x holds.0, all_map P Q xs turn holds.1)
-
-pub all_two : (P Q : ℕ → Type 0) (xs : List ℕ) → AllByRecursion P xs → AllByRecursion Q xs → AllByRecursion (λ x. P x × Q x) xs
-all_two P Q [] one two = tt
-all_two P Q (x ∷ xs) one two = ((one.0, two.0), all_two P Q xs one.1 two.1)
 
 -- ways
 
@@ -52,7 +31,8 @@ pub IsLink-through : (n : ℕ) (partner : ℕ → ℕ) (x y z : ℕ) → y < 4 *
 IsLink-through n partner x y z below is_closed one two = record {
   between = one.between ++ y ∷ two.between;
   way = way_append (face_step partner) x y z one.between two.between one.way two.way;
-  closed = all_append (λ z. (z < 4 * n) × (partner z ≢ z)) one.between (y ∷ two.between) one.closed ((below, is_closed), two.closed);
+  closed = AllByRecursion-append (λ z. (z < 4 * n) × (partner z ≢ z)) one.between (y ∷ two.between) one.closed
+      ((below, is_closed), two.closed);
 }
 
 -- with one more arc, the link of a dart that makes the same step as another did before
@@ -64,9 +44,9 @@ IsLink-moved n before after dart other x w y more start link =
     record {
       between = link.between;
       way = way_moved (face_step before) (face_step after) x w y link.between start
-          (all_map (λ z. (z < 4 * n) × (before z ≢ z)) (λ z. face_step after z ≡ face_step before z) link.between
+          (AllByRecursion-weaker (λ z. (z < 4 * n) × (before z ≢ z)) (λ z. face_step after z ≡ face_step before z) link.between
           (λ z holds. ap turned (more.others z holds.0 (not_dart z holds.1) (not_other z holds.1))) link.closed) link.way;
-      closed = all_map (λ z. (z < 4 * n) × (before z ≢ z)) (λ z. (z < 4 * n) × (after z ≢ z)) link.between
+      closed = AllByRecursion-weaker (λ z. (z < 4 * n) × (before z ≢ z)) (λ z. (z < 4 * n) × (after z ≢ z)) link.between
           (λ z holds. (
             holds.0,
             λ same. holds.1 (sym (more.others z holds.0 (not_dart z holds.1) (not_other z holds.1)) ∙ same),
@@ -112,7 +92,7 @@ IsLink-keeps : (h : ℕ → ℕ) (n : ℕ) (partner : ℕ → ℕ) (x y : ℕ) �
     → IsLink n partner x y → h y ≡ h x
 IsLink-keeps h n partner x y keeps below link =
     way_keeps h (face_step partner) (4 * n) x y link.between keeps below
-    (all_map (λ z. (z < 4 * n) × (partner z ≢ z)) (λ z. z < 4 * n) link.between (λ z holds. holds.0) link.closed) link.way
+    (AllByRecursion-weaker (λ z. (z < 4 * n) × (partner z ≢ z)) (λ z. z < 4 * n) link.between (λ z holds. holds.0) link.closed) link.way
 
 pub AreLinked-keeps : (h : ℕ → ℕ) (n : ℕ) (partner : ℕ → ℕ) (left right : ℕ) (bs : List ℕ)
     → ((z : ℕ) → z < 4 * n → h (face_step partner z) ≡ h z) → right < 4 * n → AllByRecursion (λ z. z < 4 * n) bs
@@ -122,4 +102,4 @@ AreLinked-keeps h n partner left right [] keeps below bs_below linked =
 AreLinked-keeps h n partner left right (b ∷ bs) keeps below bs_below linked =
     let first = sym (IsLink-keeps h n partner b left keeps bs_below.0 linked.0) in
     let rest = AreLinked-keeps h n partner b right bs keeps below bs_below.1 linked.1 in
-    ((first, all_map (λ z. h z ≡ h b) (λ z. h z ≡ h left) bs (λ z same. same ∙ first) rest.0), rest.1 ∙ first)
+    ((first, AllByRecursion-weaker (λ z. h z ≡ h b) (λ z. h z ≡ h left) bs (λ z same. same ∙ first) rest.0), rest.1 ∙ first)

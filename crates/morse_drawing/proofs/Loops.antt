@@ -17,32 +17,24 @@ use Rattle.morse_drawing.specs.DartRows.{IsIn}
 use Rattle.morse_drawing.specs.Pages.{loop_slices}
 use Rattle.morse_drawing.specs.declared.slice.Slice.TheVariants.{Cap, Cup}
 use Rattle.morse_drawing.proofs.Faults.{cap-right, cup-right, in-range, met-no_loop, none-counted, row-empty}
-use Rattle.morse_drawing.proofs.SketchParts.{respects-old}
+use Rattle.morse_drawing.proofs.SketchParts.{before_or, respects-old}
+use Rattle.morse_drawing.proofs.EndMoves.{fresh, fresh-new, fresh-old}
 
 -- the segments before k are of one side, and those from k on are of sides of two segments each
 abbrev pub side : ℕ → ℕ → ℕ
 side k z = cond (nat_lt z k) 0 (suc ((z - k) / 2))
 
 side-early : (k z : ℕ) → z < k → side k z ≡ 0
-side-early k z below = early (suc ((z - k) / 2))
-  where
-    early : (late : ℕ) → cond (nat_lt z k) 0 late ≡ 0
-    early late = grind (arith, nat_tests)
+side-early k z below = grind (arith, nat_tests)
 
 side-late : (k z : ℕ) → k ≤ z → side k z ≡ suc ((z - k) / 2)
-side-late k z from = late (suc ((z - k) / 2))
-  where
-    late : (value : ℕ) → cond (nat_lt z k) 0 value ≡ value
-    late value = grind (arith, nat_tests)
+side-late k z from = grind (arith, nat_tests)
 
 side-from : (k z j : ℕ) → side k z ≡ suc j → k + 2 * j ≤ z
 side-from k z j same = elim (before_or z k) [
   | inl early ↦ absurd (omega (arith, same, side-early k z early))
   | inr late ↦ omega (arith, same, side-late k z late, late)
 ]
-  where
-    before_or : (x y : ℕ) → (x < y) ⊎ (y ≤ x)
-    before_or x y = grind arith
 
 -- after a drawing with k segments and some loops
 pub record IsEnded (n : ℕ) (whole : ℕ → ℕ) (k loops : ℕ) (r : Sketch) : Type 0 where
@@ -90,9 +82,6 @@ IsEnded-sketched n whole drawn r is all =
     constant [] = tt
     constant (pair ∷ joins) = (refl, constant joins)
 
-    before_or : (x y : ℕ) → (x < y) ⊎ (y ≤ x)
-    before_or x y = grind arith
-
     by_case : (segment : ℕ) → (segment < r.next) ⊎ (r.next ≤ segment) → ℕ
     by_case segment (inl below) = (is.reached segment below).dart
     by_case segment (inr late) = 0
@@ -108,22 +97,6 @@ IsEnded-sketched n whole drawn r is all =
     from : (segment : ℕ) → segment < r.next → (dart_from segment < 4 * n)
         × ((f : ℕ → ℕ) → Respects f r.joins → f segment ≡ f (segment_met r.met (dart_from segment)))
     from segment below = from_case segment (before_or segment r.next) below
-
--- colours before a number, and 0 from there on
-abbrev cut : (ℕ → ℕ) → ℕ → ℕ → ℕ
-cut colour next z = cond (nat_lt z next) (colour z) 0
-
-cut-early : (colour : ℕ → ℕ) (next z : ℕ) → z < next → cut colour next z ≡ colour z
-cut-early colour next z below = early (colour z)
-  where
-    early : (value : ℕ) → cond (nat_lt z next) value 0 ≡ value
-    early value = grind (arith, nat_tests)
-
-cut-late : (colour : ℕ → ℕ) (next z : ℕ) → next ≤ z → cut colour next z ≡ 0
-cut-late colour next z from = late (colour z)
-  where
-    late : (value : ℕ) → cond (nat_lt z next) value 0 ≡ 0
-    late value = grind (arith, nat_tests)
 
 abbrev looped : Sketch → Sketch
 looped r = record {
@@ -151,7 +124,7 @@ IsEnded-looped n whole k loops r is =
     λ f holds same.
     AllByRecursion-append (λ (pair : ℕ × ℕ). f pair.0 ≡ f pair.1) first_joins ((next, next + 1) ∷ [])
     (AllByRecursion-append (λ (pair : ℕ × ℕ). f pair.0 ≡ f pair.1) r.joins ((next, next + 1) ∷ []) holds (same, tt)) (same, tt) in
-    let paint = cut is.colour next in
+    let paint = fresh next 0 is.colour in
     let next_is = is.next_is in
     record {
       row = refl;
@@ -169,9 +142,10 @@ IsEnded-looped n whole k loops r is =
       closed = λ f holds. is.closed f (old f holds);
       colour = paint;
       respects = both paint
-          (respects-old is.colour paint next r.joins (cut-early is.colour next) is.joins_below is.respects)
-          (cut-late is.colour next next (omega arith) ∙ sym (cut-late is.colour next (next + 1) (omega arith)));
-      named = λ x below. cut-early is.colour next (segment_met r.met x) (omega (arith, is.met_below x below, is.next_is)) ∙ is.named x below;
+          (respects-old is.colour paint next r.joins (fresh-old next 0 is.colour) is.joins_below is.respects)
+          (fresh-new next 0 is.colour next (omega arith) ∙ sym (fresh-new next 0 is.colour (next + 1) (omega arith)));
+      named = λ x below. fresh-old next 0 is.colour (segment_met r.met x) (omega (arith, is.met_below x below, is.next_is))
+          ∙ is.named x below;
       are_loops = λ f holds j below. elim (cases_eq j loops) [
         | inl same ↦
             let here : k + 2 * j ≡ next = omega (arith, same, next_is) in
@@ -197,20 +171,15 @@ count-pages_on p k zero early first second =
 count-pages_on p k (suc loops) early first second =
     let m = k + 2 * loops in
     let e : k + 2 * suc loops ≡ m + 1 + 1 = omega arith in
-    ap (λ z. count_by p (range_with_len 0 z)) e
-    ∙ count_by-range_more p 0 (m + 1) (m + 1) (omega arith)
-    ∙ sum_two (count_by p (range_with_len 0 (m + 1))) (cond (p (m + 1)) 1 0) loops
-    (count_by-range_more p 0 m m (omega arith)
-    ∙ sum_one (count_by p (range_with_len 0 m)) (cond (p m) 1 0) loops
-    (count-pages_on p k loops early (λ j below. first j (omega (arith, below))) (λ j below. second j (omega (arith, below))))
-    (ap (λ b. cond b 1 0) (first loops (omega arith))))
-    (ap (λ b. cond b 1 0) (second loops (omega arith)))
-  where
-    sum_one : (a b c : ℕ) → a ≡ c → b ≡ 1 → a + b ≡ c + 1
-    sum_one a b c one two = omega (arith, one, two)
-
-    sum_two : (a b c : ℕ) → a ≡ c + 1 → b ≡ 0 → a + b ≡ suc c
-    sum_two a b c one two = omega (arith, one, two)
+    omega (
+      arith,
+      ap (λ z. count_by p (range_with_len 0 z)) e,
+      count_by-range_more p 0 (m + 1) (m + 1) (omega arith),
+      count_by-range_more p 0 m m (omega arith),
+      count-pages_on p k loops early (λ j below. first j (omega (arith, below))) (λ j below. second j (omega (arith, below))),
+      ap {B = ℕ} (λ b. cond b 1 0) (first loops (omega arith)),
+      ap {B = ℕ} (λ b. cond b 1 0) (second loops (omega arith)),
+    )
 
 pub loops-counted : (limit n : ℕ) (whole : ℕ → ℕ) (k loops : ℕ) (r : Sketch) → n ≤ limit → IsEnded n whole k loops r
     → loop_count limit r ≡ loops

@@ -1,5 +1,5 @@
 -- Two ends of different labels are tied, and an end meets a dart.
-use Rattle.std.proofs.Common.{◌≡◌, ◌≢◌, ℕ, inl, inr, ◌+◌, ◌*◌, ◌<◌, ◌≤◌, ◌∙◌, List, [], ◌∷◌, ◌++◌, map, set, sym, ap, subst, refl, arith, Bool, true, false, cond}
+use Rattle.std.proofs.Common.{◌≡◌, ◌≢◌, ℕ, inl, inr, ◌+◌, ◌*◌, ◌<◌, ◌∙◌, List, [], ◌∷◌, ◌++◌, map, set, sym, ap, subst, refl, arith, Bool, false, cond, true}
 use Rattle.std.specs.Prelude.{nat_le}
 use Rattle.std.specs.List.{AllByRecursion}
 use Rattle.std.proofs.lemmas.Bool.{both_ways, cases_Bool}
@@ -28,36 +28,17 @@ with_row s row others = record { row = row; others = others; drawn = s.drawn; lo
 -- the row in which they are tied
 pub tied-is : (limit : ℕ) (s : NumberedEnds) (u v : ℕ) → (u < 4 * limit → v < 4 * limit → times v s.row ≡ 0)
     → tied limit s u v ≡ with_row s (map (relabelled (given_way limit u v) (kept_label limit u v)) s.row) (others_found limit u v s.others)
-tied-is limit s u v none = elim (cases_Bool (nat_le (4 * limit) u)) [
-  | inl first ↦ ap (λ b. cond b one two) first ∙ sym (ap answer first)
-  | inr not_first ↦ elim (cases_Bool (nat_le (4 * limit) v)) [
-    | inl second ↦
-        ap (λ b. cond b one two) not_first ∙ ap (λ b. cond b half last) second
-        ∙ sym (ap answer not_first
-        ∙ ap (λ b. with_row s (map (relabelled v u) s.row) (cond b s.others (set (set s.others u v) v u))) second)
-    | inr neither ↦
-        ap (λ b. cond b one two) not_first ∙ ap (λ b. cond b half last) neither
-        ∙ sym (ap answer not_first
-        ∙ ap (λ b. with_row s (map (relabelled v u) s.row) (cond b s.others (set (set s.others u v) v u))) neither
-        ∙ ap (λ row. with_row s row (set (set s.others u v) v u))
-        (map-relabelled_none v u s.row (none (le-false (4 * limit) u not_first) (le-false (4 * limit) v neither))))
-  ]
-]
+tied-is limit s u v none =
+    by_case (nat_le (4 * limit) u) (nat_le (4 * limit) v)
+    (λ first second. map-relabelled_none v u s.row (none (le-false (4 * limit) u first) (le-false (4 * limit) v second)))
   where
-    one : NumberedEnds
-    one = with_row s (map (relabelled u v) s.row) s.others
-
-    half : NumberedEnds
-    half = with_row s (map (relabelled v u) s.row) s.others
-
-    last : NumberedEnds
-    last = with_row s s.row (set (set s.others u v) v u)
-
-    two : NumberedEnds
-    two = cond (nat_le (4 * limit) v) half last
-
-    answer : Bool → NumberedEnds
-    answer b = with_row s (map (relabelled (cond b u v) (cond b v u)) s.row) (cond b s.others (found limit u v s.others))
+    by_case : (a b : Bool) → (a ≡ false → b ≡ false → map (relabelled v u) s.row ≡ s.row)
+        → cond a (with_row s (map (relabelled u v) s.row) s.others)
+        (cond b (with_row s (map (relabelled v u) s.row) s.others) (with_row s s.row (set (set s.others u v) v u)))
+        ≡ with_row s (map (relabelled (cond a u v) (cond a v u)) s.row) (cond a s.others (cond b s.others (set (set s.others u v) v u)))
+    by_case true b same = refl
+    by_case false true same = refl
+    by_case false false same = ap (λ row. with_row s row (set (set s.others u v) v u)) (sym (same refl refl))
 
     le-false : (x y : ℕ) → nat_le x y ≡ false → y < x
     le-false x y fails = grind (arith, nat_tests)
@@ -72,11 +53,11 @@ Ends-two limit name next joins met a b rest others loops u v is at_a at_b apart 
       | inl first ↦
           subst (λ (c : Bool). Part c) (sym first)
           (Ends-tied limit name next joins met a b rest others others loops loops (name a) (name b) is
-          (tied-first limit name next joins met a b rest others loops two differ (le-true (4 * limit) (name a) first)))
+          (tied-first limit name next joins met a b rest others loops two differ (grind (arith, nat_tests))))
       | inr second ↦
           subst (λ (c : Bool). Part c) (sym second)
           (Ends-tied limit name next joins met a b rest others (found limit (name a) (name b) others) loops loops (name b) (name a) is
-          (tied-second limit name next joins met a b rest others loops two differ (le-false (4 * limit) (name a) second)))
+          (tied-second limit name next joins met a b rest others loops two differ (grind (arith, nat_tests))))
     ]))
   where
     Goal : ℕ → ℕ → Type 0
@@ -94,12 +75,6 @@ Ends-two limit name next joins met a b rest others loops u v is at_a at_b apart 
 
     differ : name a ≢ name b
     differ = λ same. apart (sym at_a ∙ same ∙ at_b)
-
-    le-true : (x y : ℕ) → nat_le x y ≡ true → x ≤ y
-    le-true x y holds = grind (arith, nat_tests)
-
-    le-false : (x y : ℕ) → nat_le x y ≡ false → y < x
-    le-false x y fails = grind (arith, nat_tests)
 
 -- the names after an end has met a dart
 abbrev pub met_name : ℕ → (ℕ → ℕ) → ℕ → ℕ → ℕ → ℕ → ℕ

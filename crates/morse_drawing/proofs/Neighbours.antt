@@ -12,7 +12,9 @@ use Rattle.face_walk.proofs.OpenFaces.{open_faces-in_pieces}
 use Rattle.face_walk.proofs.AddedArcs.{HasArcMore-with_arc, IsPairing-more}
 use Rattle.face_walk.proofs.PartArcs.{planar-together, planar-split}
 use Rattle.morse_drawing.proofs.Helpers.{open_faces-step, open_pieces-inside, IsPart-more}
-use Rattle.morse_drawing.proofs.Links.{all_front, all_back, all_map, all_two, AreLinked-cut, AreLinked-from, AreLinked-moved, AreLinked-keeps}
+use Rattle.kh_types.proofs.Lists.{AllByRecursion-first, AllByRecursion-second, AllByRecursion-weaker}
+use Rattle.morse_drawing.proofs.RowMoves.{beside_two, open_after}
+use Rattle.morse_drawing.proofs.Links.{AreLinked-cut, AreLinked-from, AreLinked-moved, AreLinked-keeps}
 
 -- where a number stands in a list
 record Stands (y : ℕ) (xs : List ℕ) : Type 0 where
@@ -53,13 +55,13 @@ in_front y (b ∷ bs) cs is_in = elim is_in [ inl same ↦ inl same | inr later 
 
 different_front : (bs cs : List ℕ) → AreDifferent (bs ++ cs) → AreDifferent bs
 different_front [] cs once = tt
-different_front (b ∷ bs) cs once = (all_front (λ z. z ≢ b) bs cs once.0, different_front bs cs once.1)
+different_front (b ∷ bs) cs once = (AllByRecursion-first (λ z. z ≢ b) bs cs once.0, different_front bs cs once.1)
 
 -- those before a number are not that number, nor those behind it
 different_before : (x : ℕ) (bs cs : List ℕ) → AreDifferent (bs ++ x ∷ cs) → AllByRecursion (λ z. z ≢ x) bs
 different_before x [] cs once = tt
 different_before x (b ∷ bs) cs once =
-    let later = all_back (λ z. z ≢ b) bs (x ∷ cs) once.0 in
+    let later = AllByRecursion-second (λ z. z ≢ b) bs (x ∷ cs) once.0 in
     (λ same. later.0 (sym same), different_before x bs cs once.1)
 
 different_behind : (x : ℕ) (bs cs : List ℕ) → AreDifferent (bs ++ x ∷ cs) → AllByRecursion (λ z. z ≢ x) cs
@@ -83,10 +85,10 @@ cut n part whole dart other b bs cs is_partner whole_partner is_part planar full
     let between : List ℕ = b ∷ bs in
     let darts : List ℕ = between ++ other ∷ cs in
     let open_rest = row.are_open.1 in
-    let open_between = all_front (λ z. (z < 4 * n) × (part z ≡ z)) between (other ∷ cs) open_rest in
-    let open_behind = all_back (λ z. (z < 4 * n) × (part z ≡ z)) between (other ∷ cs) open_rest in
-    let not_dart = all_front (λ z. z ≢ dart) between (other ∷ cs) row.once.0 in
-    let not_dart_behind = all_back (λ z. z ≢ dart) between (other ∷ cs) row.once.0 in
+    let open_between = AllByRecursion-first (λ z. (z < 4 * n) × (part z ≡ z)) between (other ∷ cs) open_rest in
+    let open_behind = AllByRecursion-second (λ z. (z < 4 * n) × (part z ≡ z)) between (other ∷ cs) open_rest in
+    let not_dart = AllByRecursion-first (λ z. z ≢ dart) between (other ∷ cs) row.once.0 in
+    let not_dart_behind = AllByRecursion-second (λ z. z ≢ dart) between (other ∷ cs) row.once.0 in
     let not_other = different_before other between cs row.once.1 in
     let not_other_behind = different_behind other between cs row.once.1 in
     let below = row.are_open.0.0 in
@@ -97,21 +99,15 @@ cut n part whole dart other b bs cs is_partner whole_partner is_part planar full
     let after_partner = IsPairing-more (4 * n) part after dart other is_partner more in
     let after_part = IsPart-more (4 * n) part after whole dart other whole_partner is_part more is_arc in
     let back : whole other ≡ dart = ap whole (sym is_arc) ∙ whole_partner.back dart below in
-    let beside_of : (xs : List ℕ) → AllByRecursion (λ z. (z < 4 * n) × (part z ≡ z)) xs → AllByRecursion (λ z. z ≢ dart) xs
-    → AllByRecursion (λ z. z ≢ other) xs → AllByRecursion (λ z. (z < 4 * n) × ((z ≢ dart) × (z ≢ other))) xs =
-    λ xs is_open one two.
-    all_map (λ z. ((z < 4 * n) × (part z ≡ z)) × ((z ≢ dart) × (z ≢ other))) (λ z. (z < 4 * n) × ((z ≢ dart) × (z ≢ other))) xs
-    (λ z all. (all.0.0, all.1))
-    (all_two (λ z. (z < 4 * n) × (part z ≡ z)) (λ z. (z ≢ dart) × (z ≢ other)) xs is_open (all_two (λ z. z ≢ dart) (λ z. z ≢ other) xs one two)) in
-    let beside = beside_of between open_between not_dart not_other in
-    let beside_behind = beside_of cs open_behind.1 not_dart_behind.1 not_other_behind in
+    let beside = beside_two n part dart other between open_between not_dart not_other in
+    let beside_behind = beside_two n part dart other cs open_behind.1 not_dart_behind.1 not_other_behind in
     let links = AreLinked-cut n part dart other dart between cs row.round in
     let links_between : AreLinked n after dart between dart =
     AreLinked-moved n part after dart other dart other dart between more (ap turned (more.dart_after ∙ sym open_behind.0.1)) beside links.0 in
     let links_behind : AreLinked n after other cs other =
     AreLinked-moved n part after dart other other dart other cs more (ap turned (more.other_after ∙ sym row.are_open.0.1)) beside_behind links.1 in
     let small_of : (xs : List ℕ) → AllByRecursion (λ z. (z < 4 * n) × (part z ≡ z)) xs → AllByRecursion (λ z. z < 4 * n) xs =
-    λ xs is_open. all_map (λ z. (z < 4 * n) × (part z ≡ z)) (λ z. z < 4 * n) xs (λ z all. all.0) is_open in
+    λ xs is_open. AllByRecursion-weaker (λ z. (z < 4 * n) × (part z ≡ z)) (λ z. z < 4 * n) xs (λ z all. all.0) is_open in
     let face : ℕ → ℕ = λ z. slice_index (open_faces n part) z in
     let face_after : ℕ → ℕ = λ z. slice_index (open_faces n after) z in
     let in_face = AreLinked-keeps face n part dart dart darts (λ z z_below. open_faces-step n part z is_partner z_below) below
@@ -121,7 +117,7 @@ cut n part whole dart other b bs cs is_partner whole_partner is_part planar full
     let in_behind = AreLinked-keeps face_after n after other other cs (λ z z_below. open_faces-step n after z after_partner z_below)
     other_below (small_of cs open_behind.1) links_behind in
     let face_of : (z : ℕ) → IsIn z darts → face z ≡ face dart = λ z is_in. all_in (λ z. face z ≡ face dart) darts z in_face.0 is_in in
-    let other_in : face other ≡ face dart = (all_back (λ z. face z ≡ face dart) between (other ∷ cs) in_face.0).0 in
+    let other_in : face other ≡ face dart = (AllByRecursion-second (λ z. face z ≡ face dart) between (other ∷ cs) in_face.0).0 in
     let piece_together = open_faces-in_pieces n part dart other is_partner below other_below (sym other_in) in
     let merge = planar-split n part after whole dart other is_partner whole_partner is_part planar more is_arc piece_together in
     let pieces = open_pieces-inside n part after dart other is_partner more piece_together in
@@ -133,9 +129,7 @@ cut n part whole dart other b bs cs is_partner whole_partner is_part planar full
       is_part = after_part;
       is_row = record {
         round = AreLinked-from n after b dart b bs below (λ same. apart (sym same ∙ more.dart_after)) links_between.0 links_between.1;
-        are_open = all_map (λ z. ((z < 4 * n) × (part z ≡ z)) × ((z < 4 * n) × ((z ≢ dart) × (z ≢ other)))) (λ z. (z < 4 * n) × (after z ≡ z)) between
-            (λ z all. (all.0.0, is_after z all.1 ∙ all.0.1))
-            (all_two (λ z. (z < 4 * n) × (part z ≡ z)) (λ z. (z < 4 * n) × ((z ≢ dart) × (z ≢ other))) between open_between beside);
+        are_open = open_after n part after dart other between more open_between beside;
         once = different_front between (other ∷ cs) row.once.1;
       };
       holds = all_by_in (λ z. IsIn (whole z) between) between
@@ -205,7 +199,7 @@ neighbours_between size n part whole dart darts (b ∷ bs) back few is_partner w
     let holds_all : AllByRecursion (λ z. IsIn (whole z) (dart ∷ (b ∷ bs) ++ whole dart ∷ back)) (dart ∷ (b ∷ bs) ++ whole dart ∷ back) =
     subst (λ (zs : List ℕ). AllByRecursion (λ z. IsIn (whole z) zs) zs) is_all holds in
     let here = cut n part whole dart (whole dart) b bs back is_partner whole_partner is_part planar full row_all refl
-    (all_front (λ z. IsIn (whole z) (dart ∷ (b ∷ bs) ++ whole dart ∷ back)) (b ∷ bs) (whole dart ∷ back) holds_all.1) in
+    (AllByRecursion-first (λ z. IsIn (whole z) (dart ∷ (b ∷ bs) ++ whole dart ∷ back)) (b ∷ bs) (whole dart ∷ back) holds_all.1) in
     let shorter : length bs < size = omega (arith, few, ap length is, length-append (b ∷ bs) (whole dart ∷ back)) in
     let found = again here.after b bs shorter here.is_partner here.is_part here.is_row here.holds in
     record {

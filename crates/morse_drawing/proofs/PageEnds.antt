@@ -1,5 +1,5 @@
 -- The steps of a drawing come to an end, where all crossings are drawn and all arcs are closed.
-use Rattle.std.proofs.Common.{◌≡◌, ℕ, zero, suc, ◌⊎◌, inl, inr, ◌+◌, ◌*◌, ◌/◌, ◌<◌, ◌≤◌, ◌∙◌, List, [], ◌∷◌, length, refl, sym, ap, subst, arith, Bool, true, false, cond}
+use Rattle.std.proofs.Common.{◌≡◌, ℕ, zero, suc, ◌⊎◌, inl, inr, ◌*◌, ◌/◌, ◌<◌, ◌≤◌, ◌∙◌, List, [], ◌∷◌, length, refl, sym, ap, subst, arith, Bool, true, false, cond}
 use Rattle.std.specs.Prelude.{min, not, None, IsTrue}
 use Rattle.std.specs.List.{count_by, range_with_len}
 use Rattle.std.proofs.lemmas.Bool.{both_ways}
@@ -71,11 +71,7 @@ all-undrawn n = count_by-all (λ c. not (is_in [] c)) (range_with_len 0 n) (λ c
     count_by-all : (p : ℕ → Bool) (xs : List ℕ) → ((x : ℕ) → p x ≡ true) → count_by p xs ≡ length xs
     count_by-all p [] holds = refl
     count_by-all p (x ∷ xs) holds =
-        sum_by-cons (λ y. cond (p y) 1 0) x xs ∙ ap (λ b. cond b 1 0 + count_by p xs) (holds x)
-        ∙ one_more (count_by p xs) (length xs) (count_by-all p xs holds)
-      where
-        one_more : (k m : ℕ) → k ≡ m → 1 + k ≡ suc m
-        one_more k m same = omega (arith, same)
+        omega (arith, sum_by-cons (λ y. cond (p y) 1 0) x xs, ap {B = ℕ} (λ b. cond b 1 0) (holds x), count_by-all p xs holds)
 
 pub IsPage-blank_page : (n : ℕ) (whole : ℕ → ℕ) → IsPage n whole blank_page
 IsPage-blank_page n whole = record {

@@ -1,8 +1,11 @@
 -- Searches in ranges, and lists of numbers, in the drawing of a code.
-use Rattle.std.proofs.Common.{◌≡◌, ◌≢◌, ℕ, zero, suc, inl, inr, ◌+◌, ◌<◌, ◌≤◌, ◌∙◌, List, [], ◌∷◌, ◌++◌, length, refl, sym, ap, arith, Bool, true, false, cond}
+use Rattle.std.proofs.Common.{◌≡◌, ℕ, zero, suc, inl, inr, ◌+◌, ◌<◌, ◌≤◌, ◌∙◌, List, [], ◌∷◌, ◌++◌, length, take, drop, refl, sym, ap, arith, Bool, true, false, cond}
 use Rattle.std.specs.Prelude.{nat_eq, not, ◌||◌, Some, None}
 use Rattle.std.specs.List.{count_by, find, range_with_len}
-use Rattle.std.proofs.lemmas.Bool.{cases_Bool, cases_eq, both_ways, eq-eqb, eqb-true, ne_eqb, not-true}
+use Rattle.std.proofs.lemmas.Bool.{cases_Bool, cases_eq, both_ways, eq-eqb, eqb-true, not-true}
+use Rattle.std.proofs.lemmas.Bool.Decides.{nat_tests}
+use Rattle.std.proofs.Math.Bool.{or-true}
+use Rattle.std.proofs.lemmas.List.{length-append, length-drop, length-take-le}
 use Rattle.std.proofs.lemmas.List.Sums.{count_by-le-length, sum_by-append}
 use Rattle.std.proofs.lemmas.List.FromFn.{length-range_with_len}
 use Rattle.kh_types.proofs.RangeCounts.{count_by-one_more}
@@ -37,6 +40,12 @@ Search-is test a (suc n) = elim (cases_Bool (test a)) [
       ]
 ]
 
+-- two tests are one where each holds with the other
+pub alike : (a b : Bool) → (a ≡ true → b ≡ true) → (b ≡ true → a ≡ true) → a ≡ b
+alike true b to from = sym (to refl)
+alike false true to from = from refl
+alike false false to from = refl
+
 -- a number stands in a list where the test says so
 pub in-true : (y : ℕ) (xs : List ℕ) → is_in xs y ≡ true → IsIn y xs
 in-true y [] holds = absurd (both_ways false refl holds)
@@ -45,15 +54,11 @@ in-true y (x ∷ xs) holds = elim (cases_Bool (nat_eq y x)) [
   | inr apart ↦ inr (in-true y xs (sym (ap (λ b. b || is_in xs y) apart) ∙ holds))
 ]
 
-pub or_right : (b : Bool) → (b || true) ≡ true
-or_right true = refl
-or_right false = refl
-
 pub true-in : (y : ℕ) (xs : List ℕ) → IsIn y xs → is_in xs y ≡ true
 true-in y [] stands = absurd stands
 true-in y (x ∷ xs) stands = elim stands [
   | inl same ↦ ap (λ b. b || is_in xs y) (eq-eqb y x same)
-  | inr later ↦ ap (λ b. nat_eq y x || b) (true-in y xs later) ∙ or_right (nat_eq y x)
+  | inr later ↦ ap (λ b. nat_eq y x || b) (true-in y xs later) ∙ or-true (nat_eq y x)
 ]
 
 pub not-in : (y : ℕ) (xs : List ℕ) → not (is_in xs y) ≡ true → IsIn y xs → ⊥
@@ -73,20 +78,38 @@ pub in_next : (x y : ℕ) (front back : List ℕ) → IsIn y (front ++ x ∷ y �
 in_next x y [] back = inr (inl refl)
 in_next x y (z ∷ zs) back = inr (in_next x y zs back)
 
-pub drawn-here : (c : ℕ) (drawn : List ℕ) → not (nat_eq c c || is_in drawn c) ≡ false
-drawn-here c drawn = ap (λ b. not (b || is_in drawn c)) (eq-eqb c c refl)
-
-pub drawn-other : (c k : ℕ) (drawn : List ℕ) → k ≢ c → not (is_in drawn k) ≡ not (nat_eq k c || is_in drawn k)
-drawn-other c k drawn apart = sym (ap (λ b. not (b || is_in drawn k)) (ne_eqb k c apart))
-
 pub undrawn-fewer : (n c : ℕ) (drawn : List ℕ) → c < n → not (is_in drawn c) ≡ true
     → undrawn_count n drawn ≡ undrawn_count n (c ∷ drawn) + 1
 undrawn-fewer n c drawn below passes =
     count_by-one_more (λ k. not (is_in drawn k)) (λ k. not (is_in (c ∷ drawn) k)) 0 n c (omega arith) (omega (arith, below)) passes
-    (drawn-here c drawn) (λ k apart. drawn-other c k drawn apart)
+    (grind (arith, nat_tests)) (λ k apart. grind (arith, nat_tests))
 
-pub length-three : (x : ℕ) → length (other_three x) ≡ 3
+length-three : (x : ℕ) → length (other_three x) ≡ 3
 length-three x = refl
+
+-- how long the row is after a crossing and after a cup
+pub length-crossed : (k dart : ℕ) (row : List ℕ) → k < length row
+    → length (take k row ++ other_three dart ++ drop (k + 1) row) ≡ length row + 2
+length-crossed k dart row within =
+    omega (
+      arith,
+      length-append (take k row ++ other_three dart) (drop (k + 1) row),
+      length-append (take k row) (other_three dart),
+      length-three dart,
+      length-take-le k row (omega (arith, within)),
+      length-drop (k + 1) row,
+      within,
+    )
+
+pub length-closed : (k : ℕ) (row : List ℕ) → k + 1 < length row → length (take k row ++ drop (k + 2) row) + 2 ≡ length row
+length-closed k row within =
+    omega (
+      arith,
+      length-append (take k row) (drop (k + 2) row),
+      length-take-le k row (omega (arith, within)),
+      length-drop (k + 2) row,
+      within,
+    )
 
 -- how many crossings the slices of the rules have
 pub crosses-append : (xs ys : List Slice) → count_by is_cross (xs ++ ys) ≡ count_by is_cross xs + count_by is_cross ys

@@ -5,7 +5,7 @@ use Rattle.std.specs.Option.{IsSome}
 use Rattle.std.specs.List.{AllByRecursion}
 use Rattle.std.proofs.Math.Seq.{get_or-append_seam}
 use Rattle.std.proofs.lemmas.Bool.{both_ways, eq-eqb, eqb-true}
-use Rattle.std.proofs.lemmas.List.{get_or-append-add, length-append, length-drop, length-take-le}
+use Rattle.std.proofs.lemmas.List.{get_or-append-add, length-append, length-take-le}
 use Rattle.face_walk.specs.AddedArcs.{with_arc}
 use Rattle.morse_drawing.specs.DartRows.{IsDrawing, IsIn, other_three}
 use Rattle.morse_drawing.specs.Pages.{Page, are_paired, by_crossing, by_row, by_pair, is_in, leading, leads_on, paired, next_page, next_page_by, undrawn}
@@ -22,7 +22,7 @@ use Rattle.morse_drawing.proofs.Parts.{parts-one, parts-two}
 use Rattle.morse_drawing.proofs.Neighbours.{all_in}
 use Rattle.morse_drawing.proofs.PieceCounts.{pieces-closed, pieces-crossed}
 use Rattle.morse_drawing.proofs.Faults.{faults-begun, faults-closed, faults-crossed, first_slice_fault-none}
-use Rattle.morse_drawing.proofs.PageLemmas.{Search-is, not-in, is-in, in_middle, in_next, undrawn-fewer, length-three, crosses-append, begun-crosses, crossed-crosses, closed-crosses, count-le}
+use Rattle.morse_drawing.proofs.PageLemmas.{Search-is, not-in, is-in, in_middle, in_next, undrawn-fewer, length-closed, length-crossed, crosses-append, begun-crosses, crossed-crosses, closed-crosses, count-le}
 use Rattle.morse_drawing.proofs.PageLemmas.Search.{missing, some}
 
 pub next_page-empty : (n : ℕ) (whole : ℕ → ℕ) (page : Page) → IsPage n whole page → page.row ≡ []
@@ -122,14 +122,7 @@ next_page-pair n whole page dart darts is_whole is same_row at_drawn = elim (Sea
       (subst (λ (zs : List ℕ). IsSketched n is.part whole page.drawn zs (sketch_of page.slices)) (parts-two k row within) is.reading)
       is_arc (ap whole (sym is_arc) ∙ is_whole.pairing.back x x_open.0)
       (λ same. is_whole.full x x_open.0 (is_arc ∙ same)) x_open.0 y_open.0 x_drawn y_drawn) in
-      let shorter : length (take k row ++ drop (k + 2) row) + 2 ≡ length row =
-      omega (
-        arith,
-        length-append (take k row) (drop (k + 2) row),
-        length-take-le k row (omega (arith, within)),
-        length-drop (k + 2) row,
-        within,
-      ) in
+      let shorter = length-closed k row within in
       subst (λ (o : Option ℕ). IsNextPage n whole page (by_pair page o)) (sym found)
       (record {
         is_page = record {
@@ -205,16 +198,7 @@ next_page-row n whole page dart darts is_whole is same_row = elim (Search-is (le
       (subst (λ (zs : List ℕ). IsIn x zs) (sym row_is) (in_middle x (take k row) (drop (k + 1) row))) in
       let other_below : other / 4 < n = omega (arith, is_whole.pairing.below x x_open.0) in
       let one_fewer = undrawn-fewer n (other / 4) page.drawn other_below passes in
-      let longer : length (take k row ++ other_three other ++ drop (k + 1) row) ≡ length row + 2 =
-      omega (
-        arith,
-        length-append (take k row ++ other_three other) (drop (k + 1) row),
-        length-append (take k row) (other_three other),
-        length-three other,
-        length-take-le k row (omega (arith, within)),
-        length-drop (k + 1) row,
-        within,
-      ) in
+      let longer = length-crossed k other row within in
       subst (λ (o : Option ℕ). IsNextPage n whole page (by_row whole page o)) (sym found)
       (record {
         is_page = record {

@@ -32,7 +32,7 @@ use Rattle.morse_drawing.specs.declared.slice.Slice.TheVariants.{Cap, Cup}
 use Rattle.morse_drawing.proofs.Faults.{cap-right, cup-right, first_slice_fault-none}
 use Rattle.morse_drawing.proofs.Loops.{IsEnded, IsEnded-loops, IsEnded-next, IsEnded-sketched, loops-counted, loops-faultless}
 use Rattle.morse_drawing.proofs.PageEnds.{IsDrawn-page_of, IsWholeSphere-accepted, least_same}
-use Rattle.morse_drawing.proofs.PageLemmas.{crosses-append}
+use Rattle.morse_drawing.proofs.PageLemmas.{alike, crosses-append}
 
 -- tests
 pub and_first : (a b : Bool) → (a && b) ≡ true → a ≡ true
@@ -46,14 +46,12 @@ and_second false b holds = absurd (both_ways false refl holds)
 pub and_both : (a b : Bool) → a ≡ true → b ≡ true → (a && b) ≡ true
 and_both a b first second = ap (λ t. t && b) first ∙ second
 
-pub alike : (a b : Bool) → (a ≡ true → b ≡ true) → (b ≡ true → a ≡ true) → a ≡ b
-alike a b to from = elim (cases_Bool a) [
-  | inl holds ↦ holds ∙ sym (to holds)
-  | inr fails ↦ elim (cases_Bool b) [
-    | inl other ↦ absurd (both_ways a fails (from other))
-    | inr also ↦ fails ∙ sym also
-  ]
-]
+-- what four tests say that all hold
+pub and_four : (a b c d : Bool) → (a && (b && (c && d))) ≡ true → (a ≡ true) × (b ≡ true) × (c ≡ true) × (d ≡ true)
+and_four a b c d holds =
+    let rest = and_second a (b && (c && d)) holds in
+    let last = and_second b (c && d) rest in
+    (and_first a (b && (c && d)) holds, and_first b (c && d) rest, and_first c d last, and_second c d last)
 
 pub lt-true : (x y : ℕ) → nat_lt x y ≡ true → x < y
 lt-true x y holds = grind (arith, nat_tests)
@@ -115,10 +113,10 @@ ends-are n whole k loops r x y is_whole is x_below =
     let four = nat_eq (class_met r x) (class_met r y) in
     alike (are_ends r x y) (is_first whole x && nat_eq y (whole x))
     (λ holds.
-    let less = lt-true x y (and_first one (two && (three && four)) holds) in
-    let rest = and_second two (three && four) (and_second one (two && (three && four)) holds) in
-    let y_below = is.known y (and_first three four rest) in
-    let joined = eqb-true (class_met r x) (class_met r y) (and_second three four rest) in
+    let parts = and_four one two three four holds in
+    let less = lt-true x y parts.0 in
+    let y_below = is.known y parts.2 in
+    let joined = eqb-true (class_met r x) (class_met r y) parts.3 in
     elim (partners-joined n whole k loops r x y is_whole is x_below y_below joined) [
       | inl same ↦ absurd (omega (arith, less, same))
       | inr partner ↦
@@ -155,9 +153,8 @@ pairs-are limit n whole k loops r small is_whole is =
     no_ends x y from = elim (cases_Bool (are_ends r x y)) [
       | inr fails ↦ fails
       | inl holds ↦
-          let rest = is_met r.met y && nat_eq (class_met r x) (class_met r y) in
-          let met = and_first (is_met r.met x) rest (and_second (nat_lt x y) (is_met r.met x && rest) holds) in
-          absurd (omega (arith, from, is.known x met))
+          let parts = and_four (nat_lt x y) (is_met r.met x) (is_met r.met y) (nat_eq (class_met r x) (class_met r y)) holds in
+          absurd (omega (arith, from, is.known x parts.1))
     ]
 
     one_pair : (x : ℕ) → x < 4 * n → pairs_from limit r x ≡ cond (is_first whole x) (arc_from whole x ∷ []) []
@@ -227,12 +224,12 @@ length-slices n whole loops is_whole =
 no-crosses : (loops : ℕ) → count_by is_cross (loop_slices loops) ≡ 0
 no-crosses zero = refl
 no-crosses (suc loops) =
-    sum_by-cons (λ s. cond (is_cross s) 1 0) (Cap 1) (Cup 1 ∷ loop_slices loops)
-    ∙ ap (λ k. 0 + k) (sum_by-cons (λ s. cond (is_cross s) 1 0) (Cup 1) (loop_slices loops))
-    ∙ none (count_by is_cross (loop_slices loops)) (no-crosses loops)
-  where
-    none : (k : ℕ) → k ≡ 0 → 0 + (0 + k) ≡ 0
-    none k is = omega (arith, is)
+    omega (
+      arith,
+      sum_by-cons (λ s. cond (is_cross s) 1 0) (Cap 1) (Cup 1 ∷ loop_slices loops),
+      sum_by-cons (λ s. cond (is_cross s) 1 0) (Cup 1) (loop_slices loops),
+      no-crosses loops,
+    )
 
 -- the slices have each crossing once
 pub crosses-slices : (n : ℕ) (whole : ℕ → ℕ) (loops : ℕ) → IsWholeSphere n whole → count_by is_cross (slices_with n whole loops) ≡ n
@@ -246,14 +243,7 @@ crosses-slices n whole loops is_whole =
 
 -- the code that is read back
 joins-one : (r : Result JoinedDarts SliceFault) (one two : JoinedDarts) → r ≡ Ok one → r ≡ Ok two → two ≡ one
-joins-one r one two first second = inside (Ok two) one (sym second ∙ first) two refl
-  where
-    value : Result JoinedDarts SliceFault → JoinedDarts → JoinedDarts
-    value (Ok joins) other = joins
-    value (Err fault) other = other
-
-    inside : (s : Result JoinedDarts SliceFault) (a : JoinedDarts) → s ≡ Ok a → (b : JoinedDarts) → s ≡ Ok b → b ≡ a
-    inside s a to_a b to_b = ap (λ t. value t a) (sym to_b ∙ to_a)
+joins-one r one two first second = cc
 
 pub AreAlikeCodes-sketched : (limit : ℕ) (code : Code) (joins : JoinedDarts) → limit ≤ 31 → length code.crossings ≤ limit → IsTrue (accepted code)
     → joined_within limit (slices_with (length code.crossings) (partner_at code.crossings) code.loops) ≡ Ok joins

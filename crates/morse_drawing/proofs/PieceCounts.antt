@@ -15,7 +15,8 @@ use Rattle.face_walk.proofs.OpenFaces.{IsNamed-open_pieces, open_faces-in_pieces
 use Rattle.kh_types.proofs.RangeImages.{all-map_range, map_range-agree}
 use Rattle.morse_drawing.specs.DartRows.{IsDrawing, IsIn}
 use Rattle.morse_drawing.proofs.Helpers.{open_faces-step, open_pieces-inside}
-use Rattle.morse_drawing.proofs.Links.{all_back, all_map, AreLinked-keeps}
+use Rattle.morse_drawing.proofs.Links.{AreLinked-keeps}
+use Rattle.kh_types.proofs.Lists.{AllByRecursion-second, AllByRecursion-weaker}
 use Rattle.morse_drawing.proofs.RowMoves.{IsDartRow-turned}
 
 -- a crossing whose darts have no arcs is a piece by itself
@@ -50,8 +51,8 @@ pub pieces-crossed : (n : ℕ) (part whole : ℕ → ℕ) (drawn front back : Li
     → open_piece_count n part ≡ open_piece_count n (with_arc part dart (whole dart)) + 1
 pieces-crossed n part whole drawn front back dart whole_partner drawing new =
     let other = whole dart in
-    let here = (all_back (λ z. (z < 4 * n) × (part z ≡ z)) front (dart ∷ back) drawing.is_row.are_open).0 in
-    let dart_drawn = (all_back (λ z. IsIn (z / 4) drawn) front (dart ∷ back) drawing.at_drawn).0 in
+    let here = (AllByRecursion-second (λ z. (z < 4 * n) × (part z ≡ z)) front (dart ∷ back) drawing.is_row.are_open).0 in
+    let dart_drawn = (AllByRecursion-second (λ z. IsIn (z / 4) drawn) front (dart ∷ back) drawing.at_drawn).0 in
     let other_below = whole_partner.below dart here.0 in
     let bare : (x : ℕ) → x < 4 * n → x / 4 ≡ other / 4 → part x ≡ x =
     λ x below at. drawing.others_bare x below (λ is_in. new (subst (λ (c : ℕ). IsIn c drawn) at is_in)) in
@@ -75,7 +76,7 @@ pieces-closed n part whole drawn front back dart other drawing =
     let here = row.are_open.0 in
     let there = row.are_open.1.0 in
     let in_face = AreLinked-keeps face n part dart dart darts (λ z z_below. open_faces-step n part z drawing.is_partner z_below) here.0
-    (all_map (λ z. (z < 4 * n) × (part z ≡ z)) (λ z. z < 4 * n) darts (λ z all. all.0) row.are_open.1) row.round in
+    (AllByRecursion-weaker (λ z. (z < 4 * n) × (part z ≡ z)) (λ z. z < 4 * n) darts (λ z all. all.0) row.are_open.1) row.round in
     let together = open_faces-in_pieces n part dart other drawing.is_partner here.0 there.0 (sym in_face.0.0) in
     let more = HasArcMore-with_arc (4 * n) part dart other here.0 there.0 (λ same. row.once.0.0 (sym same)) here.1 there.1 in
     ap class_count (open_pieces-inside n part (with_arc part dart other) dart other drawing.is_partner more together)

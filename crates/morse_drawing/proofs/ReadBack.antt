@@ -9,7 +9,9 @@ use Rattle.kh_types.specs.Darts.{HasArcsTwice, arc_of, dart_at, partner_at}
 use Rattle.kh_types.specs.declared.dart.Dart.{Dart}
 use Rattle.kh_types.proofs.DartPairs.{IsOtherPlace-partner_at, dart_place-at, partner_at-only}
 use Rattle.morse_drawing.specs.Joins.{arc_from, arc_pairs, ends_of, is_first}
+use Rattle.std.proofs.Math.Bool.{or-true}
 use Rattle.morse_drawing.proofs.NextPages.{IsWholeSphere}
+use Rattle.morse_drawing.proofs.PageLemmas.{alike}
 use Rattle.morse_drawing.specs.ReadBack.{crossing_read, has_dart, pair_number}
 
 -- whether a pair has a dart
@@ -23,27 +25,14 @@ has-one : (x : ℕ) (e : ℕ × ℕ) → has x e ≡ true → (e.0 ≡ x) ⊎ (e
 has-one x e holds = from e.0 e.1 (sym (has-is x e) ∙ holds)
   where
     from : (a b : ℕ) → (nat_eq a x || (nat_eq b x || false)) ≡ true → (a ≡ x) ⊎ (b ≡ x)
-    from a b h = elim (cases_eq a x) [
-      | inl same ↦ inl same
-      | inr apart ↦ elim (cases_eq b x) [
-        | inl same ↦ inr same
-        | inr other ↦ absurd (both_ways (nat_eq a x || (nat_eq b x || false)) (neither a b apart other) h)
-      ]
-    ]
-      where
-        neither : (c d : ℕ) → c ≢ x → d ≢ x → (nat_eq c x || (nat_eq d x || false)) ≡ false
-        neither c d one two = grind (arith, nat_tests)
+    from a b h = grind (arith, nat_tests)
 
 has-first : (x : ℕ) (e : ℕ × ℕ) → e.0 ≡ x → has x e ≡ true
 has-first x e same = has-is x e ∙ ap (λ t. t || (nat_eq e.1 x || false)) (eq-eqb e.0 x same)
 
 has-second : (x : ℕ) (e : ℕ × ℕ) → e.1 ≡ x → has x e ≡ true
 has-second x e same =
-    has-is x e ∙ ap (λ t. nat_eq e.0 x || (t || false)) (eq-eqb e.1 x same) ∙ or_true (nat_eq e.0 x)
-  where
-    or_true : (b : Bool) → (b || true) ≡ true
-    or_true true = refl
-    or_true false = refl
+    has-is x e ∙ ap (λ t. nat_eq e.0 x || (t || false)) (eq-eqb e.1 x same) ∙ or-true (nat_eq e.0 x)
 
 -- an arc of a whole
 abbrev IsArcPair : ℕ → (ℕ → ℕ) → ℕ × ℕ → Type 0
@@ -53,16 +42,12 @@ all-arcs : (n : ℕ) (whole : ℕ → ℕ) (p : ℕ → Bool) (a m : ℕ) → a 
     → AllByRecursion (IsArcPair n whole) (map (arc_from whole) (filter p (range_with_len a m)))
 all-arcs n whole p a zero within = tt
 all-arcs n whole p a (suc m) within =
-    let rest = range_with_len (a + 1) m in
-    let later = all-arcs n whole p (a + 1) m (omega (arith, within)) in
-    elim (cases_Bool (p a)) [
-      | inl holds ↦
-          subst (λ (zs : List ℕ). AllByRecursion (IsArcPair n whole) (map (arc_from whole) zs))
-          (sym (ap (λ b. cond b (a ∷ filter p rest) (filter p rest)) holds)) ((omega (arith, within), refl), later)
-      | inr fails ↦
-          subst (λ (zs : List ℕ). AllByRecursion (IsArcPair n whole) (map (arc_from whole) zs))
-          (sym (ap (λ b. cond b (a ∷ filter p rest) (filter p rest)) fails)) later
-    ]
+    by_case (p a) (filter p (range_with_len (a + 1) m)) (all-arcs n whole p (a + 1) m (omega (arith, within)))
+  where
+    by_case : (b : Bool) (rest : List ℕ) → AllByRecursion (IsArcPair n whole) (map (arc_from whole) rest)
+        → AllByRecursion (IsArcPair n whole) (map (arc_from whole) (cond b (a ∷ rest) rest))
+    by_case true rest later = ((omega (arith, within), refl), later)
+    by_case false rest later = later
 
 -- a pair stands in the list of arcs
 Stands : (ℕ × ℕ) → List (ℕ × ℕ) → Type 0
@@ -108,47 +93,32 @@ record Common (n : ℕ) (whole : ℕ → ℕ) (x y : ℕ) : Type 0 where
 
 number-positive : (y : ℕ) (pairs : List (List Dart)) → 1 ≤ pair_number y pairs
 number-positive y [] = omega arith
-number-positive y (pair ∷ pairs) = elim (cases_Bool (has_dart y pair)) [
-  | inl holds ↦ one_or_more (pair_number y pairs) (ap (λ b. cond b 1 (suc (pair_number y pairs))) holds)
-  | inr fails ↦ two_or_more (pair_number y pairs) (ap (λ b. cond b 1 (suc (pair_number y pairs))) fails)
-]
+number-positive y (pair ∷ pairs) = by_case (has_dart y pair)
   where
-    one_or_more : (k : ℕ) → pair_number y (pair ∷ pairs) ≡ 1 → 1 ≤ pair_number y (pair ∷ pairs)
-    one_or_more k same = omega (arith, same)
+    by_case : (b : Bool) → 1 ≤ cond b 1 (suc (pair_number y pairs))
+    by_case true = omega arith
+    by_case false = omega arith
 
-    two_or_more : (k : ℕ) → pair_number y (pair ∷ pairs) ≡ suc k → 1 ≤ pair_number y (pair ∷ pairs)
-    two_or_more k same = omega (arith, same)
+-- numbers that begin alike go on alike
+numbers-same : (a b : Bool) (k m : ℕ) → 1 ≤ k → 1 ≤ m → cond a 1 (suc k) ≡ cond b 1 (suc m)
+    → ((a ≡ true) × (b ≡ true)) ⊎ ((a ≡ false) × (k ≡ m))
+numbers-same true true k m first second same = inl (refl, refl)
+numbers-same true false k m first second same = absurd (omega (arith, same, second))
+numbers-same false true k m first second same = absurd (omega (arith, same, first))
+numbers-same false false k m first second same = inr (refl, omega (arith, same))
 
 common : (n : ℕ) (whole : ℕ → ℕ) (x y : ℕ) (found : ℕ × ℕ) (xs : List (ℕ × ℕ)) → AllByRecursion (IsArcPair n whole) xs
     → Stands found xs → has x found ≡ true → pair_number x (map ends_of xs) ≡ pair_number y (map ends_of xs) → Common n whole x y
 unfolding Stands
 common n whole x y found [] arcs stands passes same = absurd stands
 common n whole x y found (e ∷ xs) arcs stands passes same =
-    let x_rest = pair_number x (map ends_of xs) in
-    let y_rest = pair_number y (map ends_of xs) in
-    let x_positive = number-positive x (map ends_of xs) in
-    let y_positive = number-positive y (map ends_of xs) in
-    elim (cases_Bool (has x e)) [
-      | inl x_has ↦ elim (cases_Bool (has y e)) [
-        | inl y_has ↦ record { pair = e; is_arc = arcs.0; first = x_has; second = y_has }
-        | inr y_not ↦
-            let one : 1 ≡ suc y_rest =
-            sym (ap (λ b. cond b 1 (suc x_rest)) x_has) ∙ same ∙ ap (λ b. cond b 1 (suc y_rest)) y_not in
-            absurd (omega (arith, one, y_positive))
-      ]
-      | inr x_not ↦ elim (cases_Bool (has y e)) [
-        | inl y_has ↦
-            let one : suc x_rest ≡ 1 =
-            sym (ap (λ b. cond b 1 (suc x_rest)) x_not) ∙ same ∙ ap (λ b. cond b 1 (suc y_rest)) y_has in
-            absurd (omega (arith, one, x_positive))
-        | inr y_not ↦
-            let one : suc x_rest ≡ suc y_rest =
-            sym (ap (λ b. cond b 1 (suc x_rest)) x_not) ∙ same ∙ ap (λ b. cond b 1 (suc y_rest)) y_not in
-            let less : x_rest ≡ y_rest = omega (arith, one) in
-            elim stands [
-              | inl here ↦ absurd (both_ways (has x e) x_not (ap (λ w. has x w) here ∙ passes))
-              | inr later ↦ common n whole x y found xs arcs.1 later passes less
-            ]
+    let begun = numbers-same (has x e) (has y e) (pair_number x (map ends_of xs)) (pair_number y (map ends_of xs))
+    (number-positive x (map ends_of xs)) (number-positive y (map ends_of xs)) same in
+    elim begun [
+      | inl both ↦ record { pair = e; is_arc = arcs.0; first = both.0; second = both.1 }
+      | inr neither ↦ elim stands [
+        | inl here ↦ absurd (both_ways (has x e) neither.0 (ap (λ w. has x w) here ∙ passes))
+        | inr later ↦ common n whole x y found xs arcs.1 later passes neither.1
       ]
     ]
 
@@ -194,19 +164,10 @@ numbers-partners n whole x y is x_below y_below =
         inr (sym y_one ∙ sym (is.pairing.back e.0 arc.0) ∙ ap whole (sym arc.1 ∙ x_two))
     ends e arc (inr x_two) (inr y_two) = inl (sym y_two ∙ x_two)
 
-    same_test : (a b : Bool) → (a ≡ true → b ≡ true) → (b ≡ true → a ≡ true) → a ≡ b
-    same_test a b to from = elim (cases_Bool a) [
-      | inl holds ↦ holds ∙ sym (to holds)
-      | inr fails ↦ elim (cases_Bool b) [
-        | inl other ↦ absurd (both_ways a fails (from other))
-        | inr also ↦ fails ∙ sym also
-      ]
-    ]
-
     swapped : (xs : List (ℕ × ℕ)) → AllByRecursion (IsArcPair n whole) xs → AllByRecursion (λ e. has x e ≡ has (whole x) e) xs
     swapped [] all = tt
     swapped (e ∷ xs) all = (
-      same_test (has x e) (has (whole x) e)
+      alike (has x e) (has (whole x) e)
           (λ holds. elim (has-one x e holds) [
             | inl one ↦ has-second (whole x) e (all.0.1 ∙ ap whole one)
             | inr two ↦ has-first (whole x) e (sym (is.pairing.back e.0 all.0.0) ∙ ap whole (sym all.0.1 ∙ two))

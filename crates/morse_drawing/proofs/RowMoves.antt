@@ -6,14 +6,15 @@ use Rattle.kh_types.specs.Darts.{turned, face_step}
 use Rattle.face_walk.specs.AddedArcs.{HasArcMore}
 use Rattle.morse_drawing.specs.DartRows.{IsLink, AreLinked, AreRound, AreDifferent, IsDartRow, turned_back, other_three}
 use Rattle.morse_drawing.proofs.RowPlaces.{IsBare}
-use Rattle.morse_drawing.proofs.Links.{all_append, all_map, all_two, IsLink-through, IsLink-moved, AreLinked-append, AreLinked-from, AreLinked-moved}
+use Rattle.kh_types.proofs.Lists.{AllByRecursion-append, AllByRecursion-both, AllByRecursion-weaker}
+use Rattle.morse_drawing.proofs.Links.{IsLink-through, IsLink-moved, AreLinked-append, AreLinked-from, AreLinked-moved}
 
 -- a row is turned round: its first dart goes to its end
 
 different_more : (x : ℕ) (xs : List ℕ) → AreDifferent xs → AllByRecursion (λ z. z ≢ x) xs → AreDifferent (xs ++ x ∷ [])
 different_more x [] once beside = (tt, tt)
 different_more x (y ∷ ys) once beside =
-    (all_append (λ z. z ≢ y) ys (x ∷ []) once.0 (λ same. beside.0 (sym same), tt), different_more x ys once.1 beside.1)
+    (AllByRecursion-append (λ z. z ≢ y) ys (x ∷ []) once.0 (λ same. beside.0 (sym same), tt), different_more x ys once.1 beside.1)
 
 round_once : (n : ℕ) (partner : ℕ → ℕ) (x : ℕ) (xs : List ℕ) → AreRound n partner (x ∷ xs) → AreRound n partner (xs ++ x ∷ [])
 round_once n partner x [] round = round
@@ -22,7 +23,7 @@ round_once n partner x (y ∷ ys) round = AreLinked-append n partner y x y ys []
 row_once : (n : ℕ) (partner : ℕ → ℕ) (x : ℕ) (xs : List ℕ) → IsDartRow n partner (x ∷ xs) → IsDartRow n partner (xs ++ x ∷ [])
 row_once n partner x xs row = record {
   round = round_once n partner x xs row.round;
-  are_open = all_append (λ z. (z < 4 * n) × (partner z ≡ z)) xs (x ∷ []) row.are_open.1 (row.are_open.0, tt);
+  are_open = AllByRecursion-append (λ z. (z < 4 * n) × (partner z ≡ z)) xs (x ∷ []) row.are_open.1 (row.are_open.0, tt);
   once = different_more x xs row.once.1 row.once.0;
 }
 
@@ -42,21 +43,22 @@ AreLinked-to n partner left further right (b ∷ bs) below is_closed more linked
     (IsLink-through n partner b left further below is_closed linked.0 more, linked.1)
 
 -- the darts of a row that are neither of the two of a new arc are as open as before
-beside_two : (n : ℕ) (partner : ℕ → ℕ) (dart other : ℕ) (xs : List ℕ) → AllByRecursion (λ z. (z < 4 * n) × (partner z ≡ z)) xs
+pub beside_two : (n : ℕ) (partner : ℕ → ℕ) (dart other : ℕ) (xs : List ℕ) → AllByRecursion (λ z. (z < 4 * n) × (partner z ≡ z)) xs
     → AllByRecursion (λ z. z ≢ dart) xs → AllByRecursion (λ z. z ≢ other) xs
     → AllByRecursion (λ z. (z < 4 * n) × ((z ≢ dart) × (z ≢ other))) xs
 beside_two n partner dart other xs is_open one two =
-    all_map (λ z. ((z < 4 * n) × (partner z ≡ z)) × ((z ≢ dart) × (z ≢ other))) (λ z. (z < 4 * n) × ((z ≢ dart) × (z ≢ other))) xs
-    (λ z all. (all.0.0, all.1))
-    (all_two (λ z. (z < 4 * n) × (partner z ≡ z)) (λ z. (z ≢ dart) × (z ≢ other)) xs is_open (all_two (λ z. z ≢ dart) (λ z. z ≢ other) xs one two))
+    AllByRecursion-both (λ z. (z < 4 * n) × (partner z ≡ z)) (λ z. (z ≢ dart) × (z ≢ other))
+    (λ z. (z < 4 * n) × ((z ≢ dart) × (z ≢ other))) xs
+    (λ z here apart. (here.0, apart)) is_open
+    (AllByRecursion-both (λ z. z ≢ dart) (λ z. z ≢ other) (λ z. (z ≢ dart) × (z ≢ other)) xs (λ z first second. (first, second)) one two)
 
-open_after : (n : ℕ) (before after : ℕ → ℕ) (dart other : ℕ) (xs : List ℕ) → HasArcMore (4 * n) before after dart other
+pub open_after : (n : ℕ) (before after : ℕ → ℕ) (dart other : ℕ) (xs : List ℕ) → HasArcMore (4 * n) before after dart other
     → AllByRecursion (λ z. (z < 4 * n) × (before z ≡ z)) xs → AllByRecursion (λ z. (z < 4 * n) × ((z ≢ dart) × (z ≢ other))) xs
     → AllByRecursion (λ z. (z < 4 * n) × (after z ≡ z)) xs
 open_after n before after dart other xs more is_open beside =
-    all_map (λ z. ((z < 4 * n) × (before z ≡ z)) × ((z < 4 * n) × ((z ≢ dart) × (z ≢ other)))) (λ z. (z < 4 * n) × (after z ≡ z)) xs
-    (λ z all. (all.0.0, more.others z all.0.0 all.1.1.0 all.1.1.1 ∙ all.0.1))
-    (all_two (λ z. (z < 4 * n) × (before z ≡ z)) (λ z. (z < 4 * n) × ((z ≢ dart) × (z ≢ other))) xs is_open beside)
+    AllByRecursion-both (λ z. (z < 4 * n) × (before z ≡ z)) (λ z. (z < 4 * n) × ((z ≢ dart) × (z ≢ other)))
+    (λ z. (z < 4 * n) × (after z ≡ z)) xs
+    (λ z here apart. (here.0, more.others z here.0 apart.1.0 apart.1.1 ∙ here.1)) is_open beside
 
 -- rule 3: two neighbours become partners, and leave the row
 
@@ -93,21 +95,6 @@ turned-turned_back x = omega arith
 turned-thrice : (x : ℕ) → turned x ≡ turned_back (turned_back (turned_back x))
 turned-thrice x = omega arith
 
-turned_back-crossing : (x : ℕ) → turned_back x / 4 ≡ x / 4
-turned_back-crossing x = omega arith
-
-turned_back-below : (n x : ℕ) → x < 4 * n → turned_back x < 4 * n
-turned_back-below n x below = omega (arith, below)
-
-turned_back-other : (x : ℕ) → turned_back x ≢ x
-turned_back-other x same = omega (arith, same)
-
-turned_back-twice : (x : ℕ) → turned_back (turned_back x) ≢ x
-turned_back-twice x same = omega (arith, same)
-
-turned_back-thrice : (x : ℕ) → turned_back (turned_back (turned_back x)) ≢ x
-turned_back-thrice x same = omega (arith, same)
-
 -- a step to the next open dart
 IsLink-next_page : (n : ℕ) (partner : ℕ → ℕ) (x y : ℕ) → face_step partner x ≡ y → IsLink n partner x y
 IsLink-next_page n partner x y next_page = record { between = []; way = next_page; closed = tt }
@@ -118,20 +105,21 @@ cross_first n before after dart other zs more bare row =
     let one = turned_back other in
     let two = turned_back one in
     let three = turned_back two in
-    let one_crossing = turned_back-crossing other in
-    let two_crossing = turned_back-crossing one ∙ one_crossing in
-    let three_crossing = turned_back-crossing two ∙ two_crossing in
-    let one_below = turned_back-below n other bare.below in
-    let two_below = turned_back-below n one one_below in
-    let three_below = turned_back-below n two two_below in
+    let one_crossing : one / 4 ≡ other / 4 = omega arith in
+    let two_crossing : two / 4 ≡ other / 4 = omega arith in
+    let three_crossing : three / 4 ≡ other / 4 = omega arith in
+    let one_below : one < 4 * n = omega (arith, bare.below) in
+    let two_below : two < 4 * n = omega (arith, bare.below) in
+    let three_below : three < 4 * n = omega (arith, bare.below) in
     let away : (x : ℕ) → x / 4 ≡ other / 4 → x ≢ dart = λ x at same. bare.beside.0 (ap (λ z. z / 4) (sym same) ∙ at) in
     let stays : (x : ℕ) → x < 4 * n → x / 4 ≡ other / 4 → x ≢ other → after x ≡ x =
     λ x below at not_other. more.others x below (away x at) not_other ∙ bare.alone x at in
-    let one_open = stays one one_below one_crossing (turned_back-other other) in
-    let two_open = stays two two_below two_crossing (turned_back-twice other) in
-    let three_open = stays three three_below three_crossing (turned_back-thrice other) in
+    let one_open = stays one one_below one_crossing (λ same. omega (arith, same)) in
+    let two_open = stays two two_below two_crossing (λ same. omega (arith, same)) in
+    let three_open = stays three three_below three_crossing (λ same. omega (arith, same)) in
     let not_at : (x : ℕ) → x / 4 ≡ other / 4 → AllByRecursion (λ z. z ≢ x) zs =
-    λ x at. all_map (λ z. z / 4 ≢ other / 4) (λ z. z ≢ x) zs (λ z differ same. differ (ap (λ w. w / 4) same ∙ at)) bare.beside.1 in
+    λ x at. AllByRecursion-weaker (λ z. z / 4 ≢ other / 4) (λ z. z ≢ x) zs (λ z differ same. differ (ap (λ w. w / 4) same ∙ at))
+    bare.beside.1 in
     let beside = beside_two n before dart other zs row.are_open.1 row.once.0 (not_at other refl) in
     let dart_closed : after dart ≢ dart = λ same. more.apart (sym same ∙ more.dart_after) in
     let other_closed : after other ≢ other = λ same. more.apart (sym more.other_after ∙ same) in
@@ -153,8 +141,8 @@ cross_first n before after dart other zs more bare row =
         ((two_below, two_open), ((three_below, three_open), open_after n before after dart other zs more row.are_open.1 beside)),
       );
       once = (
-        (turned_back-other one, (turned_back-twice one, not_at one one_crossing)),
-        ((turned_back-other two, not_at two two_crossing), (not_at three three_crossing, row.once.1)),
+        ((λ same. omega (arith, same)), ((λ same. omega (arith, same)), not_at one one_crossing)),
+        (((λ same. omega (arith, same)), not_at two two_crossing), (not_at three three_crossing, row.once.1)),
       );
     }
 
@@ -163,7 +151,8 @@ all_turned P [] ys holds = subst (λ (zs : List ℕ). AllByRecursion P zs) (sym 
 all_turned P (x ∷ xs) ys holds =
     subst (λ (zs : List ℕ). AllByRecursion P zs) (append_assoc ys (x ∷ []) xs)
     (all_turned P xs (ys ++ x ∷ [])
-    (subst (λ (zs : List ℕ). AllByRecursion P zs) (append_assoc xs ys (x ∷ [])) (all_append P (xs ++ ys) (x ∷ []) holds.1 (holds.0, tt))))
+    (subst (λ (zs : List ℕ). AllByRecursion P zs) (append_assoc xs ys (x ∷ []))
+    (AllByRecursion-append P (xs ++ ys) (x ∷ []) holds.1 (holds.0, tt))))
 
 pub IsDartRow-crossed : (n : ℕ) (before after : ℕ → ℕ) (dart other : ℕ) (front back : List ℕ) → HasArcMore (4 * n) before after dart other
     → IsBare n before (front ++ dart ∷ back) other → IsDartRow n before (front ++ dart ∷ back)
@@ -185,15 +174,10 @@ IsDartRow-bare n partner dart bare =
     let one = turned_back dart in
     let two = turned_back one in
     let three = turned_back two in
-    let one_crossing = turned_back-crossing dart in
-    let two_crossing = turned_back-crossing one ∙ one_crossing in
-    let three_crossing = turned_back-crossing two ∙ two_crossing in
-    let one_below = turned_back-below n dart bare.below in
-    let two_below = turned_back-below n one one_below in
     let zero_open = bare.alone dart refl in
-    let one_open = bare.alone one one_crossing in
-    let two_open = bare.alone two two_crossing in
-    let three_open = bare.alone three three_crossing in
+    let one_open = bare.alone one (omega arith) in
+    let two_open = bare.alone two (omega arith) in
+    let three_open = bare.alone three (omega arith) in
     record {
       round = (
         IsLink-next_page n partner one dart (ap turned one_open ∙ turned-turned_back dart),
@@ -207,10 +191,10 @@ IsDartRow-bare n partner dart bare =
       );
       are_open = (
         (bare.below, zero_open),
-        ((one_below, one_open), ((two_below, two_open), ((turned_back-below n two two_below, three_open), tt))),
+        ((omega (arith, bare.below), one_open), ((omega (arith, bare.below), two_open), ((omega (arith, bare.below), three_open), tt))),
       );
       once = (
-        (turned_back-other dart, (turned_back-twice dart, (turned_back-thrice dart, tt))),
-        ((turned_back-other one, (turned_back-twice one, tt)), ((turned_back-other two, tt), (tt, tt))),
+        ((λ same. omega (arith, same)), ((λ same. omega (arith, same)), ((λ same. omega (arith, same)), tt))),
+        (((λ same. omega (arith, same)), ((λ same. omega (arith, same)), tt)), (((λ same. omega (arith, same)), tt), (tt, tt))),
       );
     }

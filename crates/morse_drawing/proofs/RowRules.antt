@@ -1,14 +1,15 @@
 -- The rules of the drawing keep what the row is, and rule 3 always finds its pair.
 use Rattle.std.proofs.Common.{◌≡◌, ◌≢◌, ℕ, inl, inr, ◌*◌, ◌/◌, ◌<◌, ◌∙◌, List, [], ◌∷◌, ◌++◌, refl, sym, ap, subst, arith}
 use Rattle.std.specs.List.{AllByRecursion}
+use Rattle.std.proofs.lemmas.Bool.{cases_eq}
 use Rattle.kh_types.specs.Darts.{IsPairing}
 use Rattle.face_walk.specs.AddedArcs.{IsPlanar, with_arc, bare}
-use Rattle.morse_drawing.specs.DartRows.{IsIn, AreDifferent, IsDrawing, turned_back, other_three}
+use Rattle.morse_drawing.specs.DartRows.{IsIn, AreDifferent, IsDrawing, other_three}
 use Rattle.morse_drawing.proofs.RowPlaces.{HasNeighbours}
 use Rattle.face_walk.proofs.BareCrossings.{IsPairing-bare}
 use Rattle.face_walk.proofs.AddedArcs.{HasArcMore-with_arc, IsPairing-more}
-use Rattle.morse_drawing.proofs.Helpers.{same_or_other, IsPart-more}
-use Rattle.morse_drawing.proofs.Links.{all_append, all_front, all_back, all_map}
+use Rattle.morse_drawing.proofs.Helpers.{IsPart-more}
+use Rattle.kh_types.proofs.Lists.{AllByRecursion-append, AllByRecursion-first, AllByRecursion-second, AllByRecursion-weaker}
 use Rattle.morse_drawing.proofs.Neighbours.{in_either, all_in, all_by_in, in_front, HasNeighbours-row}
 use Rattle.morse_drawing.proofs.RowMoves.{IsDartRow-bare, IsDartRow-crossed, IsDartRow-closed}
 
@@ -18,20 +19,7 @@ in_back y (b ∷ bs) cs is_in = inr (in_back y bs cs is_in)
 
 -- the four darts of a crossing
 four_darts : (x dart : ℕ) → x / 4 ≡ dart / 4 → IsIn x (dart ∷ other_three dart)
-four_darts x dart at = elim (same_or_other x dart) [
-  | inl zero ↦ inl zero
-  | inr not_zero ↦ elim (same_or_other x (turned_back dart)) [
-    | inl one ↦ inr (inl one)
-    | inr not_one ↦ elim (same_or_other x (turned_back (turned_back dart))) [
-      | inl two ↦ inr (inr (inl two))
-      | inr not_two ↦ inr (inr (inr (inl (last x dart at not_zero not_one not_two))))
-    ]
-  ]
-]
-  where
-    last : (x dart : ℕ) → x / 4 ≡ dart / 4 → x ≢ dart → x ≢ turned_back dart → x ≢ turned_back (turned_back dart)
-        → x ≡ turned_back (turned_back (turned_back dart))
-    last x dart at not_zero not_one not_two = omega (arith, at, not_zero, not_one, not_two)
+four_darts x dart at = grind (arith)
 
 below_there : (n x dart : ℕ) → dart < 4 * n → x / 4 ≡ dart / 4 → x < 4 * n
 below_there n x dart below at = omega (arith, below, at)
@@ -64,7 +52,8 @@ IsDrawing-first n part whole drawn dart drawing below new = record {
       });
   at_drawn = (
     inl refl,
-    all_map (λ z. z / 4 ≡ dart / 4) (λ z. IsIn (z / 4) (dart / 4 ∷ drawn)) (other_three dart) (λ z at. inl at) (three_there dart),
+    AllByRecursion-weaker (λ z. z / 4 ≡ dart / 4) (λ z. IsIn (z / 4) (dart / 4 ∷ drawn)) (other_three dart)
+        (λ z at. inl at) (three_there dart),
   );
   all_open = λ x x_below is_open is_in. elim is_in [
     | inl here ↦ four_darts x dart here
@@ -80,8 +69,8 @@ pub IsDrawing-crossed : (n : ℕ) (part whole : ℕ → ℕ) (drawn front back :
 IsDrawing-crossed n part whole drawn front back dart whole_partner drawing new =
     let other = whole dart in
     let after = with_arc part dart (whole dart) in
-    let here = (all_back (λ z. (z < 4 * n) × (part z ≡ z)) front (dart ∷ back) drawing.is_row.are_open).0 in
-    let dart_drawn = (all_back (λ z. IsIn (z / 4) drawn) front (dart ∷ back) drawing.at_drawn).0 in
+    let here = (AllByRecursion-second (λ z. (z < 4 * n) × (part z ≡ z)) front (dart ∷ back) drawing.is_row.are_open).0 in
+    let dart_drawn = (AllByRecursion-second (λ z. IsIn (z / 4) drawn) front (dart ∷ back) drawing.at_drawn).0 in
     let other_below = whole_partner.below dart here.0 in
     let bare : (x : ℕ) → x / 4 ≡ other / 4 → part x ≡ x =
     λ x at. drawing.others_bare x (below_there n x other other_below at) (λ is_in. new (subst (λ (c : ℕ). IsIn c drawn) at is_in)) in
@@ -96,24 +85,25 @@ IsDrawing-crossed n part whole drawn front back dart whole_partner drawing new =
           (record {
             below = other_below;
             alone = bare;
-            beside = all_map (λ z. IsIn (z / 4) drawn) (λ z. z / 4 ≢ other / 4) (front ++ dart ∷ back)
+            beside = AllByRecursion-weaker (λ z. IsIn (z / 4) drawn) (λ z. z / 4 ≢ other / 4) (front ++ dart ∷ back)
                 (λ z is_in at. new (subst (λ (c : ℕ). IsIn c drawn) at is_in)) drawing.at_drawn;
           }) drawing.is_row;
-      at_drawn = all_append (λ z. IsIn (z / 4) (other / 4 ∷ drawn)) (front ++ other_three other) back
-          (all_append (λ z. IsIn (z / 4) (other / 4 ∷ drawn)) front (other_three other)
-          (all_map (λ z. IsIn (z / 4) drawn) (λ z. IsIn (z / 4) (other / 4 ∷ drawn)) front (λ z is_in. inr is_in)
-          (all_front (λ z. IsIn (z / 4) drawn) front (dart ∷ back) drawing.at_drawn))
-          (all_map (λ z. z / 4 ≡ other / 4) (λ z. IsIn (z / 4) (other / 4 ∷ drawn)) (other_three other) (λ z at. inl at) (three_there other)))
-          (all_map (λ z. IsIn (z / 4) drawn) (λ z. IsIn (z / 4) (other / 4 ∷ drawn)) back (λ z is_in. inr is_in)
-          (all_back (λ z. IsIn (z / 4) drawn) front (dart ∷ back) drawing.at_drawn).1);
+      at_drawn = AllByRecursion-append (λ z. IsIn (z / 4) (other / 4 ∷ drawn)) (front ++ other_three other) back
+          (AllByRecursion-append (λ z. IsIn (z / 4) (other / 4 ∷ drawn)) front (other_three other)
+          (AllByRecursion-weaker (λ z. IsIn (z / 4) drawn) (λ z. IsIn (z / 4) (other / 4 ∷ drawn)) front (λ z is_in. inr is_in)
+          (AllByRecursion-first (λ z. IsIn (z / 4) drawn) front (dart ∷ back) drawing.at_drawn))
+          (AllByRecursion-weaker (λ z. z / 4 ≡ other / 4) (λ z. IsIn (z / 4) (other / 4 ∷ drawn)) (other_three other)
+          (λ z at. inl at) (three_there other)))
+          (AllByRecursion-weaker (λ z. IsIn (z / 4) drawn) (λ z. IsIn (z / 4) (other / 4 ∷ drawn)) back (λ z is_in. inr is_in)
+          (AllByRecursion-second (λ z. IsIn (z / 4) drawn) front (dart ∷ back) drawing.at_drawn).1);
       all_open = λ x x_below is_open is_in. elim is_in [
         | inl at_other ↦ elim (four_darts x other at_other) [
           | inl is_other ↦ absurd (other_closed (ap after (sym is_other) ∙ is_open ∙ is_other))
           | inr in_three ↦ in_front x (front ++ other_three other) back (in_back x front (other_three other) in_three)
         ]
-        | inr before ↦ elim (same_or_other x dart) [
+        | inr before ↦ elim (cases_eq x dart) [
           | inl is_dart ↦ absurd (dart_closed (ap after (sym is_dart) ∙ is_open ∙ is_dart))
-          | inr not_dart ↦ elim (same_or_other x other) [
+          | inr not_dart ↦ elim (cases_eq x other) [
             | inl is_other ↦ absurd (other_closed (ap after (sym is_other) ∙ is_open ∙ is_other))
             | inr not_other ↦
                 let found = drawing.all_open x x_below (sym (more.others x x_below not_dart not_other) ∙ is_open) before in
@@ -144,8 +134,8 @@ pub IsDrawing-closed : (n : ℕ) (part whole : ℕ → ℕ) (drawn front back : 
     → IsDrawing n (with_arc part dart other) whole drawn (front ++ back)
 IsDrawing-closed n part whole drawn front back dart other whole_partner drawing is_arc =
     let after = with_arc part dart other in
-    let here = all_back (λ z. (z < 4 * n) × (part z ≡ z)) front (dart ∷ other ∷ back) drawing.is_row.are_open in
-    let drawn_here = all_back (λ z. IsIn (z / 4) drawn) front (dart ∷ other ∷ back) drawing.at_drawn in
+    let here = AllByRecursion-second (λ z. (z < 4 * n) × (part z ≡ z)) front (dart ∷ other ∷ back) drawing.is_row.are_open in
+    let drawn_here = AllByRecursion-second (λ z. IsIn (z / 4) drawn) front (dart ∷ other ∷ back) drawing.at_drawn in
     let apart : dart ≢ other = apart_in front dart other back drawing.is_row.once in
     let more = HasArcMore-with_arc (4 * n) part dart other here.0.0 here.1.0.0 apart here.0.1 here.1.0.1 in
     let dart_closed : after dart ≢ dart = λ same. apart (sym same ∙ more.dart_after) in
@@ -154,11 +144,11 @@ IsDrawing-closed n part whole drawn front back dart other whole_partner drawing 
       is_partner = IsPairing-more (4 * n) part after dart other drawing.is_partner more;
       is_part = IsPart-more (4 * n) part after whole dart other whole_partner drawing.is_part more is_arc;
       is_row = IsDartRow-closed n part after dart other front back more drawing.is_row;
-      at_drawn = all_append (λ z. IsIn (z / 4) drawn) front back
-          (all_front (λ z. IsIn (z / 4) drawn) front (dart ∷ other ∷ back) drawing.at_drawn) drawn_here.1.1;
-      all_open = λ x x_below is_open is_in. elim (same_or_other x dart) [
+      at_drawn = AllByRecursion-append (λ z. IsIn (z / 4) drawn) front back
+          (AllByRecursion-first (λ z. IsIn (z / 4) drawn) front (dart ∷ other ∷ back) drawing.at_drawn) drawn_here.1.1;
+      all_open = λ x x_below is_open is_in. elim (cases_eq x dart) [
         | inl is_dart ↦ absurd (dart_closed (ap after (sym is_dart) ∙ is_open ∙ is_dart))
-        | inr not_dart ↦ elim (same_or_other x other) [
+        | inr not_dart ↦ elim (cases_eq x other) [
           | inl is_other ↦ absurd (other_closed (ap after (sym is_other) ∙ is_open ∙ is_other))
           | inr not_other ↦
               let found = drawing.all_open x x_below (sym (more.others x x_below not_dart not_other) ∙ is_open) is_in in

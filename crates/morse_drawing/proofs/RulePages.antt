@@ -1,8 +1,8 @@
 -- Pages follow one another by the rules, and no others do.
 use Rattle.std.proofs.Common.{◌≡◌, ℕ, zero, suc, ◌⊎◌, inl, inr, ◌+◌, ◌-◌, ◌*◌, ◌/◌, ◌<◌, ◌≤◌, ◌∙◌, List, [], ◌∷◌, length, refl, sym, ap, ap₂, subst, arith, ◌++◌, Bool, true, false, cond, not, IsTrue, eq-eqb, eqb-true}
-use Rattle.std.specs.Prelude.{get_or, nat_eq, Some, None}
+use Rattle.std.specs.Prelude.{get_or, Some, None}
 use Rattle.std.specs.List.{find, range_with_len}
-use Rattle.std.proofs.lemmas.Bool.{both_ways, cases_Bool}
+use Rattle.std.proofs.lemmas.Bool.{both_ways, cases_Bool, cases_eq, ne_eqb}
 use Rattle.kh_types.specs.Acceptance.{accepted}
 use Rattle.kh_types.specs.Code.{Code}
 use Rattle.kh_types.specs.Darts.{partner_at}
@@ -11,7 +11,7 @@ use Rattle.morse_drawing.specs.DartRows.{IsIn}
 use Rattle.morse_drawing.specs.Pages.{Page, are_paired, blank_page, by_crossing, by_pair, by_row, is_in, leading, leads_on, loop_slices, next_page, next_page_by, page_of, paired, pages_on, slices_of, undrawn}
 use Rattle.morse_drawing.specs.PageRules.{ArePages, ArePagesBehind, Follows, IsLastPage, IsLeastUndrawn, IsLeftmostLeading, IsLeftmostPair, LeadsOn, last_page}
 use Rattle.morse_drawing.proofs.PageEnds.{IsDrawn-page_of, IsWholeSphere-accepted}
-use Rattle.morse_drawing.proofs.PageLemmas.{in-true, true-in}
+use Rattle.morse_drawing.proofs.PageLemmas.{in-true, is-in, not-in, true-in}
 
 -- a search finds the first number that passes
 
@@ -21,31 +21,21 @@ pub record IsFirst (p : ℕ → Bool) (a n k : ℕ) : Type 0 where
   pub passes : p k ≡ true
   pub earlier : (x : ℕ) → a ≤ x → x < k → p x ≡ false
 
-le_cases : (a k : ℕ) → a ≤ k → (a ≡ k) ⊎ (a < k)
-le_cases a k from = grind arith
-
 first-found : (p : ℕ → Bool) (a n k : ℕ) → IsFirst p a n k → find p (range_with_len a n) ≡ Some k
 first-found p a zero k is = absurd (omega (arith, is.from, is.below))
-first-found p a (suc n) k is = elim (cases_Bool (p a)) [
-  | inl here ↦
-      ap (λ b. cond b (Some a) (find p (range_with_len (a + 1) n))) here
-      ∙ ap (λ x. Some x) (only a k here is.passes is.from (λ below. is.earlier a (omega arith) below))
-  | inr away ↦
-      ap (λ b. cond b (Some a) (find p (range_with_len (a + 1) n))) away
+first-found p a (suc n) k is = elim (cases_eq a k) [
+  | inl same ↦
+      ap (λ b. cond b (Some a) (find p (range_with_len (a + 1) n))) (ap p same ∙ is.passes) ∙ ap (λ x. Some x) same
+  | inr apart ↦
+      ap (λ b. cond b (Some a) (find p (range_with_len (a + 1) n))) (is.earlier a (omega arith) (omega (arith, is.from, apart)))
       ∙ first-found p (a + 1) n k
       (record {
-        from = later a k (λ same. both_ways (p a) away (ap p same ∙ is.passes)) is.from;
+        from = omega (arith, is.from, apart);
         below = omega (arith, is.below);
         passes = is.passes;
         earlier = λ x from below. is.earlier x (omega (arith, from)) below;
       })
 ]
-  where
-    only : (a k : ℕ) → p a ≡ true → p k ≡ true → a ≤ k → (a < k → p a ≡ false) → a ≡ k
-    only a k here there from no_earlier = elim (le_cases a k from) [ inl same ↦ same | inr less ↦ absurd (both_ways (p a) (no_earlier less) here) ]
-
-    later : (a k : ℕ) → ¬ (a ≡ k) → a ≤ k → a + 1 ≤ k
-    later a k apart from = elim (le_cases a k from) [ inl same ↦ absurd (apart same) | inr less ↦ omega (arith, less) ]
 
 -- or there is none
 searched : (p : ℕ → Bool) (a n : ℕ)
@@ -62,15 +52,15 @@ searched p a (suc n) = elim (cases_Bool (p a)) [
             from = omega (arith, found.1.from);
             below = omega (arith, found.1.below);
             passes = found.1.passes;
-            earlier = λ x from below. elim (le_cases a x from) [
-              | inl same ↦ ap p (sym same) ∙ away
-              | inr less ↦ found.1.earlier x (omega (arith, less)) below
+            earlier = λ x from below. elim (cases_eq x a) [
+              | inl same ↦ ap p same ∙ away
+              | inr apart ↦ found.1.earlier x (omega (arith, from, apart)) below
             ];
           },
         )
-    | inr none ↦ inr (λ x from below. elim (le_cases a x from) [
-      | inl same ↦ ap p (sym same) ∙ away
-      | inr less ↦ none x (omega (arith, less)) (omega (arith, below))
+    | inr none ↦ inr (λ x from below. elim (cases_eq x a) [
+      | inl same ↦ ap p same ∙ away
+      | inr apart ↦ none x (omega (arith, from, apart)) (omega (arith, below))
     ])
   ]
 ]
@@ -83,23 +73,11 @@ not_in x xs none = elim (cases_Bool (is_in xs x)) [
   | inr fails ↦ ap not fails
 ]
 
-in_not : (x : ℕ) (xs : List ℕ) → not (is_in xs x) ≡ true → ¬ IsIn x xs
-in_not x xs holds is = both_ways (not (is_in xs x)) (ap not (true-in x xs is)) holds
-
-stands : (x : ℕ) (xs : List ℕ) → not (is_in xs x) ≡ false → IsIn x xs
-stands x xs fails = elim (cases_Bool (is_in xs x)) [
-  | inl holds ↦ in-true x xs holds
-  | inr away ↦ absurd (both_ways (not (is_in xs x)) fails (ap not away))
-]
-
 fails_in : (x : ℕ) (xs : List ℕ) → ¬ (¬ IsIn x xs) → not (is_in xs x) ≡ false
 fails_in x xs nearly = elim (cases_Bool (is_in xs x)) [
   | inl holds ↦ ap not holds
-  | inr away ↦ absurd (nearly (in_not x xs (ap not away)))
+  | inr away ↦ absurd (nearly (not-in x xs (ap not away)))
 ]
-
-fails_eq : (x y : ℕ) → ¬ (x ≡ y) → nat_eq x y ≡ false
-fails_eq x y apart = elim (cases_Bool (nat_eq x y)) [ inl same ↦ absurd (apart (eqb-true x y same)) | inr other ↦ other ]
 
 -- the searches of the definition
 
@@ -136,7 +114,7 @@ paired-is partner page place is =
       from = omega arith;
       below = omega (arith, is.within);
       passes = eq-eqb (partner (get_or page.row place 0)) (get_or page.row (place + 1) 0) is.partners;
-      earlier = λ x from below. fails_eq (partner (get_or page.row x 0)) (get_or page.row (x + 1) 0) (is.leftmost x below);
+      earlier = λ x from below. ne_eqb (partner (get_or page.row x 0)) (get_or page.row (x + 1) 0) (is.leftmost x below);
     })
 
 row-step : (n : ℕ) (partner : ℕ → ℕ) (page : Page) (row : List ℕ) → 0 < length row
@@ -190,8 +168,8 @@ next-follows n partner page = by page.row refl
             row = row_is;
             least = record {
               below = omega (arith, found.1.below);
-              not_drawn = in_not found.0 page.drawn found.1.passes;
-              least = λ x below. stands x page.drawn (found.1.earlier x (omega arith) below);
+              not_drawn = not-in found.0 page.drawn found.1.passes;
+              least = λ x below. is-in x page.drawn (found.1.earlier x (omega arith) below);
             };
             made = ap (next_page_by n partner page) row_is ∙ ap (by_crossing page) (first-found (λ x. not (is_in page.drawn x)) 0 n found.0 found.1);
           }))
@@ -209,8 +187,9 @@ next-follows n partner page = by page.row refl
                 place = found.0;
                 leading = record {
                   within = omega (arith, found.1.below);
-                  leads = in_not (partner (get_or page.row found.0 0) / 4) page.drawn found.1.passes;
-                  leftmost = λ x below leads. leads (stands (partner (get_or page.row x 0) / 4) page.drawn (found.1.earlier x (omega arith) below));
+                  leads = not-in (partner (get_or page.row found.0 0) / 4) page.drawn found.1.passes;
+                  leftmost = λ x below leads. leads (is-in (partner (get_or page.row x 0) / 4) page.drawn
+                      (found.1.earlier x (omega arith) below));
                 };
                 made = step
                     ∙ ap (by_row partner page) (first-found (leads_on partner page.drawn page.row) 0 (length page.row) found.0 found.1);
@@ -226,7 +205,7 @@ next-follows n partner page = by page.row refl
                     (record {
                       place = found.0;
                       none_leads = λ x below leads.
-                          leads (stands (partner (get_or page.row x 0) / 4) page.drawn (none x (omega arith) (omega (arith, below))));
+                          leads (is-in (partner (get_or page.row x 0) / 4) page.drawn (none x (omega arith) (omega (arith, below))));
                       pair = record {
                         within = omega (arith, found.1.below);
                         partners = eqb-true (partner (get_or page.row found.0 0)) (get_or page.row (found.0 + 1) 0) found.1.passes;

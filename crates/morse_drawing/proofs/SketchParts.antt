@@ -1,14 +1,13 @@
 -- What changes in what is read of slices, when a cup or a cross is read.
-use Rattle.std.proofs.Common.{◌≡◌, ◌≢◌, ℕ, inl, inr, ◌+◌, ◌-◌, ◌*◌, ◌/◌, ◌%◌, ◌<◌, ◌≤◌, ◌∙◌, List, [], ◌∷◌, ◌++◌, length, get_or, map, take, drop, refl, sym, ap, ap₂, arith, Bool, true, false, cond, min}
-use Rattle.std.specs.Prelude.{◌⊎◌, ◌||◌, nat_eq, nat_lt}
-use Rattle.std.specs.List.{AllByRecursion}
+use Rattle.std.proofs.Common.{◌≡◌, ◌≢◌, ℕ, inl, inr, ◌+◌, ◌-◌, ◌*◌, ◌/◌, ◌%◌, ◌<◌, ◌≤◌, ◌∙◌, List, [], ◌∷◌, ◌++◌, length, get_or, map, take, drop, refl, sym, ap, ap₂, arith, true, cond, min}
+use Rattle.std.specs.Prelude.{◌⊎◌, nat_eq, nat_lt}
 use Rattle.std.proofs.Math.Seq.{drop-append_seam, get_or-append_seam, take-append_seam}
-use Rattle.std.proofs.lemmas.Bool.{cases_eq, eq-eqb, ne_eqb}
+use Rattle.std.proofs.lemmas.Bool.{cases_eq}
 use Rattle.std.proofs.lemmas.Bool.Decides.{nat_tests}
 use Rattle.std.proofs.lemmas.List.{append_assoc, length-append}
 use Rattle.kh_types.specs.Classes.{AreBelow, Respects}
 use Rattle.face_walk.specs.AddedArcs.{with_arc}
-use Rattle.morse_drawing.specs.Sketches.{Sketch, dart_after, is_met, segment_met, sketched, with_cross, with_cup}
+use Rattle.morse_drawing.specs.Sketches.{IsReached, Sketch, dart_after, is_met, segment_met, sketched, with_cross, with_cup}
 use Rattle.morse_drawing.specs.DartRows.{turned_back}
 use Rattle.morse_drawing.specs.declared.slice.Slice.TheVariants.{Cap, Cup, Cross}
 
@@ -98,14 +97,8 @@ pub record Parted (zipped : List (ℕ × ℕ)) (front : List ℕ) (x : ℕ) (bac
 
 pub parted : (zipped : List (ℕ × ℕ)) (front : List ℕ) (x : ℕ) (back : List ℕ) → map dart zipped ≡ front ++ x ∷ back
     → Parted zipped front x back
-parted [] [] x back same = absurd (never same)
-  where
-    never : [] ≡ x ∷ back → ⊥
-    never h = cc
-parted [] (y ∷ front) x back same = absurd (never same)
-  where
-    never : [] ≡ y ∷ (front ++ x ∷ back) → ⊥
-    never h = cc
+parted [] [] x back same = absurd (omega (arith, ap (λ zs. length zs) same))
+parted [] (y ∷ front) x back same = absurd (omega (arith, ap (λ zs. length zs) same))
 parted (e ∷ zipped) [] x back same =
     let heads : e.1 ≡ x = ap (λ zs. get_or zs 0 0) same in
     let tails : map dart zipped ≡ back = ap (λ zs. drop 1 zs) same in
@@ -131,32 +124,19 @@ parted (e ∷ zipped) (y ∷ front) x back same =
 
 pub head_of : (zipped : List (ℕ × ℕ)) (y : ℕ) (back : List ℕ) → map dart zipped ≡ y ∷ back
     → (b : ℕ) × (behind : List (ℕ × ℕ)) × (zipped ≡ (b, y) ∷ behind) × (map dart behind ≡ back)
-head_of [] y back same = absurd (never same)
-  where
-    never : [] ≡ y ∷ back → ⊥
-    never h = cc
+head_of [] y back same = absurd (omega (arith, ap (λ zs. length zs) same))
 head_of (e ∷ zipped) y back same =
     (e.0, zipped, ap (λ d. pair_of e.0 d ∷ zipped) (ap (λ zs. get_or zs 0 0) same), ap (λ zs. drop 1 zs) same)
 
-pub all_change : (P Q : ℕ × ℕ → Type 0) (xs : List (ℕ × ℕ)) → ((e : ℕ × ℕ) → P e → Q e) → AllByRecursion P xs → AllByRecursion Q xs
-all_change P Q [] change holds = tt
-all_change P Q (x ∷ xs) change holds = (change x holds.0, all_change P Q xs change holds.1)
-
-pub all_both : (P Q : ℕ × ℕ → Type 0) (xs : List (ℕ × ℕ)) → AllByRecursion P xs → AllByRecursion Q xs → AllByRecursion (λ e. P e × Q e) xs
-all_both P Q [] first second = tt
-all_both P Q (x ∷ xs) first second = ((first.0, second.0), all_both P Q xs first.1 second.1)
-
 -- a partner function with an arc more
 pub arc-first : (part : ℕ → ℕ) (x y : ℕ) → with_arc part x y x ≡ y
-arc-first part x y = ap (λ b. cond b y (cond (nat_eq x y) x (part x))) (eq-eqb x x refl)
+arc-first part x y = grind (arith, nat_tests)
 
 pub arc-second : (part : ℕ → ℕ) (x y : ℕ) → y ≢ x → with_arc part x y y ≡ x
-arc-second part x y apart =
-    ap (λ b. cond b y (cond (nat_eq y y) x (part y))) (ne_eqb y x apart) ∙ ap (λ b. cond b x (part y)) (eq-eqb y y refl)
+arc-second part x y apart = grind (arith, nat_tests)
 
 pub arc-other : (part : ℕ → ℕ) (x y z : ℕ) → z ≢ x → z ≢ y → with_arc part x y z ≡ part z
-arc-other part x y z not_x not_y =
-    ap (λ b. cond b y (cond (nat_eq z y) x (part z))) (ne_eqb z x not_x) ∙ ap (λ b. cond b x (part z)) (ne_eqb z y not_y)
+arc-other part x y z not_x not_y = grind (arith, nat_tests)
 
 pub min_swap : (x y : ℕ) → min x y ≡ min y x
 min_swap x y = omega arith
@@ -165,26 +145,6 @@ min_swap x y = omega arith
 abbrev pub chain : ℕ → ℕ → ℕ → ℕ → ℕ → ℕ → ℕ → ℕ → ℕ → ℕ → ℕ
 chain d0 d1 d2 d3 a p q b w z =
     cond (nat_eq d0 z) a (cond (nat_eq d1 z) p (cond (nat_eq d2 z) q (cond (nat_eq d3 z) b w)))
-
-pub chain-zero : (d0 d1 d2 d3 a p q b w z : ℕ) → d0 ≡ z → chain d0 d1 d2 d3 a p q b w z ≡ a
-chain-zero d0 d1 d2 d3 a p q b w z same = ap (λ t. cond t a (cond (nat_eq d1 z) p (cond (nat_eq d2 z) q (cond (nat_eq d3 z) b w)))) (eq-eqb d0 z same)
-
-pub chain-one : (d0 d1 d2 d3 a p q b w z : ℕ) → d0 ≢ z → d1 ≡ z → chain d0 d1 d2 d3 a p q b w z ≡ p
-chain-one d0 d1 d2 d3 a p q b w z no0 same =
-    ap (λ t. cond t a (cond (nat_eq d1 z) p (cond (nat_eq d2 z) q (cond (nat_eq d3 z) b w)))) (ne_eqb d0 z no0)
-    ∙ ap (λ t. cond t p (cond (nat_eq d2 z) q (cond (nat_eq d3 z) b w))) (eq-eqb d1 z same)
-
-pub chain-two : (d0 d1 d2 d3 a p q b w z : ℕ) → d0 ≢ z → d1 ≢ z → d2 ≡ z → chain d0 d1 d2 d3 a p q b w z ≡ q
-chain-two d0 d1 d2 d3 a p q b w z no0 no1 same =
-    ap (λ t. cond t a (cond (nat_eq d1 z) p (cond (nat_eq d2 z) q (cond (nat_eq d3 z) b w)))) (ne_eqb d0 z no0)
-    ∙ ap (λ t. cond t p (cond (nat_eq d2 z) q (cond (nat_eq d3 z) b w))) (ne_eqb d1 z no1)
-    ∙ ap (λ t. cond t q (cond (nat_eq d3 z) b w)) (eq-eqb d2 z same)
-
-pub chain-rest : (d0 d1 d2 d3 a p q b w z : ℕ) → d0 ≢ z → d1 ≢ z → d2 ≢ z → chain d0 d1 d2 d3 a p q b w z ≡ cond (nat_eq d3 z) b w
-chain-rest d0 d1 d2 d3 a p q b w z no0 no1 no2 =
-    ap (λ t. cond t a (cond (nat_eq d1 z) p (cond (nat_eq d2 z) q (cond (nat_eq d3 z) b w)))) (ne_eqb d0 z no0)
-    ∙ ap (λ t. cond t p (cond (nat_eq d2 z) q (cond (nat_eq d3 z) b w))) (ne_eqb d1 z no1)
-    ∙ ap (λ t. cond t q (cond (nat_eq d3 z) b w)) (ne_eqb d2 z no2)
 
 abbrev pub turn_one : ℕ → ℕ
 turn_one o = turned_back o
@@ -206,24 +166,6 @@ d-two o = omega arith
 
 pub d-three : (o : ℕ) → dart_after (o / 4 + 1) (o % 4) 3 ≡ turn_three o
 d-three o = omega arith
-
-pub zero-one : (o : ℕ) → o ≢ turn_one o
-zero-one o same = omega (arith, same)
-
-pub zero-two : (o : ℕ) → o ≢ turn_two o
-zero-two o same = omega (arith, same)
-
-pub zero-three : (o : ℕ) → o ≢ turn_three o
-zero-three o same = omega (arith, same)
-
-pub one-two : (o : ℕ) → turn_one o ≢ turn_two o
-one-two o same = omega (arith, same)
-
-pub one-three : (o : ℕ) → turn_one o ≢ turn_three o
-one-three o same = omega (arith, same)
-
-pub two-three : (o : ℕ) → turn_two o ≢ turn_three o
-two-three o same = omega (arith, same)
 
 pub crossing-one : (o : ℕ) → turn_one o / 4 ≡ o / 4
 crossing-one o = omega arith
@@ -270,99 +212,64 @@ pub record IsMet (o a b next : ℕ) (met : List (ℕ × ℕ)) : Type 0 where
 
 pub is-met : (o a b next : ℕ) (met : List (ℕ × ℕ)) → IsMet o a b next met
 is-met o a b next met =
-    let c = o / 4 + 1 in
-    let s = o % 4 in
-    let d0 = dart_after c s 0 in
-    let d1 = dart_after c s 1 in
-    let d2 = dart_after c s 2 in
-    let d3 = dart_after c s 3 in
-    let e0 = d-zero o in
-    let e1 = d-one o in
-    let e2 = d-two o in
-    let e3 = d-three o in
+    let d : ℕ → ℕ = λ more. dart_after (o / 4 + 1) (o % 4) more in
+    let zero_one : d 0 ≢ turn_one o = λ same. omega (arith, same) in
+    let zero_two : d 0 ≢ turn_two o = λ same. omega (arith, same) in
+    let one_two : d 1 ≢ turn_two o = λ same. omega (arith, same) in
+    let zero_three : d 0 ≢ turn_three o = λ same. omega (arith, same) in
+    let one_three : d 1 ≢ turn_three o = λ same. omega (arith, same) in
+    let two_three : d 2 ≢ turn_three o = λ same. omega (arith, same) in
+    let away : (z more : ℕ) → z / 4 ≢ o / 4 → d more ≢ z = λ z more apart same. apart (omega (arith, same)) in
     record {
-      zero_is = chain-zero d0 d1 d2 d3 a next (next + 1) b (segment_met met o) o e0;
-      one_is = chain-one d0 d1 d2 d3 a next (next + 1) b (segment_met met (turn_one o)) (turn_one o)
-          (λ same. zero-one o (sym e0 ∙ same)) e1;
-      two_is = chain-two d0 d1 d2 d3 a next (next + 1) b (segment_met met (turn_two o)) (turn_two o)
-          (λ same. zero-two o (sym e0 ∙ same)) (λ same. one-two o (sym e1 ∙ same)) e2;
-      three_is =
-          chain-rest d0 d1 d2 d3 a next (next + 1) b (segment_met met (turn_three o)) (turn_three o)
-          (λ same. zero-three o (sym e0 ∙ same)) (λ same. one-three o (sym e1 ∙ same)) (λ same. two-three o (sym e2 ∙ same))
-          ∙ ap (λ t. cond t b (segment_met met (turn_three o))) (eq-eqb d3 (turn_three o) e3);
-      other_is = λ z apart.
-          chain-rest d0 d1 d2 d3 a next (next + 1) b (segment_met met z) z
-          (λ same. apart (ap (λ w. w / 4) (sym same ∙ e0)))
-          (λ same. apart (ap (λ w. w / 4) (sym same ∙ e1) ∙ crossing-one o))
-          (λ same. apart (ap (λ w. w / 4) (sym same ∙ e2) ∙ crossing-two o))
-          ∙ ap (λ t. cond t b (segment_met met z)) (ne_eqb d3 z (λ same. apart (ap (λ w. w / 4) (sym same ∙ e3) ∙ crossing-three o)));
+      zero_is = grind (arith, nat_tests, d-zero o);
+      one_is = grind (arith, nat_tests, d-one o, zero_one);
+      two_is = grind (arith, nat_tests, d-two o, zero_two, one_two);
+      three_is = grind (arith, nat_tests, d-three o, zero_three, one_three, two_three);
+      other_is = λ z apart. grind (arith, nat_tests, away z 0 apart, away z 1 apart, away z 2 apart, away z 3 apart);
     }
 
 -- the darts that are met after a crossing
-pub or_true_rest : (b : Bool) → (b || true) ≡ true
-or_true_rest true = refl
-or_true_rest false = refl
-
 pub met-other : (o a b next z : ℕ) (met : List (ℕ × ℕ)) → z / 4 ≢ o / 4 → is_met (cross_met o a b next met) z ≡ is_met met z
 met-other o a b next z met apart =
-    let c = o / 4 + 1 in
-    let s = o % 4 in
-    let rest = is_met met z in
-    ap (λ t. t || (nat_eq (dart_after c s 1) z || (nat_eq (dart_after c s 2) z || (nat_eq (dart_after c s 3) z || rest))))
-    (ne_eqb (dart_after c s 0) z (λ same. apart (ap (λ w. w / 4) (sym same ∙ d-zero o))))
-    ∙ ap (λ t. t || (nat_eq (dart_after c s 2) z || (nat_eq (dart_after c s 3) z || rest)))
-    (ne_eqb (dart_after c s 1) z (λ same. apart (ap (λ w. w / 4) (sym same ∙ d-one o) ∙ crossing-one o)))
-    ∙ ap (λ t. t || (nat_eq (dart_after c s 3) z || rest))
-    (ne_eqb (dart_after c s 2) z (λ same. apart (ap (λ w. w / 4) (sym same ∙ d-two o) ∙ crossing-two o)))
-    ∙ ap (λ t. t || rest) (ne_eqb (dart_after c s 3) z (λ same. apart (ap (λ w. w / 4) (sym same ∙ d-three o) ∙ crossing-three o)))
+    let away : (more : ℕ) → dart_after (o / 4 + 1) (o % 4) more ≢ z = λ more same. apart (omega (arith, same)) in
+    grind (arith, nat_tests, away 0, away 1, away 2, away 3)
 
 pub met-here : (o a b next z : ℕ) (met : List (ℕ × ℕ)) → z / 4 ≡ o / 4 → is_met (cross_met o a b next met) z ≡ true
-met-here o a b next z met at =
-    let c = o / 4 + 1 in
-    let s = o % 4 in
-    let rest = is_met met z in
-    elim (which o z) [
-      | is_zero is ↦
-          ap (λ t. t || (nat_eq (dart_after c s 1) z || (nat_eq (dart_after c s 2) z || (nat_eq (dart_after c s 3) z || rest))))
-          (eq-eqb (dart_after c s 0) z (d-zero o ∙ sym is))
-      | is_one is ↦
-          ap (λ t. nat_eq (dart_after c s 0) z || (t || (nat_eq (dart_after c s 2) z || (nat_eq (dart_after c s 3) z || rest))))
-          (eq-eqb (dart_after c s 1) z (d-one o ∙ sym is))
-          ∙ or_true_rest (nat_eq (dart_after c s 0) z)
-      | is_two is ↦
-          ap (λ t. nat_eq (dart_after c s 0) z || (nat_eq (dart_after c s 1) z || (t || (nat_eq (dart_after c s 3) z || rest))))
-          (eq-eqb (dart_after c s 2) z (d-two o ∙ sym is))
-          ∙ ap (λ t. nat_eq (dart_after c s 0) z || t) (or_true_rest (nat_eq (dart_after c s 1) z))
-          ∙ or_true_rest (nat_eq (dart_after c s 0) z)
-      | is_three is ↦
-          ap (λ t. nat_eq (dart_after c s 0) z || (nat_eq (dart_after c s 1) z || (nat_eq (dart_after c s 2) z || (t || rest))))
-          (eq-eqb (dart_after c s 3) z (d-three o ∙ sym is))
-          ∙ ap (λ t. nat_eq (dart_after c s 0) z || (nat_eq (dart_after c s 1) z || t)) (or_true_rest (nat_eq (dart_after c s 2) z))
-          ∙ ap (λ t. nat_eq (dart_after c s 0) z || t) (or_true_rest (nat_eq (dart_after c s 1) z))
-          ∙ or_true_rest (nat_eq (dart_after c s 0) z)
-      | is_other apart ↦ absurd (apart at)
-    ]
+met-here o a b next z met at = elim (which o z) [
+  | is_zero is ↦ let here = d-zero o ∙ sym is in grind (arith, nat_tests, here)
+  | is_one is ↦ let here = d-one o ∙ sym is in grind (arith, nat_tests, here)
+  | is_two is ↦ let here = d-two o ∙ sym is in grind (arith, nat_tests, here)
+  | is_three is ↦ let here = d-three o ∙ sym is in grind (arith, nat_tests, here)
+  | is_other apart ↦ absurd (apart at)
+]
 
 pub dart-there : (n o z : ℕ) → o < 4 * n → z / 4 ≡ o / 4 → z < 4 * n
 dart-there n o z o_below at = omega (arith, o_below, at)
+
+-- a segment is of the class of one that a dart of the new crossing meets
+pub reached-here : (n o d q : ℕ) (drawn : List ℕ) (r : Sketch) → o < 4 * n → d / 4 ≡ o / 4
+    → ((f : ℕ → ℕ) → Respects f r.joins → f q ≡ f (segment_met r.met d)) → IsReached n (o / 4 ∷ drawn) r q
+reached-here n o d q drawn r o_below at same =
+    record { dart = d; below = dart-there n o d o_below at; is_drawn = inl at; same = same }
 
 -- colours of new segments
 abbrev pub painted : (ℕ → ℕ) → ℕ → ℕ → ℕ → ℕ → ℕ → ℕ → ℕ → ℕ
 painted colour next p q one two rest segment_is =
     cond (nat_lt segment_is next) (colour segment_is) (cond (nat_eq segment_is p) one (cond (nat_eq segment_is q) two rest))
 
-pub painted-old : (colour : ℕ → ℕ) (next p q one two rest x : ℕ) → x < next → painted colour next p q one two rest x ≡ colour x
-painted-old colour next p q one two rest x below = under (colour x) (cond (nat_eq x p) one (cond (nat_eq x q) two rest))
-  where
-    under : (old new : ℕ) → cond (nat_lt x next) old new ≡ old
-    under old new = grind (arith, nat_tests)
+pub record IsPainted (colour : ℕ → ℕ) (next p q one two rest : ℕ) : Type 0 where
+  pub old : (x : ℕ) → x < next → painted colour next p q one two rest x ≡ colour x
+  pub first : painted colour next p q one two rest p ≡ one
+  pub second : painted colour next p q one two rest q ≡ two
+  pub others : (x : ℕ) → next ≤ x → x ≢ p → x ≢ q → painted colour next p q one two rest x ≡ rest
 
-pub painted-new : (colour : ℕ → ℕ) (next p q one two rest x : ℕ) → next ≤ x
-    → painted colour next p q one two rest x ≡ cond (nat_eq x p) one (cond (nat_eq x q) two rest)
-painted-new colour next p q one two rest x from = over (colour x) (cond (nat_eq x p) one (cond (nat_eq x q) two rest))
-  where
-    over : (old new : ℕ) → cond (nat_lt x next) old new ≡ new
-    over old new = grind (arith, nat_tests)
+pub painted-is : (colour : ℕ → ℕ) (next p q one two rest : ℕ) → next ≤ p → p < q → IsPainted colour next p q one two rest
+painted-is colour next p q one two rest from less = record {
+  old = λ x below. grind (arith, nat_tests);
+  first = grind (arith, nat_tests);
+  second = grind (arith, nat_tests);
+  others = λ x late not_p not_q. grind (arith, nat_tests);
+}
 
 pub respects-old : (f g : ℕ → ℕ) (next : ℕ) (joins : List (ℕ × ℕ)) → ((x : ℕ) → x < next → g x ≡ f x) → AreBelow next joins
     → Respects f joins → Respects g joins

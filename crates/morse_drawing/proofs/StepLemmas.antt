@@ -20,7 +20,7 @@ use Rattle.morse_drawing.specs.declared.slice.Slice.TheVariants.{Cap, Cup}
 use Rattle.morse_drawing.proofs.Neighbours.{all_in}
 use Rattle.morse_drawing.proofs.Parts.{parts-one}
 use Rattle.morse_drawing.proofs.PageLemmas.Search.{missing, some}
-use Rattle.morse_drawing.proofs.PageSteps.{IsNextPage-next_page, paired-found}
+use Rattle.morse_drawing.proofs.PageSteps.{IsNextPage-next_page, is_some, paired-found}
 use Rattle.morse_drawing.proofs.PageEnds.{IsDrawn-page_of, IsPage-blank_page, IsPage-pages_on, IsWholeSphere-accepted, finished-pages_on}
 use Rattle.morse_drawing.proofs.PageLemmas.{Search-is, in_middle, undrawn-fewer}
 
@@ -38,11 +38,6 @@ pub found_none : (test : ℕ → Bool) (k : ℕ) → find test (range_with_len 0
 found_none test k none fails =
     ap (λ xs. find test xs) (range_more 0 k k (omega arith)) ∙ find-append test (range_with_len 0 k) (k ∷ [])
     ∙ ap (λ o. option_or o (find test (k ∷ []))) none ∙ ap (λ b. cond b (Some k) None) fails
-
--- nothing is not something
-abbrev is_some : Option ℕ → ℕ
-is_some None = 0
-is_some (Some k) = 1
 
 -- what is found is below n and passes
 record IsFound (test : ℕ → Bool) (n k : ℕ) : Type 0 where

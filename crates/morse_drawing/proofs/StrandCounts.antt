@@ -2,7 +2,6 @@
 use Rattle.std.proofs.Common.{◌≡◌, ◌∙◌, ℕ, zero, suc, ◌+◌, ◌-◌, ◌*◌, ◌/◌, ◌%◌, ◌<◌, ◌≤◌, List, [], ◌∷◌, ◌++◌, length, get_or, take, drop, refl, sym, ap, subst, arith}
 use Rattle.std.specs.Prelude.{not, Option}
 use Rattle.std.specs.List.{fold}
-use Rattle.std.proofs.lemmas.List.{length-append, length-drop, length-take-le}
 use Rattle.std.proofs.lemmas.List.Sums.{fold-append}
 use Rattle.morse_drawing.specs.DartRows.{other_three}
 use Rattle.morse_drawing.specs.Pages.{Page, are_paired, begun, blank_page, by_crossing, by_pair, by_row, closed, crossed_by, is_in, leads_on, loop_slices, next_page, next_page_by, page_of, pages_on, paired, slices_with}
@@ -12,7 +11,7 @@ use Rattle.morse_drawing.specs.Texts.{strands_after, strands_behind}
 use Rattle.morse_drawing.specs.declared.slice.Slice.{Slice}
 use Rattle.morse_drawing.specs.declared.slice.Slice.TheVariants.{Cap, Cross, Cup}
 use Rattle.morse_drawing.proofs.PageEnds.{IsDrawn-page_of, IsPage-blank_page}
-use Rattle.morse_drawing.proofs.PageLemmas.{Search-is, length-three, undrawn-fewer}
+use Rattle.morse_drawing.proofs.PageLemmas.{Search-is, length-closed, length-crossed, undrawn-fewer}
 use Rattle.morse_drawing.proofs.PageLemmas.Search.{missing, some}
 use Rattle.morse_drawing.proofs.PageSteps.{IsNextPage-next_page}
 use Rattle.morse_drawing.proofs.StepLemmas.{row-below}
@@ -58,15 +57,7 @@ IsCounted-crossed n page k dart within room is =
     let row = page.row in
     IsCounted-more n page (dart / 4 ∷ page.drawn) (take k row ++ other_three dart ++ drop (k + 1) row)
     (Cap (k + 2) ∷ Cross (k + 1) (dart / 4 + 1) (dart % 4) ∷ []) is
-    (omega (
-      arith,
-      length-append (take k row ++ other_three dart) (drop (k + 1) row),
-      length-append (take k row) (other_three dart),
-      length-three dart,
-      length-take-le k row (omega (arith, within)),
-      length-drop (k + 1) row,
-      within,
-    ))
+    (omega (arith, length-crossed k dart row within))
     (omega (arith, room), (omega (arith, room), omega (arith, room)))
 
 IsCounted-closed : (n : ℕ) (page : Page) (k : ℕ) → k + 1 < length page.row → length page.row ≤ 2 * n + 2 → IsCounted n page
@@ -74,13 +65,7 @@ IsCounted-closed : (n : ℕ) (page : Page) (k : ℕ) → k + 1 < length page.row
 IsCounted-closed n page k within room is =
     let row = page.row in
     IsCounted-more n page page.drawn (take k row ++ drop (k + 2) row) (Cup (k + 1) ∷ []) is
-    (omega (
-      arith,
-      length-append (take k row) (drop (k + 2) row),
-      length-take-le k row (omega (arith, within)),
-      length-drop (k + 2) row,
-      within,
-    ))
+    (omega (arith, length-closed k row within))
     (omega (arith, room), omega (arith, room))
 
 IsCounted-by_pair : (n : ℕ) (whole : ℕ → ℕ) (page : Page) → IsPage n whole page → IsCounted n page

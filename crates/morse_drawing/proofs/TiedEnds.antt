@@ -188,9 +188,11 @@ tied-second limit name next joins met a b rest others loops two apart below_a = 
       let label_is : name_after v u name (segment_met met u) ≡ u =
       ap (relabelled v u) label_u ∙ relabelled-other v u u apart in
       let same_found : 4 * limit ≤ v → found limit u v others ≡ others =
-      λ from. ap (λ c. cond c others (set (set others u v) v u)) (le-true (4 * limit) v from) in
+      λ from. let late : nat_le (4 * limit) v ≡ true = grind (arith, nat_tests) in
+      ap (λ c. cond c others (set (set others u v) v u)) late in
       let new_found : v < 4 * limit → found limit u v others ≡ set (set others u v) v u =
-      λ below. ap (λ c. cond c others (set (set others u v) v u)) (le-false (4 * limit) v below) in
+      λ below. let early : nat_le (4 * limit) v ≡ false = grind (arith, nat_tests) in
+      ap (λ c. cond c others (set (set others u v) v u)) early in
       let size_two : length (set (set others u v) v u) ≡ 4 * limit =
       length-set (set others u v) v u ∙ length-set others u v ∙ two.is.size in
       let at_u : v < 4 * limit → get_or (found limit u v others) u 0 ≡ v =
@@ -221,9 +223,7 @@ tied-second limit name next joins met a b rest others loops two apart below_a = 
           | of_two v_from v_below v_twice ↦ elim either [
             | inl was ↦ absurd (omega (arith, was, x_below, v_from))
             | inr was ↦
-                subst
-                (λ (z : ℕ). DartEnd limit (is_met met) (λ y. name_after v u name (segment_met met y)) (map (name_after v u name) rest)
-                (found limit u v others) z) (sym was)
+                subst (λ (z : ℕ). End z) (sym was)
                 (opened met_u label_is (omega (arith, later, in_all, v_twice)) (ap (λ xs. get_or xs u 0) (same_found v_from) ∙ alone_u))
           ]
           | of_dart v_below met_v label_v once_v alone_v ↦
@@ -234,15 +234,11 @@ tied-second limit name next joins met a b rest others loops two apart below_a = 
               ap (times v) (map-after v u name rest) ∙ times-old v u (map name rest) back in
               elim either [
                 | inl was ↦
-                    subst
-                    (λ (z : ℕ). DartEnd limit (is_met met) (λ y. name_after v u name (segment_met met y)) (map (name_after v u name) rest)
-                    (found limit u v others) z) (sym was)
+                    subst (λ (z : ℕ). End z) (sym was)
                     (paired_with u met_v met_u u_below apart (at_v v_below) (at_u v_below) none_v none_u (label_back ∙ sym label_is)
                     (inr label_back))
                 | inr was ↦
-                    subst
-                    (λ (z : ℕ). DartEnd limit (is_met met) (λ y. name_after v u name (segment_met met y)) (map (name_after v u name) rest)
-                    (found limit u v others) z) (sym was)
+                    subst (λ (z : ℕ). End z) (sym was)
                     (paired_with v met_u met_v v_below back (at_u v_below) (at_v v_below) none_u none_v (label_is ∙ sym label_back)
                     (inl label_is))
               ]
@@ -259,11 +255,11 @@ tied-second limit name next joins met a b rest others loops two apart below_a = 
       }
 ]
   where
-    le-true : (x y : ℕ) → x ≤ y → nat_le x y ≡ true
-    le-true x y le = grind (arith, nat_tests)
-
-    le-false : (x y : ℕ) → y < x → nat_le x y ≡ false
-    le-false x y lt = grind (arith, nat_tests)
+    End : ℕ → Type 0
+    End x =
+        DartEnd limit (is_met met) (λ y. name_after (name b) (name a) name (segment_met met y))
+        (map (name_after (name b) (name a) name) rest)
+        (found limit (name a) (name b) others) x
 
 -- what is left in the row: nothing of a line that is closed, nor of a dart
 pub loop-left : (limit : ℕ) (name : ℕ → ℕ) (next : ℕ) (joins met : List (ℕ × ℕ)) (a b : ℕ) (rest others : List ℕ) (loops : ℕ)
