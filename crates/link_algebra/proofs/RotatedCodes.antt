@@ -65,7 +65,8 @@ onto-turned by place =
 
 slot-arc : (code : Code) (crossing slot : ℕ) → HasArcsTwice code.crossings → IsCrossing code.crossings crossing → slot < 4
     → IsArc code.crossings (arc_at_slot code crossing slot)
-slot-arc code crossing slot twice is below = twice.slots (record { crossing = crossing; slot = slot }) (record { crossing = is; slot = below })
+slot-arc code crossing slot twice is below =
+    twice.slots (record { crossing = crossing; slot = slot }) (record { crossing = is; slot = below })
 
 -- two codes, each the other with its crossings turned
 pub record AreRotated (by home f back : ℕ → ℕ) (old new : Code) : Type 0 where
@@ -105,7 +106,8 @@ AreRotated-from by f back old new old_directed new_directed rotated =
         few = λ crossing. omega arith;
         arcs = λ crossing slot is below.
             let from = (slot + opposite by crossing) % 4 in
-            let is_old : IsCrossing old.crossings crossing = record { positive = is.positive; within = omega (arith, is.within, rotated.size) } in
+            let is_old : IsCrossing old.crossings crossing =
+            record { positive = is.positive; within = omega (arith, is.within, rotated.size) } in
             let arc = slot-arc old crossing from (HasArcsTwice-directed old.crossings old_directed) is_old (omega arith) in
             let e : (from + by crossing) % 4 ≡ slot = omega (arith, rotated.few crossing, below) in
             sym (rotated.names.there (arc_at_slot old crossing from) arc.positive (omega (arith, arc.within)))

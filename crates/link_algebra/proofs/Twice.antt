@@ -114,9 +114,11 @@ module _ (code : Code) (holds : IsTrue (accepted code)) where
   pub mirror-components : component_count (mirror_of code).crossings ≡ component_count code.crossings
   mirror-components =
       component_count-rotated (mirror_by code holds) (mirror_number code holds) (mirror_name code holds) code (mirror_of code)
-      (HasNoSingleArcs-accepted code holds).0 (HasNoSingleArcs-accepted (mirror_of code) (mirror-accepted code holds)).0 (mirror-rotated code holds)
+      (HasNoSingleArcs-accepted code holds).0 (HasNoSingleArcs-accepted (mirror_of code) (mirror-accepted code holds)).0
+      (mirror-rotated code holds)
 
   pub reversal-components : component_count (reversal_of code).crossings ≡ component_count code.crossings
   reversal-components =
       component_count-rotated (λ crossing. 2) (reversal_number code holds) (reversal_name code holds) code (reversal_of code)
-      (HasNoSingleArcs-accepted code holds).0 (HasNoSingleArcs-accepted (reversal_of code) (reversal-accepted code holds)).0 (reversal-rotated code holds)
+      (HasNoSingleArcs-accepted code holds).0 (HasNoSingleArcs-accepted (reversal_of code) (reversal-accepted code holds)).0
+      (reversal-rotated code holds)
