@@ -30,10 +30,9 @@ use Rattle.kh_types.specs.Faces.{face_count, face_pair, piece_count, piece_pair}
 use Rattle.kh_types.specs.declared.dart.Dart.{Dart}
 use Rattle.kh_types.specs.declared.limits.TheConstants.{COMPONENTS}
 use Rattle.link_algebra.proofs.ClassParts.{class_count-append_lists, classes-parts, length-classes, lifted_pairs}
-use Rattle.link_algebra.proofs.UnitedCircles.{HoldsNames-accepted, bit-first, bit-second}
+use Rattle.link_algebra.proofs.UnitedCircles.{HoldsNames-accepted, bit-first, bit-second, length-both}
 use Rattle.link_algebra.proofs.UnitedComponents.{IsPart, components-both, components-own, inner_components, length-components, passes-small}
 use Rattle.link_algebra.proofs.UnitedSigns.{part-arc}
-use Rattle.link_algebra.proofs.UnitedSums.{length-both}
 use Rattle.link_algebra.specs.Unions.{union_of}
 use Rattle.link_algebra.proofs.UnitedDirected.{place-part, AreUnited, AreUnited-from, one-of, crossing-of, IsDirected-both}
 

@@ -20,7 +20,7 @@ use Rattle.kh_types.specs.Darts.{arc_of, dart_at, times}
 use Rattle.kh_types.proofs.LabelDegrees.{sum_by-later}
 use Rattle.link_algebra.proofs.UnitedComponents.{IsPart, IsPart-first, IsPart-second, component-is, index-past, length-components}
 use Rattle.link_algebra.proofs.UnitedSigns.{next-part, part-arc}
-use Rattle.link_algebra.proofs.UnitedSums.{length-both}
+use Rattle.link_algebra.proofs.UnitedCircles.{length-both}
 use Rattle.link_algebra.specs.Unions.{union_of}
 
 -- the arc of a dart of a part, by its place

@@ -20,7 +20,7 @@ use Rattle.kh_types.specs.Directions.{first_over, first_under, is_positive_by_ne
 use Rattle.kh_types.proofs.LabelDegrees.{sum_by-later}
 use Rattle.kh_types.proofs.Lists.{find-none}
 use Rattle.link_algebra.proofs.UnitedComponents.{IsPart, IsPart-first, IsPart-second, component-is, component-past}
-use Rattle.link_algebra.proofs.UnitedSums.{length-both}
+use Rattle.link_algebra.proofs.UnitedCircles.{length-both}
 use Rattle.link_algebra.specs.Unions.{union_of}
 
 -- an arc of a part
