@@ -258,7 +258,7 @@ IsCheckerboard-both first second are directed =
                     low.within,
                     ap (λ c. arc_in (slots_of whole c) dart.slot) f,
                     are.two.arcs (dart.crossing - n) dart.slot there dart_is.slot,
-                    (part-arc n second.crossings whole (dart.crossing - n) dart.slot are.two there dart_is.slot).positive,
+                    (part-arc n second.crossings whole are.two (dart.crossing - n) dart.slot there dart_is.slot).positive,
                   ))
                 ])
             | inr (there, high) ↦
@@ -279,7 +279,7 @@ IsCheckerboard-both first second are directed =
                         there.positive,
                         ap (λ c. arc_in (slots_of whole c) dart.slot) f,
                         are.one.arcs dart.crossing dart.slot here dart_is.slot,
-                        (part-arc 0 first.crossings whole dart.crossing dart.slot are.one here dart_is.slot).within,
+                        (part-arc 0 first.crossings whole are.one dart.crossing dart.slot here dart_is.slot).within,
                       ))
                 ])
           ]);

@@ -183,12 +183,6 @@ slots-second first second crossing is =
     ∙ get_or-map (raised_slots (arc_count first.crossings)) second.crossings (place_of crossing) [] []
     (omega (arith, is.positive, is.within))
 
-hold-slots : (crossings : List (List ℕ)) (crossing slot : ℕ) → HoldsNames (arc_count crossings + 1) crossings
-    → IsCrossing crossings crossing → slot < 4 → IsArc crossings (arc_in (slots_of crossings crossing) slot)
-hold-slots crossings crossing slot hold is below =
-    let at = hold.at (place_of crossing) (omega (arith, is.positive, is.within)) slot below in
-    record { positive = at.0; within = omega (arith, at.1) }
-
 pub IsPart-first : (first second : Code) → IsTrue (accepted first) → IsTrue (accepted second)
     → IsPart 0 first.crossings (union_of first second).crossings
 IsPart-first first second first_is second_is =

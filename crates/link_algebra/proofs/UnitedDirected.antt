@@ -35,7 +35,7 @@ place-part before part whole q is below =
 place-arc : (before : ℕ) (part whole : List (List ℕ)) (q : ℕ) → IsPart before part whole → q < 4 * length part
     → IsArc part (arc_of part (dart_at q))
 place-arc before part whole q is below =
-    part-arc before part whole (q / 4 + 1) (q % 4) is (record { positive = omega arith; within = omega (arith, below) }) (omega arith)
+    part-arc before part whole is (q / 4 + 1) (q % 4) (record { positive = omega arith; within = omega (arith, below) }) (omega arith)
 
 -- what is known of two codes and their union
 pub record AreUnited (first second : Code) : Type 0 where
@@ -185,7 +185,7 @@ under-of : (before : ℕ) (part whole : List (List ℕ)) → IsPart before part 
 under-of before part whole is directed crossing is_crossing =
     is.arcs crossing 2 is_crossing (omega arith) ∙ ap (λ a. a + 2 * before) (directed.under crossing is_crossing)
     ∙ sym (ap (next whole) (is.arcs crossing 0 is_crossing (omega arith))
-    ∙ next-part before part whole (arc_in (slots_of part crossing) 0) is (part-arc before part whole crossing 0 is is_crossing (omega arith)))
+    ∙ next-part before part whole is (arc_in (slots_of part crossing) 0) (part-arc before part whole is crossing 0 is_crossing (omega arith)))
 
 over-of : (before : ℕ) (part whole : List (List ℕ)) → IsPart before part whole → IsDirected part → (crossing : ℕ)
     → IsCrossing part crossing
@@ -195,7 +195,7 @@ over-of before part whole is directed crossing is_crossing =
     let a = λ (slot : ℕ). arc_in (slots_of part crossing) slot in
     let moved : (slot : ℕ) → slot < 4 → next whole (arc_in (slots_of whole (before + crossing)) slot) ≡ next part (a slot) + 2 * before =
     λ slot below. ap (next whole) (is.arcs crossing slot is_crossing below)
-    ∙ next-part before part whole (a slot) is (part-arc before part whole crossing slot is is_crossing below) in
+    ∙ next-part before part whole is (a slot) (part-arc before part whole is crossing slot is_crossing below) in
     elim (directed.over crossing is_crossing) [
       | inl goes ↦ inl (is.arcs crossing 3 is_crossing (omega arith) ∙ ap (λ x. x + 2 * before) goes ∙ sym (moved 1 (omega arith)))
       | inr goes ↦ inr (is.arcs crossing 1 is_crossing (omega arith) ∙ ap (λ x. x + 2 * before) goes ∙ sym (moved 3 (omega arith)))
@@ -229,7 +229,7 @@ two_arcs-of : (before : ℕ) (part whole : List (List ℕ)) (earlier later : ℕ
     → arcs_in (components_of whole) (component_of (components_of whole) (arc_in (slots_of whole (before + later)) 0)) ≢ 2
 two_arcs-of before part whole earlier later is directed earlier_is later_is order same two =
     let a = arc_in (slots_of part later) 0 in
-    let arc = part-arc before part whole later 0 is later_is (omega arith) in
+    let arc = part-arc before part whole is later 0 later_is (omega arith) in
     let e = is.arcs later 0 later_is (omega arith) in
     let same_arc : arc_in (slots_of part earlier) 0 ≡ a = omega (arith, same, e, is.arcs earlier 0 earlier_is (omega arith)) in
     let size : arcs_in (components_of whole) (component_of (components_of whole) (arc_in (slots_of whole (before + later)) 0))
@@ -248,11 +248,11 @@ IsDirected-both first second are =
       slots = λ dart is.
           each-crossing (λ c. IsArc whole (arc_in (slots_of whole c) dart.slot)) first second
           (λ c is_c.
-          let own = part-arc 0 first.crossings whole c dart.slot are.one is_c is.slot in
+          let own = part-arc 0 first.crossings whole are.one c dart.slot is_c is.slot in
           let at = are.one.arcs c dart.slot is_c is.slot in
           record { positive = omega (arith, own.positive, at); within = omega (arith, own.within, at, length-both first second) })
           (λ c is_c.
-          let own = part-arc n second.crossings whole c dart.slot are.two is_c is.slot in
+          let own = part-arc n second.crossings whole are.two c dart.slot is_c is.slot in
           let at = are.two.arcs c dart.slot is_c is.slot in
           record { positive = omega (arith, own.positive, at); within = omega (arith, own.within, at, length-both first second) })
           dart.crossing is.crossing;
@@ -294,8 +294,8 @@ IsDirected-both first second are =
                     ap (λ c. arc_in (slots_of whole c) 0) f,
                     are.one.arcs earlier 0 one_earlier (omega arith),
                     are.two.arcs (later - n) 0 two_later (omega arith),
-                    (part-arc 0 first.crossings whole earlier 0 are.one one_earlier (omega arith)).within,
-                    (part-arc n second.crossings whole (later - n) 0 are.two two_later (omega arith)).positive,
+                    (part-arc 0 first.crossings whole are.one earlier 0 one_earlier (omega arith)).within,
+                    (part-arc n second.crossings whole are.two (later - n) 0 two_later (omega arith)).positive,
                   )
             ]
             | inr (two_earlier, e) ↦ elim (crossing-of first second later later_is).cases [
