@@ -24,7 +24,7 @@ use Rattle.link_algebra.proofs.UnitedCircles.{length-both}
 use Rattle.link_algebra.proofs.UnitedComponents.{IsPart, IsPart-first, IsPart-second, component-is, component-past}
 use Rattle.link_algebra.specs.Unions.{union_of}
 
-same_test : (x y by : ℕ) → nat_eq (x + by) (y + by) ≡ nat_eq x y
+pub same_test : (x y by : ℕ) → nat_eq (x + by) (y + by) ≡ nat_eq x y
 same_test x y by = grind (arith, nat_tests)
 
 find-shifted : (p q : ℕ → Bool) (before a n : ℕ) → ((k : ℕ) → a ≤ k → k < a + n → p (before + k) ≡ q k)
@@ -186,7 +186,7 @@ module _ (before : ℕ) (part whole : List (List ℕ)) (is : IsPart before part 
       let first = find-first (passes_under part (components_of part) name) 1 (length part) u found in
       record { positive = first.from; within = omega (arith, first.below) }) in
       ap₂ (λ n c. cond (nat_le 3 n) c (is_positive_of_two whole (components_of whole) (before + crossing))) size follows
-      ∙ ap (λ c. cond (nat_le 3 (arcs_in (components_of part) name)) (is_positive_by_next (components_of part) (slots_of part crossing)) c) two
+      ∙ ap (cond (nat_le 3 (arcs_in (components_of part) name)) (is_positive_by_next (components_of part) (slots_of part crossing))) two
 
 -- a part is alone where what stands outside of it is another part, which it does not meet
 IsAlone-from : (before after : ℕ) (part other whole : List (List ℕ)) → IsPart after other whole
