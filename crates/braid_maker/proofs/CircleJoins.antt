@@ -1,5 +1,10 @@
 -- A state of a closed braid has at most as many circles as strands, and one more for each crossing that is not smoothed along the
 -- strands. One more pair at each of these, between opposite slots, joins all that the strands join.
+--
+-- By the slots of a crossing, the smoothing with that pair joins each lower corner with the upper one on its side (`joined-at`). So a class
+-- of arcs goes on along a strand from crossing to crossing, up to the last crossing of its position (`arc-class`), and there are at most as
+-- many classes as positions with crossings; the strands without are loops. A pair more joins two classes at most, so that without the pairs
+-- there are at most as many more as pairs. With a label on each circle this makes twice as many generators for each pair (`power-pairs`).
 use Rattle.std.proofs.Common.{◌≡◌, ℕ, zero, suc, inl, inr, ◌+◌, ◌-◌, ◌*◌, ◌/◌, ◌%◌, ◌^◌, ◌<◌, ◌≤◌, ◌∙◌, List, [], ◌∷◌, ◌++◌, length, get_or, refl, sym, ap, ap₂, subst, arith, Bool, true, false, cond}
 use Rattle.std.specs.Prelude.{nat_eq, not, slice_index}
 use Rattle.std.specs.List.{count_by, enumerate_from, flat_map, range_with_len, sum_by}
