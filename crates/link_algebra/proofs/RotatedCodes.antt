@@ -68,6 +68,29 @@ slot-arc : (code : Code) (crossing slot : ℕ) → HasArcsTwice code.crossings �
 slot-arc code crossing slot twice is below =
     twice.slots (record { crossing = crossing; slot = slot }) (record { crossing = is; slot = below })
 
+-- the turn the other way
+abbrev pub opposite : (ℕ → ℕ) → ℕ → ℕ
+opposite by crossing = (4 - by crossing) % 4
+
+pub IsRotated-back : (by f back : ℕ → ℕ) (old new : Code) → HasArcsTwice old.crossings → IsRotated by f back old new
+    → IsRotated (opposite by) back f new old
+IsRotated-back by f back old new twice rotated =
+    record {
+      size = sym rotated.size;
+      loops = sym rotated.loops;
+      names = subst (λ (most : ℕ). IsRenaming most back f) (omega (arith, rotated.size, rotated.loops))
+          (IsRenaming-back (arc_count old.crossings + old.loops) f back rotated.names);
+      few = λ crossing. omega arith;
+      arcs = λ crossing slot is below.
+          let from = (slot + opposite by crossing) % 4 in
+          let is_old : IsCrossing old.crossings crossing =
+          record { positive = is.positive; within = omega (arith, is.within, rotated.size) } in
+          let arc = slot-arc old crossing from twice is_old (omega arith) in
+          let e : (from + by crossing) % 4 ≡ slot = omega (arith, rotated.few crossing, below) in
+          sym (rotated.names.there (arc_at_slot old crossing from) arc.positive (omega (arith, arc.within)))
+          ∙ ap back (sym (rotated.arcs crossing from is_old (omega arith))) ∙ ap (λ k. back (arc_at_slot new crossing k)) e;
+    }
+
 -- two codes, each the other with its crossings turned
 pub record AreRotated (by home f back : ℕ → ℕ) (old new : Code) : Type 0 where
   pub old_directed : IsDirected old.crossings
@@ -86,10 +109,6 @@ AreRotated-back by home f back old new are =
       here = are.there;
     }
 
--- the turn the other way
-abbrev opposite : (ℕ → ℕ) → ℕ → ℕ
-opposite by crossing = (4 - by crossing) % 4
-
 AreRotated-from : (by f back : ℕ → ℕ) (old new : Code) → IsDirected old.crossings → IsDirected new.crossings
     → IsRotated by f back old new → AreRotated by (opposite by) f back old new
 AreRotated-from by f back old new old_directed new_directed rotated =
@@ -98,21 +117,7 @@ AreRotated-from by f back old new old_directed new_directed rotated =
       new_directed = new_directed;
       round = λ crossing. omega (arith, rotated.few crossing);
       there = rotated;
-      here = record {
-        size = sym rotated.size;
-        loops = sym rotated.loops;
-        names = subst (λ (most : ℕ). IsRenaming most back f) (omega (arith, rotated.size, rotated.loops))
-            (IsRenaming-back (arc_count old.crossings + old.loops) f back rotated.names);
-        few = λ crossing. omega arith;
-        arcs = λ crossing slot is below.
-            let from = (slot + opposite by crossing) % 4 in
-            let is_old : IsCrossing old.crossings crossing =
-            record { positive = is.positive; within = omega (arith, is.within, rotated.size) } in
-            let arc = slot-arc old crossing from (HasArcsTwice-directed old.crossings old_directed) is_old (omega arith) in
-            let e : (from + by crossing) % 4 ≡ slot = omega (arith, rotated.few crossing, below) in
-            sym (rotated.names.there (arc_at_slot old crossing from) arc.positive (omega (arith, arc.within)))
-            ∙ ap back (sym (rotated.arcs crossing from is_old (omega arith))) ∙ ap (λ k. back (arc_at_slot new crossing k)) e;
-      };
+      here = IsRotated-back by f back old new (HasArcsTwice-directed old.crossings old_directed) rotated;
     }
 
 -- a map of numbers below m to numbers below n, with a way back, that keeps pairs together
