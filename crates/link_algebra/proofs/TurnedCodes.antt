@@ -89,7 +89,7 @@ IsRenaming-through most f back g home first second = record {
       ap g (first.here (home x) (second.back_positive x from within) (second.back_within x from within)) ∙ second.here x from within;
 }
 
-IsRotated-through : (by f back other g home : ℕ → ℕ) (old middle new : Code) → IsRotated by f back old middle
+pub IsRotated-through : (by f back other g home : ℕ → ℕ) (old middle new : Code) → IsRotated by f back old middle
     → IsRotated other g home middle new
     → IsRotated (λ crossing. (by crossing + other crossing) % 4) (λ x. g (f x)) (λ x. back (home x)) old new
 IsRotated-through by f back other g home old middle new first second =

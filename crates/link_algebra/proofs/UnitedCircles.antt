@@ -5,24 +5,20 @@
 -- loops with them.
 use Rattle.std.proofs.Common.{Bool, IsTrue, List, [], ap, ap₂, arith, cond, false, length, map, refl, subst, suc, sym, true, zero, ℕ, ◌*◌, ◌++◌, ◌+◌, ◌-◌, ◌<◌, ◌^◌, ◌∙◌, ◌∷◌, ◌≡◌, ◌≤◌}
 use Rattle.std.proofs.lemmas.List.{append_assoc, length-append, length-map, map-append, map-id}
-use Rattle.std.proofs.lemmas.List.Sums.{sum_by-append}
 use Rattle.std.proofs.lemmas.Nat.Bits.{bit_at_cat_high, bit_at_cat_low}
-use Rattle.std.specs.List.{range_with_len, sum_by}
 use Rattle.std.specs.Prelude.{nat_eq, slice_index_or}
 use Rattle.kh_types.proofs.ClassCounts.{AreBelow-wider, class_count-circles, class_count-wider}
 use Rattle.kh_types.proofs.EdgeNames.{IsArc-slot}
 use Rattle.kh_types.proofs.ListSums.{sum_by-range_alike}
 use Rattle.kh_types.proofs.Lists.{AllByRecursion-append}
-use Rattle.kh_types.proofs.Ranges.{range-append}
 use Rattle.kh_types.specs.Acceptance.{accepted}
 use Rattle.kh_types.specs.Bits.{bit, ones}
 use Rattle.kh_types.specs.Circles.{circle_count, smoothing_of, smoothings_of}
 use Rattle.kh_types.specs.Classes.{AreBelow, class_count, classes_of}
 use Rattle.kh_types.specs.Code.{Code, IsArc, arc_count, arc_in}
-use Rattle.link_algebra.proofs.ClassParts.{class_count-append_lists, classes-parts, length-classes, lifted_pairs}
+use Rattle.link_algebra.proofs.ClassParts.{class_count-append_lists, classes-parts, length-classes, lifted_pairs, sum_by-parts}
 use Rattle.link_algebra.specs.Unions.{raised_slots, union_of}
 use Rattle.kh_types.proofs.JoinedSlots.{smoothings_from}
-use Rattle.kh_types.proofs.LabelDegrees.{sum_by-later}
 
 -- the slots of crossings hold numbers above 0 and below another
 abbrev pub SlotsHold : ℕ → List ℕ → Type 0
@@ -194,11 +190,9 @@ bit-second n a b k small =
 pub ones-both : (n m a b : ℕ) → a < 2 ^ n → ones (n + m) (a + 2 ^ n * b) ≡ ones n a + ones m b
 ones-both n m a b small =
     let s = a + 2 ^ n * b in
-    let e : 0 + n ≡ n + 0 = omega arith in
-    ap (λ xs. sum_by (bit s) xs) (range-append 0 n m) ∙ sum_by-append (bit s) (range_with_len 0 n) (range_with_len (0 + n) m)
+    sum_by-parts (bit s) 0 n m
     ∙ ap₂ (λ x y. x + y) (sum_by-range_alike (bit s) (bit a) 0 n (λ k from below. bit-first n a b k (omega (arith, below))))
-    (ap (λ c. sum_by (bit s) (range_with_len c m)) e ∙ sum_by-later (bit s) n 0 m
-    ∙ sum_by-range_alike (λ k. bit s (n + k)) (bit b) 0 m (λ k from below. bit-second n a b k small))
+    (sum_by-range_alike (λ k. bit s (n + k)) (bit b) 0 m (λ k from below. bit-second n a b k small))
 
 pub smoothings-both : (first second : Code) (a b : ℕ) → IsTrue (accepted second) → a < 2 ^ length first.crossings
     → smoothings_of (union_of first second).crossings (state_of_both first a b)

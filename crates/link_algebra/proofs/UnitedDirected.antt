@@ -4,21 +4,19 @@
 -- about one component and the crossings that it passes, which are of the same part. So each is read off the part, and holds there.
 use Rattle.std.proofs.Common.{IsTrue, List, ap, ap₂, arith, cond, inl, inr, length, subst, sym, ℕ, ◌%◌, ◌*◌, ◌+◌, ◌-◌, ◌/◌, ◌<◌, ◌∙◌, ◌≡◌, ◌≢◌, ◌≤◌, ◌⊎◌}
 use Rattle.std.proofs.lemmas.Bool.{cases_lt, ne_eqb}
-use Rattle.std.proofs.lemmas.List.Sums.{sum_by-append}
 use Rattle.std.specs.List.{range_with_len, sum_by}
 use Rattle.std.specs.Prelude.{nat_eq}
 use Rattle.kh_types.proofs.AcceptedLemmas.{HasArcsTwice-accepted, IsAccepted-is}
 use Rattle.kh_types.proofs.ListSums.{sum_by-none, sum_by-range_alike}
 use Rattle.kh_types.proofs.Lists.{count_by-map}
-use Rattle.kh_types.proofs.Ranges.{range-append}
 use Rattle.kh_types.specs.Acceptance.{accepted}
 use Rattle.kh_types.specs.Accepted.{IsDirected, IsInterval}
 use Rattle.kh_types.specs.Code.{Code, IsArc, IsCrossing, arc_count, arc_in, slots_of}
 use Rattle.kh_types.specs.Components.{arcs_in, component_of, components_of, next}
 use Rattle.kh_types.specs.Darts.{arc_of, dart_at, times}
-use Rattle.kh_types.proofs.LabelDegrees.{sum_by-later}
 use Rattle.link_algebra.proofs.UnitedComponents.{IsPart, IsPart-first, IsPart-second, component-is, index-past, length-components}
 use Rattle.link_algebra.proofs.UnitedSigns.{next-part, part-arc, same_test}
+use Rattle.link_algebra.proofs.ClassParts.{sum_by-parts}
 use Rattle.link_algebra.proofs.UnitedCircles.{length-both}
 use Rattle.link_algebra.specs.Unions.{union_of}
 
@@ -54,14 +52,11 @@ times-blocks first second arc =
     let k = length second.crossings in
     let whole = (union_of first second).crossings in
     let size : 4 * length whole ≡ 4 * n + 4 * k = omega (arith, length-both first second) in
-    let f : 0 + 4 * n ≡ 4 * n + 0 = omega arith in
     times-places whole arc ∙ ap (λ c. sum_by (on_arc whole arc) (range_with_len 0 c)) size
-    ∙ ap (sum_by (on_arc whole arc)) (range-append 0 (4 * n) (4 * k))
-    ∙ sum_by-append (on_arc whole arc) (range_with_len 0 (4 * n)) (range_with_len (0 + 4 * n) (4 * k))
-    ∙ ap₂ (λ x y. x + y)
+    ∙ sum_by-parts (on_arc whole arc) 0 (4 * n) (4 * k)
+    ∙ ap (λ x. x + sum_by (λ q. on_arc whole arc (4 * n + q)) (range_with_len 0 (4 * k)))
     (sum_by-range_alike (on_arc whole arc) (λ q. on_arc whole arc (4 * 0 + q)) 0 (4 * n)
     (λ q from below. ap (on_arc whole arc) (let e : q ≡ 4 * 0 + q = omega arith in e)))
-    (ap (λ c. sum_by (on_arc whole arc) (range_with_len c (4 * k))) f ∙ sum_by-later (on_arc whole arc) (4 * n) 0 (4 * k))
 
 module _ (before : ℕ) (part whole : List (List ℕ)) (is : IsPart before part whole) where
   -- the arc of a dart of a part, by its place

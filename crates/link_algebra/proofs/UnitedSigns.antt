@@ -7,7 +7,6 @@ use Rattle.std.proofs.Common.{Bool, IsTrue, List, None, Option, Some, ap, ap₂,
 use Rattle.std.proofs.lemmas.Bool.{ne_eqb}
 use Rattle.std.proofs.lemmas.Bool.Decides.{nat_tests}
 use Rattle.std.proofs.lemmas.List.Folds.{find-append}
-use Rattle.std.proofs.lemmas.List.Sums.{sum_by-append}
 use Rattle.std.specs.List.{find, range_with_len, sum_by}
 use Rattle.std.specs.Option.{option_map, option_or}
 use Rattle.std.specs.Prelude.{is_some, nat_eq, nat_le, nat_lt, unwrap_or}
@@ -17,9 +16,9 @@ use Rattle.kh_types.specs.Acceptance.{accepted}
 use Rattle.kh_types.specs.Code.{Code, IsArc, IsCrossing, arc_count, arc_in, place_of, slots_of}
 use Rattle.kh_types.specs.Components.{arcs_in, component_of, components_of, next}
 use Rattle.kh_types.specs.Directions.{first_over, first_under, is_positive_by_next, is_positive_by_order, is_positive_by_under, is_positive_in, is_positive_of_two, passes_under, plus_count}
-use Rattle.kh_types.proofs.LabelDegrees.{sum_by-later}
 use Rattle.kh_types.proofs.Lists.{find-none}
 use Rattle.code_passes.proofs.SignRules.{find-first}
+use Rattle.link_algebra.proofs.ClassParts.{sum_by-parts}
 use Rattle.link_algebra.proofs.UnitedCircles.{length-both}
 use Rattle.link_algebra.proofs.UnitedComponents.{IsPart, IsPart-first, IsPart-second, component-is, component-past}
 use Rattle.link_algebra.specs.Unions.{union_of}
@@ -240,10 +239,7 @@ plus-both first second first_is second_is =
     let k = length second.crossings in
     let whole = (union_of first second).crossings in
     let test : List (List ℕ) → ℕ → ℕ = λ crossings c. cond (is_positive_in crossings (components_of crossings) c) 1 0 in
-    let f : 1 + n ≡ n + 1 = omega arith in
-    ap (λ c. sum_by (test whole) (range_with_len 1 c)) (length-both first second)
-    ∙ ap (sum_by (test whole)) (range-append 1 n k)
-    ∙ sum_by-append (test whole) (range_with_len 1 n) (range_with_len (1 + n) k)
+    ap (λ c. sum_by (test whole) (range_with_len 1 c)) (length-both first second) ∙ sum_by-parts (test whole) 1 n k
     ∙ ap₂ (λ x y. x + y)
     (sum_by-range_alike (test whole) (test first.crossings) 1 n
     (λ c from below.
@@ -252,8 +248,7 @@ plus-both first second first_is second_is =
     (ap (is_positive_in whole (components_of whole)) e
     ∙ positive-part 0 first.crossings whole (IsPart-first first second first_is second_is) c
     (IsAlone-first first second first_is second_is) (record { positive = from; within = omega (arith, below) }))))
-    (ap (λ c. sum_by (test whole) (range_with_len c k)) f ∙ sum_by-later (test whole) n 1 k
-    ∙ sum_by-range_alike (λ c. test whole (n + c)) (test second.crossings) 1 k
+    (sum_by-range_alike (λ c. test whole (n + c)) (test second.crossings) 1 k
     (λ c from below.
     ap (λ b. cond b 1 0)
     (positive-part n second.crossings whole (IsPart-second first second first_is second_is) c
