@@ -100,9 +100,10 @@ module _ (before : ℕ) (part whole : List (List ℕ)) (is : IsPart before part 
             inl (ap united e ∙ is.component (arc + 1) (record { positive = omega arith; within = inner }))
         | inr last ↦
             let e : arc_count part + 2 * before + 1 ≡ arc + 2 * before + 1 = omega (arith, last) in
-            inr
-            (ap (λ k. own (k + 1)) last ∙ component-past part is.holds,
-              subst (λ (k : ℕ). (united k ≡ 0) ⊎ (arc_count part + 2 * before < united k)) e is.border)
+            inr (
+              ap (λ k. own (k + 1)) last ∙ component-past part is.holds,
+              subst (λ (k : ℕ). (united k ≡ 0) ⊎ (arc_count part + 2 * before < united k)) e is.border,
+            )
       ]) (is.component arc is_arc) name.positive name.within
     where
       last_or_not : (n : ℕ) → arc ≤ n → (arc + 1 ≤ n) ⊎ (arc ≡ n)
