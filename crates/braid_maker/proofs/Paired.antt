@@ -11,7 +11,7 @@ use Rattle.std.proofs.lemmas.Bool.Decides.{nat_tests}
 use Rattle.std.proofs.lemmas.List.Sums.{sum_by-cons}
 use Rattle.std.proofs.lemmas.List.FromFn.{get_or-map-range_with_len}
 use Rattle.kh_types.specs.Code.{arc_in}
-use Rattle.kh_types.proofs.ListSums.{sum_by-flat_map, sum_by-none, sum_by-single}
+use Rattle.kh_types.proofs.ListSums.{sum_by-flat_map, sum_by-none, sum_by-range_alike, sum_by-single}
 use Rattle.code_passes.specs.Passes.{Pass}
 use Rattle.code_passes.specs.Parts.{ArePaired, Parts, head_count, is_positive_at, passes_at, over_pass, slots_in, tail_count, under_pass, passes_through}
 use Rattle.braid_maker.specs.Closures.{named_parts}
@@ -22,7 +22,6 @@ use Rattle.braid_maker.proofs.Names.{AreAlike-named}
 use Rattle.braid_maker.proofs.Nearest.{Last-is, found, none}
 use Rattle.braid_maker.proofs.Partners.{IsEnd-dart, at_lower, at_upper, arc_at_lower, end-of, place-below}
 use Rattle.braid_maker.proofs.Strands.{IsStrand}
-use Rattle.braid_maker.proofs.Weights.{sum-alike}
 
 abbrev counted : Bool → ℕ
 counted passes = cond passes 1 0
@@ -62,14 +61,14 @@ ends-sum f under over first second under_is over_is corners strands n left is_ov
     let size : length parts.crossings ≡ n = (AreAlike-named strands n left is_over loops).size ∙ length-crossings n left is_over in
     sum_by-flat_map (λ (pass : Pass). counted (nat_eq (f pass) name)) (passes_at parts) (range_with_len 0 (length parts.crossings))
     ∙ ap (λ k. sum_by (λ i. count_by (λ (pass : Pass). nat_eq (f pass) name) (passes_at parts i)) (range_with_len 0 k)) size
-    ∙ sum-alike (λ i. count_by (λ (pass : Pass). nat_eq (f pass) name) (passes_at parts i))
-    (λ i. counted (holds parts.crossings is_over name i first) + counted (holds parts.crossings is_over name i second)) n
-    (λ place below.
+    ∙ sum_by-range_alike (λ i. count_by (λ (pass : Pass). nat_eq (f pass) name) (passes_at parts i))
+    (λ i. counted (holds parts.crossings is_over name i first) + counted (holds parts.crossings is_over name i second)) 0 n
+    (λ place from below.
     let slots = slots_in parts.crossings place in
     let at : ℕ → ℕ = λ s. arc_in (slots_in parts.crossings place) s in
     let slot : (c : ℕ) → at ((c + cond (is_over place) 3 0) % 4) ≡ arc_at parts.crossings (corner_place is_over place c) =
     λ c. sym (arc_at-slot parts.crossings place ((c + cond (is_over place) 3 0) % 4) (omega arith)) in
-    let sign : is_positive_at parts.positive place ≡ is_over place = get_or-map-range_with_len is_over 0 n place place false below (omega arith) in
+    let sign : is_positive_at parts.positive place ≡ is_over place = get_or-map-range_with_len is_over 0 n place place false (omega (arith, below)) (omega arith) in
     sum-two (λ (pass : Pass). counted (nat_eq (f pass) name)) (under_pass (slots_in parts.crossings place) place)
     (over_pass (slots_in parts.crossings place) (is_positive_at parts.positive place) place)
     ∙ ap₂ (λ x y. counted (nat_eq x name) + counted (nat_eq y name)) (under_is slots place)
