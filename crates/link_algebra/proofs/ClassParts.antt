@@ -46,11 +46,6 @@ index-lifted m (x ∷ xs) (suc k) below = index-lifted m xs k (omega (arith, bel
 abbrev AllBelow : ℕ → List ℕ → Type 0
 AllBelow m xs = (k : ℕ) → k < length xs → slice_index xs k < m
 
-map-same : (f g : ℕ → ℕ) (xs : List ℕ) → ((k : ℕ) → k < length xs → f (slice_index xs k) ≡ g (slice_index xs k)) → map f xs ≡ map g xs
-map-same f g [] same = refl
-map-same f g (x ∷ xs) same =
-    ap₂ (λ y ys. y ∷ ys) (same 0 (omega arith)) (map-same f g xs (λ k below. same (suc k) (omega (arith, below))))
-
 map-kept : (f : ℕ → ℕ) (xs : List ℕ) → ((k : ℕ) → k < length xs → f (slice_index xs k) ≡ slice_index xs k) → map f xs ≡ xs
 map-kept f [] same = refl
 map-kept f (x ∷ xs) same =

@@ -39,9 +39,6 @@ swapped : (a b : ℕ) → 0 + a + b ≡ 0 + b + a
 swapped a b = omega arith
 
 module _ (code : Code) where
-  abbrev cs : List (List ℕ)
-  cs = code.crossings
-
   -- the crossings and the signs of the parts
   pub own-sign : (place : ℕ) → place < length code.crossings
       → is_positive_at (parts_of code).positive place ≡ is_positive code.crossings (place + 1)
