@@ -3,15 +3,17 @@
 -- A component begins at its least name. A name is low where it is that of an arc through the bottom, and these have the numbers of their
 -- positions, less than all others. A pass that enters on a name that is not low leaves on a low one or on a greater one; so going round, a
 -- component comes to a low name, and its least name is the least of them.
-use Rattle.std.proofs.Common.{◌≡◌, ℕ, zero, suc, ◌⊎◌, inl, inr, ◌+◌, ◌-◌, ◌*◌, ◌<◌, ◌≤◌, ◌∙◌, ℤ, List, [], ◌∷◌, length, refl, sym, ap, subst, arith, Bool, true, false, not, ◌&&◌, ◌||◌, cond, eq-eqb, eqb-true}
-use Rattle.std.specs.Prelude.{nat_eq, slice_index, slice_index_or, Option, Some, None, unwrap_or, if◌then◌else◌}
-use Rattle.std.specs.List.{find, list_any, range_with_len, AllByRecursion}
+use Rattle.std.proofs.Common.{◌≡◌, ℕ, zero, suc, ◌⊎◌, inl, inr, ◌+◌, ◌-◌, ◌*◌, ◌<◌, ◌≤◌, ◌∙◌, ℤ, List, [], ◌∷◌, length, refl, sym, ap, subst, arith, Bool, true, false, not, ◌&&◌, ◌||◌, eq-eqb, eqb-true}
+use Rattle.std.specs.Prelude.{nat_eq, slice_index, slice_index_or, unwrap_or, if◌then◌else◌}
+use Rattle.std.specs.List.{list_any, range_with_len, AllByRecursion}
 use Rattle.std.specs.Option.{option_or}
 use Rattle.std.proofs.lemmas.Bool.{both_ways, cases_Bool, and_parts, not-false}
 use Rattle.std.proofs.lemmas.Bool.Decides.{nat_tests}
 use Rattle.std.proofs.lemmas.List.{get_or-map, length-map}
 use Rattle.std.proofs.lemmas.List.FromFn.{get_or-map-range_with_len, length-map-range_with_len}
 use Rattle.kh_types.proofs.RangeCounts.{list_any-at}
+use Rattle.kh_types.proofs.Ranges.{list_any-below_none}
+use Rattle.code_passes.proofs.LabelCounts.{find-none_at}
 use Rattle.code_passes.specs.Passes.{Pass}
 use Rattle.code_passes.specs.Parts.{Parts, is_positive_at, over_pass, passes_at, passes_through, slots_in, under_pass}
 use Rattle.orient_arcs.specs.Renumbered.{all_of, entering, follows, is_in, name_in_component, named_components, renamed_crossing}
@@ -26,24 +28,6 @@ use Rattle.braid_maker.specs.Bottoms.{HasBottom, IsLeastBottom, bottom_name}
 use Rattle.braid_maker.proofs.Accepted.{ArePaired-closure}
 use Rattle.braid_maker.proofs.Names.{Named-is, Search-is, position, greater, some, missing}
 use Rattle.braid_maker.proofs.Nearest.{Last-is, found, none}
-
--- a search that finds nothing passes over what fails
-missed : (p : ℕ → Bool) (a n x : ℕ) → find p (range_with_len a n) ≡ None → a ≤ x → x < a + n → ¬ (p x ≡ true)
-missed p a zero x is from below passes = absurd (omega (arith, from, below))
-missed p a (suc n) x is from below passes = elim (cases_Bool (p a)) [
-  | inl here ↦ absurd (some_none (sym (ap (λ b. cond b (Some a) (find p (range_with_len (a + 1) n))) here) ∙ is))
-  | inr away ↦ elim (le_cases a x from) [
-    | inl same ↦ both_ways (p a) away (ap p same ∙ passes)
-    | inr less ↦
-        missed p (a + 1) n x (sym (ap (λ b. cond b (Some a) (find p (range_with_len (a + 1) n))) away) ∙ is) (omega (arith, less)) (omega (arith, below)) passes
-  ]
-]
-  where
-    le_cases : (a k : ℕ) → a ≤ k → (a ≡ k) ⊎ (a < k)
-    le_cases a k from = grind arith
-
-    some_none : {a : ℕ} → ¬ (let one : Option ℕ = Some a in one ≡ None)
-    some_none same = absurd (cc)
 
 -- the arc above a crossing that is passed at a position tells the position
 above-is : (left : ℕ → ℕ) (q x : ℕ) → touches left q x ≡ true
@@ -67,14 +51,9 @@ bottom-above : (n : ℕ) (left : ℕ → ℕ) (q : ℕ) → list_any (touches le
 bottom-above n left q passed = elim (Last-is (touches left q) n) [
   | found x below passes last is ↦
       (x, record { below = below; touched = passes; arc = ap (λ o. arc_above left q (unwrap_or o 0)) is })
-  | none all is ↦ absurd (both_ways (list_any (touches left q) (range_with_len 0 n)) (list_any-none (touches left q) 0 n (λ y from below. all y (omega (arith, below)))) passed)
+  | none all is ↦
+      absurd (both_ways (list_any (touches left q) (range_with_len 0 n)) (list_any-below_none (touches left q) n all) passed)
 ]
-  where
-    list_any-none : (p : ℕ → Bool) (a n : ℕ) → ((x : ℕ) → a ≤ x → x < a + n → p x ≡ false) → list_any p (range_with_len a n) ≡ false
-    list_any-none p a zero fails = refl
-    list_any-none p a (suc n) fails =
-        ap (λ b. b || list_any p (range_with_len (a + 1) n)) (fails a (omega arith) (omega arith))
-        ∙ list_any-none p (a + 1) n (λ x from below. fails x (omega (arith, from)) (omega (arith, below)))
 
 bottoms-apart : (n : ℕ) (left : ℕ → ℕ) (p q : ℕ) → list_any (touches left p) (range_with_len 0 n) ≡ true
     → list_any (touches left q) (range_with_len 0 n) ≡ true → bottom_arc n left p ≡ bottom_arc n left q → p ≡ q
@@ -110,7 +89,8 @@ bottom-named n left strands q positive within passed = elim (Search-is (is_botto
       ∙ bottoms-apart n left p q both.0 passed (eqb-true (bottom_arc n left p) (bottom_arc n left q) both.1)
   | missing is ↦
       absurd
-      (missed (is_bottom n left (bottom_arc n left q)) 1 strands q is (omega (arith, positive)) (omega (arith, within)) (is-bottom n left q passed))
+      (both_ways (is_bottom n left (bottom_arc n left q) q)
+      (find-none_at (is_bottom n left (bottom_arc n left q)) 1 strands q is positive (omega (arith, within))) (is-bottom n left q passed))
 ]
 
 -- a name is low where it is that of an arc through a bottom
@@ -174,6 +154,12 @@ pass-rises n left strands label q k up below positive within touched high = reco
   low = low-named n left strands up (omega (arith, high));
 }
 
+here : (x : ℕ) → (nat_eq x x || nat_eq (x + 1) x) ≡ true
+here x = grind (arith, nat_tests)
+
+right : (x : ℕ) → (nat_eq x (x + 1) || nat_eq (x + 1) (x + 1)) ≡ true
+right x = grind (arith, nat_tests)
+
 passes-rise : (n : ℕ) (left : ℕ → ℕ) (strands k : ℕ) (b : Bool) → k < n → 1 ≤ left k → left k < strands
     → (let lower_left = arc_below n left (left k) k in let lower_right = arc_below n left (left k + 1) k in
     let slots = renamed_crossing (arc_name n left strands)
@@ -183,22 +169,10 @@ passes-rise n left strands k true below positive within = (
   pass-rises n left strands _ (left k + 1) k (2 * k + 1) below (omega arith) (omega (arith, within)) (right (left k)) (omega arith),
   (pass-rises n left strands _ (left k) k (2 * k + 2) below positive (omega (arith, within)) (here (left k)) (omega arith), tt),
 )
-  where
-    here : (x : ℕ) → (nat_eq x x || nat_eq (x + 1) x) ≡ true
-    here x = grind (arith, nat_tests)
-
-    right : (x : ℕ) → (nat_eq x (x + 1) || nat_eq (x + 1) (x + 1)) ≡ true
-    right x = grind (arith, nat_tests)
 passes-rise n left strands k false below positive within = (
   pass-rises n left strands _ (left k) k (2 * k + 2) below positive (omega (arith, within)) (here (left k)) (omega arith),
   (pass-rises n left strands _ (left k + 1) k (2 * k + 1) below (omega arith) (omega (arith, within)) (right (left k)) (omega arith), tt),
 )
-  where
-    here : (x : ℕ) → (nat_eq x x || nat_eq (x + 1) x) ≡ true
-    here x = grind (arith, nat_tests)
-
-    right : (x : ℕ) → (nat_eq x (x + 1) || nat_eq (x + 1) (x + 1)) ≡ true
-    right x = grind (arith, nat_tests)
 
 all-rise : (strands : ℕ) (letters : List ℤ) → AreLetters strands letters
     → AllByRecursion (Rises (length letters) (left_of letters) strands) (passes_through (closure_parts strands letters))

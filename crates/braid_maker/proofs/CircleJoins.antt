@@ -1,5 +1,10 @@
 -- A state of a closed braid has at most as many circles as strands, and one more for each crossing that is not smoothed along the
 -- strands. One more pair at each of these, between opposite slots, joins all that the strands join.
+--
+-- By the slots of a crossing, the smoothing with that pair joins each lower corner with the upper one on its side (`joined-at`). So a class
+-- of arcs goes on along a strand from crossing to crossing, up to the last crossing of its position (`arc-class`), and there are at most as
+-- many classes as positions with crossings; the strands without are loops. A pair more joins two classes at most, so that without the pairs
+-- there are at most as many more as pairs. With a label on each circle this makes twice as many generators for each pair (`power-pairs`).
 use Rattle.std.proofs.Common.{◌≡◌, ℕ, zero, suc, inl, inr, ◌+◌, ◌-◌, ◌*◌, ◌/◌, ◌%◌, ◌^◌, ◌<◌, ◌≤◌, ◌∙◌, List, [], ◌∷◌, ◌++◌, length, get_or, refl, sym, ap, ap₂, subst, arith, Bool, true, false, cond}
 use Rattle.std.specs.Prelude.{nat_eq, not, slice_index}
 use Rattle.std.specs.List.{count_by, enumerate_from, flat_map, range_with_len, sum_by}
@@ -15,6 +20,7 @@ use Rattle.kh_types.specs.Darts.{HasArcsTwice, arc_of, dart_at}
 use Rattle.kh_types.proofs.CircleBound.{ArcsBelow-slots, smoothings_of-below}
 use Rattle.kh_types.proofs.ClassCounts.{class_count-append, class_count-circles, class_count-wider}
 use Rattle.kh_types.proofs.ClassLemmas.{classes-together}
+use Rattle.kh_types.proofs.ListSums.{sum_by-times}
 use Rattle.kh_types.proofs.DartPairs.{IsDart-at}
 use Rattle.kh_types.proofs.Ranges.{list_any-below}
 use Rattle.kh_types.proofs.JoinedClasses.{IsNamed-classes_of}
@@ -26,7 +32,7 @@ use Rattle.braid_maker.proofs.Corners.{corner_place, length-crossings}
 use Rattle.braid_maker.proofs.FewClasses.{arc-dart, chain, ends-alike, few-classes, is_touched, last_at}
 use Rattle.braid_maker.proofs.Partners.{at_lower, at_upper, IsEnd-dart}
 use Rattle.braid_maker.proofs.Strands.{IsStrand}
-use Rattle.braid_maker.proofs.Weights.{goes_along, sum-le, sum-times, sum-weights, weight}
+use Rattle.braid_maker.proofs.Weights.{goes_along, sum-le, sum-weights, weight}
 
 -- the arc at a dart, by its place
 abbrev pub arc_at : List (List ℕ) → ℕ → ℕ
@@ -247,25 +253,19 @@ arc-class n left is_over strands code f x is joined is_arc =
     λ q place from lower upper strand.
     sym (chain n left q (low_arc_of q) (stays q) (place + 1) place lower (omega arith) strand.place_below strand.lower_below strand.at_place)
     ∙ low q place from lower upper strand in
+    let class : (q place from lower upper : ℕ) → IsStrand n left q place from lower upper
+    → f (arc_at others (corner_place is_over place lower)) ≡ f x
+    → (q : ℕ) × (1 ≤ q) × (q ≤ strands) × (is_touched n left q ≡ true) × (f (low_arc left is_over others q (last_at n left q)) ≡ f x) =
+    λ q place from lower upper strand same.
+    let there = at-position n left is_over strands code q place from lower upper is strand in
+    (q, there.first, there.last, there.touched, last q place from lower upper strand ∙ same) in
     elim (IsEnd-dart n left is_over dart below) [
       | at_lower q place from lower upper strand at ↦
-          let there = at-position n left is_over strands code q place from lower upper is strand in (
-            q,
-            there.first,
-            there.last,
-            there.touched,
-            last q place from lower upper strand ∙ sym (ap (λ d. f (arc_at others d)) at) ∙ ap f some.2,
-          )
+          class q place from lower upper strand (sym (ap (λ d. f (arc_at others d)) at) ∙ ap f some.2)
       | at_upper q place from lower upper strand at ↦
-          let there = at-position n left is_over strands code q place from lower upper is strand in (
-            q,
-            there.first,
-            there.last,
-            there.touched,
-            last q place from lower upper strand
-                ∙ ap f (ends-alike n left is_over others q place from lower upper is.alike strand)
-                ∙ sym (ap (λ d. f (arc_at others d)) at) ∙ ap f some.2,
-          )
+          class q place from lower upper strand
+          (ap f (ends-alike n left is_over others q place from lower upper is.alike strand)
+          ∙ sym (ap (λ d. f (arc_at others d)) at) ∙ ap f some.2)
     ]
   where
     low_arc_of : ℕ → ℕ → ℕ
@@ -326,6 +326,6 @@ generator_count-braid n left is_over strands code is =
       arith,
       ap (λ k. sum_by f (range_with_len 0 (2 ^ k))) size,
       few,
-      sum-times (weight is_over n) (2 ^ strands) (2 ^ n),
+      sum_by-times (weight is_over n) (2 ^ strands) (range_with_len 0 (2 ^ n)),
       ap (λ k. 2 ^ strands * k) (sum-weights is_over n),
     )

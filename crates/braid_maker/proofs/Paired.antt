@@ -3,15 +3,15 @@
 -- Names are given to corners, two corners of a strand having one name. A pass enters at the lower corners of its crossing and leaves at the
 -- upper ones, whichever is over. So a name is a head as often as it stands at lower corners, once, and a tail as often as at upper ones,
 -- once.
-use Rattle.std.proofs.Common.{◌≡◌, ◌≢◌, ℕ, zero, suc, ◌⊎◌, inl, inr, ◌+◌, ◌*◌, ◌/◌, ◌%◌, ◌<◌, ◌≤◌, ◌∙◌, List, [], ◌∷◌, length, refl, sym, ap, ap₂, subst, arith, Bool, true, false, cond}
+use Rattle.std.proofs.Common.{◌≡◌, ◌≢◌, ℕ, zero, suc, ◌⊎◌, inl, inr, ◌+◌, ◌*◌, ◌/◌, ◌%◌, ◌<◌, ◌≤◌, ◌∙◌, List, [], ◌∷◌, length, refl, sym, ap, ap₂, arith, Bool, true, false, cond}
 use Rattle.std.specs.Prelude.{nat_eq, if◌then◌else◌}
 use Rattle.std.specs.List.{count_by, range_with_len, sum_by}
-use Rattle.std.proofs.lemmas.Bool.{cases_eq, eq-eqb, eqb-true, ne_eqb}
+use Rattle.std.proofs.lemmas.Bool.{eqb-true}
+use Rattle.std.proofs.lemmas.Bool.Decides.{nat_tests}
 use Rattle.std.proofs.lemmas.List.Sums.{sum_by-cons}
 use Rattle.std.proofs.lemmas.List.FromFn.{get_or-map-range_with_len}
 use Rattle.kh_types.specs.Code.{arc_in}
-use Rattle.kh_types.proofs.Ranges.{sum_by-range_more}
-use Rattle.kh_types.proofs.ListSums.{sum_by-flat_map}
+use Rattle.kh_types.proofs.ListSums.{sum_by-flat_map, sum_by-none, sum_by-range_alike, sum_by-single}
 use Rattle.code_passes.specs.Passes.{Pass}
 use Rattle.code_passes.specs.Parts.{ArePaired, Parts, head_count, is_positive_at, passes_at, over_pass, slots_in, tail_count, under_pass, passes_through}
 use Rattle.braid_maker.specs.Closures.{named_parts}
@@ -22,60 +22,12 @@ use Rattle.braid_maker.proofs.Names.{AreAlike-named}
 use Rattle.braid_maker.proofs.Nearest.{Last-is, found, none}
 use Rattle.braid_maker.proofs.Partners.{IsEnd-dart, at_lower, at_upper, arc_at_lower, end-of, place-below}
 use Rattle.braid_maker.proofs.Strands.{IsStrand}
-use Rattle.braid_maker.proofs.Weights.{sum-alike}
 
 abbrev counted : Bool → ℕ
 counted passes = cond passes 1 0
 
 sum-two : {X : Type 0} (f : X → ℕ) (x y : X) → sum_by f (x ∷ y ∷ []) ≡ f x + f y
 sum-two f x y = omega (arith, sum_by-cons f x (y ∷ []), sum_by-cons f y [])
-
--- one place counts once
-sum-none : (n k : ℕ) → n ≤ k → sum_by (λ i. counted (nat_eq i k)) (range_with_len 0 n) ≡ 0
-sum-none zero k within = refl
-sum-none (suc n) k within =
-    let e : suc n ≡ n + 1 = omega arith in
-    omega (
-      arith,
-      ap (λ m. sum_by (λ i. counted (nat_eq i k)) (range_with_len 0 m)) e,
-      sum_by-range_more (λ i. counted (nat_eq i k)) 0 n n (omega arith),
-      ap counted (ne_eqb n k (λ same. omega (arith, same, within))),
-      sum-none n k (omega (arith, within)),
-    )
-
-sum-once : (n k : ℕ) → k < n → sum_by (λ i. counted (nat_eq i k)) (range_with_len 0 n) ≡ 1
-sum-once zero k below = absurd (omega (arith, below))
-sum-once (suc n) k below =
-    let e : suc n ≡ n + 1 = omega arith in
-    elim (cases_eq n k) [
-      | inl same ↦
-          omega (
-            arith,
-            ap (λ m. sum_by (λ i. counted (nat_eq i k)) (range_with_len 0 m)) e,
-            sum_by-range_more (λ i. counted (nat_eq i k)) 0 n n (omega arith),
-            ap counted (eq-eqb n k same),
-            sum-none n k (omega (arith, same)),
-          )
-      | inr apart ↦
-          omega (
-            arith,
-            ap (λ m. sum_by (λ i. counted (nat_eq i k)) (range_with_len 0 m)) e,
-            sum_by-range_more (λ i. counted (nat_eq i k)) 0 n n (omega arith),
-            ap counted (ne_eqb n k apart),
-            sum-once n k (omega (arith, below, apart)),
-          )
-    ]
-
-sum-nothing : (n : ℕ) → sum_by (λ i. 0) (range_with_len 0 n) ≡ 0
-sum-nothing zero = refl
-sum-nothing (suc n) =
-    let e : suc n ≡ n + 1 = omega arith in
-    omega (
-      arith,
-      ap (λ m. sum_by (λ (i : ℕ). 0) (range_with_len 0 m)) e,
-      sum_by-range_more (λ i. 0) 0 n n (omega arith),
-      sum-nothing n,
-    )
 
 -- whether a corner has a name
 abbrev holds : List (List ℕ) → (ℕ → Bool) → ℕ → ℕ → ℕ → Bool
@@ -109,14 +61,14 @@ ends-sum f under over first second under_is over_is corners strands n left is_ov
     let size : length parts.crossings ≡ n = (AreAlike-named strands n left is_over loops).size ∙ length-crossings n left is_over in
     sum_by-flat_map (λ (pass : Pass). counted (nat_eq (f pass) name)) (passes_at parts) (range_with_len 0 (length parts.crossings))
     ∙ ap (λ k. sum_by (λ i. count_by (λ (pass : Pass). nat_eq (f pass) name) (passes_at parts i)) (range_with_len 0 k)) size
-    ∙ sum-alike (λ i. count_by (λ (pass : Pass). nat_eq (f pass) name) (passes_at parts i))
-    (λ i. counted (holds parts.crossings is_over name i first) + counted (holds parts.crossings is_over name i second)) n
-    (λ place below.
+    ∙ sum_by-range_alike (λ i. count_by (λ (pass : Pass). nat_eq (f pass) name) (passes_at parts i))
+    (λ i. counted (holds parts.crossings is_over name i first) + counted (holds parts.crossings is_over name i second)) 0 n
+    (λ place from below.
     let slots = slots_in parts.crossings place in
     let at : ℕ → ℕ = λ s. arc_in (slots_in parts.crossings place) s in
     let slot : (c : ℕ) → at ((c + cond (is_over place) 3 0) % 4) ≡ arc_at parts.crossings (corner_place is_over place c) =
     λ c. sym (arc_at-slot parts.crossings place ((c + cond (is_over place) 3 0) % 4) (omega arith)) in
-    let sign : is_positive_at parts.positive place ≡ is_over place = get_or-map-range_with_len is_over 0 n place place false below (omega arith) in
+    let sign : is_positive_at parts.positive place ≡ is_over place = get_or-map-range_with_len is_over 0 n place place false (omega (arith, below)) (omega arith) in
     sum-two (λ (pass : Pass). counted (nat_eq (f pass) name)) (under_pass (slots_in parts.crossings place) place)
     (over_pass (slots_in parts.crossings place) (is_positive_at parts.positive place) place)
     ∙ ap₂ (λ x y. counted (nat_eq x name) + counted (nat_eq y name)) (under_is slots place)
@@ -169,28 +121,11 @@ name-at strands n left is_over loops name q place from lower upper i corner is b
       | inr at ↦ inr (parts from upper strand.upper_below at)
     ]
 
-two_cases : (x y name : ℕ) (k : ℕ) → ((x ≡ name) ⊎ (y ≡ name)) → (x ≡ name → y ≡ name → ⊥) → k ≡ 1
-    → counted (nat_eq x name) + counted (nat_eq y name) ≡ k
-two_cases x y name k either both one = elim either [
-  | inl first ↦
-      omega (
-        arith,
-        ap counted (eq-eqb x name first),
-        ap counted (ne_eqb y name (λ second. both first second)),
-        one,
-      )
-  | inr second ↦
-      omega (
-        arith,
-        ap counted (ne_eqb x name (λ first. both first second)),
-        ap counted (eq-eqb y name second),
-        one,
-      )
-]
+two_cases : (x y name : ℕ) → ((x ≡ name) ⊎ (y ≡ name)) → (x ≡ name → y ≡ name → ⊥) → counted (nat_eq x name) + counted (nat_eq y name) ≡ 1
+two_cases x y name either both = grind (arith, nat_tests)
 
-no_cases : (x y name k : ℕ) → x ≢ name → y ≢ name → k ≡ 0 → counted (nat_eq x name) + counted (nat_eq y name) ≡ k
-no_cases x y name k first second none_is =
-    omega (arith, ap counted (ne_eqb x name first), ap counted (ne_eqb y name second), none_is)
+no_cases : (x y name : ℕ) → x ≢ name → y ≢ name → counted (nat_eq x name) + counted (nat_eq y name) ≡ 0
+no_cases x y name first second = grind (arith, nat_tests)
 
 low_either : (others : List (List ℕ)) (is_over : ℕ → Bool) (place lower name : ℕ) → lower < 2
     → arc_at others (corner_place is_over place lower) ≡ name
@@ -214,21 +149,14 @@ name-once : (others : List (List ℕ)) (is_over : ℕ → Bool) (n name first se
     → ((i c : ℕ) → i < n → (c ≡ first) ⊎ (c ≡ second) → arc_at others (corner_place is_over i c) ≡ name → (i ≡ place) × (c ≡ corner))
     → sum_by (λ i. counted (holds others is_over name i first) + counted (holds others is_over name i second)) (range_with_len 0 n) ≡ 1
 name-once others is_over n name first second place corner apart below either only =
-    sum-alike (λ i. counted (holds others is_over name i first) + counted (holds others is_over name i second)) (λ i. counted (nat_eq i place)) n
-    (λ i i_below. elim (cases_eq i place) [
-      | inl here ↦
-          two_cases (arc_at others (corner_place is_over i first)) (arc_at others (corner_place is_over i second)) name (counted (nat_eq i place))
-          (subst (λ (k : ℕ). (arc_at others (corner_place is_over k first) ≡ name) ⊎ (arc_at others (corner_place is_over k second) ≡ name))
-          (sym here) either)
-          (λ one other. apart ((only i first i_below (inl refl) one).1 ∙ sym (only i second i_below (inr refl) other).1))
-          (ap counted (eq-eqb i place here))
-      | inr elsewhere ↦
-          no_cases (arc_at others (corner_place is_over i first)) (arc_at others (corner_place is_over i second)) name (counted (nat_eq i place))
-          (λ one. elsewhere (only i first i_below (inl refl) one).0)
-          (λ other. elsewhere (only i second i_below (inr refl) other).0)
-          (ap counted (ne_eqb i place elsewhere))
-    ])
-    ∙ sum-once n place below
+    sum_by-single (λ i. counted (holds others is_over name i first) + counted (holds others is_over name i second)) 0 n place (omega arith)
+    (omega (arith, below))
+    (λ i from i_below elsewhere.
+    no_cases (arc_at others (corner_place is_over i first)) (arc_at others (corner_place is_over i second)) name
+    (λ one. elsewhere (only i first (omega (arith, i_below)) (inl refl) one).0)
+    (λ other. elsewhere (only i second (omega (arith, i_below)) (inr refl) other).0))
+    ∙ two_cases (arc_at others (corner_place is_over place first)) (arc_at others (corner_place is_over place second)) name either
+    (λ one other. apart ((only place first below (inl refl) one).1 ∙ sym (only place second below (inr refl) other).1))
 
 heads-name : (strands n : ℕ) (left : ℕ → ℕ) (is_over : ℕ → Bool) (loops name q place from lower upper : ℕ)
     → IsName strands n left is_over loops name q place from lower upper → head_count (named_parts strands n left is_over loops) name ≡ 1
@@ -302,13 +230,11 @@ ArePaired-named strands n left is_over loops =
               λ i c i_below. ap counted (all (corner_place is_over i c) (place-below n is_over i c i_below)) in
               let heads : head_count (named_parts strands n left is_over loops) name ≡ 0 =
               heads-sum strands n left is_over loops name
-              ∙ sum-alike (λ i. counted (holds others is_over name i 0) + counted (holds others is_over name i 1)) (λ i. 0) n
-              (λ i i_below. omega (arith, fails i 0 i_below, fails i 1 i_below))
-              ∙ sum-nothing n in
+              ∙ sum_by-none (λ i. counted (holds others is_over name i 0) + counted (holds others is_over name i 1)) 0 n
+              (λ i from i_below. omega (arith, fails i 0 (omega (arith, i_below)), fails i 1 (omega (arith, i_below)))) in
               let tails : tail_count (named_parts strands n left is_over loops) name ≡ 0 =
               tails-sum strands n left is_over loops name
-              ∙ sum-alike (λ i. counted (holds others is_over name i 2) + counted (holds others is_over name i 3)) (λ i. 0) n
-              (λ i i_below. omega (arith, fails i 2 i_below, fails i 3 i_below))
-              ∙ sum-nothing n in
+              ∙ sum_by-none (λ i. counted (holds others is_over name i 2) + counted (holds others is_over name i 3)) 0 n
+              (λ i from i_below. omega (arith, fails i 2 (omega (arith, i_below)), fails i 3 (omega (arith, i_below)))) in
               (omega (arith, heads), tails ∙ sym heads)
         ]

@@ -12,7 +12,7 @@ use Rattle.kh_types.specs.declared.dart.Dart.{Dart}
 use Rattle.kh_types.specs.Code.{IsArc}
 use Rattle.kh_types.specs.Darts.{arc_of, dart_at, dart_place, times, partner_at, HasArcsTwice}
 use Rattle.kh_types.proofs.DartLemmas.{is_dart_of, times_by_places}
-use Rattle.kh_types.proofs.DartPairs.{dart_at-place, dart_place-below, partner_at-only}
+use Rattle.kh_types.proofs.DartPairs.{dart_at-place, dart_place-below, partner_at-only, partner_at-partner_at}
 use Rattle.kh_types.proofs.RangeCounts.{but, count_by-but, found-counted}
 use Rattle.braid_maker.specs.Words.{closed_crossings}
 use Rattle.braid_maker.proofs.Corners.{corner_place, corner_of, corner_place-of, corner_of-place, arc-corner, length-crossings}
@@ -173,11 +173,6 @@ pub partner-upper : (n : ℕ) (left : ℕ → ℕ) (is_over : ℕ → Bool) (q p
     → partner_at (closed_crossings n left is_over) (corner_place is_over from upper) ≡ corner_place is_over place lower
 partner-upper n left is_over q place from lower upper is =
     let crossings = closed_crossings n left is_over in
-    let size = length-crossings n left is_over in
-    sym (partner_at-only crossings (corner_place is_over from upper) (corner_place is_over place lower)
-    (HasArcsTwice-braid n left is_over) (omega (arith, size, place-below n is_over from upper is.from_below))
-    (record {
-      below = omega (arith, size, place-below n is_over place lower is.place_below);
-      differs = ends-apart is_over place from lower upper is.lower_below is.upper_from is.upper_below;
-      same_arc = arc_at_lower n left is_over q place from lower upper is ∙ sym (arc_at_upper n left is_over q place from lower upper is);
-    }))
+    ap (partner_at crossings) (sym (partner-lower n left is_over q place from lower upper is))
+    ∙ partner_at-partner_at crossings (corner_place is_over place lower) (HasArcsTwice-braid n left is_over)
+    (omega (arith, length-crossings n left is_over, place-below n is_over place lower is.place_below))

@@ -46,11 +46,6 @@ index-lifted m (x ∷ xs) (suc k) below = index-lifted m xs k (omega (arith, bel
 abbrev AllBelow : ℕ → List ℕ → Type 0
 AllBelow m xs = (k : ℕ) → k < length xs → slice_index xs k < m
 
-map-same : (f g : ℕ → ℕ) (xs : List ℕ) → ((k : ℕ) → k < length xs → f (slice_index xs k) ≡ g (slice_index xs k)) → map f xs ≡ map g xs
-map-same f g [] same = refl
-map-same f g (x ∷ xs) same =
-    ap₂ (λ y ys. y ∷ ys) (same 0 (omega arith)) (map-same f g xs (λ k below. same (suc k) (omega (arith, below))))
-
 map-kept : (f : ℕ → ℕ) (xs : List ℕ) → ((k : ℕ) → k < length xs → f (slice_index xs k) ≡ slice_index xs k) → map f xs ≡ xs
 map-kept f [] same = refl
 map-kept f (x ∷ xs) same =
@@ -172,6 +167,14 @@ classes-parts m n pairs more below more_below =
     omega (arith, slice_index-range m k inside, inside)) below)
     ∙ fold-back m n (classes_of m pairs) (range_with_len 0 n) more small.0 small.1 (length-range_with_len 0 n) more_below
 
+-- a sum over a range in two parts
+pub sum_by-parts : (f : ℕ → ℕ) (a m n : ℕ)
+    → sum_by f (range_with_len a (m + n)) ≡ sum_by f (range_with_len a m) + sum_by (λ k. f (m + k)) (range_with_len a n)
+sum_by-parts f a m n =
+    let e : a + m ≡ m + a = omega arith in
+    ap (sum_by f) (range-append a m n) ∙ sum_by-append f (range_with_len a m) (range_with_len (a + m) n)
+    ∙ ap (λ x. sum_by f (range_with_len a m) + x) (ap (λ b. sum_by f (range_with_len b n)) e ∙ sum_by-later f m a n)
+
 pub class_count-append_lists : (m : ℕ) (front back : List ℕ) → length front ≡ m
     → class_count (front ++ lifted m back) ≡ class_count front + class_count back
 class_count-append_lists m front back size =
@@ -181,16 +184,12 @@ class_count-append_lists m front back size =
     let whole : length all ≡ m + n = length-append front (lifted m back) ∙ omega (arith, size, length-map back (λ x. m + x)) in
     let counted : (classes : List ℕ) → class_count classes ≡ sum_by (test classes) (range_with_len 0 (length classes)) =
     λ classes. length-filter (is_least classes) (range_with_len 0 (length classes)) in
-    let e : 0 + m ≡ m + 0 = omega arith in
-    counted all ∙ ap (λ k. sum_by (test all) (range_with_len 0 k)) whole
-    ∙ ap (λ xs. sum_by (test all) xs) (range-append 0 m n)
-    ∙ sum_by-append (test all) (range_with_len 0 m) (range_with_len (0 + m) n)
+    counted all ∙ ap (λ k. sum_by (test all) (range_with_len 0 k)) whole ∙ sum_by-parts (test all) 0 m n
     ∙ ap₂ (λ x y. x + y)
     (sum_by-range_alike (test all) (test front) 0 m
     (λ x from below. ap (λ c. cond (nat_eq c x) 1 0) (index-front front (lifted m back) x (omega (arith, below, size))))
     ∙ ap (λ k. sum_by (test front) (range_with_len 0 k)) (sym size) ∙ sym (counted front))
-    (ap (λ b. sum_by (test all) (range_with_len b n)) e ∙ sum_by-later (test all) m 0 n
-    ∙ sum_by-range_alike (λ k. test all (m + k)) (test back) 0 n
+    (sum_by-range_alike (λ k. test all (m + k)) (test back) 0 n
     (λ k from below.
     ap (λ c. cond (nat_eq c (m + k)) 1 0)
     (ap (λ s. slice_index all (s + k)) (sym size) ∙ index-back front (lifted m back) k ∙ index-lifted m back k (omega (arith, below)))

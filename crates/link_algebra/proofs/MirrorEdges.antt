@@ -1,6 +1,11 @@
 -- An edge of the cube and the edge of the mirror that leads back: where the one merges, the other splits, and labels fit along the one
 -- exactly where the exchanged labels fit along the other.
-use Rattle.std.proofs.Common.{Bool, IsTrue, ap, arith, false, inl, inr, length, subst, sym, true, ℕ, ◌%◌, ◌*◌, ◌+◌, ◌<◌, ◌^◌, ◌∙◌, ◌≡◌, ◌≤◌, ◌⊎◌}
+--
+-- The under pass of the mirror has its ends on the two circles of the old ends (`Ends`): a smoothing joins each slot of the new under pass
+-- with a slot of the old one. So ends that lie on one circle do so in the mirror (`met-star`), and an edge that merges goes to one that
+-- splits. A star takes each label from 1, so that the labels at both ends add up to 2 with those of the mirror (`labels-two`), and that of
+-- one circle to 1 (`labels-one`). The sum that a merge asks for is then the sum that a split asks for (`change-star`).
+use Rattle.std.proofs.Common.{Bool, IsTrue, ap, arith, false, inl, inr, length, not, subst, sym, true, ℕ, ◌%◌, ◌*◌, ◌+◌, ◌<◌, ◌^◌, ◌∙◌, ◌≡◌, ◌≤◌, ◌⊎◌}
 use Rattle.std.proofs.lemmas.Bool.Decides.{Decides-like, same_from_decides}
 use Rattle.kh_types.proofs.CircleCycles.{circles-across}
 use Rattle.kh_types.proofs.CircleNumbers.{IsName-arc}
@@ -43,86 +48,57 @@ slots-joined code state crossing slot is is_crossing below joined_below =
     ∙ circles-across code state (4 * k + slot) is (omega (arith, is_crossing.positive, is_crossing.within, below))
     ∙ ap (λ a. circle_in code state a) (at slot below)
 
--- the slots that a smoothing joins with the slots 0 and 2
-joined-both : (code : Code) (state crossing p q : ℕ) → IsTrue (accepted code) → IsCrossing code.crossings crossing → p < 4 → q < 4
-    → joined_slot (bit state (place_of crossing)) p ≡ 0 → joined_slot (bit state (place_of crossing)) q ≡ 2
-    → (circle_at_slot code state crossing 0 ≡ circle_at_slot code state crossing p)
-    × (circle_at_slot code state crossing 2 ≡ circle_at_slot code state crossing q)
-joined-both code state crossing p q is is_crossing p_below q_below first third = (
-  ap (λ u. circle_at_slot code state crossing u) (sym first)
-      ∙ slots-joined code state crossing p is is_crossing p_below (omega (arith, first)),
-  ap (λ u. circle_at_slot code state crossing u) (sym third)
-      ∙ slots-joined code state crossing q is is_crossing q_below (omega (arith, third)),
-)
-
--- where a crossing has its 0-smoothing, or its 1-smoothing
-joined-zero : (code : Code) (state crossing : ℕ) → IsTrue (accepted code) → IsCrossing code.crossings crossing
-    → bit state (place_of crossing) ≡ 0
-    → (circle_at_slot code state crossing 0 ≡ circle_at_slot code state crossing 1)
-    × (circle_at_slot code state crossing 2 ≡ circle_at_slot code state crossing 3)
-joined-zero code state crossing is is_crossing is_zero =
-    joined-both code state crossing 1 3 is is_crossing (omega arith) (omega arith) (ap (λ b. joined_slot b 1) is_zero)
-    (ap (λ b. joined_slot b 3) is_zero)
-
-joined-one : (code : Code) (state crossing : ℕ) → IsTrue (accepted code) → IsCrossing code.crossings crossing
-    → bit state (place_of crossing) ≡ 1
-    → (circle_at_slot code state crossing 0 ≡ circle_at_slot code state crossing 3)
-    × (circle_at_slot code state crossing 2 ≡ circle_at_slot code state crossing 1)
-joined-one code state crossing is is_crossing is_one =
-    joined-both code state crossing 3 1 is is_crossing (omega arith) (omega arith) (ap (λ b. joined_slot b 3) is_one)
-    (ap (λ b. joined_slot b 1) is_one)
-
 -- the circles at the ends of the under pass of the mirror are those at the ends of the under pass, in one order or the other
-abbrev pub Ends : (ℕ → ℕ) → Code → Code → ℕ → ℕ → Type 0
+abbrev Ends : (ℕ → ℕ) → Code → Code → ℕ → ℕ → Type 0
 Ends f old new t crossing =
     ((circle_at_slot new t crossing 0 ≡ circle_in new t (f (arc_at_slot old crossing 0)))
     × (circle_at_slot new t crossing 2 ≡ circle_in new t (f (arc_at_slot old crossing 2))))
     ⊎ ((circle_at_slot new t crossing 0 ≡ circle_in new t (f (arc_at_slot old crossing 2)))
     × (circle_at_slot new t crossing 2 ≡ circle_in new t (f (arc_at_slot old crossing 0))))
 
-pub slot-name : (code : Code) (crossing slot : ℕ) → IsTrue (accepted code) → IsCrossing code.crossings crossing → slot < 4
+slot-name : (code : Code) (crossing slot : ℕ) → IsTrue (accepted code) → IsCrossing code.crossings crossing → slot < 4
     → IsName code (arc_at_slot code crossing slot)
 slot-name code crossing slot is is_crossing below =
     IsName-arc code (arc_at_slot code crossing slot) (IsArc-slot code crossing slot is is_crossing below)
 
-pub ends : (f back : ℕ → ℕ) (old new : Code) (s crossing : ℕ) → IsTrue (accepted old) → IsTrue (accepted new) → IsTurned f back old new
+ends : (f back : ℕ → ℕ) (old new : Code) (s crossing : ℕ) → IsTrue (accepted old) → IsTrue (accepted new) → IsTurned f back old new
     → s < 2 ^ length old.crossings → IsCrossing old.crossings crossing
     → Ends f old new (flipped (length old.crossings) s) crossing
 ends f back old new s crossing old_is new_is turned below is_crossing =
     let t = flipped (length old.crossings) s in
+    let b = bit s (place_of crossing) in
     let at = turned.turned crossing is_crossing in
     let corresponds = Corresponds-turned f back old new s old_is new_is turned below in
-    let onto : (v u w : ℕ) → u < 4 → w < 4 → (u + at.0) % 4 ≡ v → circle_at_slot old s crossing w ≡ circle_at_slot old s crossing u
+    let onto : (v u w : ℕ) → u < 4 → w < 4 → (u + at.0) % 4 ≡ v → joined_slot b u ≡ w
     → circle_at_slot new t crossing v ≡ circle_in new t (f (arc_at_slot old crossing w)) =
-    λ v u w u_below w_below is_v same.
+    λ v u w u_below w_below is_v is_w.
     ap (λ k. circle_at_slot new t crossing k) (sym is_v) ∙ ap (λ a. circle_in new t a) (at.2 u u_below)
-    ∙ sym (corresponds.onward (arc_at_slot old crossing w) (arc_at_slot old crossing u) (slot-name old crossing w old_is is_crossing w_below)
-    (slot-name old crossing u old_is is_crossing u_below) same) in
-    elim (zero_or_one (bit s (place_of crossing)) (bit-le s (place_of crossing))) [
-      | inl is_zero ↦
-          let joined = joined-zero old s crossing old_is is_crossing is_zero in
-          elim at.1 [
-            | inl one ↦ inr (
-              onto 0 3 2 (omega arith) (omega arith) (omega (arith, one)) joined.1,
-              onto 2 1 0 (omega arith) (omega arith) (omega (arith, one)) joined.0,
-            )
-            | inr three ↦ inl (
-              onto 0 1 0 (omega arith) (omega arith) (omega (arith, three)) joined.0,
-              onto 2 3 2 (omega arith) (omega arith) (omega (arith, three)) joined.1,
-            )
-          ]
-      | inr is_one ↦
-          let joined = joined-one old s crossing old_is is_crossing is_one in
-          elim at.1 [
-            | inl one ↦ inl (
-              onto 0 3 0 (omega arith) (omega arith) (omega (arith, one)) joined.0,
-              onto 2 1 2 (omega arith) (omega arith) (omega (arith, one)) joined.1,
-            )
-            | inr three ↦ inr (
-              onto 0 1 2 (omega arith) (omega arith) (omega (arith, three)) joined.1,
-              onto 2 3 0 (omega arith) (omega arith) (omega (arith, three)) joined.0,
-            )
-          ]
+    ∙ sym (corresponds.onward (arc_at_slot old crossing w) (arc_at_slot old crossing u)
+    (slot-name old crossing w old_is is_crossing w_below) (slot-name old crossing u old_is is_crossing u_below)
+    (ap (λ k. circle_at_slot old s crossing k) (sym is_w)
+    ∙ slots-joined old s crossing u old_is is_crossing u_below (omega (arith, is_w, w_below)))) in
+    let joins : (c u : ℕ) → b ≡ c → joined_slot b u ≡ joined_slot c u = λ c u is_c. ap (λ k. joined_slot k u) is_c in
+    elim (zero_or_one b (bit-le s (place_of crossing))) [
+      | inl zeroth ↦ elim at.1 [
+        | inl one ↦ inr (
+          onto 0 3 2 (omega arith) (omega arith) (omega (arith, one)) (joins 0 3 zeroth),
+          onto 2 1 0 (omega arith) (omega arith) (omega (arith, one)) (joins 0 1 zeroth),
+        )
+        | inr three ↦ inl (
+          onto 0 1 0 (omega arith) (omega arith) (omega (arith, three)) (joins 0 1 zeroth),
+          onto 2 3 2 (omega arith) (omega arith) (omega (arith, three)) (joins 0 3 zeroth),
+        )
+      ]
+      | inr first ↦ elim at.1 [
+        | inl one ↦ inl (
+          onto 0 3 0 (omega arith) (omega arith) (omega (arith, one)) (joins 1 3 first),
+          onto 2 1 2 (omega arith) (omega arith) (omega (arith, one)) (joins 1 1 first),
+        )
+        | inr three ↦ inr (
+          onto 0 1 2 (omega arith) (omega arith) (omega (arith, three)) (joins 1 1 first),
+          onto 2 3 0 (omega arith) (omega arith) (omega (arith, three)) (joins 1 3 first),
+        )
+      ]
     ]
   where
     zero_or_one : (b : ℕ) → b ≤ 1 → (b ≡ 0) ⊎ (b ≡ 1)
@@ -156,7 +132,7 @@ AreStars-from f back old new crossing x star around gen is =
           (ends f back old new x.state crossing around.old_is around.new_is around.turned gen.state around.is_crossing);
     }
 
-pub AreMirrors-back : (f back : ℕ → ℕ) (old new : Code) (crossing : ℕ) → AreMirrors f back old new crossing
+AreMirrors-back : (f back : ℕ → ℕ) (old new : Code) (crossing : ℕ) → AreMirrors f back old new crossing
     → AreMirrors back f new old crossing
 AreMirrors-back f back old new crossing are =
     record {
@@ -169,154 +145,131 @@ AreMirrors-back f back old new crossing are =
       };
     }
 
-pub AreStars-back : (f back : ℕ → ℕ) (old new : Code) (crossing : ℕ) (x star : Generator) → AreStars f back old new crossing x star
+AreStars-back : (f back : ℕ → ℕ) (old new : Code) (crossing : ℕ) (x star : Generator) → AreStars f back old new crossing x star
     → AreStars back f new old crossing star x
 AreStars-back f back old new crossing x star are =
     AreStars-from back f new old crossing star x (AreMirrors-back f back old new crossing are.around)
     (IsGenerator-star f back old new x star are.around.turned are.starred)
     (IsStar-back f back old new x star are.around.old_is are.around.new_is are.around.turned are.gen are.starred)
 
--- ends on one circle are so in the mirror
-met-star : (f back : ℕ → ℕ) (old new : Code) (crossing : ℕ) (x star : Generator) → AreStars f back old new crossing x star
-    → circle_at_slot old x.state crossing 0 ≡ circle_at_slot old x.state crossing 2
-    → (circle_at_slot new star.state crossing 0 ≡ circle_at_slot new star.state crossing 2)
-    × (circle_at_slot new star.state crossing 0 ≡ circle_in new star.state (f (arc_at_slot old crossing 0)))
-met-star f back old new crossing x star are met =
-    let a = arc_at_slot old crossing 0 in
-    let b = arc_at_slot old crossing 2 in
-    let same : circle_in new star.state (f a) ≡ circle_in new star.state (f b) =
-    are.corresponds.onward a b (slot-name old crossing 0 are.around.old_is are.around.is_crossing (omega arith))
-    (slot-name old crossing 2 are.around.old_is are.around.is_crossing (omega arith)) met in
-    elim are.ends [
-      | inl straight ↦ (straight.0 ∙ same ∙ sym straight.1, straight.0)
-      | inr crossed ↦ (crossed.0 ∙ sym same ∙ sym crossed.1, crossed.0 ∙ sym same)
-    ]
+module _ (f back : ℕ → ℕ) (old new : Code) (crossing : ℕ) where
+  abbrev Stars : Generator → Generator → Type 0
+  Stars x star = AreStars f back old new crossing x star
 
--- the labels at the ends, where they are on two circles or on one
-labels-two : (f back : ℕ → ℕ) (old new : Code) (crossing : ℕ) (x star : Generator) → AreStars f back old new crossing x star
-    → label_at new star crossing 0 + label_at new star crossing 2 + (label_at old x crossing 0 + label_at old x crossing 2) ≡ 2
-labels-two f back old new crossing x star are =
-    let a = arc_at_slot old crossing 0 in
-    let b = arc_at_slot old crossing 2 in
-    let at_a = are.starred.labels a (slot-name old crossing 0 are.around.old_is are.around.is_crossing (omega arith)) in
-    let at_b = are.starred.labels b (slot-name old crossing 2 are.around.old_is are.around.is_crossing (omega arith)) in
-    elim are.ends [
-      | inl straight ↦ omega (
-        arith,
-        at_a,
-        at_b,
-        label_of-circle new star (arc_at_slot new crossing 0) (f a) straight.0,
-        label_of-circle new star (arc_at_slot new crossing 2) (f b) straight.1,
-      )
-      | inr crossed ↦ omega (
-        arith,
-        at_a,
-        at_b,
-        label_of-circle new star (arc_at_slot new crossing 0) (f b) crossed.0,
-        label_of-circle new star (arc_at_slot new crossing 2) (f a) crossed.1,
-      )
-    ]
+  end-name : (x star : Generator) → Stars x star → (slot : ℕ) → slot < 4 → IsName old (arc_at_slot old crossing slot)
+  end-name x star are slot below = slot-name old crossing slot are.around.old_is are.around.is_crossing below
 
-labels-one : (f back : ℕ → ℕ) (old new : Code) (crossing : ℕ) (x star : Generator) → AreStars f back old new crossing x star
-    → circle_at_slot old x.state crossing 0 ≡ circle_at_slot old x.state crossing 2
-    → label_at new star crossing 0 + label_at old x crossing 0 ≡ 1
-labels-one f back old new crossing x star are met =
-    let a = arc_at_slot old crossing 0 in
+  -- ends on one circle are so in the mirror
+  met-star : (x star : Generator) → Stars x star → circle_at_slot old x.state crossing 0 ≡ circle_at_slot old x.state crossing 2
+      → (circle_at_slot new star.state crossing 0 ≡ circle_at_slot new star.state crossing 2)
+      × (circle_at_slot new star.state crossing 0 ≡ circle_in new star.state (f (arc_at_slot old crossing 0)))
+  met-star x star are met =
+      let same = are.corresponds.onward (arc_at_slot old crossing 0) (arc_at_slot old crossing 2) (end-name x star are 0 (omega arith))
+      (end-name x star are 2 (omega arith)) met in
+      elim are.ends [
+        | inl straight ↦ (straight.0 ∙ same ∙ sym straight.1, straight.0)
+        | inr crossed ↦ (crossed.0 ∙ sym same ∙ sym crossed.1, crossed.0 ∙ sym same)
+      ]
+
+  -- the labels at the ends, where they are on two circles or on one
+  labels-two : (x star : Generator) → Stars x star
+      → label_at new star crossing 0 + label_at new star crossing 2 + (label_at old x crossing 0 + label_at old x crossing 2) ≡ 2
+  labels-two x star are =
+      let first = are.starred.labels (arc_at_slot old crossing 0) (end-name x star are 0 (omega arith)) in
+      let third = are.starred.labels (arc_at_slot old crossing 2) (end-name x star are 2 (omega arith)) in
+      let at : (slot end : ℕ) → circle_at_slot new star.state crossing slot ≡ circle_in new star.state (f (arc_at_slot old crossing end))
+      → label_at new star crossing slot ≡ label_of new star (f (arc_at_slot old crossing end)) =
+      λ slot end. label_of-circle new star (arc_at_slot new crossing slot) (f (arc_at_slot old crossing end)) in
+      elim are.ends [
+        | inl straight ↦ omega (arith, first, third, at 0 0 straight.0, at 2 2 straight.1)
+        | inr crossed ↦ omega (arith, first, third, at 0 2 crossed.0, at 2 0 crossed.1)
+      ]
+
+  labels-one : (x star : Generator) → Stars x star → circle_at_slot old x.state crossing 0 ≡ circle_at_slot old x.state crossing 2
+      → label_at new star crossing 0 + label_at old x crossing 0 ≡ 1
+  labels-one x star are met =
+      let a = arc_at_slot old crossing 0 in
+      omega (
+        arith,
+        are.starred.labels a (end-name x star are 0 (omega arith)),
+        label_of-circle new star (arc_at_slot new crossing 0) (f a) (met-star x star are met).1,
+      )
+
+  -- what is off the ends in the mirror is so in the diagram
+  off-back : (y : ℕ) (x star : Generator) → Stars x star → IsName new y → IsOff new star.state crossing y
+      → IsOff old x.state crossing (back y)
+  off-back y x star are name off =
+      let s = x.state in
+      let t = star.state in
+      let home = IsName-back f back old new s t y are.corresponds name in
+      let on : (slot : ℕ) → slot < 4 → circle_in old s (back y) ≡ circle_at_slot old s crossing slot
+      → circle_in new t y ≡ circle_in new t (f (arc_at_slot old crossing slot)) =
+      λ slot below same.
+      ap (circle_in new t) (sym (name-here f back old new s t y are.corresponds name))
+      ∙ are.corresponds.onward (back y) (arc_at_slot old crossing slot) home (end-name x star are slot below) same in
+      elim are.ends [
+        | inl straight ↦ record {
+          first = λ same. off.first (on 0 (omega arith) same ∙ sym straight.0);
+          third = λ same. off.third (on 2 (omega arith) same ∙ sym straight.1);
+        }
+        | inr crossed ↦ record {
+          first = λ same. off.third (on 0 (omega arith) same ∙ sym crossed.1);
+          third = λ same. off.first (on 2 (omega arith) same ∙ sym crossed.0);
+        }
+      ]
+
+  same_off-star : (two one two_star one_star : Generator) → Stars two two_star → Stars one one_star → IsSameOff old two one crossing
+      → IsSameOff new two_star one_star crossing
+  same_off-star two one two_star one_star two_are one_are same =
+      record {
+        at = λ y name off.
+            let x = back y in
+            let home = IsName-back f back old new two.state two_star.state y two_are.corresponds name in
+            let e = name-here f back old new two.state two_star.state y two_are.corresponds name in
+            omega (
+              arith,
+              same.at x home (off-back y two two_star two_are name off),
+              two_are.starred.labels x home,
+              one_are.starred.labels x home,
+              ap (label_of new two_star) e,
+              ap (label_of new one_star) e,
+            );
+      }
+
+  -- a merge of labels becomes a split, and a split a merge
+  change-star : (merges : Bool) (tail head tail_star head_star : Generator) → Stars tail tail_star → Stars head head_star
+      → IsSwitch merges old tail.state head.state crossing → IsChange merges old tail head crossing
+      → IsChange (not merges) new head_star tail_star crossing
+  change-star true tail head tail_star head_star tail_are head_are merge change = (
+    same_off-star tail head tail_star head_star tail_are head_are change.0,
     omega (
       arith,
-      are.starred.labels a (slot-name old crossing 0 are.around.old_is are.around.is_crossing (omega arith)),
-      label_of-circle new star (arc_at_slot new crossing 0) (f a) (met-star f back old new crossing x star are met).1,
-    )
+      change.1,
+      labels-two tail tail_star tail_are,
+      labels-one head head_star head_are (ends-meet old tail.state head.state crossing merge),
+    ),
+  )
+  change-star false tail head tail_star head_star tail_are head_are split change = (
+    same_off-star head tail head_star tail_star head_are tail_are change.0,
+    omega (
+      arith,
+      change.1,
+      labels-two head head_star head_are,
+      labels-one tail tail_star tail_are (ends-meet old head.state tail.state crossing split),
+    ),
+  )
 
--- what is off the ends in the mirror is so in the diagram
-off-back : (f back : ℕ → ℕ) (old new : Code) (crossing y : ℕ) (x star : Generator) → AreStars f back old new crossing x star
-    → IsName new y → IsOff new star.state crossing y → IsOff old x.state crossing (back y)
-off-back f back old new crossing y x star are name off =
-    let s = x.state in
-    let t = star.state in
-    let a = arc_at_slot old crossing 0 in
-    let b = arc_at_slot old crossing 2 in
-    let a_name = slot-name old crossing 0 are.around.old_is are.around.is_crossing (omega arith) in
-    let b_name = slot-name old crossing 2 are.around.old_is are.around.is_crossing (omega arith) in
-    let home = IsName-back f back old new s t y are.corresponds name in
-    let e : circle_in new t y ≡ circle_in new t (f (back y)) = ap (circle_in new t) (sym (name-here f back old new s t y are.corresponds name)) in
-    let on : (c : ℕ) → IsName old c → circle_in old s (back y) ≡ circle_in old s c → circle_in new t y ≡ circle_in new t (f c) =
-    λ c c_name same. e ∙ are.corresponds.onward (back y) c home c_name same in
-    elim are.ends [
-      | inl straight ↦ record {
-        first = λ same. off.first (on a a_name same ∙ sym straight.0);
-        third = λ same. off.third (on b b_name same ∙ sym straight.1);
-      }
-      | inr crossed ↦ record {
-        first = λ same. off.third (on a a_name same ∙ sym crossed.1);
-        third = λ same. off.first (on b b_name same ∙ sym crossed.0);
-      }
-    ]
+  -- where the ends are on one circle in the one state, an edge of the mirror merges from the other
+  merge-other : (one one_star : Generator) (other : ℕ) → Stars one one_star
+      → circle_at_slot old one.state crossing 0 ≡ circle_at_slot old one.state crossing 2 → IsMerge new one_star.state other crossing → ⊥
+  merge-other one one_star other are met merge = merge.join.apart (met-star one one_star are met).0
 
-same_off-star : (f back : ℕ → ℕ) (old new : Code) (crossing : ℕ) (two one two_star one_star : Generator)
-    → AreStars f back old new crossing two two_star → AreStars f back old new crossing one one_star
-    → IsSameOff old two one crossing → IsSameOff new two_star one_star crossing
-same_off-star f back old new crossing two one two_star one_star two_are one_are same =
-    record {
-      at = λ y name off.
-          let x = back y in
-          let home = IsName-back f back old new two.state two_star.state y two_are.corresponds name in
-          let e = name-here f back old new two.state two_star.state y two_are.corresponds name in
-          let kept = same.at x home (off-back f back old new crossing y two two_star two_are name off) in
-          omega (
-            arith,
-            kept,
-            two_are.starred.labels x home,
-            one_are.starred.labels x home,
-            ap (label_of new two_star) e,
-            ap (label_of new one_star) e,
-          );
-    }
-
--- a merge of labels becomes a split, and a split a merge
-merge-star : (f back : ℕ → ℕ) (old new : Code) (crossing : ℕ) (two one two_star one_star : Generator)
-    → AreStars f back old new crossing two two_star → AreStars f back old new crossing one one_star
-    → IsMerge old two.state one.state crossing → IsChange true old two one crossing → IsChange false new one_star two_star crossing
-merge-star f back old new crossing two one two_star one_star two_are one_are merge change = (
-  same_off-star f back old new crossing two one two_star one_star two_are one_are change.0,
-  omega (
-    arith,
-    change.1,
-    labels-two f back old new crossing two two_star two_are,
-    labels-one f back old new crossing one one_star one_are (ends-meet old two.state one.state crossing merge),
-  ),
-)
-
-split-star : (f back : ℕ → ℕ) (old new : Code) (crossing : ℕ) (two one two_star one_star : Generator)
-    → AreStars f back old new crossing two two_star → AreStars f back old new crossing one one_star
-    → IsMerge old two.state one.state crossing → IsChange false old one two crossing → IsChange true new two_star one_star crossing
-split-star f back old new crossing two one two_star one_star two_are one_are merge change = (
-  same_off-star f back old new crossing two one two_star one_star two_are one_are change.0,
-  omega (
-    arith,
-    change.1,
-    labels-two f back old new crossing two two_star two_are,
-    labels-one f back old new crossing one one_star one_are (ends-meet old two.state one.state crossing merge),
-  ),
-)
-
--- where the ends are on one circle in the one state, an edge of the mirror merges from the other
-merge-other : (f back : ℕ → ℕ) (old new : Code) (crossing : ℕ) (one one_star : Generator) (other : ℕ)
-    → AreStars f back old new crossing one one_star → circle_at_slot old one.state crossing 0 ≡ circle_at_slot old one.state crossing 2
-    → IsMerge new one_star.state other crossing → ⊥
-merge-other f back old new crossing one one_star other are met merge =
-    merge.join.apart (met-star f back old new crossing one one_star are met).0
-
--- an edge that merges or splits, from a step
+-- an edge merges or splits, from a step
 switch-step : (code : Code) (tail head crossing : ℕ) → IsTrue (accepted code) → IsCrossing code.crossings crossing
-    → IsStep tail head crossing → IsMerge code tail head crossing ⊎ IsMerge code head tail crossing
+    → IsStep tail head crossing → (merges : Bool) × IsSwitch merges code tail head crossing
 switch-step code tail head crossing is is_crossing step =
     let edge = switch-edge code tail crossing is is_crossing step.zero_there in
-    by edge.0 (subst (λ (h : ℕ). IsSwitch edge.0 code tail h crossing) (sym step.behind) edge.1)
-  where
-    by : (merges : Bool) → IsSwitch merges code tail head crossing → IsMerge code tail head crossing ⊎ IsMerge code head tail crossing
-    by true merge = inl merge
-    by false merge = inr merge
+    (edge.0, subst (λ (h : ℕ). IsSwitch edge.0 code tail h crossing) (sym step.behind) edge.1)
 
 -- the labels fit along an edge exactly where those of the mirror fit along the edge back
 pub fits-star : (f back : ℕ → ℕ) (old new : Code) (crossing : ℕ) (tail head tail_star head_star : Generator)
@@ -324,33 +277,32 @@ pub fits-star : (f back : ℕ → ℕ) (old new : Code) (crossing : ℕ) (tail h
     → IsStep tail.state head.state crossing → IsStep head_star.state tail_star.state crossing
     → fits old tail head crossing ≡ fits new head_star tail_star crossing
 fits-star f back old new crossing tail head tail_star head_star tail_are head_are step step_back =
-    let old_is = tail_are.around.old_is in
-    let new_is = tail_are.around.new_is in
     let tail_back = AreStars-back f back old new crossing tail tail_star tail_are in
     let head_back = AreStars-back f back old new crossing head head_star head_are in
-    elim (switch-step old tail.state head.state crossing old_is tail_are.around.is_crossing step) [
-      | inl merge ↦
-          elim (switch-step new head_star.state tail_star.state crossing new_is tail_back.around.is_crossing step_back) [
-            | inl too ↦ absurd (merge-other f back old new crossing head head_star tail_star.state head_are
-                (ends-meet old tail.state head.state crossing merge) too)
-            | inr split ↦
-                same_from_decides (fits old tail head crossing) (fits new head_star tail_star crossing)
-                (fits-decides true old tail head crossing old_is merge)
-                (Decides-like (fits new head_star tail_star crossing)
-                (split-star back f new old crossing tail_star head_star tail head tail_back head_back split)
-                (merge-star f back old new crossing tail head tail_star head_star tail_are head_are merge)
-                (fits-decides false new head_star tail_star crossing new_is split))
-          ]
-      | inr split ↦
-          elim (switch-step new head_star.state tail_star.state crossing new_is tail_back.around.is_crossing step_back) [
-            | inr too ↦ absurd (merge-other f back old new crossing tail tail_star head_star.state tail_are
-                (ends-meet old head.state tail.state crossing split) too)
-            | inl merge ↦
-                same_from_decides (fits old tail head crossing) (fits new head_star tail_star crossing)
-                (fits-decides false old tail head crossing old_is split)
-                (Decides-like (fits new head_star tail_star crossing)
-                (merge-star back f new old crossing head_star tail_star head tail head_back tail_back merge)
-                (split-star f back old new crossing head tail head_star tail_star head_are tail_are split)
-                (fits-decides true new head_star tail_star crossing new_is merge))
-          ]
-    ]
+    let here = switch-step old tail.state head.state crossing tail_are.around.old_is tail_are.around.is_crossing step in
+    let there = switch-step new head_star.state tail_star.state crossing tail_are.around.new_is tail_back.around.is_crossing step_back in
+    both here.0 there.0 tail_back head_back here.1 there.1
+  where
+    both : (merges too : Bool) → AreStars back f new old crossing tail_star tail → AreStars back f new old crossing head_star head
+        → IsSwitch merges old tail.state head.state crossing → IsSwitch too new head_star.state tail_star.state crossing
+        → fits old tail head crossing ≡ fits new head_star tail_star crossing
+    both true true tail_back head_back here there =
+        absurd (merge-other f back old new crossing head head_star tail_star.state head_are
+        (ends-meet old tail.state head.state crossing here) there)
+    both false false tail_back head_back here there =
+        absurd (merge-other f back old new crossing tail tail_star head_star.state tail_are
+        (ends-meet old head.state tail.state crossing here) there)
+    both true false tail_back head_back here there =
+        same_from_decides (fits old tail head crossing) (fits new head_star tail_star crossing)
+        (fits-decides true old tail head crossing tail_are.around.old_is here)
+        (Decides-like (fits new head_star tail_star crossing)
+        (change-star back f new old crossing false head_star tail_star head tail head_back tail_back there)
+        (change-star f back old new crossing true tail head tail_star head_star tail_are head_are here)
+        (fits-decides false new head_star tail_star crossing tail_are.around.new_is there))
+    both false true tail_back head_back here there =
+        same_from_decides (fits old tail head crossing) (fits new head_star tail_star crossing)
+        (fits-decides false old tail head crossing tail_are.around.old_is here)
+        (Decides-like (fits new head_star tail_star crossing)
+        (change-star back f new old crossing true head_star tail_star head tail head_back tail_back there)
+        (change-star f back old new crossing false tail head tail_star head_star tail_are head_are here)
+        (fits-decides true new head_star tail_star crossing tail_are.around.new_is there))

@@ -1,8 +1,13 @@
 -- In a mirror, each circle of two arcs that lies under all that it meets enters the first listed of its crossings on its first arc.
+--
+-- Such a circle is over in the code at the same two crossings, and its arcs follow one another there too (`under-now`), so that they are a
+-- component of the code (`two-arcs`). The code begins a component of two over passes with the arc that enters the first listed of its
+-- crossings, since its labels need no turn. The mirror lies under at both, so that its passes begin the component with the code's least arc
+-- too, which gets the lesser number (`lesser-first`). So the first arc of the circle in the mirror is the code's lesser one.
 use Rattle.std.proofs.Common.{◌≡◌, ◌≢◌, ℕ, ◌⊎◌, inl, inr, ◌+◌, ◌%◌, ◌<◌, ◌≤◌, ◌∙◌, List, [], ◌∷◌, map, get_or, refl, sym, ap, ap₂, subst, arith, Bool, true, false, not, ◌&&◌, ◌||◌, pos, neg_ℤ, IsTrue}
 use Rattle.std.specs.Prelude.{nat_eq, if◌then◌else◌, int_lt, MatchBool}
 use Rattle.std.specs.List.{range_with_len}
-use Rattle.std.proofs.lemmas.Bool.{both_ways, cases_eq, cases_lt, ne_eqb}
+use Rattle.std.proofs.lemmas.Bool.{cases_eq, cases_lt, ne_eqb}
 use Rattle.std.proofs.lemmas.Bool.Decides.{nat_tests}
 use Rattle.std.proofs.lemmas.Int.{ints}
 use Rattle.kh_types.specs.Acceptance.{accepted}
@@ -13,11 +18,10 @@ use Rattle.kh_types.specs.Directions.{HasNoSingleArcs, IsPass, head_of, is_posit
 use Rattle.kh_types.specs.Edges.{arc_at_slot}
 use Rattle.kh_types.specs.declared.dart.Dart.{Dart}
 use Rattle.kh_types.proofs.Heads.{HasEnds-directed, HasNoSingleArcs-accepted, IsPass-over, IsPass-under}
-use Rattle.kh_types.proofs.NextArcs.{HasPlace-directed, component, component-next}
+use Rattle.kh_types.proofs.NextArcs.{HasPlace-directed, IsArc-next, component, component-next}
 use Rattle.code_passes.specs.ComponentLabels.{component_labels, entering_label, label_at}
 use Rattle.code_passes.specs.Passes.{is_over, turned_labels}
 use Rattle.code_passes.proofs.CutArcs.{IsFirst, component-in, end-within, size}
-use Rattle.code_passes.proofs.LeastArcs.{IsFirstOf-directed}
 use Rattle.code_passes.proofs.TwoArcComponents.{turned_labels-component}
 use Rattle.orient_arcs.proofs.PlacedNumbers.{placed-numbers}
 use Rattle.orient_arcs.specs.Renumbered.{label_entered, number_in, order_of}
@@ -26,7 +30,7 @@ use Rattle.link_algebra.specs.Mirrors.{EntersInOrder, mirror_of, mirror_parts}
 use Rattle.link_algebra.proofs.MirrorParts.{IsTurnOf-mirror, mirror_turn}
 use Rattle.link_algebra.proofs.MirrorPasses.{arc-there, follows-next, label-mirrored, paired_parts, there-arc, under-of}
 use Rattle.link_algebra.proofs.TurnedCodes.{mirror-accepted, mirror-rotated, mirror-signs, mirror_name, mirror_number}
-use Rattle.link_algebra.proofs.TurnedParts.{name-within, number-is, number-within}
+use Rattle.link_algebra.proofs.TurnedParts.{IsTurnOf, name-within, number-is, number-within}
 
 -- two labels of over passes that are not turned ascend
 ascending-labels : (a b : ℕ) → 1 ≤ a → 1 ≤ b → turned_labels (pos a ∷ pos b ∷ []) ≡ pos a ∷ pos b ∷ [] → a ≤ b
@@ -65,6 +69,29 @@ module _ (code : Code) (holds : IsTrue (accepted code)) where
   abbrev f : ℕ → ℕ
   f = mirror_number code holds
 
+  abbrev turns : ℕ → ℕ
+  turns crossing = mirror_turn (is_positive code.crossings crossing)
+
+  abbrev turn : IsTurnOf turns code (mirror_parts code)
+  turn = IsTurnOf-mirror code holds
+
+  f-is : (x : ℕ) → IsArc cs x → f x ≡ number_in (order_of (passes_through (mirror_parts code))) x
+  f-is x is = number-is turns code holds (mirror_parts code) turn x is
+
+  f-arc : (x : ℕ) → IsArc cs x → IsArc new (f x)
+  f-arc x is =
+      let within = number-within turns code holds (mirror_parts code) turn x is in
+      record {
+        positive = omega (arith, f-is x is, within.positive);
+        within = omega (arith, f-is x is, within.within, (mirror-rotated code holds).size);
+      }
+
+  f-apart : (x y : ℕ) → IsArc cs x → IsArc cs y → f x ≡ f y → x ≡ y
+  f-apart x y x_is y_is same =
+      let names = (mirror-rotated code holds).names in
+      sym (names.there x x_is.positive (omega (arith, x_is.within))) ∙ ap (mirror_name code holds) same
+      ∙ names.there y y_is.positive (omega (arith, y_is.within))
+
   -- what is over at a crossing is under there in the mirror, and goes to the same arc
   record IsUnderNow (x : ℕ) : Type 0 where
     pub over : (head_of code.crossings x).slot ≢ 0
@@ -91,16 +118,8 @@ module _ (code : Code) (holds : IsTrue (accepted code)) where
       (IsPass-under new new_directed new_moves h.crossing (there-too h.crossing here))
       (IsPass-over cs directed moves h.crossing here) ends.enters ends.head.on_arc
     where
-      slot_is : (b : Bool) (s : ℕ) → IsTrue (nat_eq s 0 || nat_eq s (if b then 3 else 1)) → (s ≡ 0) ⊎ (s ≡ (if b then 3 else 1))
-      slot_is b s enters = elim (cases_eq s 0) [
-        | inl zeroth ↦ inl zeroth
-        | inr other ↦ elim (cases_eq s (if b then 3 else 1)) [
-          | inl same ↦ inr same
-          | inr neither ↦ absurd
-              (both_ways (nat_eq s 0 || nat_eq s (if b then 3 else 1))
-              (ap (λ t. t || nat_eq s (if b then 3 else 1)) (ne_eqb s 0 other) ∙ ne_eqb s (if b then 3 else 1) neither) enters)
-        ]
-      ]
+      slot_is : (s enters : ℕ) → IsTrue (nat_eq s 0 || nat_eq s enters) → (s ≡ 0) ⊎ (s ≡ enters)
+      slot_is s enters is = grind (arith, nat_tests)
 
       -- the over pass enters at a slot and leaves at another, which the turn makes 0 and 2
       turned : (d : Bool) (enters leaves : ℕ) → 1 ≤ enters → enters < 4 → 1 ≤ leaves → leaves < 4 → (0 + mirror_turn d) % 4 ≡ leaves
@@ -141,10 +160,10 @@ module _ (code : Code) (holds : IsTrue (accepted code)) where
           → arc_at_slot code (head_of code.crossings x).crossing (head_of code.crossings x).slot ≡ x → IsUnderNow x
       by true sign is over under own enters =
           turned true 3 1 (omega arith) (omega arith) (omega arith) (omega arith) refl refl refl sign is over under own
-          (slot_is true (head_of code.crossings x).slot enters)
+          (slot_is (head_of code.crossings x).slot 3 enters)
       by false sign is over under own enters =
           turned false 1 3 (omega arith) (omega arith) (omega arith) (omega arith) refl refl refl sign is over under own
-          (slot_is false (head_of code.crossings x).slot enters)
+          (slot_is (head_of code.crossings x).slot 1 enters)
 
   -- two arcs that follow one another both ways are a component
   two-arcs : (x y : ℕ) → IsArc cs x → IsArc cs y → x < y → next cs x ≡ y → next cs y ≡ x
@@ -177,11 +196,9 @@ module _ (code : Code) (holds : IsTrue (accepted code)) where
       let ends = HasEnds-directed cs directed moves x x_is in
       let y_ends = HasEnds-directed cs directed moves y y_is in
       let placed = placed-numbers code directed (mirror_parts code) (paired_parts code holds) (arc-there code holds) (there-arc code holds)
-      (follows-next code holds) (IsTurnOf-mirror code holds).size y y_is in
+      (follows-next code holds) turn.size y y_is in
       let inside = component-in cs directed x y two.0 (omega (arith, less)) (omega (arith, two.1, two.2)) in
       let order = order_of (passes_through (mirror_parts code)) in
-      let x_number = number-is (λ crossing. mirror_turn (is_positive cs crossing)) code holds (mirror_parts code) (IsTurnOf-mirror code holds) x x_is in
-      let y_number = number-is (λ crossing. mirror_turn (is_positive cs crossing)) code holds (mirror_parts code) (IsTurnOf-mirror code holds) y y_is in
       let labels : turned_labels (pos (head_of cs x).crossing ∷ pos (head_of cs y).crossing ∷ [])
       ≡ pos (head_of cs x).crossing ∷ pos (head_of cs y).crossing ∷ [] =
       (let listed : component_labels cs x ≡ pos (head_of cs x).crossing ∷ pos (head_of cs y).crossing ∷ [] =
@@ -194,18 +211,14 @@ module _ (code : Code) (holds : IsTrue (accepted code)) where
       let apart : (head_of cs x).crossing ≢ (head_of cs y).crossing = λ same.
       let heads : head_of new (f x) ≡ head_of new (f y) =
       x_under.head ∙ ap (λ (k : ℕ). made k) same ∙ sym y_under.head in
-      let fx_is = number-arc x x_is in
-      let fy_is = number-arc y y_is in
       let one : f x ≡ f y =
-      sym (HasEnds-directed new new_directed new_moves (f x) fx_is).head.on_arc
+      sym (HasEnds-directed new new_directed new_moves (f x) (f-arc x x_is)).head.on_arc
       ∙ ap (λ (h : Dart). arc_at_slot (mirror_of code) h.crossing h.slot) heads
-      ∙ (HasEnds-directed new new_directed new_moves (f y) fy_is).head.on_arc in
-      let names = (mirror-rotated code holds).names in
-      let equal : x ≡ y = sym (names.there x x_is.positive (omega (arith, x_is.within))) ∙ ap (mirror_name code holds) one
-      ∙ names.there y y_is.positive (omega (arith, y_is.within)) in
+      ∙ (HasEnds-directed new new_directed new_moves (f y) (f-arc y y_is)).head.on_arc in
+      let equal = f-apart x y x_is y_is one in
       omega (arith, equal, less) in (
         elim (placed.least) [
-          | inl low ↦ omega (arith, ap (number_in order) inside, low, x_number, y_number)
+          | inl low ↦ omega (arith, ap (number_in order) inside, low, f-is x x_is, f-is y y_is)
           | inr over ↦ absurd
               (x_under.over (under-of (head_of cs x)
               (ap is_over (sym (label-mirrored code holds x x_is)) ∙ ap (λ z. is_over (label_entered (passes_through (mirror_parts code)) z)) (sym inside)
@@ -220,15 +233,6 @@ module _ (code : Code) (holds : IsTrue (accepted code)) where
       made : ℕ → Dart
       made k = record { crossing = k; slot = 0 }
 
-      number-arc : (z : ℕ) → IsArc code.crossings z → IsArc (mirror_of code).crossings (mirror_number code holds z)
-      number-arc z is =
-          let number = number-is (λ crossing. mirror_turn (is_positive code.crossings crossing)) code holds (mirror_parts code) (IsTurnOf-mirror code holds) z is in
-          let within = number-within (λ crossing. mirror_turn (is_positive code.crossings crossing)) code holds (mirror_parts code) (IsTurnOf-mirror code holds) z is in
-          record {
-            positive = omega (arith, number, within.positive);
-            within = omega (arith, number, within.within, (mirror-rotated code holds).size);
-          }
-
   pub mirrors-enter : EntersInOrder (mirror_of code).crossings
   mirrors-enter a a_is own circle =
       let names = (mirror-rotated code holds).names in
@@ -240,10 +244,10 @@ module _ (code : Code) (holds : IsTrue (accepted code)) where
       let y = mirror_name code holds (a + 1) in
       let x_f : f x ≡ a = names.here a a_is.positive (omega (arith, a_is.within, size_is)) in
       let y_f : f y ≡ a + 1 = names.here (a + 1) (omega arith) (omega (arith, second_is.within, size_is)) in
-      let x_is : IsArc cs x = name-within (λ crossing. mirror_turn (is_positive cs crossing)) code holds (mirror_parts code)
-      (IsTurnOf-mirror code holds) a (record { positive = a_is.positive; within = omega (arith, a_is.within, size_is) }) in
-      let y_is : IsArc cs y = name-within (λ crossing. mirror_turn (is_positive cs crossing)) code holds (mirror_parts code)
-      (IsTurnOf-mirror code holds) (a + 1) (record { positive = omega arith; within = omega (arith, second_is.within, size_is) }) in
+      let x_is : IsArc cs x = name-within turns code holds (mirror_parts code) turn a
+      (record { positive = a_is.positive; within = omega (arith, a_is.within, size_is) }) in
+      let y_is : IsArc cs y = name-within turns code holds (mirror_parts code) turn (a + 1)
+      (record { positive = omega arith; within = omega (arith, second_is.within, size_is) }) in
       let x_under = under-now x x_is (ap (λ z. (head_of new z).slot) x_f ∙ circle.first_under) in
       let y_under = under-now y y_is (ap (λ z. (head_of new z).slot) y_f ∙ circle.second_under) in
       let a_place = HasPlace-directed new new_directed a a_is in
@@ -253,14 +257,10 @@ module _ (code : Code) (holds : IsTrue (accepted code)) where
       let b_size : size new (component new (a + 1)) ≡ size new a = ap (size new) b_in in
       let a_next : next new a ≡ a + 1 = a_place.inside (omega (arith, own, a_size, circle.two)) in
       let b_next : next new (a + 1) ≡ a = b_place.last (omega (arith, b_in, b_size, circle.two)) ∙ b_in in
-      let back : (z w : ℕ) → IsArc cs z → IsArc cs w → f z ≡ f w → z ≡ w =
-      λ z w z_is w_is same.
-      sym (names.there z z_is.positive (omega (arith, z_is.within))) ∙ ap (mirror_name code holds) same
-      ∙ names.there w w_is.positive (omega (arith, w_is.within)) in
       let x_next : next cs x ≡ y =
-      back (next cs x) y (next-arc x x_is) y_is (sym x_under.onward ∙ ap (next new) x_f ∙ a_next ∙ sym y_f) in
+      f-apart (next cs x) y (IsArc-next cs directed x x_is) y_is (sym x_under.onward ∙ ap (next new) x_f ∙ a_next ∙ sym y_f) in
       let y_next : next cs y ≡ x =
-      back (next cs y) x (next-arc y y_is) x_is (sym y_under.onward ∙ ap (next new) y_f ∙ b_next ∙ sym x_f) in
+      f-apart (next cs y) x (IsArc-next cs directed y y_is) x_is (sym y_under.onward ∙ ap (next new) y_f ∙ b_next ∙ sym x_f) in
       let x_head : (head_of new a).crossing ≡ (head_of cs x).crossing =
       ap (λ z. (head_of new z).crossing) (sym x_f) ∙ ap (λ (h : Dart). h.crossing) x_under.head in
       let y_head : (head_of new (a + 1)).crossing ≡ (head_of cs y).crossing =
@@ -276,20 +276,3 @@ module _ (code : Code) (holds : IsTrue (accepted code)) where
               absurd (omega (arith, law.0, x_f, y_f))
         ]
       ]
-    where
-      next-arc : (z : ℕ) → IsArc code.crossings z → IsArc code.crossings (next code.crossings z)
-      next-arc z is =
-          let place = HasPlace-directed code.crossings directed z is in
-          let first = IsFirstOf-directed code.crossings directed z is in
-          let first_is : IsFirst code.crossings (component code.crossings z) = record { is_arc = first.is_arc; own = first.own } in
-          let end = end-within code.crossings directed (component code.crossings z) first_is in
-          elim (cases_lt (z + 1) (component code.crossings z + size code.crossings (component code.crossings z))) [
-            | inl inside ↦ record {
-              positive = omega (arith, place.inside inside);
-              within = omega (arith, place.inside inside, inside, end);
-            }
-            | inr last ↦ record {
-              positive = omega (arith, place.last last, first.is_arc.positive);
-              within = omega (arith, place.last last, first.is_arc.within);
-            }
-          ]

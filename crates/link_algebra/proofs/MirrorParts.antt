@@ -14,7 +14,7 @@ use Rattle.kh_types.specs.Directions.{is_positive}
 use Rattle.kh_types.proofs.Heads.{HasNoSingleArcs-accepted}
 use Rattle.kh_types.proofs.ListSums.{sum_by-flat_map, sum_by-range_alike}
 use Rattle.code_passes.specs.Passes.{Pass}
-use Rattle.code_passes.specs.Parts.{head_count, is_positive_at, over_pass, parts_of, passes_at, passes_through, slots_in, tail_count, under_pass}
+use Rattle.code_passes.specs.Parts.{Parts, head_count, is_positive_at, over_pass, parts_of, passes_at, passes_through, slots_in, tail_count, under_pass}
 use Rattle.orient_arcs.proofs.PairedCodes.{ArePaired-directed}
 use Rattle.link_algebra.specs.Mirrors.{mirror_parts, mirror_slots, over_slot, reversal_parts, reversal_slots, slots_from}
 use Rattle.link_algebra.proofs.TurnedParts.{IsTurnOf}
@@ -39,9 +39,6 @@ swapped : (a b : ℕ) → 0 + a + b ≡ 0 + b + a
 swapped a b = omega arith
 
 module _ (code : Code) where
-  abbrev cs : List (List ℕ)
-  cs = code.crossings
-
   -- the crossings and the signs of the parts
   pub own-sign : (place : ℕ) → place < length code.crossings
       → is_positive_at (parts_of code).positive place ≡ is_positive code.crossings (place + 1)
@@ -79,80 +76,67 @@ module _ (code : Code) where
   abbrev pub reversal_size : length (reversal_parts code).crossings ≡ length code.crossings
   reversal_size = length-map-range_with_len (reversal_slots code.crossings) 1 (length code.crossings)
 
-  -- in the mirror the two passes of a crossing exchange, and each keeps its direction
-  mirror-counted : (end : Pass → ℕ) (x : ℕ)
-      → ((d : Bool) (slots : List ℕ) (place : ℕ)
+  -- names at one end of passes are counted by crossings: here those of parts with turned slots and changed signs
+  abbrev CountAlike : (Bool → ℕ) → (Bool → Bool) → (Pass → ℕ) → (Pass → ℕ) → ℕ → Type 0
+  CountAlike turn sign end other x = (d : Bool) (slots : List ℕ) (place : ℕ)
       → count_by (λ (pass : Pass). nat_eq (end pass) x)
-      (under_pass (slots_from (over_slot d) slots) place ∷ over_pass (slots_from (over_slot d) slots) (not d) place ∷ [])
-      ≡ count_by (λ (pass : Pass). nat_eq (end pass) x) (under_pass slots place ∷ over_pass slots d place ∷ []))
-      → count_by (λ (pass : Pass). nat_eq (end pass) x) (passes_through (mirror_parts code))
-      ≡ count_by (λ (pass : Pass). nat_eq (end pass) x) (passes_through (parts_of code))
-  mirror-counted end x exchanged =
-      let test = λ (pass : Pass). nat_eq (end pass) x in
-      ap (λ n. count_by test (flat_map (passes_at (mirror_parts code)) (range_with_len 0 n))) mirror_size
-      ∙ counted-alike (passes_at (mirror_parts code)) (passes_at (parts_of code)) test test (length code.crossings)
+      (under_pass (slots_from (turn d) slots) place ∷ over_pass (slots_from (turn d) slots) (sign d) place ∷ [])
+      ≡ count_by (λ (pass : Pass). nat_eq (other pass) x) (under_pass slots place ∷ over_pass slots d place ∷ [])
+
+  parts-counted : (parts : Parts) (turn : Bool → ℕ) (sign : Bool → Bool) (end other : Pass → ℕ) (x : ℕ)
+      → length parts.crossings ≡ length code.crossings
+      → ((place : ℕ) → place < length code.crossings
+      → slots_in parts.crossings place ≡ slots_from (turn (is_positive code.crossings (place + 1))) (slots_in code.crossings place))
+      → ((place : ℕ) → place < length code.crossings → is_positive_at parts.positive place ≡ sign (is_positive code.crossings (place + 1)))
+      → CountAlike turn sign end other x
+      → count_by (λ (pass : Pass). nat_eq (end pass) x) (passes_through parts)
+      ≡ count_by (λ (pass : Pass). nat_eq (other pass) x) (passes_through (parts_of code))
+  parts-counted parts turn sign end other x size slots signs alike =
+      let here = λ (pass : Pass). nat_eq (end pass) x in
+      let there = λ (pass : Pass). nat_eq (other pass) x in
+      ap (λ n. count_by here (flat_map (passes_at parts) (range_with_len 0 n))) size
+      ∙ counted-alike (passes_at parts) (passes_at (parts_of code)) here there (length code.crossings)
       (λ place below.
-      ap₂ (λ (slots : List ℕ) b. count_by test (under_pass slots place ∷ over_pass slots b place ∷ []))
-      (mirror-listed place below) (mirror-sign place below)
-      ∙ exchanged (is_positive code.crossings (place + 1)) (slots_in code.crossings place) place
-      ∙ ap (λ b. count_by test (under_pass (slots_in code.crossings place) place ∷ over_pass (slots_in code.crossings place) b place ∷ []))
+      ap₂ (λ (s : List ℕ) b. count_by here (under_pass s place ∷ over_pass s b place ∷ [])) (slots place below) (signs place below)
+      ∙ alike (is_positive code.crossings (place + 1)) (slots_in code.crossings place) place
+      ∙ ap (λ b. count_by there (under_pass (slots_in code.crossings place) place ∷ over_pass (slots_in code.crossings place) b place ∷ []))
       (sym (own-sign place below)))
 
+  -- in the mirror the two passes of a crossing exchange, and each keeps its direction
   mirror-heads : (x : ℕ) → head_count (mirror_parts code) x ≡ head_count (parts_of code) x
-  mirror-heads x = mirror-counted (λ (pass : Pass). pass.enters) x by
+  mirror-heads x =
+      parts-counted (mirror_parts code) over_slot not (λ (pass : Pass). pass.enters) (λ (pass : Pass). pass.enters) x mirror_size
+      mirror-listed mirror-sign by
     where
-      by : (d : Bool) (slots : List ℕ) (place : ℕ)
-          → count_by (λ (pass : Pass). nat_eq pass.enters x)
-          (under_pass (slots_from (over_slot d) slots) place ∷ over_pass (slots_from (over_slot d) slots) (not d) place ∷ [])
-          ≡ count_by (λ (pass : Pass). nat_eq pass.enters x) (under_pass slots place ∷ over_pass slots d place ∷ [])
+      by : CountAlike over_slot not (λ (pass : Pass). pass.enters) (λ (pass : Pass). pass.enters) x
       by true slots place = swapped (test x slots 3) (test x slots 0)
       by false slots place = swapped (test x slots 1) (test x slots 0)
 
   mirror-tails : (x : ℕ) → tail_count (mirror_parts code) x ≡ tail_count (parts_of code) x
-  mirror-tails x = mirror-counted (λ (pass : Pass). pass.leaves) x by
+  mirror-tails x =
+      parts-counted (mirror_parts code) over_slot not (λ (pass : Pass). pass.leaves) (λ (pass : Pass). pass.leaves) x mirror_size
+      mirror-listed mirror-sign by
     where
-      by : (d : Bool) (slots : List ℕ) (place : ℕ)
-          → count_by (λ (pass : Pass). nat_eq pass.leaves x)
-          (under_pass (slots_from (over_slot d) slots) place ∷ over_pass (slots_from (over_slot d) slots) (not d) place ∷ [])
-          ≡ count_by (λ (pass : Pass). nat_eq pass.leaves x) (under_pass slots place ∷ over_pass slots d place ∷ [])
+      by : CountAlike over_slot not (λ (pass : Pass). pass.leaves) (λ (pass : Pass). pass.leaves) x
       by true slots place = swapped (test x slots 1) (test x slots 2)
       by false slots place = swapped (test x slots 3) (test x slots 2)
 
   -- in the reversal each pass enters where it left
-  reversal-counted : (end other : Pass → ℕ) (x : ℕ)
-      → ((d : Bool) (slots : List ℕ) (place : ℕ)
-      → count_by (λ (pass : Pass). nat_eq (end pass) x)
-      (under_pass (slots_from 2 slots) place ∷ over_pass (slots_from 2 slots) d place ∷ [])
-      ≡ count_by (λ (pass : Pass). nat_eq (other pass) x) (under_pass slots place ∷ over_pass slots d place ∷ []))
-      → count_by (λ (pass : Pass). nat_eq (end pass) x) (passes_through (reversal_parts code))
-      ≡ count_by (λ (pass : Pass). nat_eq (other pass) x) (passes_through (parts_of code))
-  reversal-counted end other x turned =
-      let test = λ (pass : Pass). nat_eq (end pass) x in
-      let test_other = λ (pass : Pass). nat_eq (other pass) x in
-      ap (λ n. count_by test (flat_map (passes_at (reversal_parts code)) (range_with_len 0 n))) reversal_size
-      ∙ counted-alike (passes_at (reversal_parts code)) (passes_at (parts_of code)) test test_other (length code.crossings)
-      (λ place below.
-      ap (λ (slots : List ℕ). count_by test (under_pass slots place ∷ over_pass slots (is_positive_at (parts_of code).positive place) place ∷ []))
-      (reversal-listed place below)
-      ∙ turned (is_positive_at (parts_of code).positive place) (slots_in code.crossings place) place)
-
   reversal-heads : (x : ℕ) → head_count (reversal_parts code) x ≡ tail_count (parts_of code) x
-  reversal-heads x = reversal-counted (λ (pass : Pass). pass.enters) (λ (pass : Pass). pass.leaves) x by
+  reversal-heads x =
+      parts-counted (reversal_parts code) (λ d. 2) (λ d. d) (λ (pass : Pass). pass.enters) (λ (pass : Pass). pass.leaves) x reversal_size
+      reversal-listed own-sign by
     where
-      by : (d : Bool) (slots : List ℕ) (place : ℕ)
-          → count_by (λ (pass : Pass). nat_eq pass.enters x)
-          (under_pass (slots_from 2 slots) place ∷ over_pass (slots_from 2 slots) d place ∷ [])
-          ≡ count_by (λ (pass : Pass). nat_eq pass.leaves x) (under_pass slots place ∷ over_pass slots d place ∷ [])
+      by : CountAlike (λ d. 2) (λ d. d) (λ (pass : Pass). pass.enters) (λ (pass : Pass). pass.leaves) x
       by true slots place = refl
       by false slots place = refl
 
   reversal-tails : (x : ℕ) → tail_count (reversal_parts code) x ≡ head_count (parts_of code) x
-  reversal-tails x = reversal-counted (λ (pass : Pass). pass.leaves) (λ (pass : Pass). pass.enters) x by
+  reversal-tails x =
+      parts-counted (reversal_parts code) (λ d. 2) (λ d. d) (λ (pass : Pass). pass.leaves) (λ (pass : Pass). pass.enters) x reversal_size
+      reversal-listed own-sign by
     where
-      by : (d : Bool) (slots : List ℕ) (place : ℕ)
-          → count_by (λ (pass : Pass). nat_eq pass.leaves x)
-          (under_pass (slots_from 2 slots) place ∷ over_pass (slots_from 2 slots) d place ∷ [])
-          ≡ count_by (λ (pass : Pass). nat_eq pass.enters x) (under_pass slots place ∷ over_pass slots d place ∷ [])
+      by : CountAlike (λ d. 2) (λ d. d) (λ (pass : Pass). pass.leaves) (λ (pass : Pass). pass.enters) x
       by true slots place = refl
       by false slots place = refl
 

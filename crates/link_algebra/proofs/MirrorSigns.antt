@@ -1,4 +1,9 @@
 -- The coefficients of the mirror are those of the diagram, transposed, up to a sign of the row and a sign of the column.
+--
+-- An edge at place k has the sign of the ones before k in its tail, and the edge back of the mirror that of the zeros there, which are the
+-- rest of k. The sign of a generator is that of the sum of the places of its ones (`weight`), which grows by k along the edge. So the signs
+-- of row and column make up for the k (`coefficient-step`). Where the diagram has no edge, neither has the mirror (`step-star`), and both
+-- coefficients are 0.
 use Rattle.std.proofs.Common.{Bool, IsTrue, ap, ap₂, arith, cond, false, inl, inr, length, refl, sym, true, ℕ, ◌*◌, ◌+◌, ◌-◌, ◌<◌, ◌^◌, ◌∙◌, ◌≡◌}
 use Rattle.std.proofs.lemmas.Bool.{cases_eq, eq-eqb, ne_eqb}
 use Rattle.std.specs.List.{range_with_len, sum_by}

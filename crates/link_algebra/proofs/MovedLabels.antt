@@ -3,7 +3,7 @@
 -- Circles are numbered by the order of their names, which other names of arcs change. So a label is carried over circle by circle: the bit
 -- at a circle's new number is the bit at its old one. This is one to one, since a name and its way back are, and the number of circles and
 -- of labels 1 stays, as counts over circles do not know their order.
-use Rattle.std.proofs.Common.{IsTrue, List, [], ap, arith, map, sym, ℕ, ◌<◌, ◌^◌, ◌∙◌, ◌∷◌, ◌≡◌, ◌≤◌}
+use Rattle.std.proofs.Common.{IsTrue, List, [], ap, arith, map, subst, sym, ℕ, ◌+◌, ◌<◌, ◌^◌, ◌∙◌, ◌∷◌, ◌≡◌, ◌≤◌}
 use Rattle.std.proofs.lemmas.Bool.Decides.{Decides-eqb, Decides-like, same_from_decides}
 use Rattle.std.proofs.lemmas.List.{length-map}
 use Rattle.std.proofs.lemmas.List.Elements.{All-cons, All-head, All-nil, All-tail}
@@ -18,7 +18,7 @@ use Rattle.kh_types.specs.Acceptance.{accepted}
 use Rattle.kh_types.specs.Bits.{bit, ones, one_if}
 use Rattle.kh_types.specs.CircleNumbers.{IsName}
 use Rattle.kh_types.specs.Circles.{circle_count}
-use Rattle.kh_types.specs.Code.{Code}
+use Rattle.kh_types.specs.Code.{Code, arc_count}
 use Rattle.kh_types.specs.Differential.{label_of}
 use Rattle.kh_types.specs.Generators.{generator_of}
 use Rattle.cube_squares.proofs.EdgeMarks.{IsMarked, label_of-circle, label_of-le}
@@ -27,33 +27,8 @@ use Rattle.cube_squares.proofs.MarkedLabels.{IsMarked-marked_by, IsName-marked_b
 use Rattle.cube_squares.proofs.Marks.{hits, hits-cons, hits-sum}
 use Rattle.cube_squares.proofs.Merges.{circle_in}
 use Rattle.link_algebra.proofs.Flips.{flipped, ones-flipped}
+use Rattle.link_algebra.proofs.Renamings.{IsRenaming, IsRenaming-back}
 use Rattle.link_algebra.proofs.TurnedCircles.{Corresponds, IsName-moved}
-
-pub Corresponds-back : (f back : ℕ → ℕ) (old new : Code) (s t : ℕ) → Corresponds f back old new s t → Corresponds back f new old t s
-Corresponds-back f back old new s t is =
-    let name_back : (y : ℕ) → IsName new y → IsName old (back y) = λ y name. record {
-      positive = is.names.back_positive y name.positive (omega (arith, name.within, is.most));
-      within = is.names.back_within y name.positive (omega (arith, name.within, is.most));
-    } in
-    let here : (y : ℕ) → IsName new y → f (back y) ≡ y = λ y name. is.names.here y name.positive (omega (arith, name.within, is.most)) in
-    record {
-      names = record {
-        positive = λ x from within. is.names.back_positive x from (omega (arith, within, is.most));
-        within = λ x from within. omega (arith, is.names.back_within x from (omega (arith, within, is.most)), is.most);
-        back_positive = λ x from within. is.names.positive x from (omega (arith, within, is.most));
-        back_within = λ x from within. omega (arith, is.names.within x from (omega (arith, within, is.most)), is.most);
-        there = λ x from within. is.names.here x from (omega (arith, within, is.most));
-        here = λ x from within. is.names.there x from (omega (arith, within, is.most));
-      };
-      most = sym is.most;
-      onward = λ x y x_name y_name same.
-          is.backward (back x) (back y) (name_back x x_name) (name_back y y_name)
-          (ap (λ z. circle_in new t z) (here x x_name) ∙ same ∙ ap (λ z. circle_in new t z) (sym (here y y_name)));
-      backward = λ x y x_name y_name same.
-          ap (λ z. circle_in new t z) (sym (here x x_name))
-          ∙ is.onward (back x) (back y) (name_back x x_name) (name_back y y_name) same
-          ∙ ap (λ z. circle_in new t z) (here y y_name);
-    }
 
 -- a name back home
 pub IsName-back : (f back : ℕ → ℕ) (old new : Code) (s t y : ℕ) → Corresponds f back old new s t → IsName new y → IsName old (back y)
@@ -64,6 +39,23 @@ IsName-back f back old new s t y is name = record {
 
 pub name-here : (f back : ℕ → ℕ) (old new : Code) (s t y : ℕ) → Corresponds f back old new s t → IsName new y → f (back y) ≡ y
 name-here f back old new s t y is name = is.names.here y name.positive (omega (arith, name.within, is.most))
+
+pub Corresponds-back : (f back : ℕ → ℕ) (old new : Code) (s t : ℕ) → Corresponds f back old new s t → Corresponds back f new old t s
+Corresponds-back f back old new s t is =
+    let name_back : (y : ℕ) → IsName new y → IsName old (back y) = λ y. IsName-back f back old new s t y is in
+    let here : (y : ℕ) → IsName new y → f (back y) ≡ y = λ y. name-here f back old new s t y is in
+    record {
+      names = subst (λ (most : ℕ). IsRenaming most back f) (sym is.most)
+          (IsRenaming-back (arc_count old.crossings + old.loops) f back is.names);
+      most = sym is.most;
+      onward = λ x y x_name y_name same.
+          is.backward (back x) (back y) (name_back x x_name) (name_back y y_name)
+          (ap (λ z. circle_in new t z) (here x x_name) ∙ same ∙ ap (λ z. circle_in new t z) (sym (here y y_name)));
+      backward = λ x y x_name y_name same.
+          ap (λ z. circle_in new t z) (sym (here x x_name))
+          ∙ is.onward (back x) (back y) (name_back x x_name) (name_back y y_name) same
+          ∙ ap (λ z. circle_in new t z) (here y y_name);
+    }
 
 -- labels that a label becomes under the other names
 pub record IsMoved (f : ℕ → ℕ) (old new : Code) (s t label number : ℕ) : Type 0 where

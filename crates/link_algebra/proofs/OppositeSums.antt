@@ -1,11 +1,11 @@
 -- State sums at the opposite exponents.
-use Rattle.std.proofs.Common.{◌≡◌, ℕ, zero, suc, ◌+◌, ◌-◌, ◌*◌, ◌<◌, ◌∙◌, ℤ, pos, negsuc, neg_ℤ, ◌+ℤ◌, ◌-ℤ◌, refl, sym, ap, ap₂, arith, cond}
+use Rattle.std.proofs.Common.{◌≡◌, ℕ, zero, suc, ◌+◌, ◌-◌, ◌*◌, ◌∙◌, ℤ, pos, negsuc, neg_ℤ, ◌+ℤ◌, ◌-ℤ◌, refl, sym, ap, ap₂, arith, cond}
 use Rattle.std.specs.List.{range_with_len}
 use Rattle.std.specs.Ordering.{int_eq}
 use Rattle.std.proofs.lemmas.Bool.Decides.{Decides-int_eq, Decides-like, same_from_decides}
 use Rattle.std.proofs.lemmas.Int.{ints}
 use Rattle.kh_types.specs.StateSum.{circle_coefficient, signed_by, term_of}
-use Rattle.link_algebra.proofs.IntSums.{sum_over}
+use Rattle.link_algebra.proofs.IntSums.{sum_over, sum-range_alike}
 use Rattle.kh_types.proofs.AlternatingSums.{signed_by_parity-alike}
 
 -- (q + q^-1) ^ k is the same at q^-1
@@ -60,11 +60,6 @@ last f a (suc n) =
     regrouped : (x y z : ℤ) → x +ℤ (y +ℤ z) ≡ (x +ℤ y) +ℤ z
     regrouped x y z = omega (arith, ints)
 
-same-each : (f g : ℕ → ℤ) (a n : ℕ) → ((k : ℕ) → k < a + n → f k ≡ g k) → sum_over f (range_with_len a n) ≡ sum_over g (range_with_len a n)
-same-each f g a zero same = refl
-same-each f g a (suc n) same =
-    ap₂ (λ x y. x +ℤ y) (same a (omega arith)) (same-each f g (a + 1) n (λ k below. same k (omega (arith, below))))
-
 pub sum-flipped : (f : ℕ → ℤ) (n : ℕ) → sum_over f (range_with_len 0 n) ≡ sum_over (λ k. f (n - 1 - k)) (range_with_len 0 n)
 sum-flipped f zero = refl
 sum-flipped f (suc n) =
@@ -72,8 +67,8 @@ sum-flipped f (suc n) =
     last f 0 n ∙ ap (λ k. sum_over f (range_with_len 0 n) +ℤ f k) (let e : 0 + n ≡ n = omega arith in e)
     ∙ ap (λ s. s +ℤ f n)
     (sum-flipped f n
-    ∙ same-each (λ k. f (n - 1 - k)) (λ k. f (suc n - 1 - suc k)) 0 n
-    (λ k below. ap f (let e : n - 1 - k ≡ suc n - 1 - suc k = omega arith in e))
+    ∙ sum-range_alike (λ k. f (n - 1 - k)) (λ k. f (suc n - 1 - suc k)) 0 n
+    (λ k from below. ap f (let e : n - 1 - k ≡ suc n - 1 - suc k = omega arith in e))
     ∙ sym (shifted (λ k. f (suc n - 1 - k)) 0 n))
     ∙ turned (sum_over (λ k. f (suc n - 1 - k)) (range_with_len 1 n)) (f n)
     ∙ ap (λ s. s +ℤ sum_over (λ k. f (suc n - 1 - k)) (range_with_len 1 n)) (ap f whole)

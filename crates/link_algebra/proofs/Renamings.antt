@@ -13,6 +13,17 @@ pub record IsRenaming (most : ℕ) (f back : ℕ → ℕ) : Type 0 where
   pub there : (x : ℕ) → 1 ≤ x → x ≤ most → back (f x) ≡ x
   pub here : (x : ℕ) → 1 ≤ x → x ≤ most → f (back x) ≡ x
 
+pub IsRenaming-back : (most : ℕ) (f back : ℕ → ℕ) → IsRenaming most f back → IsRenaming most back f
+IsRenaming-back most f back is =
+    record {
+      positive = is.back_positive;
+      within = is.back_within;
+      back_positive = is.positive;
+      back_within = is.within;
+      there = is.here;
+      here = is.there;
+    }
+
 -- the crossings of a code, each turned by some slots: the mirror turns them by one, one way or the other, the reversal by two
 pub record IsRotated (by f back : ℕ → ℕ) (old new : Code) : Type 0 where
   pub size : length new.crossings ≡ length old.crossings

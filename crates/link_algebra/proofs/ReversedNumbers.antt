@@ -52,6 +52,15 @@ in-down first (suc n) x from within = elim (cases_eq x (first + suc n)) [
   | inr other ↦ inr (in-down first n x from (omega (arith, within, other)))
 ]
 
+-- the last step of a walk, and another
+walk-last : (next : ℕ → ℕ) (first fuel x : ℕ) → next x ≡ first → walk next first (suc fuel) x ≡ x ∷ []
+walk-last next first fuel x to = ap (λ b. x ∷ (if b then [] else walk next first fuel (next x))) (eq-eqb (next x) first to)
+
+walk-on : (next : ℕ → ℕ) (first fuel x y : ℕ) → next x ≡ y → y ≢ first → walk next first (suc fuel) x ≡ x ∷ walk next first fuel y
+walk-on next first fuel x y to on =
+    ap (λ b. x ∷ (if b then [] else walk next first fuel (next x))) (ne_eqb (next x) first (λ same. on (sym to ∙ same)))
+    ∙ ap (λ z. x ∷ walk next first fuel z) to
+
 -- the reversal's passes leave on the arcs on which the code's enter
 module _ (code : Code) (holds : IsTrue (accepted code)) where
   abbrev cs : List (List ℕ)
@@ -175,15 +184,9 @@ module _ (code : Code) (holds : IsTrue (accepted code)) where
       → walk (follows (passes_through (reversal_parts code))) first fuel (first + suc i) ≡ down first (suc i)
   walk-down first is zero i below enough = absurd (omega (arith, enough))
   walk-down first is (suc fuel) zero below enough =
-      let to : before (first + 1) ≡ first = before-later first 0 is below ∙ omega arith in
-      ap (λ b. (first + 1) ∷ (if b then [] else walk (follows (passes_through (reversal_parts code))) first fuel (before (first + 1))))
-      (eq-eqb (before (first + 1)) first to)
+      walk-last before first fuel (first + 1) (before-later first 0 is below ∙ omega arith)
   walk-down first is (suc fuel) (suc i) below enough =
-      let to : before (first + suc (suc i)) ≡ first + suc i = before-later first (suc i) is below in
-      let on : before (first + suc (suc i)) ≢ first = λ same. absurd (omega (arith, same, to)) in
-      ap (λ b. (first + suc (suc i)) ∷ (if b then [] else walk (follows (passes_through (reversal_parts code))) first fuel (before (first + suc (suc i)))))
-      (ne_eqb (before (first + suc (suc i))) first on)
-      ∙ ap (λ y. (first + suc (suc i)) ∷ walk (follows (passes_through (reversal_parts code))) first fuel y) to
+      walk-on before first fuel (first + suc (suc i)) (first + suc i) (before-later first (suc i) is below) (λ same. omega (arith, same))
       ∙ ap (λ ys. (first + suc (suc i)) ∷ ys) (walk-down first is fuel i (omega (arith, below)) (omega (arith, enough)))
 
   long-enough : length (passes_through (reversal_parts code)) ≡ 2 * length cs
@@ -202,19 +205,12 @@ module _ (code : Code) (holds : IsTrue (accepted code)) where
           → walk (follows (passes_through (reversal_parts code))) first fuel first ≡ first ∷ down first (s - 1)
       by zero s is_s enough some = absurd (omega (arith, enough, some))
       by (suc fuel) zero is_s enough some = absurd (omega (arith, some))
-      by (suc fuel) (suc zero) is_s enough some =
-          let to : before first ≡ first = omega (arith, before-first first is, is_s) in
-          ap (λ b. first ∷ (if b then [] else walk (follows (passes_through (reversal_parts code))) first fuel (before first)))
-          (eq-eqb (before first) first to)
+      by (suc fuel) (suc zero) is_s enough some = walk-last before first fuel first (omega (arith, before-first first is, is_s))
       by (suc fuel) (suc (suc i)) is_s enough some =
-          let to : before first ≡ first + suc i = omega (arith, before-first first is, is_s) in
-          let on : before first ≢ first = λ same. absurd (omega (arith, same, to)) in
-          let e : suc (suc i) - 1 ≡ suc i = omega arith in
-          ap (λ b. first ∷ (if b then [] else walk (follows (passes_through (reversal_parts code))) first fuel (before first)))
-          (ne_eqb (before first) first on)
-          ∙ ap (λ y. first ∷ walk (follows (passes_through (reversal_parts code))) first fuel y) to
+          let e : suc i ≡ suc (suc i) - 1 = omega arith in
+          walk-on before first fuel first (first + suc i) (omega (arith, before-first first is, is_s)) (λ same. omega (arith, same))
           ∙ ap (λ ys. first ∷ ys) (walk-down first is fuel i (omega (arith, is_s)) (omega (arith, enough)))
-          ∙ ap (λ n. first ∷ down first n) (sym e)
+          ∙ ap (λ n. first ∷ down first n) e
 
   rounds : (first : ℕ) → IsFirst code.crossings first → GoesOver code.crossings first (names_from first)
   rounds first is =

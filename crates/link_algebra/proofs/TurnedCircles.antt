@@ -21,7 +21,7 @@ use Rattle.kh_types.specs.Directions.{minus_count, plus_count}
 use Rattle.kh_types.specs.Edges.{arc_at_slot}
 use Rattle.cube_squares.proofs.Merges.{circle_in}
 use Rattle.link_algebra.proofs.Flips.{bit-flipped, flipped, flipped-below, flipped-twice}
-use Rattle.link_algebra.proofs.Renamings.{IsRenaming, IsTurned}
+use Rattle.link_algebra.proofs.Renamings.{IsRenaming, IsRenaming-back, IsTurned}
 
 -- the circles of a state of a code are those of a state of another, under other names
 pub record Corresponds (f back : ℕ → ℕ) (old new : Code) (s t : ℕ) : Type 0 where
@@ -39,17 +39,6 @@ pub IsCrossing-same : (f back : ℕ → ℕ) (old new : Code) (crossing : ℕ) �
     → IsCrossing old.crossings crossing
 IsCrossing-same f back old new crossing turned is =
     record { positive = is.positive; within = omega (arith, is.within, turned.size) }
-
-IsRenaming-back : (most : ℕ) (f back : ℕ → ℕ) → IsRenaming most f back → IsRenaming most back f
-IsRenaming-back most f back is =
-    record {
-      positive = is.back_positive;
-      within = is.back_within;
-      back_positive = is.positive;
-      back_within = is.within;
-      there = is.here;
-      here = is.there;
-    }
 
 -- turning crossings back
 pub IsTurned-back : (f back : ℕ → ℕ) (old new : Code) → IsTrue (accepted old) → IsTurned f back old new → IsTurned back f new old

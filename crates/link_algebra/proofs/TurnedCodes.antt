@@ -3,10 +3,11 @@
 -- Mirror and reversal are renumbered turns of the code (MirrorParts), so they have its faces, pieces and colours (RotatedCodes), and their
 -- passes are directed: they are accepted. The mirror is dual to the code, by TurnedCircles and Duality; the reversal is dual to the mirror
 -- in the same way, a turn by one slot more, so it has the homology of the code.
-use Rattle.std.proofs.Common.{◌≡◌, ℕ, zero, suc, ◌⊎◌, inl, inr, ◌+◌, ◌-◌, ◌*◌, ◌%◌, ◌^◌, ◌<◌, ◌≤◌, ◌∙◌, ℤ, neg_ℤ, length, refl, sym, ap, ap₂, subst, arith, cond, not, Bool, true, false, IsTrue}
+use Rattle.std.proofs.Common.{◌≡◌, ℕ, zero, suc, ◌⊎◌, inl, inr, ◌+◌, ◌-◌, ◌%◌, ◌^◌, ◌<◌, ◌≤◌, ◌∙◌, ℤ, neg_ℤ, length, refl, sym, ap, ap₂, subst, arith, cond, not, Bool, true, false, IsTrue}
 use Rattle.std.specs.List.{count_by, range_with_len}
 use Rattle.std.proofs.lemmas.Int.{ints}
 use Rattle.std.proofs.lemmas.List.Sums.{sum_by-cons}
+use Rattle.kh_types.proofs.AcceptedLemmas.{HasArcsTwice-accepted}
 use Rattle.kh_types.specs.Acceptance.{accepted}
 use Rattle.kh_types.specs.Bits.{ones}
 use Rattle.kh_types.specs.Circles.{circle_count}
@@ -17,7 +18,6 @@ use Rattle.kh_types.specs.Generators.{one_count}
 use Rattle.kh_types.specs.StateSum.{state_sum, state_term}
 use Rattle.kh_types.specs.Table.{dimension}
 use Rattle.kh_types.specs.Residues.{HasInverses}
-use Rattle.kh_types.proofs.EdgeNames.{IsArc-slot}
 use Rattle.kh_types.proofs.QuantumDegrees.{plus_count-le}
 use Rattle.kh_types.proofs.RangeCounts.{count_by-alike}
 use Rattle.prime_field.specs.Residues.{IsSmallPrime}
@@ -31,6 +31,7 @@ use Rattle.link_algebra.proofs.MirrorDegrees.{minus-turned}
 use Rattle.link_algebra.proofs.MirrorParts.{IsTurnOf-mirror, IsTurnOf-reversal, mirror-sign, mirror_turn, own-sign}
 use Rattle.link_algebra.proofs.MovedLabels.{count-moved}
 use Rattle.link_algebra.proofs.OppositeSums.{sum-flipped, term-opposite}
+use Rattle.link_algebra.proofs.RotatedCodes.{IsRotated-back, opposite}
 use Rattle.link_algebra.proofs.Renamings.{IsRenaming, IsRotated, IsTurned}
 use Rattle.link_algebra.proofs.TurnedCircles.{Corresponds-turned}
 use Rattle.link_algebra.proofs.TurnedParts.{IsRotated-turn, accepted-turn, name, number, sign-turn}
@@ -74,60 +75,50 @@ turned-from by f back old new rotated ways signs = record {
   signs = signs;
 }
 
--- from one code that is another turned to a second one
-module _ (most : ℕ) (f back g home : ℕ → ℕ) (first : IsRenaming most f back) (second : IsRenaming most g home) where
-  abbrev pub IsRenaming-between : IsRenaming most (λ x. g (back x)) (λ x. f (home x))
-  IsRenaming-between = record {
-    positive = λ x from within. second.positive (back x) (first.back_positive x from within) (first.back_within x from within);
-    within = λ x from within. second.within (back x) (first.back_positive x from within) (first.back_within x from within);
-    back_positive = λ x from within. first.positive (home x) (second.back_positive x from within) (second.back_within x from within);
-    back_within = λ x from within. first.within (home x) (second.back_positive x from within) (second.back_within x from within);
-    there = λ x from within.
-        ap f (second.there (back x) (first.back_positive x from within) (first.back_within x from within)) ∙ first.here x from within;
-    here = λ x from within.
-        ap g (first.there (home x) (second.back_positive x from within) (second.back_within x from within)) ∙ second.here x from within;
-  }
+-- two turns, one after the other
+IsRenaming-through : (most : ℕ) (f back g home : ℕ → ℕ) → IsRenaming most f back → IsRenaming most g home
+    → IsRenaming most (λ x. g (f x)) (λ x. back (home x))
+IsRenaming-through most f back g home first second = record {
+  positive = λ x from within. second.positive (f x) (first.positive x from within) (first.within x from within);
+  within = λ x from within. second.within (f x) (first.positive x from within) (first.within x from within);
+  back_positive = λ x from within. first.back_positive (home x) (second.back_positive x from within) (second.back_within x from within);
+  back_within = λ x from within. first.back_within (home x) (second.back_positive x from within) (second.back_within x from within);
+  there = λ x from within.
+      ap back (second.there (f x) (first.positive x from within) (first.within x from within)) ∙ first.there x from within;
+  here = λ x from within.
+      ap g (first.here (home x) (second.back_positive x from within) (second.back_within x from within)) ∙ second.here x from within;
+}
 
+pub IsRotated-through : (by f back other g home : ℕ → ℕ) (old middle new : Code) → IsRotated by f back old middle
+    → IsRotated other g home middle new
+    → IsRotated (λ crossing. (by crossing + other crossing) % 4) (λ x. g (f x)) (λ x. back (home x)) old new
+IsRotated-through by f back other g home old middle new first second =
+    record {
+      size = second.size ∙ first.size;
+      loops = second.loops ∙ first.loops;
+      names = IsRenaming-through (arc_count old.crossings + old.loops) f back g home first.names
+          (subst (λ (most : ℕ). IsRenaming most g home) (omega (arith, first.size, first.loops)) second.names);
+      few = λ crossing. omega arith;
+      arcs = λ crossing slot is below.
+          let between : IsCrossing middle.crossings crossing =
+          record { positive = is.positive; within = omega (arith, is.within, first.size) } in
+          let e : (slot + (by crossing + other crossing) % 4) % 4 ≡ ((slot + by crossing) % 4 + other crossing) % 4 = omega arith in
+          ap (arc_at_slot new crossing) e ∙ second.arcs crossing ((slot + by crossing) % 4) between (omega arith)
+          ∙ ap g (first.arcs crossing slot is below);
+    }
+
+-- from one code that is another turned by one slot to a second one that is turned by two
 between : (by f back g home : ℕ → ℕ) (old middle new : Code) → IsTrue (accepted old) → IsRotated by f back old middle
     → ((crossing : ℕ) → (by crossing ≡ 1) ⊎ (by crossing ≡ 3)) → IsRotated (λ crossing. 2) g home old new
     → plus_count new.crossings ≡ minus_count middle.crossings → IsTurned (λ x. g (back x)) (λ x. f (home x)) middle new
-between by f back g home old middle new is first ways second signs =
-    record {
-      size = second.size ∙ sym first.size;
-      loops = second.loops ∙ sym first.loops;
-      names = subst (λ (m : ℕ). IsRenaming m (λ x. g (back x)) (λ x. f (home x)))
-          (ap₂ (λ k l. 2 * k + l) (sym first.size) (sym first.loops))
-          (IsRenaming-between (arc_count old.crossings + old.loops) f back g home first.names second.names);
-      turned = λ crossing here.
-          let old_here : IsCrossing old.crossings crossing =
-          record { positive = here.positive; within = omega (arith, here.within, first.size) } in
-          let b = by crossing in (
-            (6 - b) % 4,
-            other b (ways crossing),
-            λ slot below.
-                let from = (slot + (4 - b)) % 4 in
-                let few = first.few crossing in
-                let arc = IsArc-slot old crossing from is old_here (omega arith) in
-                let there : (slot + (6 - b) % 4) % 4 ≡ (from + 2) % 4 = round b slot (ways crossing) below in
-                let back_here : (from + b) % 4 ≡ slot = again b slot (ways crossing) below in
-                ap (arc_at_slot new crossing) there ∙ second.arcs crossing from old_here (omega arith)
-                ∙ ap g (sym (first.names.there (arc_at_slot old crossing from) arc.positive (omega (arith, arc.within))))
-                ∙ ap (λ x. g (back x)) (sym (first.arcs crossing from old_here (omega arith)) ∙ ap (arc_at_slot middle crossing) back_here),
-          );
-      signs = signs;
-    }
+between by f back g home old middle new is first ways second =
+    turned-from (λ crossing. (opposite by crossing + 2) % 4) (λ x. g (back x)) (λ x. f (home x)) middle new
+    (IsRotated-through (opposite by) back f (λ crossing. 2) g home middle old new
+    (IsRotated-back by f back old middle (HasArcsTwice-accepted old is) first) second) (λ crossing. other (by crossing) (ways crossing))
   where
-    other : (b : ℕ) → (b ≡ 1) ⊎ (b ≡ 3) → ((6 - b) % 4 ≡ 1) ⊎ ((6 - b) % 4 ≡ 3)
+    other : (b : ℕ) → (b ≡ 1) ⊎ (b ≡ 3) → (((4 - b) % 4 + 2) % 4 ≡ 1) ⊎ (((4 - b) % 4 + 2) % 4 ≡ 3)
     other b (inl one) = inl (omega (arith, one))
     other b (inr three) = inr (omega (arith, three))
-
-    round : (b slot : ℕ) → (b ≡ 1) ⊎ (b ≡ 3) → slot < 4 → (slot + (6 - b) % 4) % 4 ≡ ((slot + (4 - b)) % 4 + 2) % 4
-    round b slot (inl one) below = omega (arith, one, below)
-    round b slot (inr three) below = omega (arith, three, below)
-
-    again : (b slot : ℕ) → (b ≡ 1) ⊎ (b ≡ 3) → slot < 4 → ((slot + (4 - b)) % 4 + b) % 4 ≡ slot
-    again b slot (inl one) below = omega (arith, one, below)
-    again b slot (inr three) below = omega (arith, three, below)
 
 -- the numbers that do not pass a test are the others
 count_by-not : (p : ℕ → Bool) (a n : ℕ) → count_by (λ k. not (p k)) (range_with_len a n) + count_by p (range_with_len a n) ≡ n

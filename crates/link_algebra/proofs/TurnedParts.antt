@@ -1,5 +1,10 @@
 -- Crossings that are those of an accepted code, each turned by some slots: renumbering gives an accepted code with other numbers on the
 -- arcs.
+--
+-- A turn keeps which arcs enter crossings, so that the passes go over the arcs of the code, each once (`arc-head`, `head-arc`). The new
+-- number of an arc is its place in the order of the passes, and the way back reads the order at a place; loops keep theirs (`number`,
+-- `name`). So what is renumbered is the code, turned and renamed (`IsRotated-turn`), and RotatedCodes says that it is accepted. A sign is
+-- read off an over pass that has different ends; they are opposite slots of the code, which hold different arcs (`sign-turn`).
 use Rattle.std.proofs.Common.{◌≡◌, ◌≢◌, ℕ, zero, suc, ◌⊎◌, inl, inr, ◌+◌, ◌-◌, ◌*◌, ◌%◌, ◌<◌, ◌≤◌, ◌∙◌, List, length, get_or, refl, sym, ap, subst, arith, cond, IsTrue}
 use Rattle.std.specs.Prelude.{nat_le}
 use Rattle.std.proofs.lemmas.Bool.{cases_lt}

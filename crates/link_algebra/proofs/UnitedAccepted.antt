@@ -3,7 +3,7 @@
 -- Darts of the union are those of the first code and then those of the second, by places, and partners stay within their part. So faces and
 -- pieces add up (ClassParts), and the number that the sphere allows, which is said of pieces, adds up as well; a choice of bits for the
 -- union is one for each part, side by side.
-use Rattle.std.proofs.Common.{IsTrue, List, [], ap, ap₂, arith, inl, inr, length, map, refl, subst, suc, sym, true, zero, ℕ, ◌%◌, ◌*◌, ◌++◌, ◌+◌, ◌-◌, ◌/◌, ◌<◌, ◌^◌, ◌∙◌, ◌∷◌, ◌≡◌, ◌≢◌, ◌≤◌}
+use Rattle.std.proofs.Common.{IsTrue, List, [], ap, ap₂, arith, length, map, refl, subst, suc, sym, true, zero, ℕ, ◌%◌, ◌*◌, ◌++◌, ◌+◌, ◌-◌, ◌/◌, ◌<◌, ◌^◌, ◌∙◌, ◌∷◌, ◌≡◌, ◌≢◌, ◌≤◌}
 use Rattle.std.proofs.Math.Nat.{mul-le-mul_left}
 use Rattle.std.proofs.lemmas.Bool.{eq-eqb}
 use Rattle.std.proofs.lemmas.List.{map-append}
@@ -25,17 +25,16 @@ use Rattle.kh_types.specs.Classes.{AreBelow, class_count, classes_of}
 use Rattle.kh_types.specs.Code.{Code, IsArc, IsCrossing, arc_count, arc_in, place_of, slots_of}
 use Rattle.kh_types.specs.Colours.{IsColoured, colour}
 use Rattle.kh_types.specs.Components.{component_count, components_of, passes_of}
-use Rattle.kh_types.specs.Darts.{HasArcsTwice, IsDart, arc_of, first_dart, partner, partner_at, turned}
+use Rattle.kh_types.specs.Darts.{HasArcsTwice, first_dart, partner, partner_at, turned}
 use Rattle.kh_types.specs.Faces.{face_count, face_pair, piece_count, piece_pair}
 use Rattle.kh_types.specs.declared.dart.Dart.{Dart}
 use Rattle.kh_types.specs.declared.limits.TheConstants.{COMPONENTS}
 use Rattle.link_algebra.proofs.ClassParts.{class_count-append_lists, classes-parts, length-classes, lifted_pairs}
-use Rattle.link_algebra.proofs.UnitedCircles.{HoldsNames-accepted, bit-first, bit-second}
+use Rattle.link_algebra.proofs.UnitedCircles.{HoldsNames-accepted, bit-first, bit-second, length-both}
 use Rattle.link_algebra.proofs.UnitedComponents.{IsPart, components-both, components-own, inner_components, length-components, passes-small}
 use Rattle.link_algebra.proofs.UnitedSigns.{part-arc}
-use Rattle.link_algebra.proofs.UnitedSums.{length-both}
 use Rattle.link_algebra.specs.Unions.{union_of}
-use Rattle.link_algebra.proofs.UnitedDirected.{place-part, AreUnited, AreUnited-from, one-of, crossing-of, IsDirected-both}
+use Rattle.link_algebra.proofs.UnitedDirected.{AreUnited, AreUnited-from, IsDirected-both, each-arc, each-crossing, place-part}
 
 -- the partners in a part
 partner-of : (before : ℕ) (part whole : List (List ℕ)) (q : ℕ) → IsPart before part whole → HasArcsTwice part → HasArcsTwice whole
@@ -46,8 +45,8 @@ partner-of before part whole q is twice whole_twice below =
     (record {
       below = omega (arith, other.below, is.fits);
       differs = λ same. other.differs (omega (arith, same));
-      same_arc = place-part before part whole (partner_at part q) is other.below
-          ∙ ap (λ a. a + 2 * before) other.same_arc ∙ sym (place-part before part whole q is below);
+      same_arc = place-part before part whole is (partner_at part q) other.below
+          ∙ ap (λ a. a + 2 * before) other.same_arc ∙ sym (place-part before part whole is q below);
     }))
 
 -- pairs of places by blocks
@@ -178,45 +177,44 @@ component_count-both first second first_is second_is =
     ∙ class_count-append_lists 1 (0 ∷ []) (inner_components second.crossings) refl in
     omega (arith, all, one, two, parts, own)
 
+-- a crossing of the union is one of a part
+abbrev IsOf : ℕ → List (List ℕ) → ℕ → Type 0
+IsOf before part crossing = (c : ℕ) × IsCrossing part c × (before + c ≡ crossing)
+
 -- the colours of both darts of an arc in a part
 solves-of : (before : ℕ) (part whole : List (List ℕ)) (own choice arc : ℕ) → IsPart before part whole → IsColoured part own
-    → HasArcsTwice whole → IsArc part arc → IsArc whole (arc + 2 * before)
+    → HasArcsTwice whole → IsArc whole (arc + 2 * before)
     → ((crossing : ℕ) → IsCrossing part crossing → bit choice (place_of (before + crossing)) ≡ bit own (place_of crossing))
-    → ((dart : Dart) → IsDart whole dart → arc_of whole dart ≡ arc + 2 * before
-    → IsCrossing part (dart.crossing - before) × (before + (dart.crossing - before) ≡ dart.crossing))
+    → ((crossing : ℕ) → IsCrossing whole crossing → (slot : ℕ) → slot < 4 → arc_in (slots_of whole crossing) slot ≡ arc + 2 * before
+    → IsOf before part crossing)
     → solves_at whole choice (arc + 2 * before) ≡ true
-solves-of before part whole own choice arc is coloured whole_twice arc_is whole_is bits inside =
+solves-of before part whole own choice arc is coloured whole_twice whole_is bits inside =
     let dart = first_dart whole (arc + 2 * before) in
     let first = IsDartOf-first_dart whole (arc + 2 * before) whole_twice whole_is in
     let other = partner whole dart in
     let second = IsOtherDart-partner whole dart whole_twice first.within in
-    let here = inside dart first.within first.on_arc in
-    let there = inside other second.within (second.same_arc ∙ first.on_arc) in
-    let mine : Dart → Dart = λ d. record { crossing = d.crossing - before; slot = d.slot } in
-    let arc_mine : (d : Dart) → IsDart whole d → arc_of whole d ≡ arc + 2 * before
-    → IsCrossing part (d.crossing - before) × (before + (d.crossing - before) ≡ d.crossing) → arc_of part (mine d) ≡ arc =
-    λ d d_is on at. omega (
-      arith,
-      ap (λ c. arc_in (slots_of whole c) d.slot) at.1,
-      is.arcs (d.crossing - before) d.slot at.0 d_is.slot,
-      on,
-    ) in
-    let bit_of : (d : Dart) → IsCrossing part (d.crossing - before) × (before + (d.crossing - before) ≡ d.crossing)
-    → bit choice (place_of d.crossing) ≡ bit own (place_of (d.crossing - before)) =
-    λ d at. ap (λ c. bit choice (place_of c)) (sym at.1) ∙ bits (d.crossing - before) at.0 in
-    let differ : colour own (mine dart) ≢ colour own (mine other) =
+    let here = inside dart.crossing first.within.crossing dart.slot first.within.slot first.on_arc in
+    let there = inside other.crossing second.within.crossing other.slot second.within.slot (second.same_arc ∙ first.on_arc) in
+    let arc_mine : (crossing slot : ℕ) → slot < 4 → arc_in (slots_of whole crossing) slot ≡ arc + 2 * before
+    → (at : IsOf before part crossing) → arc_in (slots_of part at.0) slot ≡ arc =
+    λ crossing slot slot_below on at.
+    omega (arith, ap (λ c. arc_in (slots_of whole c) slot) at.2, is.arcs at.0 slot at.1 slot_below, on) in
+    let bit_of : (crossing : ℕ) → (at : IsOf before part crossing) → bit choice (place_of crossing) ≡ bit own (place_of at.0) =
+    λ crossing at. ap (λ c. bit choice (place_of c)) (sym at.2) ∙ bits at.0 at.1 in
+    let differ : colour own (made here.0 dart.slot) ≢ colour own (made there.0 other.slot) =
     λ same.
-    let one = coloured.once (mine dart) (mine other) (record { crossing = here.0; slot = first.within.slot })
-    (record { crossing = there.0; slot = second.within.slot })
-    (arc_mine dart first.within first.on_arc here ∙ sym (arc_mine other second.within (second.same_arc ∙ first.on_arc) there)) same in
-    second.differs (same_parts other.crossing dart.crossing other.slot dart.slot
-    (omega (arith, ap (λ (d : Dart). d.crossing) one, here.1, there.1)) (sym (ap (λ (d : Dart). d.slot) one))) in
+    let one = coloured.once (made here.0 dart.slot) (made there.0 other.slot) (record { crossing = here.1; slot = first.within.slot })
+    (record { crossing = there.1; slot = second.within.slot })
+    (arc_mine dart.crossing dart.slot first.within.slot first.on_arc here
+    ∙ sym (arc_mine other.crossing other.slot second.within.slot (second.same_arc ∙ first.on_arc) there)) same in
+    let crossings : other.crossing ≡ dart.crossing = omega (arith, ap (λ (d : Dart). d.crossing) one, here.2, there.2) in
+    second.differs (ap₂ made crossings (sym (ap (λ (d : Dart). d.slot) one))) in
     eq-eqb ((bit choice (place_of dart.crossing) + (bit choice (place_of other.crossing) + (dart.slot + other.slot))) % 2) 1
-    (ap₂ (λ x y. (x + (y + (dart.slot + other.slot))) % 2) (bit_of dart here) (bit_of other there)
-    ∙ odd_sum (bit own (place_of (dart.crossing - before))) (bit own (place_of (other.crossing - before))) dart.slot other.slot differ)
+    (ap₂ (λ x y. (x + (y + (dart.slot + other.slot))) % 2) (bit_of dart.crossing here) (bit_of other.crossing there)
+    ∙ odd_sum (bit own (place_of here.0)) (bit own (place_of there.0)) dart.slot other.slot differ)
   where
-    same_parts : (c d s t : ℕ) → c ≡ d → s ≡ t → (let first : Dart = record { crossing = c; slot = s } in first) ≡ record { crossing = d; slot = t }
-    same_parts c d s t same_crossing same_slot = ap₂ (λ x y. record { crossing = x; slot = y }) same_crossing same_slot
+    made : ℕ → ℕ → Dart
+    made crossing slot = record { crossing = crossing; slot = slot }
 
     odd_sum : (x y s t : ℕ) → (x + s) % 2 ≢ (y + t) % 2 → (x + (y + (s + t))) % 2 ≡ 1
     odd_sum x y s t differ = omega (arith, differ)
@@ -239,51 +237,36 @@ IsCheckerboard-both first second are directed =
           (both-below n k a b one_is.checkerboard.below two_is.checkerboard.below);
       solves = list_all-each (solves_at whole choice) 1 (arc_count whole)
           (λ arc from below.
-          let is_arc : IsArc whole arc = record { positive = from; within = omega (arith, below) } in
-          elim (one-of first second arc is_arc).cases [
-            | inl low ↦
-                let e : arc + 2 * 0 ≡ arc = omega arith in
-                ap (solves_at whole choice) (sym e)
-                ∙ solves-of 0 first.crossings whole a choice arc are.one
-                (IsColoured-checkerboard first.crossings one_is.checkerboard (HasArcsTwice-accepted first are.first_is)) whole_twice low
-                (subst (IsArc whole) (sym e) is_arc)
-                (λ c is. (let f : 0 + c ≡ c = omega arith in ap (λ m. bit choice (place_of m)) f)
-                ∙ bit-first n a b (place_of c) (omega (arith, is.positive, is.within)))
-                (λ dart dart_is on. elim (crossing-of first second dart.crossing dart_is.crossing).cases [
-                  | inl here ↦
-                      let f : dart.crossing - 0 ≡ dart.crossing = omega arith in
-                      (subst (IsCrossing first.crossings) (sym f) here, omega arith)
-                  | inr (there, f) ↦ absurd (omega (
-                    arith,
-                    on,
-                    low.within,
-                    ap (λ c. arc_in (slots_of whole c) dart.slot) f,
-                    are.two.arcs (dart.crossing - n) dart.slot there dart_is.slot,
-                    (part-arc n second.crossings whole (dart.crossing - n) dart.slot are.two there dart_is.slot).positive,
-                  ))
-                ])
-            | inr (there, high) ↦
-                let e : arc - 2 * n + 2 * n ≡ arc = omega (arith, high) in
-                ap (solves_at whole choice) (sym e)
-                ∙ solves-of n second.crossings whole b choice (arc - 2 * n) are.two
-                (IsColoured-checkerboard second.crossings two_is.checkerboard (HasArcsTwice-accepted second are.second_is)) whole_twice there
-                (subst (IsArc whole) (sym e) is_arc)
-                (λ c is. (let f : n + c - 1 ≡ n + place_of c = omega (arith, is.positive) in ap (bit choice) f)
-                ∙ bit-second n a b (place_of c) one_is.checkerboard.below)
-                (λ dart dart_is on. elim (crossing-of first second dart.crossing dart_is.crossing).cases [
-                  | inr found ↦ found
-                  | inl here ↦
-                      let f : 0 + dart.crossing ≡ dart.crossing = omega arith in
-                      absurd (omega (
-                        arith,
-                        on,
-                        there.positive,
-                        ap (λ c. arc_in (slots_of whole c) dart.slot) f,
-                        are.one.arcs dart.crossing dart.slot here dart_is.slot,
-                        (part-arc 0 first.crossings whole dart.crossing dart.slot are.one here dart_is.slot).within,
-                      ))
-                ])
-          ]);
+          each-arc (λ x. IsArc whole x → solves_at whole choice x ≡ true) first second
+          (λ x x_is whole_is.
+          solves-of 0 first.crossings whole a choice x are.one
+          (IsColoured-checkerboard first.crossings one_is.checkerboard (HasArcsTwice-accepted first are.first_is)) whole_twice whole_is
+          (λ c is. (let f : 0 + c ≡ c = omega arith in ap (λ m. bit choice (place_of m)) f)
+          ∙ bit-first n a b (place_of c) (omega (arith, is.positive, is.within)))
+          (each-crossing (λ c. (slot : ℕ) → slot < 4 → arc_in (slots_of whole c) slot ≡ x + 2 * 0 → IsOf 0 first.crossings c) first second
+          (λ c is slot slot_below on. (c, is, refl))
+          (λ c is slot slot_below on. absurd (omega (
+            arith,
+            on,
+            x_is.within,
+            are.two.arcs c slot is slot_below,
+            (part-arc n second.crossings whole are.two c slot is slot_below).positive,
+          )))))
+          (λ x x_is whole_is.
+          solves-of n second.crossings whole b choice x are.two
+          (IsColoured-checkerboard second.crossings two_is.checkerboard (HasArcsTwice-accepted second are.second_is)) whole_twice whole_is
+          (λ c is. (let f : n + c - 1 ≡ n + place_of c = omega (arith, is.positive) in ap (bit choice) f)
+          ∙ bit-second n a b (place_of c) one_is.checkerboard.below)
+          (each-crossing (λ c. (slot : ℕ) → slot < 4 → arc_in (slots_of whole c) slot ≡ x + 2 * n → IsOf n second.crossings c) first second
+          (λ c is slot slot_below on. absurd (omega (
+            arith,
+            on,
+            x_is.positive,
+            are.one.arcs c slot is slot_below,
+            (part-arc 0 first.crossings whole are.one c slot is slot_below).within,
+          )))
+          (λ c is slot slot_below on. (c, is, refl))))
+          arc (record { positive = from; within = omega (arith, below) }) (record { positive = from; within = omega (arith, below) }));
     }
   where
     both-below : (n k a b : ℕ) → a < 2 ^ n → b < 2 ^ k → a + 2 ^ n * b < 2 ^ (n + k)

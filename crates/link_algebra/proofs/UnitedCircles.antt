@@ -4,25 +4,21 @@
 -- of the first; each less one, without the number 0, they are two parts side by side (ClassParts). So the numbers of circles add up, and
 -- loops with them.
 use Rattle.std.proofs.Common.{Bool, IsTrue, List, [], ap, ap₂, arith, cond, false, length, map, refl, subst, suc, sym, true, zero, ℕ, ◌*◌, ◌++◌, ◌+◌, ◌-◌, ◌<◌, ◌^◌, ◌∙◌, ◌∷◌, ◌≡◌, ◌≤◌}
-use Rattle.std.proofs.lemmas.List.{append_assoc, length-append, length-map, map-append}
-use Rattle.std.proofs.lemmas.List.Sums.{sum_by-append}
+use Rattle.std.proofs.lemmas.List.{append_assoc, length-append, length-map, map-append, map-id}
 use Rattle.std.proofs.lemmas.Nat.Bits.{bit_at_cat_high, bit_at_cat_low}
-use Rattle.std.specs.List.{range_with_len, sum_by}
 use Rattle.std.specs.Prelude.{nat_eq, slice_index_or}
 use Rattle.kh_types.proofs.ClassCounts.{AreBelow-wider, class_count-circles, class_count-wider}
 use Rattle.kh_types.proofs.EdgeNames.{IsArc-slot}
 use Rattle.kh_types.proofs.ListSums.{sum_by-range_alike}
 use Rattle.kh_types.proofs.Lists.{AllByRecursion-append}
-use Rattle.kh_types.proofs.Ranges.{range-append}
 use Rattle.kh_types.specs.Acceptance.{accepted}
 use Rattle.kh_types.specs.Bits.{bit, ones}
 use Rattle.kh_types.specs.Circles.{circle_count, smoothing_of, smoothings_of}
 use Rattle.kh_types.specs.Classes.{AreBelow, class_count, classes_of}
 use Rattle.kh_types.specs.Code.{Code, IsArc, arc_count, arc_in}
-use Rattle.link_algebra.proofs.ClassParts.{class_count-append_lists, classes-parts, length-classes, lifted_pairs}
+use Rattle.link_algebra.proofs.ClassParts.{class_count-append_lists, classes-parts, length-classes, lifted_pairs, sum_by-parts}
 use Rattle.link_algebra.specs.Unions.{raised_slots, union_of}
 use Rattle.kh_types.proofs.JoinedSlots.{smoothings_from}
-use Rattle.kh_types.proofs.LabelDegrees.{sum_by-later}
 
 -- the slots of crossings hold numbers above 0 and below another
 abbrev pub SlotsHold : ℕ → List ℕ → Type 0
@@ -60,8 +56,23 @@ slot-raised by slots (suc (suc zero)) below = refl
 slot-raised by slots (suc (suc (suc zero))) below = refl
 slot-raised by slots (suc (suc (suc (suc slot)))) below = absurd (omega (arith, below))
 
-lifted_name : (by x : ℕ) → 1 ≤ x → x + by ≡ by + 1 + (x - 1)
-lifted_name by x some = omega (arith, some)
+-- slots whose numbers are those of others, but that they begin at a number in place of 1
+abbrev pub AreMoved : ℕ → List ℕ → List ℕ → Type 0
+AreMoved start moved slots = (slot : ℕ) → slot < 4 → arc_in moved slot ≡ start + (arc_in slots slot - 1)
+
+pub AreMoved-raised : (by below : ℕ) (slots : List ℕ) → SlotsHold below slots → AreMoved (by + 1) (raised_slots by slots) slots
+AreMoved-raised by below slots hold slot slot_below = omega (arith, slot-raised by slots slot slot_below, (hold slot slot_below).0)
+
+pub AreMoved-own : (below : ℕ) (slots : List ℕ) → SlotsHold below slots → AreMoved 1 slots slots
+AreMoved-own below slots hold slot slot_below = omega (arith, (hold slot slot_below).0)
+
+-- two pairs of slots
+pub pairs-moved : (start : ℕ) (moved slots : List ℕ) (p q r s : ℕ) → AreMoved start moved slots → p < 4 → q < 4 → r < 4 → s < 4
+    → (arc_in moved p, arc_in moved q) ∷ (arc_in moved r, arc_in moved s) ∷ []
+    ≡ lifted_pairs start (lowered ((arc_in slots p, arc_in slots q) ∷ (arc_in slots r, arc_in slots s) ∷ []))
+pairs-moved start moved slots p q r s at p_below q_below r_below s_below =
+    ap₂ (λ (x y : ℕ × ℕ). x ∷ y ∷ []) (ap₂ (λ (x y : ℕ). (x, y)) (at p p_below) (at q q_below))
+    (ap₂ (λ (x y : ℕ). (x, y)) (at r r_below) (at s s_below))
 
 -- the pairs of a smoothing
 abbrev zero_pairs : List ℕ → List (ℕ × ℕ)
@@ -70,45 +81,24 @@ zero_pairs slots = (arc_in slots 0, arc_in slots 1) ∷ (arc_in slots 2, arc_in 
 abbrev one_pairs : List ℕ → List (ℕ × ℕ)
 one_pairs slots = (arc_in slots 0, arc_in slots 3) ∷ (arc_in slots 1, arc_in slots 2) ∷ []
 
-pairs-raised : (by b below : ℕ) (slots : List ℕ) → SlotsHold below slots
-    → smoothing_of b (raised_slots by slots) ≡ lifted_pairs (by + 1) (lowered (smoothing_of b slots))
-pairs-raised by b below slots hold =
-    let at : (slot : ℕ) → slot < 4 → arc_in (raised_slots by slots) slot ≡ by + 1 + (arc_in slots slot - 1) =
-    λ slot slot_below. slot-raised by slots slot slot_below ∙ lifted_name by (arc_in slots slot) (hold slot slot_below).0 in
-    let first = at 0 (omega arith) in
-    let second = at 1 (omega arith) in
-    let third = at 2 (omega arith) in
-    let fourth = at 3 (omega arith) in
-    either (nat_eq b 0)
-    (ap₂ (λ (x y : ℕ × ℕ). x ∷ y ∷ []) (ap₂ (λ (x y : ℕ). (x, y)) first second) (ap₂ (λ (x y : ℕ). (x, y)) third fourth))
-    (ap₂ (λ (x y : ℕ × ℕ). x ∷ y ∷ []) (ap₂ (λ (x y : ℕ). (x, y)) first fourth) (ap₂ (λ (x y : ℕ). (x, y)) second third))
+smoothing-moved : (start b : ℕ) (moved slots : List ℕ) → AreMoved start moved slots
+    → smoothing_of b moved ≡ lifted_pairs start (lowered (smoothing_of b slots))
+smoothing-moved start b moved slots at =
+    either (nat_eq b 0) (pairs-moved start moved slots 0 1 2 3 at (omega arith) (omega arith) (omega arith) (omega arith))
+    (pairs-moved start moved slots 0 3 1 2 at (omega arith) (omega arith) (omega arith) (omega arith))
   where
-    either : (is_zero : Bool) → zero_pairs (raised_slots by slots) ≡ lifted_pairs (by + 1) (lowered (zero_pairs slots))
-        → one_pairs (raised_slots by slots) ≡ lifted_pairs (by + 1) (lowered (one_pairs slots))
-        → cond is_zero (zero_pairs (raised_slots by slots)) (one_pairs (raised_slots by slots))
-        ≡ lifted_pairs (by + 1) (lowered (cond is_zero (zero_pairs slots) (one_pairs slots)))
+    either : (is_zero : Bool) → zero_pairs moved ≡ lifted_pairs start (lowered (zero_pairs slots))
+        → one_pairs moved ≡ lifted_pairs start (lowered (one_pairs slots))
+        → cond is_zero (zero_pairs moved) (one_pairs moved)
+        ≡ lifted_pairs start (lowered (cond is_zero (zero_pairs slots) (one_pairs slots)))
     either true same other = same
     either false same other = other
 
-pairs-own : (b below : ℕ) (slots : List ℕ) → SlotsHold below slots
-    → smoothing_of b slots ≡ lifted_pairs 1 (lowered (smoothing_of b slots))
-pairs-own b below slots hold =
-    let at : (slot : ℕ) → slot < 4 → arc_in slots slot ≡ 1 + (arc_in slots slot - 1) =
-    λ slot slot_below. omega (arith, (hold slot slot_below).0) in
-    let first = at 0 (omega arith) in
-    let second = at 1 (omega arith) in
-    let third = at 2 (omega arith) in
-    let fourth = at 3 (omega arith) in
-    either (nat_eq b 0)
-    (ap₂ (λ (x y : ℕ × ℕ). x ∷ y ∷ []) (ap₂ (λ (x y : ℕ). (x, y)) first second) (ap₂ (λ (x y : ℕ). (x, y)) third fourth))
-    (ap₂ (λ (x y : ℕ × ℕ). x ∷ y ∷ []) (ap₂ (λ (x y : ℕ). (x, y)) first fourth) (ap₂ (λ (x y : ℕ). (x, y)) second third))
-  where
-    either : (is_zero : Bool) → zero_pairs slots ≡ lifted_pairs 1 (lowered (zero_pairs slots))
-        → one_pairs slots ≡ lifted_pairs 1 (lowered (one_pairs slots))
-        → cond is_zero (zero_pairs slots) (one_pairs slots)
-        ≡ lifted_pairs 1 (lowered (cond is_zero (zero_pairs slots) (one_pairs slots)))
-    either true same other = same
-    either false same other = other
+pub moved-append : (start : ℕ) (here later : List (ℕ × ℕ))
+    → lifted_pairs start (lowered here) ++ lifted_pairs start (lowered later) ≡ lifted_pairs start (lowered (here ++ later))
+moved-append start here later =
+    sym (map-append (λ (pair : ℕ × ℕ). (start + pair.0, start + pair.1)) (lowered here) (lowered later))
+    ∙ ap (lifted_pairs start) (sym (map-append (λ (pair : ℕ × ℕ). (pair.0 - 1, pair.1 - 1)) here later))
 
 pairs-below : (b below : ℕ) (slots : List ℕ) → SlotsHold below slots → AreBelow below (smoothing_of b slots)
 pairs-below b below slots hold =
@@ -134,34 +124,28 @@ front state other place (slots ∷ crossings) more same =
     ∙ sym (append_assoc (smoothing_of (bit other place) slots) (smoothings_from other (place + 1) crossings)
     (smoothings_from state (place + suc (length crossings)) more))
 
-behind : (state other shift by place below : ℕ) (crossings : List (List ℕ))
+behind : (g : List ℕ → List ℕ) (state other shift start place below : ℕ) (crossings : List (List ℕ))
+    → ((slots : List ℕ) → SlotsHold below slots → AreMoved start (g slots) slots)
     → ((k : ℕ) → place ≤ k → k < place + length crossings → bit state (shift + k) ≡ bit other k) → HoldsNames below crossings
-    → smoothings_from state (shift + place) (map (raised_slots by) crossings)
-    ≡ lifted_pairs (by + 1) (lowered (smoothings_from other place crossings))
-behind state other shift by place below [] same hold = refl
-behind state other shift by place below (slots ∷ crossings) same hold =
+    → smoothings_from state (shift + place) (map g crossings) ≡ lifted_pairs start (lowered (smoothings_from other place crossings))
+behind g state other shift start place below [] moved same hold = refl
+behind g state other shift start place below (slots ∷ crossings) moved same hold =
     let e : shift + place + 1 ≡ shift + (place + 1) = omega arith in
     let here = smoothing_of (bit other place) slots in
     let later = smoothings_from other (place + 1) crossings in
-    ap₂ (λ b ps. smoothing_of b (raised_slots by slots) ++ ps) (same place (omega arith) (omega arith))
-    (ap (λ p. smoothings_from state p (map (raised_slots by) crossings)) e
-    ∙ behind state other shift by (place + 1) below crossings (λ k from inside. same k (omega (arith, from)) (omega (arith, inside)))
-    (HoldsNames-rest below slots crossings hold))
-    ∙ ap (λ ps. ps ++ lifted_pairs (by + 1) (lowered later))
-    (pairs-raised by (bit other place) below slots (HoldsNames-first below slots crossings hold))
-    ∙ sym (map-append (λ (pair : ℕ × ℕ). (by + 1 + pair.0, by + 1 + pair.1)) (lowered here) (lowered later))
-    ∙ ap (lifted_pairs (by + 1)) (sym (map-append (λ (pair : ℕ × ℕ). (pair.0 - 1, pair.1 - 1)) here later))
+    ap₂ (λ b ps. smoothing_of b (g slots) ++ ps) (same place (omega arith) (omega arith))
+    (ap (λ p. smoothings_from state p (map g crossings)) e
+    ∙ behind g state other shift start (place + 1) below crossings moved
+    (λ k from inside. same k (omega (arith, from)) (omega (arith, inside))) (HoldsNames-rest below slots crossings hold))
+    ∙ ap (λ ps. ps ++ lifted_pairs start (lowered later))
+    (smoothing-moved start (bit other place) (g slots) slots (moved slots (HoldsNames-first below slots crossings hold)))
+    ∙ moved-append start here later
 
-own : (state place below : ℕ) (crossings : List (List ℕ)) → HoldsNames below crossings
-    → smoothings_from state place crossings ≡ lifted_pairs 1 (lowered (smoothings_from state place crossings))
-own state place below [] hold = refl
-own state place below (slots ∷ crossings) hold =
-    let here = smoothing_of (bit state place) slots in
-    let later = smoothings_from state (place + 1) crossings in
-    ap₂ (λ ps qs. ps ++ qs) (pairs-own (bit state place) below slots (HoldsNames-first below slots crossings hold))
-    (own state (place + 1) below crossings (HoldsNames-rest below slots crossings hold))
-    ∙ sym (map-append (λ (pair : ℕ × ℕ). (1 + pair.0, 1 + pair.1)) (lowered here) (lowered later))
-    ∙ ap (lifted_pairs 1) (sym (map-append (λ (pair : ℕ × ℕ). (pair.0 - 1, pair.1 - 1)) here later))
+own : (state below : ℕ) (crossings : List (List ℕ)) → HoldsNames below crossings
+    → smoothings_of crossings state ≡ lifted_pairs 1 (lowered (smoothings_of crossings state))
+own state below crossings hold =
+    ap (smoothings_from state 0) (sym (map-id crossings))
+    ∙ behind (λ slots. slots) state state 0 1 0 below crossings (AreMoved-own below) (λ k from inside. ap (bit state) (omega arith)) hold
 
 pub smoothings-small : (state place below : ℕ) (crossings : List (List ℕ)) → HoldsNames below crossings
     → AreBelow below (smoothings_from state place crossings)
@@ -177,10 +161,17 @@ lifted_pairs-below m n [] below = tt
 lifted_pairs-below m n (pair ∷ pairs) below =
     ((omega (arith, below.0.0), omega (arith, below.0.1)), lifted_pairs-below m n pairs below.1)
 
-pub below-lifted_pairs : (m n : ℕ) (pairs : List (ℕ × ℕ)) → AreBelow (m + n) (lifted_pairs m pairs) → AreBelow n pairs
+below-lifted_pairs : (m n : ℕ) (pairs : List (ℕ × ℕ)) → AreBelow (m + n) (lifted_pairs m pairs) → AreBelow n pairs
 below-lifted_pairs m n [] below = tt
 below-lifted_pairs m n (pair ∷ pairs) below =
     ((omega (arith, below.0.0), omega (arith, below.0.1)), below-lifted_pairs m n pairs below.1)
+
+pub lowered-below : (n : ℕ) (pairs : List (ℕ × ℕ)) → pairs ≡ lifted_pairs 1 (lowered pairs) → AreBelow (n + 1) pairs
+    → AreBelow n (lowered pairs)
+lowered-below n pairs is below =
+    let e : n + 1 ≡ 1 + n = omega arith in
+    below-lifted_pairs 1 n (lowered pairs)
+    (subst (λ (ps : List (ℕ × ℕ)). AreBelow (1 + n) ps) is (subst (λ (c : ℕ). AreBelow c pairs) e below))
 
 -- two states, one of either code, are a state of the union
 abbrev pub state_of_both : Code → ℕ → ℕ → ℕ
@@ -199,11 +190,9 @@ bit-second n a b k small =
 pub ones-both : (n m a b : ℕ) → a < 2 ^ n → ones (n + m) (a + 2 ^ n * b) ≡ ones n a + ones m b
 ones-both n m a b small =
     let s = a + 2 ^ n * b in
-    let e : 0 + n ≡ n + 0 = omega arith in
-    ap (λ xs. sum_by (bit s) xs) (range-append 0 n m) ∙ sum_by-append (bit s) (range_with_len 0 n) (range_with_len (0 + n) m)
+    sum_by-parts (bit s) 0 n m
     ∙ ap₂ (λ x y. x + y) (sum_by-range_alike (bit s) (bit a) 0 n (λ k from below. bit-first n a b k (omega (arith, below))))
-    (ap (λ c. sum_by (bit s) (range_with_len c m)) e ∙ sum_by-later (bit s) n 0 m
-    ∙ sum_by-range_alike (λ k. bit s (n + k)) (bit b) 0 m (λ k from below. bit-second n a b k small))
+    (sum_by-range_alike (λ k. bit s (n + k)) (bit b) 0 m (λ k from below. bit-second n a b k small))
 
 pub smoothings-both : (first second : Code) (a b : ℕ) → IsTrue (accepted second) → a < 2 ^ length first.crossings
     → smoothings_of (union_of first second).crossings (state_of_both first a b)
@@ -216,16 +205,21 @@ smoothings-both first second a b second_is small =
     front s a 0 first.crossings (map (raised_slots by) second.crossings) (λ k from below. bit-first n a b k (omega (arith, below)))
     ∙ ap (λ ps. smoothings_of first.crossings a ++ ps)
     (ap (λ p. smoothings_from s p (map (raised_slots by) second.crossings)) e
-    ∙ behind s b n by 0 (arc_count second.crossings + 1) second.crossings (λ k from below. bit-second n a b k small)
+    ∙ behind (raised_slots by) s b n (by + 1) 0 (arc_count second.crossings + 1) second.crossings
+    (AreMoved-raised by (arc_count second.crossings + 1)) (λ k from below. bit-second n a b k small)
     (HoldsNames-accepted second second_is))
 
+pub length-both : (first second : Code) → length (union_of first second).crossings ≡ length first.crossings + length second.crossings
+length-both first second =
+    length-append first.crossings (map (raised_slots (arc_count first.crossings)) second.crossings)
+    ∙ ap (λ c. length first.crossings + c) (length-map second.crossings (raised_slots (arc_count first.crossings)))
+
 -- circles by classes without loops
-circle_count-arcs : (code : Code) (state : ℕ) → IsTrue (accepted code)
+circle_count-arcs : (code : Code) (state : ℕ) → AreBelow (arc_count code.crossings + 1) (smoothings_of code.crossings state)
     → circle_count code state + 1 ≡ class_count (classes_of (arc_count code.crossings + 1) (smoothings_of code.crossings state)) + code.loops
-circle_count-arcs code state is =
+circle_count-arcs code state small =
     let m = arc_count code.crossings + 1 in
     let pairs = smoothings_of code.crossings state in
-    let small = smoothings-small state 0 m code.crossings (HoldsNames-accepted code is) in
     let e : arc_count code.crossings + code.loops + 1 ≡ m + code.loops = omega arith in
     sym (class_count-circles code state (AreBelow-wider m (arc_count code.crossings + code.loops + 1) pairs (omega arith) small))
     ∙ ap (λ k. class_count (classes_of k pairs)) e ∙ class_count-wider m code.loops pairs small
@@ -235,47 +229,38 @@ pub circle_count-both : (first second : Code) (a b : ℕ) → IsTrue (accepted f
     → a < 2 ^ length first.crossings
     → circle_count (union_of first second) (state_of_both first a b) ≡ circle_count first a + circle_count second b
 circle_count-both first second a b first_is second_is small =
-    let n = length first.crossings in
-    let k = length second.crossings in
     let m = arc_count first.crossings + 1 in
+    let n = arc_count second.crossings in
     let both = union_of first second in
     let s = state_of_both first a b in
     let pairs = smoothings_of first.crossings a in
     let more = smoothings_of second.crossings b in
     let later = lowered more in
     let below = smoothings-small a 0 m first.crossings (HoldsNames-accepted first first_is) in
-    let more_below = smoothings-small b 0 (arc_count second.crossings + 1) second.crossings (HoldsNames-accepted second second_is) in
-    let more_own = own b 0 (arc_count second.crossings + 1) second.crossings (HoldsNames-accepted second second_is) in
-    let one_more : arc_count second.crossings + 1 ≡ 1 + arc_count second.crossings = omega arith in
-    let later_below : AreBelow (arc_count second.crossings) later =
-    below-lifted_pairs 1 (arc_count second.crossings) later
-    (subst (λ (ps : List (ℕ × ℕ)). AreBelow (1 + arc_count second.crossings) ps) more_own
-    (subst (λ (c : ℕ). AreBelow c more) one_more more_below)) in
-    let size : length both.crossings ≡ n + k =
-    length-append first.crossings (map (raised_slots (arc_count first.crossings)) second.crossings)
-    ∙ ap (λ c. n + c) (length-map second.crossings (raised_slots (arc_count first.crossings))) in
-    let all : smoothings_of both.crossings s ≡ pairs ++ lifted_pairs m later = smoothings-both first second a b second_is small in
-    let all_below : AreBelow (m + arc_count second.crossings) (pairs ++ lifted_pairs m later) =
-    AllByRecursion-append (λ pair. (pair.0 < m + arc_count second.crossings) × (pair.1 < m + arc_count second.crossings)) pairs
-    (lifted_pairs m later)
-    (AreBelow-wider m (m + arc_count second.crossings) pairs (omega arith) below)
-    (lifted_pairs-below m (arc_count second.crossings) later later_below) in
-    let names : arc_count both.crossings + both.loops + 1 ≡ m + arc_count second.crossings + both.loops = omega (arith, size) in
-    let united_count : circle_count both s + 1
-    ≡ class_count (classes_of (m + arc_count second.crossings) (pairs ++ lifted_pairs m later)) + both.loops =
-    sym (class_count-circles both s
-    (subst (λ (ps : List (ℕ × ℕ)). AreBelow (arc_count both.crossings + both.loops + 1) ps) (sym all)
-    (AreBelow-wider (m + arc_count second.crossings) (arc_count both.crossings + both.loops + 1) (pairs ++ lifted_pairs m later)
-    (omega (arith, names)) all_below)))
-    ∙ ap₂ (λ c ps. class_count (classes_of c ps)) names all
-    ∙ class_count-wider (m + arc_count second.crossings) both.loops (pairs ++ lifted_pairs m later) all_below in
-    let parts : class_count (classes_of (m + arc_count second.crossings) (pairs ++ lifted_pairs m later))
-    ≡ class_count (classes_of m pairs) + class_count (classes_of (arc_count second.crossings) later) =
-    ap class_count (classes-parts m (arc_count second.crossings) pairs later below later_below)
-    ∙ class_count-append_lists m (classes_of m pairs) (classes_of (arc_count second.crossings) later) (length-classes m pairs below).0 in
-    let one : class_count (classes_of (arc_count second.crossings + 1) more)
-    ≡ 1 + class_count (classes_of (arc_count second.crossings) later) =
-    ap₂ (λ c ps. class_count (classes_of c ps)) one_more more_own
-    ∙ ap class_count (classes-parts 1 (arc_count second.crossings) [] later tt later_below)
-    ∙ class_count-append_lists 1 (classes_of 1 []) (classes_of (arc_count second.crossings) later) refl in
-    omega (arith, united_count, parts, one, circle_count-arcs first a first_is, circle_count-arcs second b second_is)
+    let more_below = smoothings-small b 0 (n + 1) second.crossings (HoldsNames-accepted second second_is) in
+    let more_own = own b (n + 1) second.crossings (HoldsNames-accepted second second_is) in
+    let later_below = lowered-below n more more_own more_below in
+    let one_more : n + 1 ≡ 1 + n = omega arith in
+    let size : arc_count both.crossings + 1 ≡ m + n = omega (arith, length-both first second) in
+    let all = smoothings-both first second a b second_is small in
+    let all_below : AreBelow (m + n) (pairs ++ lifted_pairs m later) =
+    AllByRecursion-append (λ pair. (pair.0 < m + n) × (pair.1 < m + n)) pairs (lifted_pairs m later)
+    (AreBelow-wider m (m + n) pairs (omega arith) below) (lifted_pairs-below m n later later_below) in
+    let united_below : AreBelow (arc_count both.crossings + 1) (smoothings_of both.crossings s) =
+    subst (λ (ps : List (ℕ × ℕ)). AreBelow (arc_count both.crossings + 1) ps) (sym all)
+    (subst (λ (c : ℕ). AreBelow c (pairs ++ lifted_pairs m later)) (sym size) all_below) in
+    let parts : class_count (classes_of (arc_count both.crossings + 1) (smoothings_of both.crossings s))
+    ≡ class_count (classes_of m pairs) + class_count (classes_of n later) =
+    ap₂ (λ c ps. class_count (classes_of c ps)) size all ∙ ap class_count (classes-parts m n pairs later below later_below)
+    ∙ class_count-append_lists m (classes_of m pairs) (classes_of n later) (length-classes m pairs below).0 in
+    let one : class_count (classes_of (n + 1) more) ≡ 1 + class_count (classes_of n later) =
+    ap₂ (λ c ps. class_count (classes_of c ps)) one_more more_own ∙ ap class_count (classes-parts 1 n [] later tt later_below)
+    ∙ class_count-append_lists 1 (classes_of 1 []) (classes_of n later) refl in
+    omega (
+      arith,
+      circle_count-arcs both s united_below,
+      parts,
+      one,
+      circle_count-arcs first a below,
+      circle_count-arcs second b more_below,
+    )

@@ -2,10 +2,10 @@
 --
 -- Components are classes under passes, and the passes of the second code join arcs behind those of the first. So the list of components is
 -- that of the first and then that of the second, raised; sizes, least arcs and next arcs of a part (`IsPart`) are its own.
-use Rattle.std.proofs.Common.{IsTrue, List, [], ap, ap₂, arith, cond, inl, inr, length, map, refl, subst, suc, sym, zero, ℕ, ◌*◌, ◌++◌, ◌+◌, ◌-◌, ◌<◌, ◌∙◌, ◌∷◌, ◌≡◌, ◌≢◌, ◌≤◌, ◌⊎◌}
+use Rattle.std.proofs.Common.{IsTrue, List, [], ap, ap₂, arith, cond, inl, inr, length, map, refl, suc, sym, zero, ℕ, ◌*◌, ◌++◌, ◌+◌, ◌-◌, ◌<◌, ◌∙◌, ◌∷◌, ◌≡◌, ◌≢◌, ◌≤◌, ◌⊎◌}
 use Rattle.std.proofs.lemmas.Bool.{ne_eqb}
 use Rattle.std.proofs.lemmas.Bool.Decides.{nat_tests}
-use Rattle.std.proofs.lemmas.List.{append_assoc, get_or-append-add, get_or-map, get_or_append_left, length-append, length-map, map-append}
+use Rattle.std.proofs.lemmas.List.{append_assoc, get_or-append-add, get_or-map, get_or_append_left, length-append, length-map, map-id}
 use Rattle.std.proofs.lemmas.List.Sums.{sum_by-append, sum_by-cons}
 use Rattle.std.specs.List.{count_by, flat_map}
 use Rattle.std.specs.Prelude.{nat_eq, slice_index, slice_index_or}
@@ -16,46 +16,24 @@ use Rattle.kh_types.specs.Code.{Code, IsArc, IsCrossing, arc_count, arc_in, plac
 use Rattle.kh_types.specs.Components.{arcs_in, component_of, components_of, passes_of}
 use Rattle.kh_types.specs.Bits.{one_if}
 use Rattle.link_algebra.proofs.ClassParts.{classes-parts, index-back, index-front, index-lifted, length-classes, lifted, lifted_pairs}
-use Rattle.link_algebra.proofs.UnitedCircles.{HoldsNames, HoldsNames-accepted, HoldsNames-first, HoldsNames-rest, SlotsHold, below-lifted_pairs, lowered, slot-raised}
-use Rattle.link_algebra.proofs.UnitedSums.{length-both}
+use Rattle.link_algebra.proofs.UnitedCircles.{AreMoved, AreMoved-own, AreMoved-raised, HoldsNames, HoldsNames-accepted, HoldsNames-first, HoldsNames-rest, SlotsHold, length-both, lowered, lowered-below, moved-append, pairs-moved, slot-raised}
 use Rattle.link_algebra.specs.Unions.{raised_slots, union_of}
 
-passes-raised : (by below : ℕ) (slots : List ℕ) → SlotsHold below slots
-    → passes_of (raised_slots by slots) ≡ lifted_pairs (by + 1) (lowered (passes_of slots))
-passes-raised by below slots hold =
-    let at : (slot : ℕ) → slot < 4 → arc_in (raised_slots by slots) slot ≡ by + 1 + (arc_in slots slot - 1) =
-    λ slot slot_below. slot-raised by slots slot slot_below ∙ omega (arith, (hold slot slot_below).0) in
-    ap₂ (λ (x y : ℕ × ℕ). x ∷ y ∷ []) (ap₂ (λ (x y : ℕ). (x, y)) (at 0 (omega arith)) (at 2 (omega arith)))
-    (ap₂ (λ (x y : ℕ). (x, y)) (at 1 (omega arith)) (at 3 (omega arith)))
-
-passes-own : (below : ℕ) (slots : List ℕ) → SlotsHold below slots → passes_of slots ≡ lifted_pairs 1 (lowered (passes_of slots))
-passes-own below slots hold =
-    let at : (slot : ℕ) → slot < 4 → arc_in slots slot ≡ 1 + (arc_in slots slot - 1) =
-    λ slot slot_below. omega (arith, (hold slot slot_below).0) in
-    ap₂ (λ (x y : ℕ × ℕ). x ∷ y ∷ []) (ap₂ (λ (x y : ℕ). (x, y)) (at 0 (omega arith)) (at 2 (omega arith)))
-    (ap₂ (λ (x y : ℕ). (x, y)) (at 1 (omega arith)) (at 3 (omega arith)))
-
-all-raised : (by below : ℕ) (crossings : List (List ℕ)) → HoldsNames below crossings
-    → flat_map passes_of (map (raised_slots by) crossings) ≡ lifted_pairs (by + 1) (lowered (flat_map passes_of crossings))
-all-raised by below [] hold = refl
-all-raised by below (slots ∷ crossings) hold =
-    let here = passes_of slots in
-    let later = flat_map passes_of crossings in
-    ap₂ (λ ps qs. ps ++ qs) (passes-raised by below slots (HoldsNames-first below slots crossings hold))
-    (all-raised by below crossings (HoldsNames-rest below slots crossings hold))
-    ∙ sym (map-append (λ (pair : ℕ × ℕ). (by + 1 + pair.0, by + 1 + pair.1)) (lowered here) (lowered later))
-    ∙ ap (lifted_pairs (by + 1)) (sym (map-append (λ (pair : ℕ × ℕ). (pair.0 - 1, pair.1 - 1)) here later))
+all-moved : (g : List ℕ → List ℕ) (start below : ℕ) (crossings : List (List ℕ))
+    → ((slots : List ℕ) → SlotsHold below slots → AreMoved start (g slots) slots) → HoldsNames below crossings
+    → flat_map passes_of (map g crossings) ≡ lifted_pairs start (lowered (flat_map passes_of crossings))
+all-moved g start below [] moved hold = refl
+all-moved g start below (slots ∷ crossings) moved hold =
+    ap₂ (λ ps qs. ps ++ qs)
+    (pairs-moved start (g slots) slots 0 2 1 3 (moved slots (HoldsNames-first below slots crossings hold)) (omega arith) (omega arith)
+    (omega arith) (omega arith))
+    (all-moved g start below crossings moved (HoldsNames-rest below slots crossings hold))
+    ∙ moved-append start (passes_of slots) (flat_map passes_of crossings)
 
 all-own : (below : ℕ) (crossings : List (List ℕ)) → HoldsNames below crossings
     → flat_map passes_of crossings ≡ lifted_pairs 1 (lowered (flat_map passes_of crossings))
-all-own below [] hold = refl
-all-own below (slots ∷ crossings) hold =
-    let here = passes_of slots in
-    let later = flat_map passes_of crossings in
-    ap₂ (λ ps qs. ps ++ qs) (passes-own below slots (HoldsNames-first below slots crossings hold))
-    (all-own below crossings (HoldsNames-rest below slots crossings hold))
-    ∙ sym (map-append (λ (pair : ℕ × ℕ). (1 + pair.0, 1 + pair.1)) (lowered here) (lowered later))
-    ∙ ap (lifted_pairs 1) (sym (map-append (λ (pair : ℕ × ℕ). (pair.0 - 1, pair.1 - 1)) here later))
+all-own below crossings hold =
+    ap (flat_map passes_of) (sym (map-id crossings)) ∙ all-moved (λ slots. slots) 1 below crossings (AreMoved-own below) hold
 
 passes-append : (crossings more : List (List ℕ)) → flat_map passes_of (crossings ++ more) ≡ flat_map passes_of crossings ++ flat_map passes_of more
 passes-append [] more = refl
@@ -78,20 +56,18 @@ passes-small below (slots ∷ crossings) hold =
 abbrev pub inner_components : List (List ℕ) → List ℕ
 inner_components crossings = classes_of (arc_count crossings) (lowered (flat_map passes_of crossings))
 
-lowered-below : (crossings : List (List ℕ)) → HoldsNames (arc_count crossings + 1) crossings
+lowered_passes-below : (crossings : List (List ℕ)) → HoldsNames (arc_count crossings + 1) crossings
     → AreBelow (arc_count crossings) (lowered (flat_map passes_of crossings))
-lowered-below crossings hold =
-    let e : arc_count crossings + 1 ≡ 1 + arc_count crossings = omega arith in
-    below-lifted_pairs 1 (arc_count crossings) (lowered (flat_map passes_of crossings))
-    (subst (λ (ps : List (ℕ × ℕ)). AreBelow (1 + arc_count crossings) ps) (all-own (arc_count crossings + 1) crossings hold)
-    (subst (λ (c : ℕ). AreBelow c (flat_map passes_of crossings)) e (passes-small (arc_count crossings + 1) crossings hold)))
+lowered_passes-below crossings hold =
+    lowered-below (arc_count crossings) (flat_map passes_of crossings) (all-own (arc_count crossings + 1) crossings hold)
+    (passes-small (arc_count crossings + 1) crossings hold)
 
 pub components-own : (crossings : List (List ℕ)) → HoldsNames (arc_count crossings + 1) crossings
     → components_of crossings ≡ (0 ∷ []) ++ lifted 1 (inner_components crossings)
 components-own crossings hold =
     let e : arc_count crossings + 1 ≡ 1 + arc_count crossings = omega arith in
     ap₂ classes_of e (all-own (arc_count crossings + 1) crossings hold)
-    ∙ classes-parts 1 (arc_count crossings) [] (lowered (flat_map passes_of crossings)) tt (lowered-below crossings hold)
+    ∙ classes-parts 1 (arc_count crossings) [] (lowered (flat_map passes_of crossings)) tt (lowered_passes-below crossings hold)
 
 pub components-both : (first second : Code) → IsTrue (accepted first) → IsTrue (accepted second)
     → components_of (union_of first second).crossings
@@ -105,9 +81,10 @@ components-both first second first_is second_is =
     ap₂ classes_of size
     (passes-append first.crossings more
     ∙ ap (λ ps. flat_map passes_of first.crossings ++ ps)
-    (all-raised (arc_count first.crossings) (arc_count second.crossings + 1) second.crossings hold))
+    (all-moved (raised_slots (arc_count first.crossings)) m (arc_count second.crossings + 1) second.crossings
+    (AreMoved-raised (arc_count first.crossings) (arc_count second.crossings + 1)) hold))
     ∙ classes-parts m (arc_count second.crossings) (flat_map passes_of first.crossings) (lowered (flat_map passes_of second.crossings))
-    (passes-small m first.crossings (HoldsNames-accepted first first_is)) (lowered-below second.crossings hold)
+    (passes-small m first.crossings (HoldsNames-accepted first first_is)) (lowered_passes-below second.crossings hold)
 
 -- the sizes of these lists, and their entries
 pub length-components : (crossings : List (List ℕ)) → HoldsNames (arc_count crossings + 1) crossings
@@ -119,7 +96,7 @@ length-components crossings hold =
 pub length-inner : (crossings : List (List ℕ)) → HoldsNames (arc_count crossings + 1) crossings
     → (length (inner_components crossings) ≡ arc_count crossings)
     × ((k : ℕ) → k < length (inner_components crossings) → slice_index (inner_components crossings) k < arc_count crossings)
-length-inner crossings hold = length-classes (arc_count crossings) (lowered (flat_map passes_of crossings)) (lowered-below crossings hold)
+length-inner crossings hold = length-classes (arc_count crossings) (lowered (flat_map passes_of crossings)) (lowered_passes-below crossings hold)
 
 -- the component of an arc
 pub component-inner : (crossings : List (List ℕ)) (x : ℕ) → HoldsNames (arc_count crossings + 1) crossings → IsArc crossings x
@@ -205,12 +182,6 @@ slots-second first second crossing is =
     ∙ get_or-append-add first.crossings more (place_of crossing) []
     ∙ get_or-map (raised_slots (arc_count first.crossings)) second.crossings (place_of crossing) [] []
     (omega (arith, is.positive, is.within))
-
-hold-slots : (crossings : List (List ℕ)) (crossing slot : ℕ) → HoldsNames (arc_count crossings + 1) crossings
-    → IsCrossing crossings crossing → slot < 4 → IsArc crossings (arc_in (slots_of crossings crossing) slot)
-hold-slots crossings crossing slot hold is below =
-    let at = hold.at (place_of crossing) (omega (arith, is.positive, is.within)) slot below in
-    record { positive = at.0; within = omega (arith, at.1) }
 
 pub IsPart-first : (first second : Code) → IsTrue (accepted first) → IsTrue (accepted second)
     → IsPart 0 first.crossings (union_of first second).crossings

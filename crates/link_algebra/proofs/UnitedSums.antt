@@ -1,27 +1,21 @@
 -- The state sum of a disjoint union is the product of the two state sums.
-use Rattle.std.proofs.Common.{IsTrue, ap, ap₂, arith, length, map, pos, refl, sym, ℕ, ℤ, ◌*ℤ◌, ◌*◌, ◌+◌, ◌-ℤ◌, ◌-◌, ◌<◌, ◌^◌, ◌∙◌, ◌≡◌, ◌≤◌}
+use Rattle.std.proofs.Common.{IsTrue, ap, ap₂, arith, length, pos, refl, sym, ℕ, ℤ, ◌*ℤ◌, ◌*◌, ◌+◌, ◌-ℤ◌, ◌-◌, ◌<◌, ◌^◌, ◌∙◌, ◌≡◌, ◌≤◌}
 use Rattle.std.proofs.lemmas.Int.{ints}
-use Rattle.std.proofs.lemmas.List.{length-append, length-map}
 use Rattle.std.proofs.lemmas.Nat.{pow-add}
 use Rattle.std.specs.List.{range_with_len}
 use Rattle.kh_types.proofs.QuantumDegrees.{one_count-le, plus_count-le}
 use Rattle.kh_types.specs.Acceptance.{accepted}
 use Rattle.kh_types.specs.Bits.{ones}
 use Rattle.kh_types.specs.Circles.{circle_count}
-use Rattle.kh_types.specs.Code.{Code, arc_count}
+use Rattle.kh_types.specs.Code.{Code}
 use Rattle.kh_types.specs.Directions.{minus_count, plus_count}
 use Rattle.kh_types.specs.Generators.{one_count, states}
 use Rattle.kh_types.specs.StateSum.{state_sum, state_term, term_of}
 use Rattle.kh_types.specs.Table.{from_minus}
 use Rattle.link_algebra.proofs.IntSums.{sum-alike, sum-blocks, sum-range_alike, sum-times, sum-times_right, sum-turned, sum_over}
 use Rattle.link_algebra.proofs.TermProducts.{Fits, terms-product}
-use Rattle.link_algebra.proofs.UnitedCircles.{circle_count-both, ones-both, state_of_both}
-use Rattle.link_algebra.specs.Unions.{product_coefficient, raised_slots, union_of}
-
-pub length-both : (first second : Code) → length (union_of first second).crossings ≡ length first.crossings + length second.crossings
-length-both first second =
-    length-append first.crossings (map (raised_slots (arc_count first.crossings)) second.crossings)
-    ∙ ap (λ c. length first.crossings + c) (length-map second.crossings (raised_slots (arc_count first.crossings)))
+use Rattle.link_algebra.proofs.UnitedCircles.{circle_count-both, length-both, ones-both, state_of_both}
+use Rattle.link_algebra.specs.Unions.{product_coefficient, union_of}
 
 -- the signs of both
 pub minus-both : (first second : Code) → plus_count (union_of first second).crossings ≡ plus_count first.crossings + plus_count second.crossings
