@@ -154,9 +154,6 @@ pub ruleset lines = (block-text, cancel-text, block_to-none)
 abbrev pub text_to : ℕ → Code → List BlockHistory → List ℕ
 text_to p code blocks = text_of_lines (start_lines p code ++ lines_of_blocks blocks)
 
-pub text_to-none : (p : ℕ) (code : Code) (text : List ℕ) → text ≡ text_of_lines (start_lines p code) → text ≡ text_to p code []
-text_to-none p code text is = is
-
 pub text_to-more : (p : ℕ) (code : Code) (blocks : List BlockHistory) (held : BlockHistory) (text next : List ℕ)
     → text ≡ text_to p code blocks → next ≡ text ++ text_of_lines (block_lines held) → next ≡ text_to p code (blocks ++ held ∷ [])
 text_to-more p code blocks held text next is is_next =
