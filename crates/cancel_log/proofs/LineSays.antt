@@ -1,4 +1,7 @@
 -- Each line says one thing.
+-- That it says something is decided as the code does it: by its front, then by the spaces behind the front, then by the numbers
+-- between them (`Says-some`). That it says nothing else (`Says-one`): a print tells its number, so that lines of one kind that are
+-- alike say the same, and lines of two kinds begin with two bytes.
 use Rattle.std.proofs.Common.{◌≡◌, ◌≢◌, ◌⊎◌, ℕ, ◌+◌, ◌<◌, ◌^◌, ◌∙◌, ◌==◌, Bool, true, false, List, [], ◌∷◌, ◌++◌, take, drop, get_or, ℤ, pos, negsuc, inl, inr, refl, sym, ap, ap₂, subst, arith, codes}
 use Rattle.std.specs.Prelude.{Option, None, Some}
 use Rattle.std.specs.Fmt.{decimal, signed_decimal}

@@ -1,4 +1,7 @@
 -- What lines say, by their texts.
+-- A text is cut at its first space in one way (`cut-once`), and a number in print has no space. So the text of a pivot has one cut
+-- into three words, and a text is that of a pivot exactly where its words are the prints of the three numbers (`pivot-cut`). A line
+-- says what its front tells and what the text behind it reads as, or nothing where that reads as nothing.
 use Rattle.std.proofs.Common.{◌≡◌, ◌≢◌, ℕ, suc, ◌+◌, ◌<◌, ◌≤◌, ◌^◌, ◌∙◌, Bool, true, false, cond, not, List, [], ◌∷◌, ◌++◌, length, take, take_all, drop, get_or, ◌-◌, Bor, ℤ, pos, negsuc, refl, sym, ap, subst, subst₂, arith, codes}
 use Rattle.std.specs.Option.{MatchOption}
 use Rattle.std.specs.Prelude.{IfSome, Option, None, Some, unsigned_abs}

@@ -1,4 +1,7 @@
 -- The text of a log has exactly one verdict.
+-- `verdict_of` computes it, line by line: by the first line, by the diagram that the second names, by the field of the third, and
+-- then as `verdict_behind` on the others. It is a verdict (`verdict-some`). Each verdict is this one (`verdict-one`), since a text
+-- names one diagram or none, and a line is that of one field or of none.
 use Rattle.std.proofs.Common.{◌≡◌, ℕ, ◌<◌, ◌≤◌, ◌∙◌, Bool, true, false, cond, List, [], ◌∷◌, length, inl, inr, refl, sym, ap, subst, arith, codes}
 use Rattle.std.specs.Prelude.{Option, None, Some, Result, Ok, Err, nat_lt}
 use Rattle.std.specs.Fmt.{decimal}

@@ -1,8 +1,11 @@
 -- What the loop over the lines of blocks keeps, and what it comes to.
 use Rattle.std.proofs.Common.{◌≡◌, ℕ, ◌+◌, ◌≤◌, ◌∙◌, true, false, List, [], ◌∷◌, ◌++◌, length, inl, inr, refl, sym, ap, arith}
 use Rattle.std.specs.Prelude.{None, Some, Err}
+use Rattle.std.specs.List.{flat_map}
 use Rattle.std.proofs.lemmas.List.{append_assoc, length-append}
 use Rattle.kh_types.specs.Code.{Code}
+use Rattle.kh_types.specs.Table.{rows_at}
+use Rattle.cube_signs.specs.Blocks.{block_degrees}
 use Rattle.circle_smoothing.specs.GeneratorCounts.{generator_count}
 use Rattle.circle_smoothing.specs.declared.limits.TheConstants.{GENERATORS}
 use Rattle.shared_block.specs.BlockHistories.{BlockHistory}
@@ -80,20 +83,24 @@ replayed-on p code others old new line said before after read takes says does ot
 
 pub replayed-proved : (p : ℕ) (code : Code) (others : List (List ℕ)) (old new : LinesLeft) (line : List ℕ) (said : LogLine)
     (before after : Standing) → IsReplayed p code others old before → TakesLine old line new → Says line said
-    → Does (step p code before said) before None after → is_close said ≡ true → HasProved p code others new
+    → Does (step p code before said) before None after → is_close said ≡ true
+    → HasProved p code others new × (after.rows ≡ flat_map (rows_at p code) (block_degrees code))
 replayed-proved p code others old new line said before after read takes says does closes =
     go said says (went p code others old line said before after read says does) closes
   where
     go : (said : LogLine) → Says line said → After p code (all_blocks read.before before.current) line said after
-        → is_close said ≡ true → HasProved p code others new
-    go Close says comes closes = record {
-      blocks = all_blocks read.before before.current;
-      proved = comes.proved;
-      parts = read.parts
-          ∙ ap (λ (ls : List (List ℕ)). lines_of_blocks (all_blocks read.before before.current) ++ ls)
-          (takes.rest ∙ ap (λ (l : List ℕ). l ∷ new.rest) says);
-      numbered = omega (arith, takes.number, read.numbered);
-    }
+        → is_close said ≡ true → HasProved p code others new × (after.rows ≡ flat_map (rows_at p code) (block_degrees code))
+    go Close says comes closes = (
+      record {
+        blocks = all_blocks read.before before.current;
+        proved = comes.proved;
+        parts = read.parts
+            ∙ ap (λ (ls : List (List ℕ)). lines_of_blocks (all_blocks read.before before.current) ++ ls)
+            (takes.rest ∙ ap (λ (l : List ℕ). l ∷ new.rest) says);
+        numbered = omega (arith, takes.number, read.numbered);
+      },
+      comes.rows,
+    )
     go _ says comes closes = absurd (cc)
 
 -- a line is wrong

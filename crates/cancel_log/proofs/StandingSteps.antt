@@ -1,4 +1,8 @@
 -- What a line does, in the words of blocks that stand: it goes on with them, or it is wrong behind them.
+-- `IsAt` ties where the reading stands to the blocks that were read: all before the last are cancelled to zero, their rows are
+-- there, and the degrees of all are the first of the diagram's. Each kind of line has a test, which passes exactly where the line
+-- can follow the blocks. Where it passes, `IsAt` holds of the blocks with this line, or they prove the table; where it fails, the
+-- line is wrong behind them (`step-comes`).
 use Rattle.std.proofs.Common.{◌≡◌, ◌≢◌, ℕ, ◌+◌, ◌-◌, ◌<◌, ◌∙◌, Bool, true, false, cond, List, [], ◌∷◌, ◌++◌, length, map, take, get_or, ℤ, pos, refl, sym, ap, ap₂, subst, arith}
 use Rattle.std.specs.Prelude.{All, IfSome, Option, None, Some, Result, Ok, Err, nat_lt}
 use Rattle.std.specs.List.{flat_map}

@@ -1,4 +1,7 @@
 -- The first three lines of a log.
+-- Each of the three has what the code can find there: the line that is wanted, another one, or none. A ruleset for each function of
+-- `src/start.rt` says what each finding means, and the last puts the three together: the lines begin as a log, or one of the three
+-- is the first that fails.
 use Rattle.std.proofs.Common.{◌≡◌, ◌≢◌, ℕ, ◌+◌, ◌<◌, ◌≤◌, ◌∙◌, List, [], ◌∷◌, length, inl, inr, refl, sym, ap, subst, arith, codes, false, IsTrue}
 use Rattle.std.specs.Prelude.{None, Some, Result, Ok, Err}
 use Rattle.std.specs.Fmt.{digits}

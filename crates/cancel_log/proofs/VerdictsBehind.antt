@@ -1,4 +1,7 @@
 -- The lines from the fourth on have exactly one verdict.
+-- `verdict_behind` computes it: it walks over the lines, and where the walk closes it compares what is left with the table. It is a
+-- verdict, by induction on the walk, which stands behind blocks at each line (`walk-verdict`). Each verdict is this one: it tells
+-- of blocks that stand, the walk gets behind these (`told-one`), and there it halts as the verdict says.
 use Rattle.std.proofs.Common.{◌≡◌, ℕ, ◌+◌, ◌-◌, ◌≤◌, ◌∙◌, Bool, true, false, cond, List, [], ◌∷◌, ◌++◌, length, inl, inr, refl, sym, ap, subst, arith}
 use Rattle.std.specs.Prelude.{All, Option, None, Some, Result, Ok, Err, nat_lt, slice_get}
 use Rattle.std.proofs.lemmas.Bool.{le-ltb, lt-ltb, ltb-false, ltb-true}

@@ -1,4 +1,7 @@
 -- What is written is a log.
+-- Blocks of a diagram, cancelled to zero by legal histories, make a log: the first three lines, theirs, and those of the table
+-- (`log-of_blocks`). No line has a line feed, so these lines cut the text. The code writes block by block, and keeps that the text
+-- is that of the blocks so far (`IsWritten`).
 use Rattle.std.proofs.Common.{◌≡◌, ℕ, ◌+◌, ◌<◌, ◌≤◌, ◌∙◌, List, [], ◌∷◌, ◌++◌, length, map, take, take_all, get_or, ◌-◌, ℤ, IsTrue, refl, sym, ap, ap₂, subst, arith, codes}
 use Rattle.std.specs.Prelude.{All}
 use Rattle.std.specs.Fmt.{decimal, signed_decimal}

@@ -1,4 +1,7 @@
 -- What `clap` says of words is what the machine does with them.
+-- By induction on the words, whatever was given before (`agree`). A text that `clap` holds as pending counts as given (`all_of`). The
+-- machine refuses a second text of a slot at once, `clap` when it settles it, which may be at the end of the words: till then such
+-- a walk is doomed, and finds nothing either.
 use Rattle.std.proofs.Common.{◌≡◌, ℕ, Bool, true, false, List, [], ◌∷◌, ◌++◌, Option, Some, None, refl, sym, ap, ap₂, cond, ◌∙◌, ◌||◌, ◌⊎◌, inl, inr}
 use Rattle.std.specs.Option.{option_map, option_and_then}
 use Rattle.std.specs.Prelude.{codes, if◌then◌else◌}
