@@ -1,5 +1,5 @@
 -- Lines without a line feed, and the text that they are, each with one behind it.
-use Rattle.std.proofs.Common.{◌≡◌, ℕ, suc, ◌^◌, ◌<◌, ◌∙◌, false, List, [], ◌∷◌, ◌++◌, ℤ, pos, negsuc, inl, inr, refl, sym, ap, subst, arith, codes}
+use Rattle.std.proofs.Common.{◌≡◌, ℕ, suc, ◌^◌, ◌<◌, ◌∙◌, false, List, [], ◌∷◌, ◌++◌, ℤ, pos, negsuc, refl, ap, arith, codes}
 use Rattle.std.specs.Prelude.{unsigned_abs}
 use Rattle.std.specs.Fmt.{decimal, signed_decimal}
 use Rattle.std.specs.List.{AllByRecursion, flat_map, list_any}
@@ -13,7 +13,7 @@ use Rattle.kh_types.specs.Complex.{Pivot}
 use Rattle.kh_lex.specs.Lines.{HasNoLineFeed, is_line_feed, lines_of, with_feed}
 use Rattle.prime_field.specs.Residues.{IsSmallPrime}
 use Rattle.cancel_log.specs.LogLines.{IsShortDegree, IsShortPivot, block_line, cancel_line, field_line}
-use Rattle.cancel_log.proofs.StartLines.{line_two, line_three, line_five, line_seven}
+use Rattle.cancel_log.proofs.StartLines.{small-prime}
 
 -- a line that a line feed ends is the first
 lines_of-line : (line rest : List ℕ) → HasNoLineFeed line → lines_of (line ++ 10 ∷ rest) ≡ line ∷ lines_of rest
@@ -70,9 +70,5 @@ whole-cancel pivot short =
     HasNoLineFeed-bytes (cancel_line pivot) (refl, (refl, (refl, (refl, (refl, (refl, (refl, degree)))))))
 
 pub whole-field : (p : ℕ) → IsSmallPrime p → HasNoLineFeed (field_line p)
-whole-field p prime = elim prime [
-  | inl e ↦ subst HasNoLineFeed (sym (line_two p e)) refl
-  | inr (inl e) ↦ subst HasNoLineFeed (sym (line_three p e)) refl
-  | inr (inr (inl e)) ↦ subst HasNoLineFeed (sym (line_five p e)) refl
-  | inr (inr (inr e)) ↦ subst HasNoLineFeed (sym (line_seven p e)) refl
-]
+whole-field p prime = HasNoLineFeed-bytes (field_line p)
+    (refl, (refl, (refl, (refl, (refl, (refl, no_feeds-decimal p (omega (arith, small-prime p prime))))))))

@@ -1,4 +1,7 @@
 -- The histories of the blocks of a diagram together have at most half as many pivots as it has generators.
+-- Each pivot of a legal history takes two places of its block for good (`pivots-places`). The block at a quantum degree has no more
+-- places than there are generators of this degree (`places-le`). A generator has one pair of degrees, and the integers of a range
+-- are distinct (`within-once`), so a sum over all degrees counts each generator once at most (`across-le`).
 use Rattle.std.proofs.Common.{◌≡◌, ◌≢◌, ℕ, zero, suc, ◌+◌, ◌-◌, ◌*◌, ◌≤◌, ◌∙◌, List, [], ◌∷◌, length, map, take, get_or, refl, subst, ap, arith, ℤ, pos, ◌-ℤ◌, Bool, true, false, cond, not, ◌&&◌, IsTrue}
 use Rattle.std.specs.Prelude.{All}
 use Rattle.std.specs.List.{AllByRecursion, count_by, filter, position_or_len, range_with_len, suffix_len, sum_by}

@@ -1,4 +1,7 @@
 -- Each line says one thing.
+-- That it says something is decided as the code does it: by its front, then by the spaces behind the front, then by the numbers
+-- between them (`Says-some`). That it says nothing else (`Says-one`): a print tells its number, so that lines of one kind that are
+-- alike say the same, and lines of two kinds begin with two bytes.
 use Rattle.std.proofs.Common.{◌≡◌, ◌≢◌, ◌⊎◌, ℕ, ◌+◌, ◌<◌, ◌^◌, ◌∙◌, ◌==◌, Bool, true, false, List, [], ◌∷◌, ◌++◌, take, drop, get_or, ℤ, pos, negsuc, inl, inr, refl, sym, ap, ap₂, subst, arith, codes}
 use Rattle.std.specs.Prelude.{Option, None, Some}
 use Rattle.std.specs.Fmt.{decimal, signed_decimal}
@@ -29,12 +32,9 @@ Behind line front = ((rest : List ℕ) × (line ≡ front ++ rest)) ⊎ ((rest :
 behind_step : (same : Bool) (byte other : ℕ) (line front : List ℕ) → (byte == other) ≡ same → Behind line front
     → Behind (byte ∷ line) (other ∷ front)
 behind_step true byte other line front is (inl (rest, parts)) =
-    let so : byte ≡ other = eqb-true byte other is in inl (rest, cc (so, parts))
+    inl (rest, cc (eqb-true byte other is, parts))
 behind_step true byte other line front is (inr none) = inr (λ rest parts. none rest (cc (parts)))
-behind_step false byte other line front is decided = inr (λ rest parts.
-    let same : byte ≡ other = cc (parts) in
-    let so : false ≡ true = sym is ∙ eq-eqb byte other same in
-    absurd (cc))
+behind_step false byte other line front is decided = inr (λ rest parts. absurd (cc (is, eq-eqb byte other (cc (parts)))))
 
 -- each line is the one or the other
 behind-decided : (line front : List ℕ) → Behind line front

@@ -1,11 +1,15 @@
 -- What lines say, by their texts.
+-- A text is cut at its first space in one way (`cut-once`), and a number in print has no space. So the text of a pivot has one cut
+-- into three words, and a text is that of a pivot exactly where its words are the prints of the three numbers (`pivot-cut`). A line
+-- says what its front tells and what the text behind it reads as, or nothing where that reads as nothing.
 use Rattle.std.proofs.Common.{◌≡◌, ◌≢◌, ℕ, suc, ◌+◌, ◌<◌, ◌≤◌, ◌^◌, ◌∙◌, Bool, true, false, cond, not, List, [], ◌∷◌, ◌++◌, length, take, take_all, drop, get_or, ◌-◌, Bor, ℤ, pos, negsuc, refl, sym, ap, subst, subst₂, arith, codes}
 use Rattle.std.specs.Option.{MatchOption}
-use Rattle.std.specs.Prelude.{IfSome, Option, None, Some, nat_lt, unsigned_abs}
+use Rattle.std.specs.Prelude.{IfSome, Option, None, Some, unsigned_abs}
 use Rattle.std.specs.Fmt.{decimal, signed_decimal}
 use Rattle.std.specs.List.{position, position_or_len}
 use Rattle.std.specs.Str.Parse.{AllDigits}
-use Rattle.std.proofs.lemmas.Bool.{eqb-true, ltb-false, ltb-true, ne_eqb}
+use Rattle.std.proofs.lemmas.Bool.{eqb-true, ne_eqb}
+use Rattle.std.proofs.lemmas.Bool.Decides.{nat_tests}
 use Rattle.std.proofs.lemmas.Fmt.{decimal_is_IsNumeral}
 use Rattle.std.proofs.lemmas.List.{append_cancel_left, length-drop}
 use Rattle.std.proofs.lemmas.Str.Parse.{digit_from_value}
@@ -48,26 +52,15 @@ no_space-all (byte ∷ more) past =
     no_space_step (is_space byte) byte more (position_or_len is_space more) (position_or_len is_space (byte ∷ more)) refl
     (no_space-all more) refl past
 
-found : (b : Bool) (n m : ℕ) → cond b (Some n) None ≡ Some m → (b ≡ true) × (n ≡ m)
-found true n m is = (refl, cc)
-found false n m is = absurd (cc)
-
-none : (b : Bool) (n : ℕ) → cond b (Some n) None ≡ None → b ≡ false
-none true n is = absurd (cc)
-none false n is = refl
-
 pub cut-found : (text : List ℕ) (space : ℕ) → position is_space text ≡ Some space
     → IsCutAtSpace text (take space text) (drop (space + 1) text)
 cut-found text space is =
-    let n = position_or_len is_space text in
-    let at = found (nat_lt n (length text)) n space is in
-    subst (λ (m : ℕ). IsCutAtSpace text (take m text) (drop (m + 1) text)) at.1
-    (cut-first text (ltb-true n (length text) at.0))
+    let within : position_or_len is_space text < length text = grind (arith, nat_tests) in
+    let same : position_or_len is_space text ≡ space = grind (arith, nat_tests) in
+    subst (λ (n : ℕ). IsCutAtSpace text (take n text) (drop (n + 1) text)) same (cut-first text within)
 
 pub cut-none : (text : List ℕ) → position is_space text ≡ None → HasNoSpace text
-cut-none text is =
-    let n = position_or_len is_space text in
-    no_space-all text (ltb-false n (length text) (none (nat_lt n (length text)) n is))
+cut-none text is = no_space-all text (grind (arith, nat_tests))
 
 -- with the rest as a slice of what is behind
 pub cut-taken : (text : List ℕ) (space : ℕ) → position is_space text ≡ Some space

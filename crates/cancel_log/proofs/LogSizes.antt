@@ -1,5 +1,5 @@
 -- What is written is short enough to be read again.
-use Rattle.std.proofs.Common.{◌≡◌, ℕ, ◌+◌, ◌*◌, ◌<◌, ◌≤◌, ◌∙◌, List, [], ◌∷◌, ◌++◌, length, map, take_all, ap, ap₂, arith, ℤ, inl, inr, IsTrue, codes}
+use Rattle.std.proofs.Common.{◌≡◌, ℕ, ◌+◌, ◌*◌, ◌≤◌, ◌∙◌, List, [], ◌∷◌, ◌++◌, length, map, take_all, ap, ap₂, arith, ℤ, IsTrue, codes}
 use Rattle.std.specs.Prelude.{All}
 use Rattle.std.specs.Fmt.{decimal, signed_decimal}
 use Rattle.std.specs.List.{AllByRecursion}
@@ -27,6 +27,7 @@ use Rattle.cancel_log.specs.declared.limits.TheConstants.{LOG_BYTES}
 use Rattle.cancel_log.proofs.HistorySizes.{pivot_count, pivots-generators}
 use Rattle.cancel_log.proofs.PrintedDiagrams.{short-diagram}
 use Rattle.cancel_log.proofs.ShortBlocks.{filter-le}
+use Rattle.cancel_log.proofs.StartLines.{small-prime}
 use Rattle.cancel_log.proofs.TableSizes.{append-le, degree-le, length-from_minus, place-le, table_text-le}
 use Rattle.cancel_log.proofs.WrittenLogs.{IsWritten, short-blocks}
 
@@ -35,17 +36,18 @@ use Rattle.cancel_log.proofs.WrittenLogs.{IsWritten, short-blocks}
 -- the line of a pivot has 27 bytes at most
 cancel_line-le : (pivot : Pivot) → IsShortPivot pivot → length (cancel_line pivot) ≤ 27
 cancel_line-le pivot short =
-    append-le (codes "cancel ") (signed_decimal pivot.degree ++ (codes " " ++ (decimal pivot.column ++ (codes " " ++ decimal pivot.row))))
-    7 20 (omega arith)
-    (append-le (signed_decimal pivot.degree) (codes " " ++ (decimal pivot.column ++ (codes " " ++ decimal pivot.row))) 4 16
-    (degree-le pivot.degree short.degree)
-    (append-le (codes " ") (decimal pivot.column ++ (codes " " ++ decimal pivot.row)) 1 15 (omega arith)
-    (append-le (decimal pivot.column) (codes " " ++ decimal pivot.row) 7 8 (place-le pivot.column short.column)
-    (append-le (codes " ") (decimal pivot.row) 1 7 (omega arith) (place-le pivot.row short.row)))))
+    omega (
+      arith,
+      degree-le pivot.degree short.degree,
+      place-le pivot.column short.column,
+      place-le pivot.row short.row,
+      length-append (signed_decimal pivot.degree) (codes " " ++ (decimal pivot.column ++ (codes " " ++ decimal pivot.row))),
+      length-append (decimal pivot.column) (codes " " ++ decimal pivot.row),
+    )
 
 -- the line of a block has ten bytes at most
 block_line-le : (j : ℤ) → IsShortDegree j → length (block_line j) ≤ 10
-block_line-le j short = append-le (codes "block ") (signed_decimal j) 6 4 (omega arith) (degree-le j short)
+block_line-le j short = omega (arith, degree-le j short)
 
 -- a line comes with a line feed before other lines
 line-le : (line : List ℕ) (lines : List (List ℕ)) (m n : ℕ) → length line ≤ m → length (text_of_lines lines) ≤ n
@@ -101,15 +103,6 @@ length-blocks-le code blocks are =
     )
 
 -- the lines before them
-
--- a field has fewer than eight elements
-small-prime : (p : ℕ) → IsSmallPrime p → p < 8
-small-prime p prime = elim prime [
-  | inl e ↦ omega (arith, e)
-  | inr (inl e) ↦ omega (arith, e)
-  | inr (inr (inl e)) ↦ omega (arith, e)
-  | inr (inr (inr e)) ↦ omega (arith, e)
-]
 
 -- the first three lines
 start-le : (p : ℕ) (code : Code) → IsSmallPrime p → IsTrue (accepted code) → length code.crossings ≤ CROSSINGS → code.loops ≤ LOOPS

@@ -35,29 +35,20 @@ ended p code field is j = ending p (block p code j) field (IsComplex-block p cod
 abbrev ended_blocks : (p : ℕ) (code : Code) → IsField p → IsTrue (accepted code) → List ℤ → List BlockHistory
 ended_blocks p code field is js = map (λ j. block_with code j (ended p code field is j).0) js
 
--- they are blocks of the diagram
-ended-diagram : (p : ℕ) (code : Code) (field : IsField p) (is : IsTrue (accepted code)) (js : List ℤ)
-    → AllByRecursion (λ (held : BlockHistory). held.diagram ≡ code) (ended_blocks p code field is js)
-ended-diagram p code field is [] = tt
-ended-diagram p code field is (j ∷ js) = (refl, ended-diagram p code field is js)
-
 -- at these degrees
 ended-degrees : (p : ℕ) (code : Code) (field : IsField p) (is : IsTrue (accepted code)) (js : List ℤ)
     → degrees_of_blocks (ended_blocks p code field is js) ≡ js
 ended-degrees p code field is [] = refl
 ended-degrees p code field is (j ∷ js) = ap (λ (others : List ℤ). j ∷ others) (ended-degrees p code field is js)
 
--- their histories are legal
-ended-legal : (p : ℕ) (code : Code) (field : IsField p) (is : IsTrue (accepted code)) (js : List ℤ)
-    → AllByRecursion (HasLegalHistory p) (ended_blocks p code field is js)
-ended-legal p code field is [] = tt
-ended-legal p code field is (j ∷ js) = ((ended p code field is j).1, ended-legal p code field is js)
-
--- and leave zero
-ended-zero : (p : ℕ) (code : Code) (field : IsField p) (is : IsTrue (accepted code)) (js : List ℤ)
-    → AllByRecursion (IsFinished p) (ended_blocks p code field is js)
-ended-zero p code field is [] = tt
-ended-zero p code field is (j ∷ js) = ((ended p code field is j).2, ended-zero p code field is js)
+-- what holds of each holds of all
+ended-all : (p : ℕ) (code : Code) (field : IsField p) (is : IsTrue (accepted code)) (P : BlockHistory → Type 0)
+    → ((j : ℤ) → P (block_with code j (ended p code field is j).0)) → (js : List ℤ) → All P (ended_blocks p code field is js)
+ended-all p code field is P each js = All-from_recursion P (ended_blocks p code field is js) (go js)
+  where
+    go : (js : List ℤ) → AllByRecursion P (ended_blocks p code field is js)
+    go [] = tt
+    go (j ∷ js) = (each j, go js)
 
 -- and so there is a log
 pub log-some : (p : ℕ) (code : Code) → IsSmallPrime p → IsTrue (accepted code) → All (λ slots. length slots ≡ 4) code.crossings
@@ -69,11 +60,11 @@ log-some p code prime is four few loops size =
     let blocks = ended_blocks p code field is js in
     let reads = IsPdReading-pd_text code (HasFourSlots-accepted code is few four) few loops in
     let are : AreBlocksOf code blocks = record {
-      diagram = All-from_recursion (λ (held : BlockHistory). held.diagram ≡ code) blocks (ended-diagram p code field is js);
+      diagram = ended-all p code field is (λ held. held.diagram ≡ code) (λ j. refl) js;
       degrees = ended-degrees p code field is js;
     } in
-    let legal = All-from_recursion (HasLegalHistory p) blocks (ended-legal p code field is js) in
-    let zero = All-from_recursion (IsFinished p) blocks (ended-zero p code field is js) in (
+    let legal = ended-all p code field is (HasLegalHistory p) (λ j. (ended p code field is j).1) js in
+    let zero = ended-all p code field is (IsFinished p) (λ j. (ended p code field is j).2) js in (
       log_text p code blocks,
       log-of_blocks p code blocks (log_text p code blocks) prime field is few loops size reads are legal zero refl,
       few-of_blocks p code blocks (log_text p code blocks) prime field is few loops size are legal refl,

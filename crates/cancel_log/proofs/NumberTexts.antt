@@ -1,11 +1,12 @@
 -- Words that are the print of a number.
-use Rattle.std.proofs.Common.{◌≡◌, ℕ, zero, suc, ◌^◌, ◌<◌, ◌∙◌, ◌==◌, ◌||◌, Bool, true, false, not, cond, List, ◌∷◌, ◌++◌, length, get_or, ℤ, pos, negsuc, refl, sym, ap, ap₂, subst, arith, rules}
+use Rattle.std.proofs.Common.{◌≡◌, ℕ, zero, suc, ◌^◌, ◌<◌, ◌∙◌, Bool, true, false, not, List, ◌∷◌, ◌++◌, length, get_or, ℤ, pos, negsuc, sym, ap, subst, arith, rules}
 use Rattle.std.specs.Prelude.{Option, None, Some, unsigned_abs}
 use Rattle.std.specs.Char.{is_ascii_digit}
 use Rattle.std.specs.Fmt.{decimal, digits, signed_decimal}
 use Rattle.std.specs.List.{list_all}
 use Rattle.std.specs.Str.Parse.{digits_value}
-use Rattle.std.proofs.lemmas.Bool.{eqb-true, ne_eqb}
+use Rattle.std.proofs.lemmas.Bool.{ne_eqb}
+use Rattle.std.proofs.lemmas.Bool.Decides.{nat_tests}
 use Rattle.std.proofs.lemmas.Fmt.{decimal-digits_value, decimal_digit, first_decimal}
 use Rattle.std.proofs.lemmas.Str.Parse.{IsDigitsTest, IsNumeralModel, numerals_by_value}
 use Rattle.kh_lex.specs.Cuts.{sign, signed}
@@ -38,42 +39,17 @@ decimal-written limit word number written small first =
 
 -- the test, by the first two bytes and the length
 
-tested : ℕ → ℕ → ℕ → Bool
-tested a b n = cond (a == 45) (not (b == 48)) (not (a == 48) || (n == 1))
-
-tested-zero : (a b n : ℕ) → tested a b n ≡ true → a ≡ 48 → n ≡ 1
-unfolding tested
-tested-zero a b n passes first =
-    eqb-true n 1 (sym (ap (λ (m : ℕ). cond (m == 45) (not (b == 48)) (not (m == 48) || (n == 1))) first) ∙ passes)
-
-tested-minus : (a b n : ℕ) → tested a b n ≡ true → a ≡ 45 → b ≡ 48 → ⊥
-unfolding tested
-tested-minus a b n passes first second =
-    let so : false ≡ true =
-    sym (ap₂ (λ (m k : ℕ). cond (m == 45) (not (k == 48)) (not (m == 48) || (n == 1))) first second) ∙ passes in
-    absurd (cc)
-
-tested-above : (a b n : ℕ) → 48 < a → tested a b n ≡ true
-unfolding tested
-tested-above a b n above =
-    rw (ne_eqb a 45 (λ same. omega (arith, above, same)), ne_eqb a 48 (λ same. omega (arith, above, same))) refl
-
 printed-zero : (word : List ℕ) → is_printed word ≡ true → get_or word 0 0 ≡ 48 → length word ≡ 1
-unfolding tested
-printed-zero word passes first = tested-zero (get_or word 0 0) (get_or word 1 0) (length word) passes first
+printed-zero word passes first = grind (arith, nat_tests)
 
 printed-minus : (word : List ℕ) → is_printed word ≡ true → get_or word 0 0 ≡ 45 → get_or word 1 0 ≡ 48 → ⊥
-unfolding tested
-printed-minus word passes first second = tested-minus (get_or word 0 0) (get_or word 1 0) (length word) passes first second
+printed-minus word passes first second = grind (arith, nat_tests)
 
 -- what is printed passes
 
 printed-decimal : (n : ℕ) → n < 2 ^ 64 → is_printed (decimal n) ≡ true
-unfolding tested
 printed-decimal zero small = ap is_printed (decimal_digit 0 (omega arith))
-printed-decimal (suc n) small =
-    let word = decimal (suc n) in
-    tested-above (get_or word 0 0) (get_or word 1 0) (length word) (first_decimal (suc n) (omega arith) small)
+printed-decimal (suc n) small = grind (arith, nat_tests, first_decimal (suc n) (omega arith) small)
 
 printed-signed : (z : ℤ) → unsigned_abs z < 2 ^ 64 → is_printed (signed_decimal z) ≡ true
 printed-signed (pos n) small = printed-decimal n (omega (arith, small))
@@ -92,17 +68,20 @@ place-read word (Some place) passes same =
 place-read word None passes same = λ place small is.
     let reads = numeral_of-WritesNumber PLACE_DIGITS (decimal place) place
     (WritesNumber-decimal PLACE_DIGITS place (omega arith) small (omega (arith, small))) in
-    let so : None ≡ Some place = same ∙ ap (numeral_of PLACE_DIGITS) is ∙ reads in
-    absurd (cc)
+    absurd (cc (same ∙ ap (numeral_of PLACE_DIGITS) is ∙ reads))
 
 pub place-none : (word : List ℕ) → is_printed word ≡ false → IsPlaceIn word None
 place-none word fails = λ place small is.
-    let so : false ≡ true = sym fails ∙ ap is_printed is ∙ printed-decimal place (omega (arith, small)) in
-    absurd (cc)
+    absurd (cc (sym fails ∙ ap is_printed is ∙ printed-decimal place (omega (arith, small))))
 
 pub ruleset places = (place-read, place-none)
 
 -- degrees
+
+-- no 0 comes behind a minus sign
+minus-zero : (word rest : List ℕ) → is_printed word ≡ true → word ≡ 45 ∷ rest → get_or rest 0 0 ≡ 48 → ⊥
+minus-zero word rest passes parts is =
+    printed-minus word passes (ap (λ (w : List ℕ). get_or w 0 0) parts) (ap (λ (w : List ℕ). get_or w 1 0) parts ∙ is)
 
 degree-sign : (minus : Bool) (word digits : List ℕ) (degree : ℤ) (size : ℕ) → is_printed word ≡ true → word ≡ sign minus ++ digits
     → WritesNumber DEGREE_DIGITS digits size → degree ≡ signed minus size → IsDegreeIn word (Some degree)
@@ -114,18 +93,12 @@ degree-sign false word digits degree size passes parts written valued =
       subst IsShortDegree (sym valued) (omega (arith, written.valued, below)),
     )
 degree-sign true word digits degree zero passes parts written valued =
-    let first : get_or word 0 0 ≡ 45 = ap (λ (w : List ℕ). get_or w 0 0) parts in
-    let second : get_or word 1 0 ≡ get_or digits 0 0 = ap (λ (w : List ℕ). get_or w 1 0) parts in
-    let same = decimal-written DEGREE_DIGITS digits 0 written (omega arith)
-    (λ zero. absurd (printed-minus word passes first (second ∙ zero))) in
-    let none : get_or digits 0 0 ≡ 48 = ap (λ (w : List ℕ). get_or w 0 0) (sym same ∙ decimal_digit 0 (omega arith)) in
-    absurd (printed-minus word passes first (second ∙ none))
+    let same = decimal-written DEGREE_DIGITS digits 0 written (omega arith) (λ zero. absurd (minus-zero word digits passes parts zero)) in
+    absurd (minus-zero word digits passes parts (ap (λ (w : List ℕ). get_or w 0 0) (sym same ∙ decimal_digit 0 (omega arith))))
 degree-sign true word digits degree (suc size) passes parts written valued =
-    let first : get_or word 0 0 ≡ 45 = ap (λ (w : List ℕ). get_or w 0 0) parts in
-    let second : get_or word 1 0 ≡ get_or digits 0 0 = ap (λ (w : List ℕ). get_or w 1 0) parts in
     let below = digits_value-below DEGREE_DIGITS digits written.digits written.few in
     let same = decimal-written DEGREE_DIGITS digits (suc size) written (omega arith)
-    (λ zero. absurd (printed-minus word passes first (second ∙ zero))) in (
+    (λ zero. absurd (minus-zero word digits passes parts zero)) in (
       parts ∙ ap (λ (w : List ℕ). 45 ∷ w) (sym same) ∙ ap signed_decimal (sym valued),
       subst IsShortDegree (sym valued) (omega (arith, written.valued, below)),
     )
@@ -140,12 +113,10 @@ pub degree-none : (word : List ℕ) → signed_numeral_of DEGREE_DIGITS word ≡
 degree-none word none = λ degree short is.
     let reads = signed_numeral_of-WritesSigned DEGREE_DIGITS (signed_decimal degree) degree
     (WritesSigned-signed_decimal DEGREE_DIGITS degree (omega arith) short (omega (arith, short))) in
-    let so : None ≡ Some degree = sym none ∙ ap (signed_numeral_of DEGREE_DIGITS) is ∙ reads in
-    absurd (cc)
+    absurd (cc (sym none ∙ ap (signed_numeral_of DEGREE_DIGITS) is ∙ reads))
 
 pub degree-unprinted : (word : List ℕ) → is_printed word ≡ false → IsDegreeIn word None
 degree-unprinted word fails = λ degree short is.
-    let so : false ≡ true = sym fails ∙ ap is_printed is ∙ printed-signed degree (omega (arith, short)) in
-    absurd (cc)
+    absurd (cc (sym fails ∙ ap is_printed is ∙ printed-signed degree (omega (arith, short))))
 
 pub ruleset degrees = (degree-some, degree-none, degree-unprinted)

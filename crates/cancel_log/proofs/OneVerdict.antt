@@ -1,10 +1,12 @@
 -- The text of a log has exactly one verdict.
-use Rattle.std.proofs.Common.{◌≡◌, ℕ, ◌<◌, ◌≤◌, ◌^◌, ◌∙◌, Bool, true, false, cond, List, [], ◌∷◌, length, inl, inr, refl, sym, ap, subst, arith, codes}
+-- `verdict_of` computes it, line by line: by the first line, by the diagram that the second names, by the field of the third, and
+-- then as `verdict_behind` on the others. It is a verdict (`verdict-some`). Each verdict is this one (`verdict-one`), since a text
+-- names one diagram or none, and a line is that of one field or of none.
+use Rattle.std.proofs.Common.{◌≡◌, ℕ, ◌<◌, ◌≤◌, ◌∙◌, Bool, true, false, cond, List, [], ◌∷◌, length, inl, inr, refl, sym, ap, subst, arith, codes}
 use Rattle.std.specs.Prelude.{Option, None, Some, Result, Ok, Err, nat_lt}
 use Rattle.std.specs.Fmt.{decimal}
 use Rattle.std.specs.Str.{bytes_eq}
 use Rattle.std.proofs.lemmas.Bool.{le-ltb, lt-ltb, ltb-false, ltb-true}
-use Rattle.std.proofs.lemmas.Bool.Decides.{not_from_Decides}
 use Rattle.std.proofs.lemmas.Fmt.{decimal_injective}
 use Rattle.std.proofs.lemmas.List.{append_cancel_left}
 use Rattle.std.proofs.lemmas.Slice.Eq.{bytes_eq-Decides}
@@ -22,8 +24,8 @@ use Rattle.cancel_log.specs.Starts.{IsFieldLine}
 use Rattle.cancel_log.specs.Verdicts.{FailsAtStart, GoesOn, IsVerdict, IsVerdictOn, LacksLogLine, NamesDiagram}
 use Rattle.cancel_log.specs.declared.cause.LogCause.TheVariants as causes
 use Rattle.cancel_log.specs.declared.stop.LogStop.{LogStop}
-use Rattle.cancel_log.specs.declared.stop.LogStop.TheVariants.{Line, SizeLimit, NoMemory}
-use Rattle.cancel_log.proofs.StartLines.{names-ok, names-refused, names-unread, prime-five, prime-none, prime-seven, prime-three, prime-two}
+use Rattle.cancel_log.specs.declared.stop.LogStop.TheVariants.{Line}
+use Rattle.cancel_log.proofs.StartLines.{names-ok, names-refused, names-unread, prime-five, prime-none, prime-seven, prime-three, prime-two, small-prime, unlike}
 use Rattle.cancel_log.proofs.WholeLogs.{verdict-lines, verdict-text}
 use Rattle.cancel_log.proofs.VerdictsBehind.{IsVerdictBehind-one, IsVerdictBehind-verdict_behind, verdict_behind}
 
@@ -38,7 +40,7 @@ IsNamed text None = (code : Code) → ¬ NamesDiagram text code
 named_by : (text : List ℕ) (raw : Code) (is : Bool) → length text ≤ INPUT_BYTES → IsPdReading text (Ok raw) → accepted raw ≡ is
     → (found : Option Code) × IsNamed text found
 named_by text raw true few reads is = (Some raw, names-ok text raw raw few reads refl is)
-named_by text raw false few reads is = (None, names-refused text raw reads (λ other. let so : false ≡ true = sym is ∙ other in absurd (cc)))
+named_by text raw false few reads is = (None, names-refused text raw reads (λ other. absurd (cc (is, other))))
 
 -- by what the text reads as
 read_by : (text : List ℕ) (reading : Result Code PdStop) → length text ≤ INPUT_BYTES → IsPdReading text reading
@@ -60,7 +62,7 @@ Named-some text = short_by text (nat_lt INPUT_BYTES (length text)) refl
 -- a text names one diagram
 NamesDiagram-one : (text : List ℕ) (code other : Code) → NamesDiagram text code → NamesDiagram text other → code ≡ other
 NamesDiagram-one text code other names also =
-    let both : Ok code ≡ Ok other = IsPdReading-one text (Ok code) (Ok other) names.reads also.reads in cc (both)
+    cc (IsPdReading-one text (Ok code) (Ok other) names.reads also.reads)
 
 -- and not both one and none
 Named-one : (text : List ℕ) (a b : Option Code) → IsNamed text a → IsNamed text b → a ≡ b
@@ -93,10 +95,8 @@ field_by line false false false true is_two is_three is_five is_seven =
     (Some 7, prime-seven line ((bytes_eq-Decides line (codes "field 7")).0 is_seven))
 field_by line false false false false is_two is_three is_five is_seven = (
   None,
-  prime-none line (not_from_Decides (bytes_eq line (codes "field 2")) (bytes_eq-Decides line (codes "field 2")) is_two)
-      (not_from_Decides (bytes_eq line (codes "field 3")) (bytes_eq-Decides line (codes "field 3")) is_three)
-      (not_from_Decides (bytes_eq line (codes "field 5")) (bytes_eq-Decides line (codes "field 5")) is_five)
-      (not_from_Decides (bytes_eq line (codes "field 7")) (bytes_eq-Decides line (codes "field 7")) is_seven),
+  prime-none line (unlike line (codes "field 2") is_two) (unlike line (codes "field 3") is_three)
+      (unlike line (codes "field 5") is_five) (unlike line (codes "field 7") is_seven),
 )
 
 -- each line is that of a field, or of none
@@ -105,19 +105,11 @@ Field-some line =
     field_by line (bytes_eq line (codes "field 2")) (bytes_eq line (codes "field 3")) (bytes_eq line (codes "field 5"))
     (bytes_eq line (codes "field 7")) refl refl refl refl
 
--- the fields are small
-small-prime : (p : ℕ) → IsSmallPrime p → p < 2 ^ 64
-small-prime p prime = elim prime [
-  | inl e ↦ omega (arith, e)
-  | inr (inl e) ↦ omega (arith, e)
-  | inr (inr (inl e)) ↦ omega (arith, e)
-  | inr (inr (inr e)) ↦ omega (arith, e)
-]
-
 -- fields with one line are one
 field_line-one : (p q : ℕ) → IsSmallPrime p → IsSmallPrime q → field_line p ≡ field_line q → p ≡ q
 field_line-one p q prime also same =
-    decimal_injective p q (small-prime p prime) (small-prime q also) (append_cancel_left (codes "field ") (decimal p) (decimal q) same)
+    decimal_injective p q (omega (arith, small-prime p prime)) (omega (arith, small-prime q also))
+    (append_cancel_left (codes "field ") (decimal p) (decimal q) same)
 
 -- a line is that of one field, or of none
 Field-one : (line : List ℕ) (a b : Option ℕ) → IsFieldLine line a → IsFieldLine line b → a ≡ b
@@ -229,7 +221,7 @@ first_by first others true is =
     subst (λ (l : List ℕ). IsVerdictOn (l ∷ others) (second_verdict others)) (sym ((bytes_eq-Decides first log_line).0 is))
     (second-some others)
 first_by first others false is =
-    inl (inl (refl, λ later same. not_from_Decides (bytes_eq first log_line) (bytes_eq-Decides first log_line) is (cc (same))))
+    inl (inl (refl, λ later same. unlike first log_line is (cc (same))))
 
 -- the verdict on lines is one
 verdict-some : (lines : List (List ℕ)) → IsVerdictOn lines (verdict_of lines)
@@ -290,13 +282,7 @@ fails-one lines (Err (Line number causes.Text)) (inr (inr (same, lacks))) =
 fails-one lines (Err (Line number causes.Diagram)) (same, lacks) =
     ap (λ (n : ℕ). Err (Line n causes.Diagram)) same
     ∙ sym (short-one lines lacks.text lacks.others None lacks.parts lacks.few lacks.none)
-fails-one lines (Err (Line number causes.Block)) none = absurd none
-fails-one lines (Err (Line number causes.Entry)) none = absurd none
-fails-one lines (Err (Line number causes.Open)) none = absurd none
-fails-one lines (Err (Line number causes.Table)) none = absurd none
-fails-one lines (Err (SizeLimit generators)) none = absurd none
-fails-one lines (Err NoMemory) none = absurd none
-fails-one lines (Ok homology) none = absurd none
+fails-one lines _ none = absurd none
 
 -- where lines begin as a log
 goes-one : (lines : List (List ℕ)) (verdict : Result Table LogStop) → GoesOn lines verdict → verdict ≡ verdict_of lines

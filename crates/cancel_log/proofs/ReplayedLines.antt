@@ -1,14 +1,17 @@
 -- What the loop over the lines of blocks keeps, and what it comes to.
 use Rattle.std.proofs.Common.{◌≡◌, ℕ, ◌+◌, ◌≤◌, ◌∙◌, true, false, List, [], ◌∷◌, ◌++◌, length, inl, inr, refl, sym, ap, arith}
 use Rattle.std.specs.Prelude.{None, Some, Err}
+use Rattle.std.specs.List.{flat_map}
 use Rattle.std.proofs.lemmas.List.{append_assoc, length-append}
 use Rattle.kh_types.specs.Code.{Code}
+use Rattle.kh_types.specs.Table.{rows_at}
+use Rattle.cube_signs.specs.Blocks.{block_degrees}
 use Rattle.circle_smoothing.specs.GeneratorCounts.{generator_count}
 use Rattle.circle_smoothing.specs.declared.limits.TheConstants.{GENERATORS}
 use Rattle.shared_block.specs.BlockHistories.{BlockHistory}
 use Rattle.cancel_log.specs.LinesLeft.{AreFew, LinesLeft, TakesLine}
 use Rattle.cancel_log.specs.LogBlocks.{IsWrong, lines_of_blocks}
-use Rattle.cancel_log.specs.LogLines.{Says, close_line}
+use Rattle.cancel_log.specs.LogLines.{Says}
 use Rattle.cancel_log.specs.Standings.{Does, HasProved, Standing, is_close, standing_first, step}
 use Rattle.cancel_log.specs.Verdicts.{HaveWrongLine, IsVerdictBehind, number_behind}
 use Rattle.cancel_log.specs.declared.cause.LogCause.{LogCause}
@@ -17,7 +20,7 @@ use Rattle.cancel_log.specs.declared.line.LogLine.{LogLine}
 use Rattle.cancel_log.specs.declared.line.LogLine.TheVariants.{Cancel, Begin, Close, Other}
 use Rattle.cancel_log.specs.declared.stop.LogStop.TheVariants.{Line}
 use Rattle.cancel_log.proofs.LinesTaken.{few-taken}
-use Rattle.cancel_log.proofs.StandingSteps.{ClosesWith, GoesOnWith, IsAt, IsAt-first, Stand-at, all_blocks, did-fail, did-go, step-comes}
+use Rattle.cancel_log.proofs.StandingSteps.{After, GoesOnWith, IsAt, IsAt-first, Stand-at, all_blocks, did-fail, did-go, step-comes}
 
 -- the lines so far tell of blocks that stand, and the reading stands there
 pub record IsReplayed (p : ℕ) (code : Code) (others : List (List ℕ)) (left : LinesLeft) (standing : Standing) : Type 0 where
@@ -53,53 +56,52 @@ goes-on p code others old new line blocks next goes takes parts numbered few = r
   few = few-taken old new line few takes;
 }
 
+-- what a line that does not fail comes to
+went : (p : ℕ) (code : Code) (others : List (List ℕ)) (old : LinesLeft) (line : List ℕ) (said : LogLine) (before after : Standing)
+    (read : IsReplayed p code others old before) → Says line said → Does (step p code before said) before None after
+    → After p code (all_blocks read.before before.current) line said after
+went p code others old line said before after read says does =
+    did-go p code (all_blocks read.before before.current) line said (step p code before said) before after
+    (step-comes p code read.before before.begun before.current before.rows line said read.at says) does
+
 pub replayed-on : (p : ℕ) (code : Code) (others : List (List ℕ)) (old new : LinesLeft) (line : List ℕ) (said : LogLine)
     (before after : Standing) → IsReplayed p code others old before → TakesLine old line new → Says line said
     → Does (step p code before said) before None after → is_close said ≡ false → IsReplayed p code others new after
-replayed-on p code others old new line (Cancel pivot) before after read takes says does other =
-    goes-on p code others old new line (all_blocks read.before before.current) after
-    (did-go p code (all_blocks read.before before.current) line (Cancel pivot) (step p code before (Cancel pivot)) before after
-    (step-comes p code read.before before.begun before.current before.rows line (Cancel pivot) read.at says) does)
-    takes read.parts read.numbered read.few
-replayed-on p code others old new line (Begin j) before after read takes says does other =
-    goes-on p code others old new line (all_blocks read.before before.current) after
-    (did-go p code (all_blocks read.before before.current) line (Begin j) (step p code before (Begin j)) before after
-    (step-comes p code read.before before.begun before.current before.rows line (Begin j) read.at says) does)
-    takes read.parts read.numbered read.few
-replayed-on p code others old new line Close before after read takes says does other = absurd (cc)
-replayed-on p code others old new line Other before after read takes says does other =
-    absurd
-    (did-go p code (all_blocks read.before before.current) line Other (step p code before Other) before after
-    (step-comes p code read.before before.begun before.current before.rows line Other read.at says) does)
+replayed-on p code others old new line said before after read takes says does other =
+    go said (went p code others old line said before after read says does) other
+  where
+    go : (said : LogLine) → After p code (all_blocks read.before before.current) line said after → is_close said ≡ false
+        → IsReplayed p code others new after
+    go (Cancel pivot) goes other =
+        goes-on p code others old new line (all_blocks read.before before.current) after goes takes read.parts read.numbered read.few
+    go (Begin j) goes other =
+        goes-on p code others old new line (all_blocks read.before before.current) after goes takes read.parts read.numbered read.few
+    go Close closes other = absurd (cc)
+    go Other comes other = absurd comes
 
 -- a line closes
 
-closes-with : (p : ℕ) (code : Code) (others : List (List ℕ)) (old new : LinesLeft) (line : List ℕ) (said : LogLine)
-    (before after : Standing) (read : IsReplayed p code others old before) → Says line said
-    → Does (step p code before said) before None after → is_close said ≡ true
-    → ClosesWith p code (all_blocks read.before before.current) after × (line ≡ close_line)
-closes-with p code others old new line (Cancel pivot) before after read says does closes = absurd (cc)
-closes-with p code others old new line (Begin j) before after read says does closes = absurd (cc)
-closes-with p code others old new line Close before after read says does closes = (
-  did-go p code (all_blocks read.before before.current) line Close (step p code before Close) before after
-      (step-comes p code read.before before.begun before.current before.rows line Close read.at says) does,
-  says,
-)
-closes-with p code others old new line Other before after read says does closes = absurd (cc)
-
 pub replayed-proved : (p : ℕ) (code : Code) (others : List (List ℕ)) (old new : LinesLeft) (line : List ℕ) (said : LogLine)
     (before after : Standing) → IsReplayed p code others old before → TakesLine old line new → Says line said
-    → Does (step p code before said) before None after → is_close said ≡ true → HasProved p code others new
+    → Does (step p code before said) before None after → is_close said ≡ true
+    → HasProved p code others new × (after.rows ≡ flat_map (rows_at p code) (block_degrees code))
 replayed-proved p code others old new line said before after read takes says does closes =
-    let with = closes-with p code others old new line said before after read says does closes in
-    record {
-      blocks = all_blocks read.before before.current;
-      proved = with.0.proved;
-      parts = read.parts
-          ∙ ap (λ (ls : List (List ℕ)). lines_of_blocks (all_blocks read.before before.current) ++ ls)
-          (takes.rest ∙ ap (λ (l : List ℕ). l ∷ new.rest) with.1);
-      numbered = omega (arith, takes.number, read.numbered);
-    }
+    go said says (went p code others old line said before after read says does) closes
+  where
+    go : (said : LogLine) → Says line said → After p code (all_blocks read.before before.current) line said after
+        → is_close said ≡ true → HasProved p code others new × (after.rows ≡ flat_map (rows_at p code) (block_degrees code))
+    go Close says comes closes = (
+      record {
+        blocks = all_blocks read.before before.current;
+        proved = comes.proved;
+        parts = read.parts
+            ∙ ap (λ (ls : List (List ℕ)). lines_of_blocks (all_blocks read.before before.current) ++ ls)
+            (takes.rest ∙ ap (λ (l : List ℕ). l ∷ new.rest) says);
+        numbered = omega (arith, takes.number, read.numbered);
+      },
+      comes.rows,
+    )
+    go _ says comes closes = absurd (cc)
 
 -- a line is wrong
 
@@ -107,14 +109,11 @@ pub wrong-behind : (p : ℕ) (code : Code) (others : List (List ℕ)) (number : 
     (said : LogLine) → IsWrong p code blocks said cause → HaveWrongLine p code others number cause
     → IsVerdictBehind p code others (Err (Line number cause))
 wrong-behind p code others number causes.Text blocks said wrong have = inr have
-wrong-behind p code others number causes.Diagram blocks said wrong have = have
-wrong-behind p code others number causes.Block blocks said wrong have = have
-wrong-behind p code others number causes.Entry blocks said wrong have = have
-wrong-behind p code others number causes.Open blocks said wrong have = have
 wrong-behind p code others number causes.Table blocks (Cancel pivot) wrong have = absurd wrong
 wrong-behind p code others number causes.Table blocks (Begin j) wrong have = absurd wrong
 wrong-behind p code others number causes.Table blocks Close wrong have = absurd wrong
 wrong-behind p code others number causes.Table blocks Other wrong have = absurd wrong
+wrong-behind p code others number cause blocks said wrong have = have
 
 pub replayed-wrong : (p : ℕ) (code : Code) (others : List (List ℕ)) (old new : LinesLeft) (line : List ℕ) (said : LogLine)
     (before after : Standing) (cause : LogCause) (number : ℕ) → generator_count code ≤ GENERATORS

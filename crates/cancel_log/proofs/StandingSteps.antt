@@ -1,4 +1,8 @@
 -- What a line does, in the words of blocks that stand: it goes on with them, or it is wrong behind them.
+-- `IsAt` ties where the reading stands to the blocks that were read: all before the last are cancelled to zero, their rows are
+-- there, and the degrees of all are the first of the diagram's. Each kind of line has a test, which passes exactly where the line
+-- can follow the blocks. Where it passes, `IsAt` holds of the blocks with this line, or they prove the table; where it fails, the
+-- line is wrong behind them (`step-comes`).
 use Rattle.std.proofs.Common.{◌≡◌, ◌≢◌, ℕ, ◌+◌, ◌-◌, ◌<◌, ◌∙◌, Bool, true, false, cond, List, [], ◌∷◌, ◌++◌, length, map, take, get_or, ℤ, pos, refl, sym, ap, ap₂, subst, arith}
 use Rattle.std.specs.Prelude.{All, IfSome, Option, None, Some, Result, Ok, Err, nat_lt}
 use Rattle.std.specs.List.{flat_map}
@@ -203,11 +207,8 @@ cancel-comes p code before begun held rows line pivot false at is short fails = 
   not_empty before held,
   λ last.
       let same : held ≡ last.last = last-same before last.before held last.last last.parts in
-      let so : false ≡ true =
-      sym fails
-      ∙ passes-IsPivot (complex_of p held) pivot
-      (subst (λ (b : BlockHistory). IsPivot (complex_of p b) pivot) (sym same) last.entry) in
-      absurd (cc),
+      let entry = subst (λ (b : BlockHistory). IsPivot (complex_of p b) pivot) (sym same) last.entry in
+      absurd (cc (fails, passes-IsPivot (complex_of p held) pivot entry)),
 )
 
 -- whether the last block is closed
@@ -221,9 +222,7 @@ pub open-all : (p : ℕ) (before : List BlockHistory) (current : Option BlockHis
     → All (IsFinished p) (all_blocks before current) → ⊥
 open-all p before None is all = absurd (cc)
 open-all p before (Some held) is all =
-    let zero : is_zero (complex_of p held) ≡ true =
-    (All-pop (IsFinished p) (before ++ held ∷ []) before (Some held) refl all).1 in
-    absurd (cc)
+    absurd (cc (is, (All-pop (IsFinished p) (before ++ held ∷ []) before (Some held) refl all).1))
 
 rows-all_blocks : (p : ℕ) (code : Code) (before : List BlockHistory) (current : Option BlockHistory) (rows : List Row)
     → IfSome current (IsSound p code) → rows ≡ flat_map (rows_at p code) (degrees_of_blocks before)
@@ -302,9 +301,7 @@ next-comes p code before begun current rows line j true at is short closed passe
     }
 next-comes p code before begun current rows line j false at is short closed fails = (
   closed-all p before current at.closed closed,
-  λ next.
-      let so : false ≡ true = sym fails ∙ passes-next p code before begun current rows j at next in
-      absurd (cc),
+  λ next. absurd (cc (fails, passes-next p code before begun current rows j at next)),
 )
 
 begin-comes : (p : ℕ) (code : Code) (before : List BlockHistory) (begun : ℕ) (current : Option BlockHistory) (rows : List Row)
@@ -353,10 +350,8 @@ last-comes p code before begun held rows line false at zeros fails = (
   not_empty before held,
   closed-all p before (Some held) at.closed zeros,
   λ degrees.
-      let count : begun ≡ length (block_degrees code) =
-      at.begun ∙ sym (length-degrees (before ++ held ∷ [])) ∙ ap length degrees in
-      let so : false ≡ true = sym fails ∙ eq-eqb begun (length (block_degrees code)) count in
-      absurd (cc),
+      let count = at.begun ∙ sym (length-degrees (before ++ held ∷ [])) ∙ ap length degrees in
+      absurd (cc (fails, eq-eqb begun (length (block_degrees code)) count)),
 )
 
 close-comes : (p : ℕ) (code : Code) (before : List BlockHistory) (begun : ℕ) (held : BlockHistory) (rows : List Row) (line : List ℕ)
@@ -375,10 +370,8 @@ close-first p code before begun rows line true at last =
 close-first p code before begun rows line false at fails = (
   at.none refl,
   λ none.
-      let count : begun ≡ length (block_degrees code) =
-      omega (arith, at.begun, ap length (at.none refl), ap length none) in
-      let so : false ≡ true = sym fails ∙ eq-eqb begun (length (block_degrees code)) count in
-      absurd (cc),
+      let count : begun ≡ length (block_degrees code) = omega (arith, at.begun, ap length (at.none refl), ap length none) in
+      absurd (cc (fails, eq-eqb begun (length (block_degrees code)) count)),
 )
 
 -- any line

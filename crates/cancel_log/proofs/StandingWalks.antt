@@ -1,4 +1,7 @@
 -- Where a walk over the lines of blocks halts: behind blocks that stand it goes on.
+-- `walk` steps over lines until one is wrong or closes. A line of a block that can come next does neither: that of its degree passes
+-- the test of the next block, and those of its history cancel entries (`walk-block`). So, by induction on the blocks, a walk over
+-- the lines of blocks that stand gets behind all of them, and the reading stands there (`walks-Stand`).
 use Rattle.std.proofs.Common.{◌≡◌, ℕ, ◌+◌, ◌-◌, ◌∙◌, Bool, true, false, cond, List, [], ◌∷◌, ◌++◌, length, map, take, ℤ, refl, sym, ap, subst, arith}
 use Rattle.std.specs.Prelude.{All, Option, None, Some, Result, Ok, Err}
 use Rattle.std.specs.List.{AllByRecursion}

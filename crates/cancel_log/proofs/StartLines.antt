@@ -1,8 +1,14 @@
 -- The first three lines of a log.
-use Rattle.std.proofs.Common.{◌≡◌, ◌≢◌, ℕ, ◌+◌, ◌<◌, ◌≤◌, ◌∙◌, List, [], ◌∷◌, length, inl, inr, refl, sym, ap, subst, arith, codes, IsTrue}
+-- Each of the three has what the code can find there: the line that is wanted, another one, or none. A ruleset for each function of
+-- `src/start.rt` says what each finding means, and the last puts the three together: the lines begin as a log, or one of the three
+-- is the first that fails.
+use Rattle.std.proofs.Common.{◌≡◌, ◌≢◌, ℕ, ◌+◌, ◌<◌, ◌≤◌, ◌∙◌, List, [], ◌∷◌, length, inl, inr, refl, sym, ap, subst, arith, codes, false, IsTrue}
 use Rattle.std.specs.Prelude.{None, Some, Result, Ok, Err}
 use Rattle.std.specs.Fmt.{digits}
 use Rattle.std.specs.Result.{IsOk, result_ok}
+use Rattle.std.specs.Str.{bytes_eq}
+use Rattle.std.proofs.lemmas.Bool.Decides.{not_from_Decides}
+use Rattle.std.proofs.lemmas.Slice.Eq.{bytes_eq-Decides}
 use Rattle.kh_types.specs.Acceptance.{accepted}
 use Rattle.kh_types.specs.Code.{Code}
 use Rattle.kh_types.specs.declared.limits.TheConstants.{INPUT_BYTES}
@@ -16,7 +22,7 @@ use Rattle.cancel_log.specs.Starts.{IsFieldLine, LacksDiagramLine, LacksFieldLin
 use Rattle.cancel_log.specs.Verdicts.{BeginsAsLog, FailsAtStart, LacksLogLine, NamesDiagram}
 use Rattle.cancel_log.specs.declared.cause.LogCause.TheVariants as causes
 use Rattle.cancel_log.specs.declared.stop.LogStop.{LogStop}
-use Rattle.cancel_log.specs.declared.stop.LogStop.TheVariants.{Line, SizeLimit, NoMemory}
+use Rattle.cancel_log.specs.declared.stop.LogStop.TheVariants.{Line}
 
 -- the first line
 
@@ -24,12 +30,10 @@ pub first-yes : (old new : LinesLeft) (line : List ℕ) → TakesLine old line n
 first-yes old new line takes is = subst (λ (l : List ℕ). TakesLine old l new) is takes
 
 pub first-no : (old new : LinesLeft) (line : List ℕ) → TakesLine old line new → line ≢ log_line → LacksLogLine old.rest
-first-no old new line takes other = λ others is.
-    let both : line ∷ new.rest ≡ log_line ∷ others = sym takes.rest ∙ is in
-    let so : line ≡ log_line = cc in other so
+first-no old new line takes other = λ others is. other (cc (takes.rest, is))
 
 pub first-none : (lines : List (List ℕ)) → lines ≡ [] → LacksLogLine lines
-first-none lines none = λ others is. let so : [] ≡ log_line ∷ others = sym none ∙ is in absurd (cc)
+first-none lines none = λ others is. absurd (cc (none, is))
 
 pub ruleset firsts = (first-yes, first-no, first-none)
 
@@ -39,15 +43,13 @@ pub diagram-ok : (old new : LinesLeft) (text : List ℕ) (code : Code) → Takes
 diagram-ok old new text code takes names = record { text = text; taken = takes; names = names }
 
 pub diagram-none : (lines : List (List ℕ)) → lines ≡ [] → LacksDiagramLine lines (Line 2 causes.Text)
-diagram-none lines none = (refl, λ text later is. let so : [] ≡ text ∷ later = sym none ∙ is in absurd (cc))
+diagram-none lines none = (refl, λ text later is. absurd (cc (none, is)))
 
 pub diagram-long : (old new : LinesLeft) (text : List ℕ) → TakesLine old text new → INPUT_BYTES < length text
     → LacksDiagramLine old.rest (Line 2 causes.Text)
 diagram-long old new text takes long = (
   refl,
-  λ other later is.
-      let both : text ∷ new.rest ≡ other ∷ later = sym takes.rest ∙ is in
-      let so : text ≡ other = cc in omega (arith, long, ap length so),
+  λ other later is. let so : text ≡ other = cc (takes.rest, is) in omega (arith, long, ap length so),
 )
 
 pub diagram-unnamed : (old new : LinesLeft) (text : List ℕ) → TakesLine old text new → length text ≤ INPUT_BYTES
@@ -76,7 +78,7 @@ names-refused text raw reads refused code names =
 
 pub names-unread : (text : List ℕ) (stop : PdStop) → IsPdReading text (Err stop) → (code : Code) → NamesDiagram text code → ⊥
 names-unread text stop reads code names =
-    let both : Ok code ≡ Err stop = IsPdReading-one text (Ok code) (Err stop) names.reads reads in absurd (cc)
+    absurd (cc (IsPdReading-one text (Ok code) (Err stop) names.reads reads))
 
 pub ruleset named = (names-ok, names-refused, names-unread)
 
@@ -90,53 +92,48 @@ pub field-prime : (line : List ℕ) (field : ℕ) → IsFieldLine line (Some fie
 field-prime line field is = is.0
 
 pub field-no : (old new : LinesLeft) (line : List ℕ) → TakesLine old line new → IsFieldLine line None → LacksFieldLine old.rest
-field-no old new line takes none = λ p later prime is.
-    let both : line ∷ new.rest ≡ field_line p ∷ later = sym takes.rest ∙ is in
-    let so : line ≡ field_line p = cc in none p prime so
+field-no old new line takes none = λ p later prime is. none p prime (cc (takes.rest, is))
 
 pub field-none : (lines : List (List ℕ)) → lines ≡ [] → LacksFieldLine lines
-field-none lines none = λ p later prime is. let so : [] ≡ field_line p ∷ later = sym none ∙ is in absurd (cc)
+field-none lines none = λ p later prime is. absurd (cc (none, is))
 
 pub ruleset fields = (field-ok, field-prime, field-no, field-none)
 
 -- the lines of the fields
 
-pub line_two : (field : ℕ) → field ≡ 2 → field_line field ≡ codes "field 2"
-unfolding digits
-line_two field is = ap field_line is
-
-pub line_three : (field : ℕ) → field ≡ 3 → field_line field ≡ codes "field 3"
-unfolding digits
-line_three field is = ap field_line is
-
-pub line_five : (field : ℕ) → field ≡ 5 → field_line field ≡ codes "field 5"
-unfolding digits
-line_five field is = ap field_line is
-
-pub line_seven : (field : ℕ) → field ≡ 7 → field_line field ≡ codes "field 7"
-unfolding digits
-line_seven field is = ap field_line is
+-- a test tells that two lines are not one
+pub unlike : (line other : List ℕ) → bytes_eq line other ≡ false → line ≢ other
+unlike line other is = not_from_Decides (bytes_eq line other) (bytes_eq-Decides line other) is
 
 pub prime-two : (line : List ℕ) → line ≡ codes "field 2" → IsFieldLine line (Some 2)
-prime-two line is = (inl refl, is ∙ sym (line_two 2 refl))
+unfolding digits
+prime-two line is = (inl refl, is)
 
 pub prime-three : (line : List ℕ) → line ≡ codes "field 3" → IsFieldLine line (Some 3)
-prime-three line is = (inr (inl refl), is ∙ sym (line_three 3 refl))
+unfolding digits
+prime-three line is = (inr (inl refl), is)
 
 pub prime-five : (line : List ℕ) → line ≡ codes "field 5" → IsFieldLine line (Some 5)
-prime-five line is = (inr (inr (inl refl)), is ∙ sym (line_five 5 refl))
+unfolding digits
+prime-five line is = (inr (inr (inl refl)), is)
 
 pub prime-seven : (line : List ℕ) → line ≡ codes "field 7" → IsFieldLine line (Some 7)
-prime-seven line is = (inr (inr (inr refl)), is ∙ sym (line_seven 7 refl))
+unfolding digits
+prime-seven line is = (inr (inr (inr refl)), is)
 
 pub prime-none : (line : List ℕ) → line ≢ codes "field 2" → line ≢ codes "field 3" → line ≢ codes "field 5" → line ≢ codes "field 7"
     → IsFieldLine line None
+unfolding digits
 prime-none line two three five seven field prime is = elim prime [
-  | inl e ↦ two (is ∙ line_two field e)
-  | inr (inl e) ↦ three (is ∙ line_three field e)
-  | inr (inr (inl e)) ↦ five (is ∙ line_five field e)
-  | inr (inr (inr e)) ↦ seven (is ∙ line_seven field e)
+  | inl e ↦ two (is ∙ ap field_line e)
+  | inr (inl e) ↦ three (is ∙ ap field_line e)
+  | inr (inr (inl e)) ↦ five (is ∙ ap field_line e)
+  | inr (inr (inr e)) ↦ seven (is ∙ ap field_line e)
 ]
+
+-- a field has fewer than eight elements
+pub small-prime : (p : ℕ) → IsSmallPrime p → p < 8
+small-prime p prime = grind (arith)
 
 pub ruleset primes = (prime-two, prime-three, prime-five, prime-seven, prime-none)
 
@@ -173,12 +170,7 @@ start-no_diagram first second (Line number causes.Diagram) one (same, names) = (
     none = names.none;
   },
 )
-start-no_diagram first second (Line number causes.Block) one lacks = absurd lacks
-start-no_diagram first second (Line number causes.Entry) one lacks = absurd lacks
-start-no_diagram first second (Line number causes.Open) one lacks = absurd lacks
-start-no_diagram first second (Line number causes.Table) one lacks = absurd lacks
-start-no_diagram first second (SizeLimit generators) one lacks = absurd lacks
-start-no_diagram first second NoMemory one lacks = absurd lacks
+start-no_diagram first second _ one lacks = absurd lacks
 
 pub start-no_field : (first second third : LinesLeft) (code : Code) (stop : LogStop) → TakesLine first log_line second
     → NamesNext second third code → stop ≡ Line 3 causes.Text → LacksFieldLine third.rest → FailsAtStart first.rest (Err stop)

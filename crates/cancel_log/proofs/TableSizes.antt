@@ -49,13 +49,15 @@ record IsShortRow (row : Row) : Type 0 where
 row_text-le : (row : Row) → IsShortRow row → length (row_text row) ≤ 26
 row_text-le row short =
     let dim = codes " dim " ++ (decimal row.dim ++ codes "\n") in
-    let degree = codes " i " ++ (signed_decimal row.i ++ dim) in
-    append-le (codes "j ") (signed_decimal row.j ++ degree) 2 24 (omega arith)
-    (append-le (signed_decimal row.j) degree 4 20 (degree-le row.j short.j)
-    (append-le (codes " i ") (signed_decimal row.i ++ dim) 3 17 (omega arith)
-    (append-le (signed_decimal row.i) dim 4 13 (degree-le row.i short.i)
-    (append-le (codes " dim ") (decimal row.dim ++ codes "\n") 5 8 (omega arith)
-    (append-le (decimal row.dim) (codes "\n") 7 1 (place-le row.dim short.dim) (omega arith))))))
+    omega (
+      arith,
+      degree-le row.j short.j,
+      degree-le row.i short.i,
+      place-le row.dim short.dim,
+      length-append (signed_decimal row.j) (codes " i " ++ (signed_decimal row.i ++ dim)),
+      length-append (signed_decimal row.i) dim,
+      length-append (decimal row.dim) (codes "\n"),
+    )
 
 -- and so has each of such rows
 rows_text-le : (rows : List Row) → AllByRecursion IsShortRow rows → length (flat_map row_text rows) ≤ 26 * length rows
@@ -111,9 +113,10 @@ table_text-le p code small is few size =
     let rows = rows_within EXPONENT p code in
     let short : All IsShortRow rows = λ k d below.
     let are = rows_within-are EXPONENT p code k d below in short-row p code (get_or rows k d) is few size are.0 are.1 in
-    let text = append-le (codes "table 2\nfield ") (decimal p ++ (codes "\n" ++ flat_map row_text rows)) 14 (7 + (1 + 26 * length rows))
-    (omega arith)
-    (append-le (decimal p) (codes "\n" ++ flat_map row_text rows) 7 (1 + 26 * length rows) (place-le p small)
-    (append-le (codes "\n") (flat_map row_text rows) 1 (26 * length rows) (omega arith)
-    (rows_text-le rows (recursion_from_All IsShortRow rows short)))) in
-    omega (arith, text, rows_within-le p code EXPONENT few)
+    omega (
+      arith,
+      length-append (decimal p) (codes "\n" ++ flat_map row_text rows),
+      place-le p small,
+      rows_text-le rows (recursion_from_All IsShortRow rows short),
+      rows_within-le p code EXPONENT few,
+    )

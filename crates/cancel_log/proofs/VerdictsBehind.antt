@@ -1,4 +1,7 @@
 -- The lines from the fourth on have exactly one verdict.
+-- `verdict_behind` computes it: it walks over the lines, and where the walk closes it compares what is left with the table. It is a
+-- verdict, by induction on the walk, which stands behind blocks at each line (`walk-verdict`). Each verdict is this one: it tells
+-- of blocks that stand, the walk gets behind these (`told-one`), and there it halts as the verdict says.
 use Rattle.std.proofs.Common.{◌≡◌, ℕ, ◌+◌, ◌-◌, ◌≤◌, ◌∙◌, Bool, true, false, cond, List, [], ◌∷◌, ◌++◌, length, inl, inr, refl, sym, ap, subst, arith}
 use Rattle.std.specs.Prelude.{All, Option, None, Some, Result, Ok, Err, nat_lt, slice_get}
 use Rattle.std.proofs.lemmas.Bool.{le-ltb, lt-ltb, ltb-false, ltb-true}
@@ -260,8 +263,5 @@ IsVerdictBehind-one p code others (Err (SizeLimit generators)) (same, above) =
 IsVerdictBehind-one p code others (Err (Line number causes.Text)) (inl early) = early-one p code others number early
 IsVerdictBehind-one p code others (Err (Line number causes.Text)) (inr have) = wrong-one p code others number causes.Text have
 IsVerdictBehind-one p code others (Err (Line number causes.Table)) have = table-one p code others number have
-IsVerdictBehind-one p code others (Err (Line number causes.Diagram)) have = wrong-one p code others number causes.Diagram have
-IsVerdictBehind-one p code others (Err (Line number causes.Block)) have = wrong-one p code others number causes.Block have
-IsVerdictBehind-one p code others (Err (Line number causes.Entry)) have = wrong-one p code others number causes.Entry have
-IsVerdictBehind-one p code others (Err (Line number causes.Open)) have = wrong-one p code others number causes.Open have
+IsVerdictBehind-one p code others (Err (Line number cause)) have = wrong-one p code others number cause have
 IsVerdictBehind-one p code others (Err NoMemory) none = absurd none

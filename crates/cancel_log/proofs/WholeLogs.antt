@@ -1,4 +1,7 @@
 -- The verdict on a whole log, from those on its parts.
+-- One list of lines cuts a text, so that the text comes to what these lines come to (`verdict-text`, `verdict-lines`). They begin as
+-- a log and go on, or fail at the start. What comes behind is compared with the printed table, whose first line closes the blocks
+-- and is taken before (`table-taken`).
 use Rattle.std.proofs.Common.{◌≡◌, ◌≢◌, ℕ, suc, ◌+◌, ◌≤◌, ◌∙◌, List, [], ◌∷◌, ◌++◌, length, Bor, inl, inr, refl, sym, ap, subst, arith}
 use Rattle.std.specs.Prelude.{IfOk, IfSome, Option, None, Some, Result, Ok, Err}
 use Rattle.std.specs.Fmt.{decimal}

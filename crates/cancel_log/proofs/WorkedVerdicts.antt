@@ -99,20 +99,20 @@ curl-starts = record {
 }
 
 -- a log whose walk halts at a wrong line, or at its end
-pub wrong-by : (text named : List ℕ) (p : ℕ) (code : Code) (others : List (List ℕ)) (saids : List LogLine) (left : List (List ℕ))
+pub wrong-by : {text named : List ℕ} {p : ℕ} {code : Code} (others : List (List ℕ)) (saids : List LogLine) (left : List (List ℕ))
     (cause : LogCause) → Starts named p code → lines_of text ≡ log_line ∷ named ∷ field_line p ∷ others → Say others saids
     → walk_by p code standing_first others saids ≡ halt_at left (Some cause)
     → IsVerdict text (Err (Line (number_left others left) cause))
-wrong-by text named p code others saids left cause starts parts say halts =
+wrong-by {text = text} {named = named} {p = p} {code = code} others saids left cause starts parts say halts =
     goes-on text named p code others (Err (Line (number_left others left) cause)) starts.names starts.prime parts
     (verdict-by p code others saids (halt_at left (Some cause)) say starts.small halts)
 
 -- a log whose walk halts at the closing line, and whose lines from there on are not those of the table
-pub other-by : (text named : List ℕ) (p : ℕ) (code : Code) (others : List (List ℕ)) (saids : List LogLine) (left : List (List ℕ))
+pub other-by : {text named : List ℕ} {p : ℕ} {code : Code} (others : List (List ℕ)) (saids : List LogLine) (left : List (List ℕ))
     (place : ℕ) → Starts named p code → lines_of text ≡ log_line ∷ named ∷ field_line p ∷ others → Say others saids
     → walk_by p code standing_first others saids ≡ halt_at left None → DifferFirst left (table_lines_of (table p code)) place
     → IsVerdict text (Err (Line (number_left others left + place) causes.Table))
-other-by text named p code others saids left place starts parts say halts first =
+other-by {text = text} {named = named} {p = p} {code = code} others saids left place starts parts say halts first =
     let lines = table_lines_of (table p code) in
     let number = number_left others left in
     goes-on text named p code others (Err (Line (number + place) causes.Table)) starts.names starts.prime parts
@@ -120,11 +120,11 @@ other-by text named p code others saids left place starts parts say halts first 
     ∙ sym (compared-other p code number place left (compared left lines) first))
 
 -- a log whose walk halts at the closing line, and whose lines from there on are those of the table
-pub table-by : (text named : List ℕ) (p : ℕ) (code : Code) (others : List (List ℕ)) (saids : List LogLine) (left : List (List ℕ))
+pub table-by : {text named : List ℕ} {p : ℕ} {code : Code} (others : List (List ℕ)) (saids : List LogLine) (left : List (List ℕ))
     → Starts named p code → lines_of text ≡ log_line ∷ named ∷ field_line p ∷ others → Say others saids
     → walk_by p code standing_first others saids ≡ halt_at left None → left ≡ table_lines_of (table p code)
     → IsVerdict text (Ok (table p code))
-table-by text named p code others saids left starts parts say halts same =
+table-by {text = text} {named = named} {p = p} {code = code} others saids left starts parts say halts same =
     let lines = table_lines_of (table p code) in
     goes-on text named p code others (Ok (table p code)) starts.names starts.prime parts
     (verdict-by p code others saids (halt_at left None) say starts.small halts

@@ -1,4 +1,7 @@
 -- What is written is a log.
+-- Blocks of a diagram, cancelled to zero by legal histories, make a log: the first three lines, theirs, and those of the table
+-- (`log-of_blocks`). No line has a line feed, so these lines cut the text. The code writes block by block, and keeps that the text
+-- is that of the blocks so far (`IsWritten`).
 use Rattle.std.proofs.Common.{◌≡◌, ℕ, ◌+◌, ◌<◌, ◌≤◌, ◌∙◌, List, [], ◌∷◌, ◌++◌, length, map, take, take_all, get_or, ◌-◌, ℤ, IsTrue, refl, sym, ap, ap₂, subst, arith, codes}
 use Rattle.std.specs.Prelude.{All}
 use Rattle.std.specs.Fmt.{decimal, signed_decimal}
@@ -153,9 +156,6 @@ pub ruleset lines = (block-text, cancel-text, block_to-none)
 -- the text up to some blocks
 abbrev pub text_to : ℕ → Code → List BlockHistory → List ℕ
 text_to p code blocks = text_of_lines (start_lines p code ++ lines_of_blocks blocks)
-
-pub text_to-none : (p : ℕ) (code : Code) (text : List ℕ) → text ≡ text_of_lines (start_lines p code) → text ≡ text_to p code []
-text_to-none p code text is = is
 
 pub text_to-more : (p : ℕ) (code : Code) (blocks : List BlockHistory) (held : BlockHistory) (text next : List ℕ)
     → text ≡ text_to p code blocks → next ≡ text ++ text_of_lines (block_lines held) → next ≡ text_to p code (blocks ++ held ∷ [])

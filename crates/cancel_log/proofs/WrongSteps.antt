@@ -81,10 +81,7 @@ wrong-begin p code before begun current rows j causes.Block at (all, lacks) =
     ap (λ (zero : Bool). cond zero (step_by (is_next code begun j) next causes.Block) (Err causes.Open)) (all-closed p before current all)
     ∙ ap (λ (passes : Bool). step_by passes next causes.Block)
     (false-from (is_next code begun j) (λ is. lacks (next-passes p code before begun current rows j at is)))
-wrong-begin p code before begun current rows j causes.Text at wrong = absurd wrong
-wrong-begin p code before begun current rows j causes.Diagram at wrong = absurd wrong
-wrong-begin p code before begun current rows j causes.Entry at wrong = absurd wrong
-wrong-begin p code before begun current rows j causes.Table at wrong = absurd wrong
+wrong-begin p code before begun current rows j _ at wrong = absurd wrong
 
 -- a line that closes
 
@@ -99,9 +96,7 @@ wrong-first p code before begun rows causes.Text at (none, some) =
     ap (λ (last : Bool). step_by last standing causes.Text) fails
 wrong-first p code before begun rows causes.Open at lacks = absurd (lacks at.closed)
 wrong-first p code before begun rows causes.Block at (some, all, lacks) = absurd (some (at.none refl))
-wrong-first p code before begun rows causes.Diagram at wrong = absurd wrong
-wrong-first p code before begun rows causes.Entry at wrong = absurd wrong
-wrong-first p code before begun rows causes.Table at wrong = absurd wrong
+wrong-first p code before begun rows _ at wrong = absurd wrong
 
 -- where one has begun
 wrong-close : (p : ℕ) (code : Code) (before : List BlockHistory) (begun : ℕ) (held : BlockHistory) (rows : List Row) (cause : LogCause)
@@ -117,9 +112,7 @@ wrong-close p code before begun held rows causes.Block at (some, all, lacks) =
     ap (λ (zero : Bool). cond zero (step_by (is_last code begun) next causes.Block) (Err causes.Open)) (all-closed p before (Some held) all)
     ∙ ap (λ (last : Bool). step_by last next causes.Block)
     (degrees-more p code before (standing_with begun (Some held) rows) at lacks)
-wrong-close p code before begun held rows causes.Diagram at wrong = absurd wrong
-wrong-close p code before begun held rows causes.Entry at wrong = absurd wrong
-wrong-close p code before begun held rows causes.Table at wrong = absurd wrong
+wrong-close p code before begun held rows _ at wrong = absurd wrong
 
 -- any line
 pub wrong-steps : (p : ℕ) (code : Code) (before : List BlockHistory) (begun : ℕ) (current : Option BlockHistory) (rows : List Row)
@@ -130,19 +123,12 @@ wrong-steps p code before begun None rows (Cancel pivot) causes.Entry at (some, 
 wrong-steps p code before begun (Some held) rows (Cancel pivot) causes.Text at none = absurd (not_empty before held none)
 wrong-steps p code before begun (Some held) rows (Cancel pivot) causes.Entry at (some, lacks) =
     wrong-cancel p code before begun held rows pivot lacks
-wrong-steps p code before begun current rows (Cancel pivot) causes.Diagram at wrong = absurd wrong
-wrong-steps p code before begun current rows (Cancel pivot) causes.Block at wrong = absurd wrong
-wrong-steps p code before begun current rows (Cancel pivot) causes.Open at wrong = absurd wrong
-wrong-steps p code before begun current rows (Cancel pivot) causes.Table at wrong = absurd wrong
+wrong-steps p code before begun current rows (Cancel pivot) _ at wrong = absurd wrong
 wrong-steps p code before begun current rows (Begin j) cause at wrong = wrong-begin p code before begun current rows j cause at wrong
 wrong-steps p code before begun None rows Close cause at wrong = wrong-first p code before begun rows cause at wrong
 wrong-steps p code before begun (Some held) rows Close cause at wrong = wrong-close p code before begun held rows cause at wrong
 wrong-steps p code before begun current rows Other causes.Text at wrong = refl
-wrong-steps p code before begun current rows Other causes.Diagram at wrong = absurd wrong
-wrong-steps p code before begun current rows Other causes.Block at wrong = absurd wrong
-wrong-steps p code before begun current rows Other causes.Entry at wrong = absurd wrong
-wrong-steps p code before begun current rows Other causes.Open at wrong = absurd wrong
-wrong-steps p code before begun current rows Other causes.Table at wrong = absurd wrong
+wrong-steps p code before begun current rows Other _ at wrong = absurd wrong
 
 -- behind blocks that prove a table the closing line does not fail
 pub proved-closes : (p : ℕ) (code : Code) (before : List BlockHistory) (begun : ℕ) (current : Option BlockHistory) (rows : List Row)

@@ -7,7 +7,7 @@ ghost use Rattle.circle_smoothing.specs.declared.limits.TheConstants.{GENERATORS
 ghost use Rattle.cube_signs.specs.Blocks.{block_degrees};
 ghost use Rattle.kh_types.specs.Table.{rows_at};
 ghost use Rattle.cancel_log.specs.LinesLeft.{AreFew};
-ghost use Rattle.cancel_log.specs.Standings.{HasProved, is_close, standing_first};
+ghost use Rattle.cancel_log.specs.Standings.{HasProved, is_close};
 ghost use Rattle.cancel_log.specs.Verdicts.{IsVerdictBehind};
 
 use crate::lines::Lines;
@@ -39,40 +39,16 @@ pub(crate) fn replayed_rows<F: PrimeField>(
     let cube = Cube::new(alloc, diagram)?;
     let degrees = cube.block_degrees(alloc)?;
     let mut walk = Walk::<F>::first(alloc);
-    take_blocks(alloc, &cube, &degrees, &mut walk, lines)?;
-    Ok(walk.into_rows())
-}
-
-/// Takes the lines of all blocks and the one that closes them.
-fn take_blocks<F: PrimeField>(
-    alloc: Global,
-    cube: &Cube,
-    degrees: &[i16],
-    walk: &mut Walk<F>,
-    lines: &mut Lines<'_>,
-) -> Result<(), LogStop>
-    requires size { generator_count cube.now ≤ GENERATORS }
-    requires degrees { degrees.now ≡ block_degrees cube.now }
-    requires first { walk.old ≡ standing_first }
-    requires fourth { lines.old.number ≡ 4 }
-    requires few { AreFew lines.old }
-    ensures rows { OnOk result
-        (walk.new.rows ≡ flat_map (rows_at F.P cube.now) (block_degrees cube.now)) }
-    ensures proved { OnOk result (HasProved F.P cube.now lines.old.rest lines.new) }
-    ensures few { OnOk result (AreFew lines.new) }
-    ensures fails { IfErr result (λ stop. stop ≢ LogStop.NoMemory
-        → IsVerdictBehind F.P cube.now lines.old.rest (Err stop)) }
-{
     let mut scratch = Vec::new(alloc);
     'lines: while let Some(line) = lines.next() {
         let said = said_by(line);
         let closes = is_close(&said);
-        if let Some(cause) = take_line(&mut scratch, cube, degrees, walk, said)? {
+        if let Some(cause) = take_line(&mut scratch, &cube, &degrees, &mut walk, said)? {
             let line = lines.number() as u32 - 1;
             return Err(LogStop::Line { line, cause });
         }
         if closes {
-            return Ok(());
+            return Ok(walk.into_rows());
         }
     }
     Err(LogStop::Line {

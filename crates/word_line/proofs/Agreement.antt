@@ -1,7 +1,10 @@
 -- What `clap` says of words is what the machine does with them.
+-- By induction on the words, whatever was given before (`agree`). A text that `clap` holds as pending counts as given (`all_of`). The
+-- machine refuses a second text of a slot at once, `clap` when it settles it, which may be at the end of the words: till then such
+-- a walk is doomed, and finds nothing either.
 use Rattle.std.proofs.Common.{◌≡◌, ℕ, Bool, true, false, List, [], ◌∷◌, ◌++◌, Option, Some, None, refl, sym, ap, ap₂, cond, ◌∙◌, ◌||◌, ◌⊎◌, inl, inr}
 use Rattle.std.specs.Option.{option_map, option_and_then}
-use Rattle.std.specs.Prelude.{codes}
+use Rattle.std.specs.Prelude.{codes, if◌then◌else◌}
 use Rattle.std.specs.Str.{bytes_eq}
 use Rattle.clap.specs.Lexer.{long_of}
 use Rattle.clap.specs.Walk.{Held, used, nothing_held, reacted, Row, Text, idle, after_flag, long_met, option, plain_word, settled}
@@ -13,7 +16,7 @@ use Rattle.clap.specs.declared.error.kind.ErrorKind.TheVariants as kind
 use Rattle.word_line.specs.Pieces.{Key, field, workers, to, number, mark, key_name}
 use Rattle.word_line.proofs.Rules.{Slot, by_id, id_of, key_of, rule_at, shape}
 use Rattle.word_line.proofs.Rows.{Pending, nothing, one, Use, all_of, Fits, has, held_at, held_waiting, same_id, settle_fault-fits, settle_fault-waiting, settled_fits, use_fault-again, use_fault-first, used_more}
-use Rattle.word_line.proofs.Machine.{IsText, Look, Mode, added, doomed, doomed_trailing, ended_fits, ends, fault_long, fault_short, fault_text, found_from, found_nil, held_skip, in_mode, is_ending, is_long, is_short, is_text, leads, look, met_long, met_text, option_step, place_of, ready, ready_step, rows_taken, sort_ending, sort_long, sort_short, sort_text, stops, taken, text_first, text_second, trail_first, trail_second, trailing, value_step, waits, walk_at, with_task}
+use Rattle.word_line.proofs.Machine.{IsText, Look, Mode, added, doomed, doomed_trailing, ended_fits, ends, fault_long, fault_short, fault_text, flag_fault, found_from, found_nil, held_skip, in_mode, is_ending, is_long, is_short, is_text, leads, look, met_long, met_text, option_step, place_of, ready, ready_step, rows_taken, sort_ending, sort_long, sort_short, sort_text, stops, taken, text_first, text_second, trail_first, trail_second, trailing, value_step, waits, walk_at, with_task}
 
 -- ---- `clap` is the machine
 
@@ -23,11 +26,8 @@ Next = Option (Mode × List Use)
 abbrev rows_after : Next → List Text → Option (List Row)
 rows_after next words = option_and_then with_task (option_and_then (λ n. taken n.0 n.1 words) next)
 
-place_two : (uses : List Use) → has None uses ≡ true → place_of uses ≡ 2
-place_two uses is = rw is refl
-
-place_one : (uses : List Use) → has None uses ≡ false → place_of uses ≡ 1
-place_one uses is = rw is refl
+place_by : (uses : List Use) (b : Bool) → has None uses ≡ b → place_of uses ≡ (if b then 2 else 1)
+place_by uses b is = ap (λ (some : Bool). if some then 2 else 1) is
 
 place_some : (uses : List Use) → (place_of uses ≡ 1) ⊎ (place_of uses ≡ 2)
 place_some uses = go (has None uses)
@@ -36,12 +36,12 @@ place_some uses = go (has None uses)
     go true = inr refl
     go false = inl refl
 
+or_no : (b : Bool) → (b || false) ≡ b
+or_no true = refl
+or_no false = refl
+
 has_push : (slot : Slot) (uses : List Use) (given : Use) → has slot (uses ++ given ∷ []) ≡ (has slot uses || bytes_eq (id_of given.0) (id_of slot))
 has_push slot [] given = or_no (bytes_eq (id_of given.0) (id_of slot))
-  where
-    or_no : (b : Bool) → (b || false) ≡ b
-    or_no true = refl
-    or_no false = refl
 has_push slot (first ∷ uses) given = go (bytes_eq (id_of first.0) (id_of slot)) (has_push slot uses given)
   where
     go : (b : Bool) → has slot (uses ++ given ∷ []) ≡ (has slot uses || bytes_eq (id_of given.0) (id_of slot))
@@ -59,10 +59,6 @@ key_differs mark = refl
 place_push : (uses : List Use) (key : Key) (value : Text) → place_of (uses ++ (Some key, value) ∷ []) ≡ place_of uses
 place_push uses key value =
     ap (λ b. cond b 2 1) (has_push None uses (Some key, value) ∙ ap (λ b. has None uses || b) (key_differs key) ∙ or_no (has None uses))
-  where
-    or_no : (b : Bool) → (b || false) ≡ b
-    or_no true = refl
-    or_no false = refl
 
 place_push-task : (uses : List Use) (value : Text) → place_of (uses ++ (None, value) ∷ []) ≡ 2
 place_push-task uses value = ap (λ b. cond b 2 1) (has_push None uses (None, value) ∙ ap (λ b. has None uses || b) (same_id None) ∙ or_yes (has None uses))
@@ -71,13 +67,18 @@ place_push-task uses value = ap (λ b. cond b 2 1) (has_push None uses (None, va
     or_yes true = refl
     or_yes false = refl
 
+-- where no word is left
+nil_is : (trail : Bool) (uses : List Use) (pending : Pending) → Fits uses pending
+    → found_from (walk_at idle trail (place_of (all_of uses pending)) (held_at uses pending)) [] ≡ with_task (all_of uses pending)
+nil_is trail uses pending fits =
+    found_nil (walk_at idle trail (place_of (all_of uses pending)) (held_at uses pending)) [] (held_at (all_of uses pending) nothing)
+    (settle_fault-fits uses pending fits) (settled_fits uses pending fits) ∙ ended_fits (all_of uses pending)
+
 -- behind `--`
 trailing_is : (words : List Text) (uses : List Use) (pending : Pending) → Fits uses pending
     → found_from (walk_at idle true (place_of (all_of uses pending)) (held_at uses pending)) words
     ≡ rows_taken trailing (all_of uses pending) words
-trailing_is [] uses pending fits =
-    found_nil (walk_at idle true (place_of (all_of uses pending)) (held_at uses pending)) [] (held_at (all_of uses pending) nothing)
-    (settle_fault-fits uses pending fits) (settled_fits uses pending fits) ∙ ended_fits (all_of uses pending)
+trailing_is [] uses pending fits = nil_is true uses pending fits
 trailing_is (word ∷ words) uses pending fits =
     go (λ fresh. trailing_is words (all_of uses pending) (one (None, word)) fresh) (has None (all_of uses pending)) refl
   where
@@ -86,9 +87,9 @@ trailing_is (word ∷ words) uses pending fits =
 
     go : (has None all ≡ false → found_from (walk_at idle true (place_of (all ++ (None, word) ∷ [])) (held_at all (one (None, word)))) words
         ≡ rows_taken trailing (all ++ (None, word) ∷ []) words) → (b : Bool) → has None all ≡ b → found_from (walk_at idle true (place_of all) (held_at uses pending)) (word ∷ words) ≡ rows_taken trailing all (word ∷ words)
-    go rest true is = ap (λ place. found_from (walk_at idle true place (held_at uses pending)) (word ∷ words)) (place_two all is)
+    go rest true is = ap (λ place. found_from (walk_at idle true place (held_at uses pending)) (word ∷ words)) (place_by all true is)
         ∙ trail_second idle (held_at uses pending) word words ∙ sym (rw is refl)
-    go rest false is = ap (λ place. found_from (walk_at idle true place (held_at uses pending)) (word ∷ words)) (place_one all is)
+    go rest false is = ap (λ place. found_from (walk_at idle true place (held_at uses pending)) (word ∷ words)) (place_by all false is)
         ∙ trail_first uses pending word words fits
         ∙ ap (λ place. found_from (walk_at idle true place (held_at all (one (None, word)))) words) (sym (place_push-task all word))
         ∙ rest is ∙ sym (rw is refl)
@@ -99,12 +100,6 @@ record Agrees (words : List Text) : Type 0 where
       → found_from (walk_at idle false (place_of (all_of uses pending)) (held_at uses pending)) words ≡ rows_taken ready (all_of uses pending) words
   at_waits : (uses : List Use) (key : Key)
       → found_from (walk_at (option (id_of (Some key))) false (place_of uses) (held_waiting uses (Some key))) words ≡ rows_taken (waits key) uses words
-
-ready_nil : (uses : List Use) (pending : Pending) → Fits uses pending
-    → found_from (walk_at idle false (place_of (all_of uses pending)) (held_at uses pending)) [] ≡ rows_taken ready (all_of uses pending) []
-ready_nil uses pending fits =
-    found_nil (walk_at idle false (place_of (all_of uses pending)) (held_at uses pending)) [] (held_at (all_of uses pending) nothing)
-    (settle_fault-fits uses pending fits) (settled_fits uses pending fits) ∙ ended_fits (all_of uses pending)
 
 waits_nil : (uses : List Use) (key : Key)
     → found_from (walk_at (option (id_of (Some key))) false (place_of uses) (held_waiting uses (Some key))) [] ≡ rows_taken (waits key) uses []
@@ -119,11 +114,11 @@ ready_text : (word : Text) (words : List Text) → Agrees words → (uses : List
     ≡ rows_after (in_mode ready (added (all_of uses pending) None word)) words
 ready_text word words agrees uses pending fits is true some =
     let all = all_of uses pending in
-    ap (λ place. found_from (walk_at idle false place (held_at uses pending)) (word ∷ words)) (place_two all some)
+    ap (λ place. found_from (walk_at idle false place (held_at uses pending)) (word ∷ words)) (place_by all true some)
     ∙ text_second uses pending word words is ∙ sym (rw some refl)
 ready_text word words agrees uses pending fits is false none =
     let all = all_of uses pending in
-    ap (λ place. found_from (walk_at idle false place (held_at uses pending)) (word ∷ words)) (place_one all none)
+    ap (λ place. found_from (walk_at idle false place (held_at uses pending)) (word ∷ words)) (place_by all false none)
     ∙ text_first uses pending word words fits is
     ∙ ap (λ place. found_from (walk_at idle false place (held_at all (one (None, word)))) words) (sym (place_push-task all word))
     ∙ agrees.at_ready all (one (None, word)) none ∙ sym (rw none refl)
@@ -215,13 +210,6 @@ ready_cons word words agrees uses pending fits (is_text is) =
     ready_text word words agrees uses pending fits is (has None all) refl
     ∙ ap (λ sort. rows_after (ready_step all sort word) words) (sym (sort_text word is))
 
--- a flag where an option waits is refused
-waiting_fault : (uses : List Use) (waiting : Key) (key : Option Key) (value : Option Text) → (k : ErrorKind) × (ks : Kinds)
-    × (long_fault shape.rules false (option_map (λ key. rule_at (Some key)) key) value (held_waiting uses (Some waiting)) ≡ k ∷ ks)
-waiting_fault uses waiting None value = (kind.UnknownArgument, [], refl)
-waiting_fault uses waiting (Some key) None = (kind.InvalidValue, [], settle_fault-waiting uses (Some waiting))
-waiting_fault uses waiting (Some key) (Some value) = (kind.InvalidValue, [], rw (settle_fault-waiting uses (Some waiting)) refl)
-
 -- a word where an option waits
 waits_text : (word : Text) (words : List Text) → Agrees words → (uses : List Use) (key : Key) → IsText word
     → (b : Bool) → has (Some key) uses ≡ b
@@ -256,7 +244,7 @@ waits_cons word words agrees uses key (is_ending is) =
     ∙ ap (λ sort. rows_after (value_step uses key sort word) words) (sym (sort_ending word is))
 waits_cons word words agrees uses key (is_long dashes name value is) =
     let h = held_waiting uses (Some key) in
-    let fault = waiting_fault uses key (key_of name) value in
+    let fault = flag_fault h kind.InvalidValue (settle_fault-waiting uses (Some key)) (key_of name) value in
     stops (option (key_name key)) (place_of uses) h word words fault.0 fault.1 (fault_long h word name value dashes is ∙ fault.2)
     ∙ ap (λ sort. rows_after (value_step uses key sort word) words) (sym (sort_long word name value dashes is))
 waits_cons word words agrees uses key (is_short dashes no_name flags is x head) =
@@ -268,7 +256,7 @@ waits_cons word words agrees uses key (is_text is) =
     ∙ ap (λ sort. rows_after (value_step uses key sort word) words) (sym (sort_text word is))
 
 agree : (words : List Text) → Agrees words
-agree [] = record { at_ready = ready_nil; at_waits = waits_nil }
+agree [] = record { at_ready = nil_is false; at_waits = waits_nil }
 agree (word ∷ words) =
     let rest = agree words in
     record {

@@ -74,13 +74,6 @@ long_of-is (a ∷ word) name value same = first (a == 45) refl same
     first true is same = ap₂ (λ c more. c ∷ more) (eqb-true a 45 is) (second word same)
     first false is same = absurd (none-some (name, value) same)
 
-pub long_of-name : (key : Key) → long_of (codes "--" ++ key_name key) ≡ Some (key_name key, None)
-long_of-name field = refl
-long_of-name workers = refl
-long_of-name to = refl
-long_of-name number = refl
-long_of-name mark = refl
-
 pub long_of-joined : (key : Key) (value : Text) → long_of (codes "--" ++ (key_name key ++ (codes "=" ++ value))) ≡ Some (key_name key, Some value)
 long_of-joined field value = refl
 long_of-joined workers value = refl

@@ -1,4 +1,7 @@
 -- Words mean a command exactly where `clap` takes them and the texts that it finds give the command.
+-- `clap` does what the machine does, and the machine goes over lines. Each slot has one text at most, and the texts give a command
+-- exactly where each says what the command has there (`Gives`). Both ways (`command_is`, `command_rows`) make the clauses of the
+-- reading, and that words mean one command or none.
 use Rattle.std.proofs.Common.{◌≡◌, ℕ, ◌+◌, nat_le, ◌≤◌, ◌⊎◌, inl, inr, Bool, true, false, List, [], ◌∷◌, ◌++◌, length, Option, Some, None, refl, sym, ap, subst, cond, ◌∙◌, arith}
 use Rattle.std.proofs.lemmas.List.Elements.{All-cons, All-nil}
 use Rattle.std.proofs.lemmas.Bool.{and_parts, leb-true}
