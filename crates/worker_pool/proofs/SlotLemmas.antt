@@ -78,7 +78,7 @@ done_slot_emptied p code degrees slots after place h e =
 
 -- a done block that has been put into the slot of its degree
 pub done_put : {F : Type 0} (p : ℕ) (code : Code) (degrees : List ℤ) (slots : List (Option (DoneBlock F))) (place : ℕ) (one : DoneBlock F)
-    → AreDoneSlots p code degrees slots → one.block.diagram ≡ code → get_or degrees place (pos 0) ≡ one.block.degree → IsDone p one.block one.committed
+    → AreDoneSlots p code degrees slots → one.block.diagram ≡ code → get_or degrees place (pos 0) ≡ one.block.degree → IsDone p one
     → AreDoneSlots p code degrees (set slots place (Some one))
 done_put p code degrees slots place one h is at done =
     let there : IsDoneBlock p code (get_or degrees place (pos 0)) one = record { origin = ap₂ (λ (c : Code) (j : ℤ). (c, j)) is (sym at); done = done } in

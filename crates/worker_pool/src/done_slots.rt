@@ -25,7 +25,7 @@ pub(crate) fn put<F: PrimeField>(
     one: DoneBlock<F>,
 )
     requires diagram { one.block.diagram ≡ cube.now }
-    requires done { IsDone F.P one.block one.committed }
+    requires done { IsDone F.P one }
     requires slots { AreDoneSlots F.P cube.now degrees.now slots.old.items }
     ensures { AreDoneSlots F.P cube.now degrees.now slots.new.items }
 {
@@ -59,7 +59,7 @@ pub(crate) fn in_order<F: PrimeField>(
     requires degrees { AreDegreesOf cube.now degrees.now }
     requires slots { AreDoneSlots F.P cube.now degrees.now slots.items }
     ensures blocks { IfOk result (λ done. AreBlocksAt cube.now degrees.now done.blocks.items) }
-    ensures done { IfOk result (λ done. AreDone F.P done.blocks.items done.committed.items) }
+    ensures done { IfOk result (AreDone F.P) }
 {
     let mut done = Finished::new(alloc, degrees.len())?;
     'places: for place in 0..degrees.len() {
@@ -82,7 +82,7 @@ fn done_at<F: PrimeField>(
     ensures slots { AreDoneSlots F.P cube.now degrees.now slots.new.items }
     ensures origin { IfOk result (λ one.
         origin_of one.block ≡ (cube.now, slice_index_or degrees.now place (pos 0))) }
-    ensures done { IfOk result (λ one. IsDone F.P one.block one.committed) }
+    ensures done { IfOk result (IsDone F.P) }
 {
     match take_slot(slots, place) {
         Some(one) => Ok(one),

@@ -38,7 +38,7 @@ pub(crate) fn finished_alone<F: PrimeField>(
 ) -> Result<Finished<F>, NoMemory>
     requires { AreDegreesOf cube.now degrees.now }
     ensures blocks { IfOk result (λ done. AreBlocksAt cube.now degrees.now done.blocks.items) }
-    ensures done { IfOk result (λ done. AreDone F.P done.blocks.items done.committed.items) }
+    ensures done { IfOk result (AreDone F.P) }
     ensures alone { IfOk result (λ done. All (λ count. count ≡ 0) done.committed.items) }
 {
     let mut done = Finished::new(alloc, degrees.len())?;
@@ -64,7 +64,7 @@ pub(crate) fn finished_in_waves<
     requires degrees { AreDegreesOf cube.now degrees.now }
     requires workers { crew.now.workers ≤ WORKERS }
     ensures blocks { IfOk result (λ done. AreBlocksAt cube.now degrees.now done.blocks.items) }
-    ensures done { IfOk result (λ done. AreDone F.P done.blocks.items done.committed.items) }
+    ensures done { IfOk result (AreDone F.P) }
 {
     let alloc = crew.alloc;
     let waves = waves_of(alloc, &block_sizes(alloc, counted, degrees)?)?;
