@@ -1,6 +1,6 @@
 -- Blocks that are cancelled to zero, one after another.
-use Rattle.std.proofs.Common.{◌≡◌, ℕ, ◌+◌, ◌<◌, ◌∙◌, ℤ, pos, List, [], ◌∷◌, ◌++◌, length, map, take, get_or, reverse, refl, sym, ap, ap₂, subst, arith, length-append, All}
-use Rattle.std.proofs.lemmas.List.{length-map, map_push, take_more}
+use Rattle.std.proofs.Common.{◌≡◌, ℕ, ◌+◌, ◌<◌, ◌∙◌, ℤ, pos, List, [], ◌∷◌, ◌++◌, length, map, take, get_or, reverse, refl, sym, ap, ap₂, subst, arith, All}
+use Rattle.std.proofs.lemmas.List.{map_push, take_more}
 use Rattle.std.proofs.lemmas.List.Elements.{All-contains_itself, All-push}
 use Rattle.std.proofs.lemmas.Simd.{map-map}
 use mathlib.Core.List.{IsPrefix, reverse_aux}
@@ -74,11 +74,6 @@ from_degrees code (j ∷ degrees) = (refl, from_degrees code degrees)
 from_front : (code : Code) (origins : List (Code × ℤ)) (last : Code × ℤ) → AreFrom code (origins ++ last ∷ []) → AreFrom code origins × (last.0 ≡ code)
 from_front code [] last h = (tt, h.0)
 from_front code (origin ∷ origins) last h = let rest = from_front code origins last h.1 in ((h.0, rest.0), rest.1)
-
--- fewer are left where the last is taken
-pub fewer : {A B : Type 0} (f : A → B) (before after : List A) (last : B) → map f before ≡ map f after ++ last ∷ [] → length after < length before
-fewer f before after last e =
-    omega (arith, ap length e, length-map before f, length-map after f, length-append (map f after) (last ∷ []))
 
 -- what is left where the last is taken
 pub taken_from : (code : Code) (before after : List (Code × ℤ)) (last : Code × ℤ) → AreFrom code before → before ≡ after ++ last ∷ []

@@ -1,7 +1,7 @@
 //! Slots for the blocks of a diagram that are cancelled to zero in any order, one slot at each
 //! quantum degree.
 
-ghost use Rattle.std.specs.Prelude.{◌≡◌, ◌<◌, IfOk, IfSome, length, pos, slice_index_or};
+ghost use Rattle.std.specs.Prelude.{◌≡◌, ◌<◌, IfOk, length, pos, slice_index_or};
 ghost use Rattle.worker_pool.specs.Outcomes.{AreBlocksAt, AreDegreesOf, AreDone, IsDone};
 ghost use Rattle.worker_pool.specs.Outcomes.{origin_of};
 ghost use Rattle.worker_pool.specs.Slots.{AreDoneSlots};
@@ -17,36 +17,23 @@ use std::alloc::Global;
 /// A slot for the block of each quantum degree, once it is cancelled to zero.
 pub(crate) type DoneSlots<F> = Vec<Option<DoneBlock<F>>>;
 
-/// Puts a block into the slot of its degree.
+/// Puts a block into the slot at a place, where that is the place of its degree.
 pub(crate) fn put<F: PrimeField>(
     slots: &mut DoneSlots<F>,
-    cube: &Cube,
     degrees: &[i16],
+    place: usize,
     one: DoneBlock<F>,
 )
-    requires diagram { one.block.diagram ≡ cube.now }
     requires done { IsDone F.P one }
-    requires slots { AreDoneSlots F.P cube.now degrees.now slots.old.items }
-    ensures { AreDoneSlots F.P cube.now degrees.now slots.new.items }
+    requires slots { AreDoneSlots F.P one.block.diagram degrees.now slots.old.items }
+    ensures { AreDoneSlots F.P one.block.diagram degrees.now slots.new.items }
 {
-    let Some(place) = place_of(degrees, one.block.degree()) else {
+    if place >= degrees.len() || place >= slots.len() {
         return;
-    };
-    if place < slots.len() {
+    }
+    if degrees[place] == one.block.degree() {
         slots[place] = Some(one);
     }
-}
-
-/// The first place that has a degree.
-fn place_of(degrees: &[i16], degree: i16) -> Option<usize>
-    ensures { IfSome result (λ place. slice_index_or degrees.now place (pos 0) ≡ degree) }
-{
-    'places: for place in 0..degrees.len() {
-        if degrees[place] == degree {
-            return Some(place);
-        }
-    }
-    None
 }
 
 /// The blocks in the order of their degrees. What is missing is built, and cancelled by the caller.

@@ -2,11 +2,10 @@
 //! waves: the blocks of a wave are whole in memory together, and are cancelled to zero before the
 //! next wave is built. The largest blocks come first, and a wave is filled with what fits.
 
-ghost use Rattle.std.specs.Prelude.{◌≡◌, ◌≤◌, All, IfOk, OnOk, map};
+ghost use Rattle.std.specs.Prelude.{◌≡◌, ◌≤◌, All, IfOk, OnOk};
 ghost use Rattle.kh_types.specs.declared.limits.TheConstants.{WORKERS};
 ghost use Rattle.worker_pool.specs.Outcomes.{AreBlocksAt, AreDegreesOf, AreDone};
-ghost use Rattle.worker_pool.specs.Rows.{AreSeated};
-ghost use Rattle.worker_pool.specs.Slots.{AreDoneSlots, AreFrom};
+ghost use Rattle.worker_pool.specs.Slots.{AreDoneSlots};
 
 use crate::building::{blocks_at, build_one};
 use crate::crew::Crew;
@@ -70,8 +69,7 @@ pub(crate) fn finished_in_waves<
     let waves = waves_of(alloc, &block_sizes(alloc, counted, degrees)?)?;
     let mut slots = empty_slots(alloc, degrees.len())?;
     'waves: for wave in &waves {
-        let chosen = degrees_at(alloc, cube, degrees, &wave.places)?;
-        add_wave(crew, &mut slots, cube, degrees, &chosen)?;
+        add_wave(crew, &mut slots, cube, degrees, &wave.places)?;
     }
     in_order(alloc, cube, degrees, slots)
 }
@@ -162,22 +160,23 @@ fn push_degree(
     Ok(())
 }
 
-/// Builds the blocks at the chosen ones of some quantum degrees, has workers cancel them, and puts
-/// each into the slot of its degree.
+/// Builds the blocks at some places of the quantum degrees, has workers cancel them, finishes each,
+/// and puts it into the slot at its place.
 fn add_wave<R: Threads + Wait + Sync, F: PrimeField + Send + Sync, G: Gate + Sync>(
     crew: &Crew<R, G>,
     slots: &mut DoneSlots<F>,
     cube: &Cube,
     degrees: &[i16],
-    chosen: &[i16],
+    places: &[usize],
 ) -> Result<(), NoMemory>
-    requires chosen { AreDegreesOf cube.now chosen.now }
+    requires degrees { AreDegreesOf cube.now degrees.now }
     requires workers { crew.now.workers ≤ WORKERS }
     requires slots { AreDoneSlots F.P cube.now degrees.now slots.old.items }
     ensures { OnOk result (AreDoneSlots F.P cube.now degrees.now slots.new.items) }
 {
     let (alloc, workers) = (crew.alloc, crew.workers as usize);
-    let blocks = blocks_at(crew.rt, alloc, cube, chosen, workers)?;
+    let chosen = degrees_at(alloc, cube, degrees, places)?;
+    let blocks = blocks_at(crew.rt, alloc, cube, &chosen, workers)?;
     let course = Course::new(alloc, largest_block_first(alloc, &blocks)?)?;
     let count = workers.min(blocks.len());
     let Pool {
@@ -186,7 +185,14 @@ fn add_wave<R: Threads + Wait + Sync, F: PrimeField + Send + Sync, G: Gate + Syn
         mut rows,
     } = opened(alloc, blocks, count)?;
     work_rows(crew, &locks, &course, rows.as_mut_slice());
-    add_locked(alloc, slots, cube, degrees, Pool { locks, kept, rows })
+    let mut pool = Pool { locks, kept, rows };
+    'places: for place in places {
+        let Some(block) = take_last(&mut pool) else {
+            break;
+        };
+        put(slots, degrees, *place, finished_one(alloc, block)?);
+    }
+    Ok(())
 }
 
 /// The places of blocks that are locked in the order from the last to the first, those of the
@@ -200,23 +206,4 @@ fn largest_block_first<F: PrimeField>(
         sizes.push(block.alive() as u64)?;
     }
     largest_first(alloc, &sizes)
-}
-
-/// Finishes the blocks of all locks, and puts each into the slot of its degree.
-fn add_locked<F: PrimeField + Send>(
-    alloc: Global,
-    slots: &mut DoneSlots<F>,
-    cube: &Cube,
-    degrees: &[i16],
-    mut pool: Pool<SharedBlock<F>>,
-) -> Result<(), NoMemory>
-    requires seated { AreSeated pool.locks.items pool.kept.items pool.rows.items }
-    requires origins { AreFrom cube.now (map (λ lock. lock.origin) pool.locks.items) }
-    requires slots { AreDoneSlots F.P cube.now degrees.now slots.old.items }
-    ensures { OnOk result (AreDoneSlots F.P cube.now degrees.now slots.new.items) }
-{
-    'locks: while let Some(block) = take_last(&mut pool) {
-        put(slots, cube, degrees, finished_one(alloc, block)?);
-    }
-    Ok(())
 }
