@@ -20,7 +20,6 @@ use circle_smoothing::CountedDiagram;
 use cube_signs::Cube;
 use kh_types::NoMemory;
 use prime_field::PrimeField;
-use shared_block::SharedBlock;
 use std::alloc::Global;
 use std::sync::Wait;
 use std::thread::Threads;
@@ -177,7 +176,7 @@ fn add_wave<R: Threads + Wait + Sync, F: PrimeField + Send + Sync, G: Gate + Syn
     let (alloc, workers) = (crew.alloc, crew.workers as usize);
     let chosen = degrees_at(alloc, cube, degrees, places)?;
     let blocks = blocks_at(crew.rt, alloc, cube, &chosen, workers)?;
-    let course = Course::new(alloc, largest_block_first(alloc, &blocks)?)?;
+    let course = Course::new(alloc, blocks.len())?;
     let count = workers.min(blocks.len());
     let Pool {
         locks,
@@ -193,17 +192,4 @@ fn add_wave<R: Threads + Wait + Sync, F: PrimeField + Send + Sync, G: Gate + Syn
         put(slots, degrees, *place, finished_one(alloc, block)?);
     }
     Ok(())
-}
-
-/// The places of blocks that are locked in the order from the last to the first, those of the
-/// largest first.
-fn largest_block_first<F: PrimeField>(
-    alloc: Global,
-    blocks: &[SharedBlock<F>],
-) -> Result<Vec<usize>, NoMemory> {
-    let mut sizes = Vec::with_capacity(alloc, blocks.len())?;
-    'blocks: for block in blocks.iter().rev() {
-        sizes.push(block.alive() as u64)?;
-    }
-    largest_first(alloc, &sizes)
 }

@@ -13,7 +13,7 @@ blocks_at-requires-after_bounds g c κs within = subst (AreDegreesOf c.args.cube
 pub places-init : goal.places-init
 places-init g c = (
   seated_after_work _ _ _ _ _ _ c.in_ok-locks.ensures.seated c.as_mut_slice.ensures.value c.as_mut_slice.ensures.len (search rules)
-      (subst (λ locks. All (λ row. IsRowOf locks row.items) c.work_rows.new.rows) c.deref-3.ensures.value c.work_rows.ensures.rows),
+      (subst (λ locks. All (λ row. IsRowOf locks row.items) c.work_rows.new.rows) c.deref-2.ensures.value c.work_rows.ensures.rows),
   locked_from c.args.cube.now c.deref.result.now c.in_ok-blocks.blocks.items _ c.in_ok-blocks.ensures c.in_ok-locks.ensures.origins,
   c.requires.slots,
 )
