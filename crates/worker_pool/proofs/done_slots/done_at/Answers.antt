@@ -10,7 +10,8 @@ take_slot-requires g c =
 
 pub returns-in-Some-clause-slots : goal.returns-in-Some-clause-slots
 returns-in-Some-clause-slots g c =
-    slot_emptied (IsDoneBlock g.F.PrimeField.P c.args.cube.now) c.args.degrees.now c.args.slots.now.items _ c.args.place c.requires.slots c.take_slot.ensures.empty
+    slot_emptied (IsDoneBlock g.F.PrimeField.P c.args.cube.now) c.args.degrees.now c.args.slots.now.items _ c.args.place c.requires.slots
+    c.take_slot.ensures.empty
 
 pub returns-in-Some-clause-origin : goal.returns-in-Some-clause-origin
 returns-in-Some-clause-origin g c =
