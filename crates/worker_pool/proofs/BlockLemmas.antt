@@ -1,11 +1,10 @@
 -- Blocks stay those of their diagram where their origins stay.
-use Rattle.std.proofs.Common.{◌≡◌, ℤ, List, [], ◌∷◌, map, refl, sym, ap, subst, ◌∙◌}
+use Rattle.std.proofs.Common.{◌≡◌, ℤ, List, [], ◌∷◌, map, refl, ap, ◌∙◌}
 use Rattle.std.specs.List.{AllByRecursion}
 use Rattle.std.proofs.lemmas.List.Elements.{All-from_recursion, recursion_from_All}
 use Rattle.kh_types.specs.Code.{Code}
 use Rattle.shared_block.specs.BlockHistories.{BlockHistory}
-use Rattle.shared_block.specs.AllBlocks.{AreBlocksOf, opening_blocks}
-use Rattle.shared_block.proofs.AllBlocks.{AreBlocksOf-opening}
+use Rattle.shared_block.specs.AllBlocks.{AreBlocksOf}
 use Rattle.worker_pool.specs.Outcomes.{origin_of}
 
 -- the degrees

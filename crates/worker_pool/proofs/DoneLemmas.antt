@@ -1,37 +1,34 @@
 -- Blocks that are cancelled to zero, one after another.
-use Rattle.std.proofs.Common.{◌≡◌, ℕ, ◌+◌, ◌<◌, ◌∙◌, ℤ, pos, List, [], ◌∷◌, ◌++◌, length, map, take, get_or, reverse, refl, sym, ap, ap₂, subst, arith, length-append, All}
-use Rattle.std.proofs.lemmas.List.{length-map, map_push, take_more}
+use Rattle.std.proofs.Common.{◌≡◌, ℕ, ◌+◌, ◌<◌, ◌∙◌, ℤ, pos, List, [], ◌∷◌, ◌++◌, length, map, take, get_or, reverse, refl, sym, ap, ap₂, subst, arith, All}
+use Rattle.std.proofs.lemmas.List.{map_push, take_more}
 use Rattle.std.proofs.lemmas.List.Elements.{All-contains_itself, All-push}
 use Rattle.std.proofs.lemmas.Simd.{map-map}
 use mathlib.Core.List.{IsPrefix, reverse_aux}
 use Rattle.kh_types.specs.Code.{Code}
 use Rattle.cube_signs.specs.Blocks.{block_degrees}
-use Rattle.shared_block.specs.BlockHistories.{BlockHistory, HasLegalHistory, block_with}
+use Rattle.shared_block.specs.BlockHistories.{BlockHistory, block_with}
 use Rattle.shared_block.specs.AllBlocks.{AreBlocksOf, IsFinished, opening_blocks}
 use Rattle.shared_block.proofs.AllBlocks.{AreBlocksOf-opening}
 use Rattle.kh_types.proofs.Prefixes.{prefix_length}
-use Rattle.worker_pool.specs.Outcomes.{AreBlocksAt, AreCancelled, AreDegreesOf, AreDone, HasCommitted, IsDone, origin_of}
+use Rattle.worker_pool.specs.declared.finished.DoneBlock.{DoneBlock}
+use Rattle.worker_pool.specs.declared.finished.Finished.{Finished}
+use Rattle.worker_pool.specs.Outcomes.{AreBlocksAt, AreDegreesOf, AreDone, HasCommitted, IsDone, origin_of}
 use Rattle.worker_pool.specs.Slots.{AreFrom}
 use Rattle.worker_pool.proofs.BlockLemmas.{blocks_stay}
 use Rattle.worker_pool.proofs.Zips.{zip_push}
 
 -- a block that has been finished
-pub done_one : (p : ℕ) (held later : BlockHistory) (count : ℕ) → count ≡ length held.history → IsPrefix held.history later.history → IsFinished p later
-    → IsDone p later count
-done_one p held later count is goes_on zero = record {
-  zero = zero;
-  counted = omega (arith, is, prefix_length held.history later.history goes_on);
-}
+pub done_one : {F : Type 0} (p : ℕ) (held : BlockHistory) (one : DoneBlock F) → one.committed ≡ length held.history
+    → IsPrefix held.history one.block.history → IsFinished p one.block → IsDone p one
+done_one p held one is goes_on zero = record { zero = zero; counted = omega (arith, is, prefix_length held.history one.block.history goes_on) }
 
 -- one block more
-pub done_more : (p : ℕ) (blocks all : List BlockHistory) (committed counts : List ℕ) (held : BlockHistory) (count : ℕ) → AreDone p blocks committed
-    → IsDone p held count → all ≡ blocks ++ held ∷ [] → counts ≡ committed ++ count ∷ [] → AreDone p all counts
-done_more p blocks all committed counts held count done one are_all are_counts =
-    let both : AreDone p (blocks ++ held ∷ []) (committed ++ count ∷ []) = record {
-      zero = All-push (IsFinished p) blocks held done.zero one.zero;
-      counts = zip_push HasCommitted blocks committed held count done.counts one.counted;
-    } in
-    rw (are_all, are_counts) both
+pub done_more : {F : Type 0} (p : ℕ) (before after : Finished F) (one : DoneBlock F) → AreDone p before → IsDone p one
+    → after.blocks.items ≡ before.blocks.items ++ one.block ∷ [] → after.committed.items ≡ before.committed.items ++ one.committed ∷ [] → AreDone p after
+done_more p before after one done is are_all are_counts = record {
+  zero = rw are_all (All-push (IsFinished p) before.blocks.items one.block done.zero is.zero);
+  counts = rw (are_all, are_counts) (zip_push HasCommitted before.blocks.items before.committed.items one.block one.committed done.counts is.counted);
+}
 
 -- one count more that is 0
 pub none_more : (code : Code) (j : ℤ) (held : BlockHistory) (counts all : List ℕ) (count : ℕ) → All (λ n. n ≡ 0) counts → held ≡ block_with code j []
@@ -53,11 +50,6 @@ pub blocks_all : (code : Code) (blocks : List BlockHistory) → AreBlocksAt code
 blocks_all code blocks are =
     blocks_stay code (opening_blocks code) blocks (are ∙ sym (map-map origin_of (λ j. block_with code j []) (block_degrees code)))
     (AreBlocksOf-opening code)
-
--- what the blocks at all degrees come to once they are cancelled to zero
-pub all_cancelled : (p : ℕ) (code : Code) (blocks : List BlockHistory) (committed : List ℕ) → AreBlocksAt code (block_degrees code) blocks
-    → AreDone p blocks committed → All (HasLegalHistory p) blocks → AreCancelled p code blocks committed
-all_cancelled p code blocks committed are done legal = record { of_diagram = blocks_all code blocks are; zero = done.zero; legal = legal; counts = done.counts }
 
 -- one degree more
 pub blocks_more : (code : Code) (degrees : List ℤ) (k : ℕ) (blocks all : List BlockHistory) (held : BlockHistory) → AreBlocksAt code (take k degrees) blocks
@@ -82,11 +74,6 @@ from_degrees code (j ∷ degrees) = (refl, from_degrees code degrees)
 from_front : (code : Code) (origins : List (Code × ℤ)) (last : Code × ℤ) → AreFrom code (origins ++ last ∷ []) → AreFrom code origins × (last.0 ≡ code)
 from_front code [] last h = (tt, h.0)
 from_front code (origin ∷ origins) last h = let rest = from_front code origins last h.1 in ((h.0, rest.0), rest.1)
-
--- fewer are left where the last is taken
-pub fewer : {A B : Type 0} (f : A → B) (before after : List A) (last : B) → map f before ≡ map f after ++ last ∷ [] → length after < length before
-fewer f before after last e =
-    omega (arith, ap length e, length-map before f, length-map after f, length-append (map f after) (last ∷ []))
 
 -- what is left where the last is taken
 pub taken_from : (code : Code) (before after : List (Code × ℤ)) (last : Code × ℤ) → AreFrom code before → before ≡ after ++ last ∷ []

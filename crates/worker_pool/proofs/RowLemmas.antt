@@ -123,3 +123,14 @@ module _ {O E : Type 0} where
       let long = length_all_zip (Loses lock) xs ys whole in
       let count = ap length same in
       rw (written n ys xs (omega arith) (omega arith)) (seated_fewer locks lock kept seat xs ys h whole)
+
+  pub seated_after_work : (locks : List (LockFacts O)) (kept : List (SeatFacts O E)) (xs now ys : List (Vec (SeatFacts O E))) (n : ℕ)
+      → AreSeated locks kept xs → now ≡ xs → length now ≡ n → length ys ≡ length now → All (λ row. IsRowOf locks row.items) ys
+      → AreSeated locks kept (take n (ys ++ drop (length ys) xs))
+  seated_after_work locks kept xs now ys n h same size long rows =
+      let count = ap length same in
+      rw (written n ys xs (omega arith) (omega arith)) record {
+        caller = h.caller;
+        workers = rows;
+        seats = subst (λ k. All (λ l. l.seats ≡ k + 1) locks) (sym (long ∙ count)) h.seats;
+      }

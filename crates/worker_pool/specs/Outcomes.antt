@@ -5,6 +5,9 @@ use Rattle.kh_types.specs.Code.{Code}
 use Rattle.cube_signs.specs.Blocks.{block_degrees}
 use Rattle.shared_block.specs.BlockHistories.{BlockHistory, HasLegalHistory}
 use Rattle.shared_block.specs.AllBlocks.{AreBlocksOf, IsFinished}
+use Rattle.worker_pool.specs.declared.finished.DoneBlock.{DoneBlock}
+use Rattle.worker_pool.specs.declared.finished.Finished.{Finished}
+use Rattle.worker_pool.specs.declared.outcome.Cancelled.{Cancelled}
 use Rattle.worker_pool.specs.declared.outcome.PoolStop.{PoolStop}
 use Rattle.worker_pool.specs.declared.outcome.PoolStop.TheVariants.{SizeLimit, NoMemory}
 
@@ -45,19 +48,19 @@ abbrev pub HasCommitted : BlockHistory → ℕ → Type 0
 HasCommitted held count = count ≤ length held.history
 
 -- a block is cancelled to zero, and a count of pivots by workers is told, within its history
-pub record IsDone (p : ℕ) (held : BlockHistory) (count : ℕ) : Type 0 where
-  pub zero : IsFinished p held
-  pub counted : HasCommitted held count
+pub record IsDone {F : Type 0} (p : ℕ) (one : DoneBlock F) : Type 0 where
+  pub zero : IsFinished p one.block
+  pub counted : HasCommitted one.block one.committed
 
 -- blocks are those of a diagram, each cancelled to zero by a legal history, and for each a count of pivots by workers is told, within
 -- its history
-pub record AreCancelled (p : ℕ) (code : Code) (blocks : List BlockHistory) (committed : List ℕ) : Type 0 where
-  pub of_diagram : AreBlocksOf code blocks
-  pub zero : All (IsFinished p) blocks
-  pub legal : All (HasLegalHistory p) blocks
-  pub counts : AllZip HasCommitted blocks committed
+pub record AreCancelled {F : Type 0} (p : ℕ) (code : Code) (made : Cancelled F) : Type 0 where
+  pub of_diagram : AreBlocksOf code made.blocks.items
+  pub zero : All (IsFinished p) made.blocks.items
+  pub legal : All (HasLegalHistory p) made.blocks.items
+  pub counts : AllZip HasCommitted made.blocks.items made.committed.items
 
 -- each block is cancelled to zero, and for each a count of pivots by workers is told, within its history
-pub record AreDone (p : ℕ) (blocks : List BlockHistory) (committed : List ℕ) : Type 0 where
-  pub zero : All (IsFinished p) blocks
-  pub counts : AllZip HasCommitted blocks committed
+pub record AreDone {F : Type 0} (p : ℕ) (done : Finished F) : Type 0 where
+  pub zero : All (IsFinished p) done.blocks.items
+  pub counts : AllZip HasCommitted done.blocks.items done.committed.items

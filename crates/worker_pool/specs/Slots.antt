@@ -26,7 +26,7 @@ AreFrom code origins = AllByRecursion (λ origin. origin.0 ≡ code) origins
 -- the block of a diagram at a degree, cancelled to zero, with a count of pivots by workers
 pub record IsDoneBlock {F : Type 0} (p : ℕ) (code : Code) (j : ℤ) (one : DoneBlock F) : Type 0 where
   pub origin : origin_of one.block ≡ (code, j)
-  pub done : IsDone p one.block one.committed
+  pub done : IsDone p one
 
 -- the slot of a degree has its block, cancelled to zero, or nothing yet
 abbrev pub IsDoneSlot : {F : Type 0} → ℕ → Code → ℤ → Option (DoneBlock F) → Type 0

@@ -34,8 +34,7 @@ pub fn cancel_alone<F: PrimeField>(
     ensures limit { IsSizeLimit result ↔ (GENERATORS < generator_count diagram.now) }
     ensures count { TellsCount (generator_count diagram.now) result }
     ensures table { IfOk result (λ made. made.table ≡ table F.P diagram.now) }
-    ensures blocks { IfOk result (λ made.
-        AreCancelled F.P diagram.now made.blocks.items made.committed.items) }
+    ensures blocks { IfOk result (AreCancelled F.P diagram.now) }
     ensures alone { IfOk result (λ made. All (λ count. count ≡ 0) made.committed.items) }
 {
     let small = SmallDiagram::try_new(CountedDiagram::of_diagram(diagram))?;
@@ -49,8 +48,7 @@ pub fn cancel_small_alone<F: PrimeField>(
     small: &SmallDiagram,
 ) -> Result<Cancelled<F>, NoMemory>
     ensures table { IfOk result (λ made. made.table ≡ table F.P small.now) }
-    ensures blocks { IfOk result (λ made.
-        AreCancelled F.P small.now made.blocks.items made.committed.items) }
+    ensures blocks { IfOk result (AreCancelled F.P small.now) }
     ensures alone { IfOk result (λ made. All (λ count. count ≡ 0) made.committed.items) }
 {
     let counted = small.counted();
@@ -73,8 +71,7 @@ pub fn cancel_all<R: Threads + Wait + Sync, F: PrimeField + Send + Sync, G: Gate
     ensures limit { IsSizeLimit result ↔ (GENERATORS < generator_count diagram.now) }
     ensures count { TellsCount (generator_count diagram.now) result }
     ensures table { IfOk result (λ made. made.table ≡ table F.P diagram.now) }
-    ensures blocks { IfOk result (λ made.
-        AreCancelled F.P diagram.now made.blocks.items made.committed.items) }
+    ensures blocks { IfOk result (AreCancelled F.P diagram.now) }
     ensures alone { workers ≡ 1 → IfOk result (λ made.
         All (λ count. count ≡ 0) made.committed.items) }
 {
@@ -92,8 +89,7 @@ pub fn cancel_small<R: Threads + Wait + Sync, F: PrimeField + Send + Sync, G: Ga
 ) -> Result<Cancelled<F>, NoMemory>
     requires workers { (1 ≤ workers) × (workers ≤ WORKERS) }
     ensures table { IfOk result (λ made. made.table ≡ table F.P small.now) }
-    ensures blocks { IfOk result (λ made.
-        AreCancelled F.P small.now made.blocks.items made.committed.items) }
+    ensures blocks { IfOk result (AreCancelled F.P small.now) }
     ensures alone { workers ≡ 1 → IfOk result (λ made.
         All (λ count. count ≡ 0) made.committed.items) }
 {
@@ -121,10 +117,9 @@ fn with_table<F: PrimeField>(
 ) -> Result<Cancelled<F>, NoMemory>
     requires size { generator_count diagram.now ≤ GENERATORS }
     requires blocks { AreBlocksAt diagram.now (block_degrees diagram.now) done.blocks.items }
-    requires done { AreDone F.P done.blocks.items done.committed.items }
+    requires done { AreDone F.P done }
     ensures table { IfOk result (λ made. made.table ≡ table F.P diagram.now) }
-    ensures blocks { IfOk result (λ made.
-        AreCancelled F.P diagram.now made.blocks.items made.committed.items) }
+    ensures blocks { IfOk result (AreCancelled F.P diagram.now) }
     ensures counts { IfOk result (λ made. made.committed.items ≡ done.committed.items) }
 {
     let table = table_of(alloc, diagram, &done.blocks)?;

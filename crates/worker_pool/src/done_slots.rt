@@ -1,7 +1,7 @@
 //! Slots for the blocks of a diagram that are cancelled to zero in any order, one slot at each
 //! quantum degree.
 
-ghost use Rattle.std.specs.Prelude.{◌≡◌, ◌<◌, IfOk, IfSome, length, pos, slice_index_or};
+ghost use Rattle.std.specs.Prelude.{◌≡◌, ◌<◌, IfOk, length, pos, slice_index_or};
 ghost use Rattle.worker_pool.specs.Outcomes.{AreBlocksAt, AreDegreesOf, AreDone, IsDone};
 ghost use Rattle.worker_pool.specs.Outcomes.{origin_of};
 ghost use Rattle.worker_pool.specs.Slots.{AreDoneSlots};
@@ -17,36 +17,23 @@ use std::alloc::Global;
 /// A slot for the block of each quantum degree, once it is cancelled to zero.
 pub(crate) type DoneSlots<F> = Vec<Option<DoneBlock<F>>>;
 
-/// Puts a block into the slot of its degree.
+/// Puts a block into the slot at a place, where that is the place of its degree.
 pub(crate) fn put<F: PrimeField>(
     slots: &mut DoneSlots<F>,
-    cube: &Cube,
     degrees: &[i16],
+    place: usize,
     one: DoneBlock<F>,
 )
-    requires diagram { one.block.diagram ≡ cube.now }
-    requires done { IsDone F.P one.block one.committed }
-    requires slots { AreDoneSlots F.P cube.now degrees.now slots.old.items }
-    ensures { AreDoneSlots F.P cube.now degrees.now slots.new.items }
+    requires done { IsDone F.P one }
+    requires slots { AreDoneSlots F.P one.block.diagram degrees.now slots.old.items }
+    ensures { AreDoneSlots F.P one.block.diagram degrees.now slots.new.items }
 {
-    let Some(place) = place_of(degrees, one.block.degree()) else {
+    if place >= degrees.len() || place >= slots.len() {
         return;
-    };
-    if place < slots.len() {
+    }
+    if degrees[place] == one.block.degree() {
         slots[place] = Some(one);
     }
-}
-
-/// The first place that has a degree.
-fn place_of(degrees: &[i16], degree: i16) -> Option<usize>
-    ensures { IfSome result (λ place. slice_index_or degrees.now place (pos 0) ≡ degree) }
-{
-    'places: for place in 0..degrees.len() {
-        if degrees[place] == degree {
-            return Some(place);
-        }
-    }
-    None
 }
 
 /// The blocks in the order of their degrees. What is missing is built, and cancelled by the caller.
@@ -59,7 +46,7 @@ pub(crate) fn in_order<F: PrimeField>(
     requires degrees { AreDegreesOf cube.now degrees.now }
     requires slots { AreDoneSlots F.P cube.now degrees.now slots.items }
     ensures blocks { IfOk result (λ done. AreBlocksAt cube.now degrees.now done.blocks.items) }
-    ensures done { IfOk result (λ done. AreDone F.P done.blocks.items done.committed.items) }
+    ensures done { IfOk result (AreDone F.P) }
 {
     let mut done = Finished::new(alloc, degrees.len())?;
     'places: for place in 0..degrees.len() {
@@ -82,7 +69,7 @@ fn done_at<F: PrimeField>(
     ensures slots { AreDoneSlots F.P cube.now degrees.now slots.new.items }
     ensures origin { IfOk result (λ one.
         origin_of one.block ≡ (cube.now, slice_index_or degrees.now place (pos 0))) }
-    ensures done { IfOk result (λ one. IsDone F.P one.block one.committed) }
+    ensures done { IfOk result (IsDone F.P) }
 {
     match take_slot(slots, place) {
         Some(one) => Ok(one),

@@ -23,7 +23,7 @@ pub(crate) fn finished_one<F: PrimeField>(
     block: SharedBlock<F>,
 ) -> Result<DoneBlock<F>, NoMemory>
     ensures origin { IfOk result (λ one. origin_of one.block ≡ origin_of block) }
-    ensures done { IfOk result (λ one. IsDone F.P one.block one.committed) }
+    ensures done { IfOk result (IsDone F.P) }
     ensures count { IfOk result (λ one. one.committed ≡ length block.history) }
 {
     let mut block = block;
@@ -44,7 +44,7 @@ impl<F: PrimeField> Finished<F> {
     pub(crate) fn new(alloc: Global, count: usize) -> Result<Finished<F>, NoMemory>
         ensures none { IfOk result (λ done. done.blocks.items ≡ []) }
         ensures counts { IfOk result (λ done. done.committed.items ≡ []) }
-        ensures done { IfOk result (λ done. AreDone F.P done.blocks.items done.committed.items) }
+        ensures done { IfOk result (AreDone F.P) }
     {
         Ok(Finished {
             blocks: Vec::with_capacity(alloc, count)?,
@@ -54,9 +54,9 @@ impl<F: PrimeField> Finished<F> {
 
     /// Takes a block in.
     pub(crate) fn push(&mut self, one: DoneBlock<F>) -> Result<(), NoMemory>
-        requires done { AreDone F.P self.old.blocks.items self.old.committed.items }
-        requires one { IsDone F.P one.block one.committed }
-        ensures done { OnOk result (AreDone F.P self.new.blocks.items self.new.committed.items) }
+        requires done { AreDone F.P self.old }
+        requires one { IsDone F.P one }
+        ensures done { OnOk result (AreDone F.P self.new) }
         ensures origins { OnOk result (map origin_of self.new.blocks.items
             ≡ map origin_of self.old.blocks.items ++ origin_of one.block ∷ []) }
         ensures counts { OnOk result (self.new.committed.items

@@ -17,27 +17,31 @@ use std::thread;
 use std::thread::Threads;
 use version_lock::{Versioned, WorkSeat};
 
-/// What workers share beside the blocks: the order in which blocks are begun, how many are, and
-/// which a worker has seen to be zero.
+/// What workers share beside the blocks: how many blocks are begun, and which a worker has seen to
+/// be zero.
 #[derive(Drop)]
 pub(crate) struct Course {
-    order: Vec<usize>,
     begun: AtomicU64,
     zero: Vec<AtomicBool>,
 }
 
 impl Course {
-    /// Nothing is begun. The places of the locks are given in the order in which they are to be.
-    pub(crate) fn new(alloc: Global, order: Vec<usize>) -> Result<Course, NoMemory> {
-        let mut zero = Vec::with_capacity(alloc, order.len())?;
-        'places: for _ in 0..order.len() {
+    /// Nothing is begun of so many blocks.
+    pub(crate) fn new(alloc: Global, count: usize) -> Result<Course, NoMemory> {
+        let mut zero = Vec::with_capacity(alloc, count)?;
+        'places: for _ in 0..count {
             zero.push(AtomicBool::new(false))?;
         }
         Ok(Course {
-            order,
             begun: AtomicU64::new(0),
             zero,
         })
+    }
+
+    /// The last place of those whose blocks nobody has begun: the largest block is the last.
+    fn next_place(&self) -> Option<usize> {
+        let begun = next_number(&self.begun)?;
+        self.zero.len().checked_sub(begun)?.checked_sub(1)
     }
 
     /// Whether a worker has seen the block at a place to be zero.
@@ -97,7 +101,7 @@ fn work_row<R: Wait, F: PrimeField + Send, G: Gate>(
     ensures { IsRowOf locks.now seats.new }
 {
     'begun: for _ in 0..locks.len() {
-        let Some(place) = next_place(&course.order, &course.begun) else {
+        let Some(place) = course.next_place() else {
             break;
         };
         if !work_at(crew, locks, seats, place, worker) {
@@ -114,11 +118,6 @@ fn work_row<R: Wait, F: PrimeField + Send, G: Gate>(
         }
         course.see_zero(place);
     }
-}
-
-/// The next place in the order that nobody has begun.
-fn next_place(order: &[usize], begun: &AtomicU64) -> Option<usize> {
-    order.get(next_number(begun)?).copied()
 }
 
 /// The next number from 0 on that nobody has taken.

@@ -2,11 +2,10 @@
 //! waves: the blocks of a wave are whole in memory together, and are cancelled to zero before the
 //! next wave is built. The largest blocks come first, and a wave is filled with what fits.
 
-ghost use Rattle.std.specs.Prelude.{◌≡◌, ◌≤◌, All, IfOk, OnOk, map};
+ghost use Rattle.std.specs.Prelude.{◌≡◌, ◌≤◌, All, IfOk, OnOk};
 ghost use Rattle.kh_types.specs.declared.limits.TheConstants.{WORKERS};
 ghost use Rattle.worker_pool.specs.Outcomes.{AreBlocksAt, AreDegreesOf, AreDone};
-ghost use Rattle.worker_pool.specs.Rows.{AreSeated};
-ghost use Rattle.worker_pool.specs.Slots.{AreDoneSlots, AreFrom};
+ghost use Rattle.worker_pool.specs.Slots.{AreDoneSlots};
 
 use crate::building::{blocks_at, build_one};
 use crate::crew::Crew;
@@ -21,7 +20,6 @@ use circle_smoothing::CountedDiagram;
 use cube_signs::Cube;
 use kh_types::NoMemory;
 use prime_field::PrimeField;
-use shared_block::SharedBlock;
 use std::alloc::Global;
 use std::sync::Wait;
 use std::thread::Threads;
@@ -38,7 +36,7 @@ pub(crate) fn finished_alone<F: PrimeField>(
 ) -> Result<Finished<F>, NoMemory>
     requires { AreDegreesOf cube.now degrees.now }
     ensures blocks { IfOk result (λ done. AreBlocksAt cube.now degrees.now done.blocks.items) }
-    ensures done { IfOk result (λ done. AreDone F.P done.blocks.items done.committed.items) }
+    ensures done { IfOk result (AreDone F.P) }
     ensures alone { IfOk result (λ done. All (λ count. count ≡ 0) done.committed.items) }
 {
     let mut done = Finished::new(alloc, degrees.len())?;
@@ -64,14 +62,13 @@ pub(crate) fn finished_in_waves<
     requires degrees { AreDegreesOf cube.now degrees.now }
     requires workers { crew.now.workers ≤ WORKERS }
     ensures blocks { IfOk result (λ done. AreBlocksAt cube.now degrees.now done.blocks.items) }
-    ensures done { IfOk result (λ done. AreDone F.P done.blocks.items done.committed.items) }
+    ensures done { IfOk result (AreDone F.P) }
 {
     let alloc = crew.alloc;
     let waves = waves_of(alloc, &block_sizes(alloc, counted, degrees)?)?;
     let mut slots = empty_slots(alloc, degrees.len())?;
     'waves: for wave in &waves {
-        let chosen = degrees_at(alloc, cube, degrees, &wave.places)?;
-        add_wave(crew, &mut slots, cube, degrees, &chosen)?;
+        add_wave(crew, &mut slots, cube, degrees, &wave.places)?;
     }
     in_order(alloc, cube, degrees, slots)
 }
@@ -162,23 +159,24 @@ fn push_degree(
     Ok(())
 }
 
-/// Builds the blocks at the chosen ones of some quantum degrees, has workers cancel them, and puts
-/// each into the slot of its degree.
+/// Builds the blocks at some places of the quantum degrees, has workers cancel them, finishes each,
+/// and puts it into the slot at its place.
 fn add_wave<R: Threads + Wait + Sync, F: PrimeField + Send + Sync, G: Gate + Sync>(
     crew: &Crew<R, G>,
     slots: &mut DoneSlots<F>,
     cube: &Cube,
     degrees: &[i16],
-    chosen: &[i16],
+    places: &[usize],
 ) -> Result<(), NoMemory>
-    requires chosen { AreDegreesOf cube.now chosen.now }
+    requires degrees { AreDegreesOf cube.now degrees.now }
     requires workers { crew.now.workers ≤ WORKERS }
     requires slots { AreDoneSlots F.P cube.now degrees.now slots.old.items }
     ensures { OnOk result (AreDoneSlots F.P cube.now degrees.now slots.new.items) }
 {
     let (alloc, workers) = (crew.alloc, crew.workers as usize);
-    let blocks = blocks_at(crew.rt, alloc, cube, chosen, workers)?;
-    let course = Course::new(alloc, largest_block_first(alloc, &blocks)?)?;
+    let chosen = degrees_at(alloc, cube, degrees, places)?;
+    let blocks = blocks_at(crew.rt, alloc, cube, &chosen, workers)?;
+    let course = Course::new(alloc, blocks.len())?;
     let count = workers.min(blocks.len());
     let Pool {
         locks,
@@ -186,37 +184,12 @@ fn add_wave<R: Threads + Wait + Sync, F: PrimeField + Send + Sync, G: Gate + Syn
         mut rows,
     } = opened(alloc, blocks, count)?;
     work_rows(crew, &locks, &course, rows.as_mut_slice());
-    add_locked(alloc, slots, cube, degrees, Pool { locks, kept, rows })
-}
-
-/// The places of blocks that are locked in the order from the last to the first, those of the
-/// largest first.
-fn largest_block_first<F: PrimeField>(
-    alloc: Global,
-    blocks: &[SharedBlock<F>],
-) -> Result<Vec<usize>, NoMemory> {
-    let mut sizes = Vec::with_capacity(alloc, blocks.len())?;
-    'blocks: for block in blocks.iter().rev() {
-        sizes.push(block.alive() as u64)?;
-    }
-    largest_first(alloc, &sizes)
-}
-
-/// Finishes the blocks of all locks, and puts each into the slot of its degree.
-fn add_locked<F: PrimeField + Send>(
-    alloc: Global,
-    slots: &mut DoneSlots<F>,
-    cube: &Cube,
-    degrees: &[i16],
-    mut pool: Pool<SharedBlock<F>>,
-) -> Result<(), NoMemory>
-    requires seated { AreSeated pool.locks.items pool.kept.items pool.rows.items }
-    requires origins { AreFrom cube.now (map (λ lock. lock.origin) pool.locks.items) }
-    requires slots { AreDoneSlots F.P cube.now degrees.now slots.old.items }
-    ensures { OnOk result (AreDoneSlots F.P cube.now degrees.now slots.new.items) }
-{
-    'locks: while let Some(block) = take_last(&mut pool) {
-        put(slots, cube, degrees, finished_one(alloc, block)?);
+    let mut pool = Pool { locks, kept, rows };
+    'places: for place in places {
+        let Some(block) = take_last(&mut pool) else {
+            break;
+        };
+        put(slots, degrees, *place, finished_one(alloc, block)?);
     }
     Ok(())
 }

@@ -1,7 +1,8 @@
-use Rattle.std.proofs.Common.{arith}
+use Rattle.std.proofs.Common.{◌≡◌, [], arith}
+use Rattle.shared_block.specs.BlockHistories.{block_with}
 use Rattle.worker_pool.specs.Slots.{IsSlotOf}
 use Rattle.worker_pool.proofs.Zips.{zip_size}
-use Rattle.worker_pool.proofs.SlotLemmas.{slot_there, slots_emptied}
+use Rattle.worker_pool.proofs.SlotLemmas.{in_slot, slots_emptied}
 use Rattle.worker_pool.proofs.building.block_at.Goals as goal
 
 pub take_slot-requires : goal.take_slot-requires
@@ -17,4 +18,4 @@ returns-in-Some-clause-rows g c =
 pub returns-in-Some-clause-block : goal.returns-in-Some-clause-block
 returns-in-Some-clause-block g c =
     let h = c.rows.invariant c.rows.row-index c.row-item.result (omega arith) in
-    slot_there c.args.cube.now c.args.degrees.now _ c.args.place c.in-Some.held h c.requires.place c.in-Some.ensures.taken
+    in_slot (λ j held. held ≡ block_with c.args.cube.now j []) c.args.degrees.now _ c.args.place c.in-Some.held h c.requires.place c.in-Some.ensures.taken

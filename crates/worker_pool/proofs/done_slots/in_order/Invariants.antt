@@ -5,5 +5,5 @@ use Rattle.worker_pool.proofs.done_slots.in_order.Given as goal
 
 abbrev pub invariant-places : goal.invariant-places
 invariant-places g l =
-    AreBlocksAt l.cube (take l.place l.degrees) l.done.blocks.items × AreDone g.F.PrimeField.P l.done.blocks.items l.done.committed.items
+    AreBlocksAt l.cube (take l.place l.degrees) l.done.blocks.items × AreDone g.F.PrimeField.P l.done
     × AreDoneSlots g.F.PrimeField.P l.cube l.degrees l.slots.items

@@ -4,5 +4,5 @@ use Rattle.worker_pool.proofs.waves.finished_alone.Given as goal
 
 abbrev pub invariant-places : goal.invariant-places
 invariant-places g l =
-    AreBlocksAt l.cube (take l.k l.degrees) l.done.blocks.items × AreDone g.F.PrimeField.P l.done.blocks.items l.done.committed.items
+    AreBlocksAt l.cube (take l.k l.degrees) l.done.blocks.items × AreDone g.F.PrimeField.P l.done
     × All (λ count. count ≡ 0) l.done.committed.items

@@ -1,0 +1,9 @@
+use Rattle.std.proofs.Common.{map}
+use Rattle.worker_pool.specs.Rows.{AreSeated}
+use Rattle.worker_pool.specs.Slots.{AreDoneSlots, AreFrom}
+use Rattle.worker_pool.proofs.waves.add_wave.Given as goal
+
+abbrev pub invariant-places : goal.invariant-places
+invariant-places g l = AreSeated l.pool.locks.items l.pool.kept.items l.pool.rows.items
+    × AreFrom l.cube (map (λ lock. lock.origin) l.pool.locks.items)
+    × AreDoneSlots g.F.PrimeField.P l.cube l.degrees l.slots.items
